@@ -1,0 +1,2 @@
+pub mod AmountLemmas
+pub mod TidLemmas

@@ -1,0 +1,4 @@
+pub mod Amount
+pub mod Base
+pub mod Tid
+pub mod TidFault

@@ -1,0 +1,16 @@
+//! The fields of a credit token: transfer amounts, token identifiers, base dates and moments.
+//!
+//! `docs/PROFILE.md` has the rules in words, and `specs/` has them as definitions.
+#![tactic(auto)]
+
+pub use amount::{Amount, amount_law};
+pub use base::Base;
+pub use fault::TidFault;
+pub use moment::Moment;
+pub use tid::{LAST_TID, fresh_law, minute, next_tid};
+
+mod amount;
+mod base;
+mod fault;
+mod moment;
+mod tid;
