@@ -1,0 +1,8 @@
+-- Numbers written with a fixed count of digits.
+use Rattle.std.specs.Prelude.{ℕ, zero, suc, ◌/◌, ◌%◌, List, [], ◌∷◌, ◌++◌}
+use Rattle.std.specs.Char.{digit_char}
+
+-- the last so many digits of a number in a base, as text: letters above 9 are in lower case
+unfoldable pub digits_text : ℕ → ℕ → ℕ → List ℕ
+digits_text base zero n = []
+digits_text base (suc count) n = digits_text base count (n / base) ++ digit_char (n % base) ∷ []
