@@ -1,2 +1,3 @@
 pub mod AmountLemmas
+pub mod CalendarLemmas
 pub mod TidLemmas

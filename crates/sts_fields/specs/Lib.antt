@@ -1,4 +1,5 @@
 pub mod Amount
 pub mod Base
+pub mod Calendar
 pub mod Tid
 pub mod TidFault

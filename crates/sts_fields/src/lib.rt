@@ -5,12 +5,17 @@
 
 pub use amount::{Amount, amount_law};
 pub use base::Base;
+pub use calendar::{Civil, Memory, calendar_law, civil, month_of};
 pub use fault::TidFault;
 pub use moment::Moment;
 pub use tid::{LAST_TID, fresh_law, minute, next_tid};
 
 mod amount;
 mod base;
+mod calendar;
 mod fault;
 mod moment;
 mod tid;
+
+#[cfg(test)]
+mod tests;

@@ -1,0 +1,158 @@
+ghost use Rattle.std.specs.Prelude.{◌≡◌, ◌≤◌, ◌<◌, ◌-◌, ◌*◌, ◌+◌, ℕ, pos, ◌≤ℤ◌, ◌*ℤ◌, IfOk, IsOkAnd};
+ghost use Rattle.std.specs.Int.{IsInRange};
+ghost use Rattle.jiff_core.specs.Calendar.{IsCivilDate};
+ghost use Rattle.jiff_core.specs.DateTime.{civil_nanos};
+ghost use Rattle.sts_fields.specs.Base.{base_date, year_of};
+ghost use Rattle.sts_fields.specs.Calendar.{IsCivil, IsWithinRanges, civil_at, month_at, new_year};
+ghost use Rattle.sts_fields.specs.declared.base.Base.{Base};
+ghost use Rattle.sts_fields.specs.declared.calendar.date_time.Civil.{Civil};
+
+use crate::moment::Moment;
+pub use date_time::Civil;
+use jiff::Timestamp;
+use jiff::tz::Offset;
+use jiff_core::civil::DateTime;
+use thiserror::Error;
+
+/// Want of memory.
+#[derive(Clone, Copy, Debug, PartialEq, Eq, Hash, Error)]
+#[error("out of memory")]
+pub struct Memory;
+
+/// The months since January 1993, by the calendar of UTC: 0 for January 1993, 1283 for December 2099 (`docs/PROFILE.md`, "Times").
+///
+/// It takes no memory and succeeds.
+pub fn month_of(moment: Moment) -> Result<u32, Memory>
+    ensures { result ≡ Ok (month_at moment) }
+{
+    let civil = civil(moment)?;
+    Ok((u32::from(civil.year) - 1993) * 12 + (u32::from(civil.month) - 1))
+}
+
+/// The date and the time of day that a clock in UTC shows (`docs/PROFILE.md`, "Times").
+///
+/// It takes no memory and succeeds.
+pub fn civil(moment: Moment) -> Result<Civil, Memory>
+    ensures shown { IfOk result (IsCivil moment) }
+    ensures ranges { IfOk result IsWithinRanges }
+    ensures value { result ≡ Ok (civil_at moment) }
+{
+    let shown = date_time_at(moment.secs())?;
+    Ok(Civil {
+        year: shown.date.year as u16,
+        month: shown.date.month,
+        day: shown.date.day,
+        hour: shown.time.hour,
+        minute: shown.time.minute,
+        second: shown.time.second,
+    })
+}
+
+// The date and time of these Unix seconds, as `jiff` has them.
+fn date_time_at(seconds: i64) -> Result<DateTime, Memory>
+    requires from { pos 725846400 ≤ℤ seconds }
+    requires to { seconds ≤ℤ pos 4102444799 }
+    ensures { IsOkAnd result (λ shown. civil_nanos shown ≡ seconds *ℤ pos 1000000000) }
+{
+    match Timestamp::from_second(seconds) {
+        Ok(timestamp) => Ok(Offset::UTC.to_datetime(timestamp).to_plain()),
+        Err(_) => Err(Memory),
+    }
+}
+
+/// What months, dates and times of day mean, by the calendar of UTC.
+pub fn calendar_law()
+    ensures month { (secs : ℕ) (c : Civil) → IsCivil secs c → IsInRange 1993 2099 c.year
+        → month_at secs ≡ (c.year - 1993) * 12 + (c.month - 1) }
+    ensures never_back { (s t : ℕ) → s ≤ t → month_at s ≤ month_at t }
+
+    // Moments and the dates and times of 1993 to 2099 correspond one to one.
+    ensures each_moment { (secs : ℕ) → IsInRange 725846400 4102444799 secs → IsCivil secs (civil_at secs) }
+    ensures one_civil { (secs : ℕ) (c : Civil) → IsInRange 725846400 4102444799 secs → IsCivil secs c
+        → c ≡ civil_at secs }
+    ensures each_civil { (c : Civil) → IsCivilDate (pos c.year) c.month c.day → IsWithinRanges c
+        → (secs : ℕ) × IsInRange 725846400 4102444799 secs × IsCivil secs c }
+    ensures one_moment { (s t : ℕ) (c : Civil) → IsCivil s c → IsCivil t c → s ≡ t }
+    ensures ranges { (secs : ℕ) (c : Civil) → IsInRange 725846400 4102444799 secs → IsCivil secs c
+        → IsWithinRanges c }
+
+    // A base date is midnight on the first of January of its year.
+    ensures bases { (base : Base) → IsCivil (base_date base) (new_year (year_of base)) }
+{}
+
+// The type stands in a module of its own, since its name and that of the function `civil` differ only in case.
+mod date_time {
+    /// A date and a time of day, as a clock in UTC shows them.
+    #[derive(Clone, Copy, Debug, PartialEq, Eq)]
+    pub struct Civil {
+        /// From 1993 to 2099.
+        pub year: u16,
+        /// From 1 to 12.
+        pub month: u8,
+        /// From 1 to 31.
+        pub day: u8,
+        /// From 0 to 23.
+        pub hour: u8,
+        /// From 0 to 59.
+        pub minute: u8,
+        /// From 0 to 59.
+        pub second: u8,
+    }
+}
+
+#[cfg(test)]
+mod tests {
+    use super::{Civil, civil, month_of};
+    use crate::moment::Moment;
+    use std::process::Abort;
+    use std::test::Fail;
+
+    // Unix seconds show this date and time in UTC, and lie in this month since January 1993.
+    fn shows(
+        rt: &impl Abort,
+        seconds: i64,
+        (year, month, day): (u16, u8, u8),
+        (hour, minute, second): (u8, u8, u8),
+        months: u32,
+    ) -> Result<(), Fail> {
+        let moment = Moment::of_secs(seconds).ok_or("no moment")?;
+        let shown = Civil {
+            year,
+            month,
+            day,
+            hour,
+            minute,
+            second,
+        };
+        assert_eq!(rt; civil(moment)?, shown, "at {seconds}");
+        assert_eq!(rt; month_of(moment)?, months, "at {seconds}");
+        Ok(())
+    }
+
+    // The values of these tests are those of Python's `datetime`.
+    #[test]
+    fn first_and_last_seconds(rt: HostRuntime) -> Result<(), Fail> {
+        shows(&rt, 725_846_400, (1993, 1, 1), (0, 0, 0), 0)?;
+        shows(&rt, 728_524_799, (1993, 1, 31), (23, 59, 59), 0)?;
+        shows(&rt, 728_524_800, (1993, 2, 1), (0, 0, 0), 1)?;
+        shows(&rt, 946_684_799, (1999, 12, 31), (23, 59, 59), 83)?;
+        shows(&rt, 1_388_534_400, (2014, 1, 1), (0, 0, 0), 252)?;
+        shows(&rt, 1_388_534_430, (2014, 1, 1), (0, 0, 30), 252)?;
+        shows(&rt, 1_391_212_799, (2014, 1, 31), (23, 59, 59), 252)?;
+        shows(&rt, 1_391_212_800, (2014, 2, 1), (0, 0, 0), 253)?;
+        shows(&rt, 2_051_222_400, (2035, 1, 1), (0, 0, 0), 504)?;
+        shows(&rt, 2_147_483_648, (2038, 1, 19), (3, 14, 8), 540)?;
+        shows(&rt, 4_102_444_799, (2099, 12, 31), (23, 59, 59), 1283)
+    }
+
+    #[test]
+    fn leap_days(rt: HostRuntime) -> Result<(), Fail> {
+        shows(&rt, 825_597_296, (1996, 2, 29), (12, 34, 56), 37)?;
+        shows(&rt, 825_638_400, (1996, 3, 1), (0, 0, 0), 38)?;
+        shows(&rt, 951_868_799, (2000, 2, 29), (23, 59, 59), 85)?;
+        shows(&rt, 951_868_800, (2000, 3, 1), (0, 0, 0), 86)?;
+        shows(&rt, 3_981_315_723, (2096, 2, 29), (1, 2, 3), 1237)?;
+        shows(&rt, 4_076_006_399, (2099, 2, 28), (23, 59, 59), 1273)?;
+        shows(&rt, 4_076_006_400, (2099, 3, 1), (0, 0, 0), 1274)
+    }
+}
