@@ -15,7 +15,6 @@ mod base;
 mod calendar;
 mod fault;
 mod moment;
-mod tid;
-
 #[cfg(test)]
 mod tests;
+mod tid;

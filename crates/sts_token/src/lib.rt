@@ -14,5 +14,7 @@ mod check;
 mod digits;
 mod fields;
 mod key;
+#[cfg(test)]
+mod tests;
 mod token;
 mod transform;

@@ -1,0 +1,63 @@
+ghost use Rattle.std.specs.Prelude.{◌≤◌};
+
+use crate::sell::Sell;
+use crate::words::BadWords;
+use std::alloc::Global;
+use std::io::Write;
+
+/// How a command ended; the numbers are the exit statuses.
+#[derive(Clone, Copy, Debug, PartialEq, Eq)]
+pub enum End {
+    /// It did what was asked.
+    Done = 0,
+    /// It was refused, or its output failed.
+    Refused = 1,
+    /// The words were not those of a command.
+    BadWords = 2,
+}
+
+/// Runs the command that some words give, the program's own name left out, and answers the exit status.
+///
+/// Any other words print `bad words`, a value outside its rule `bad word`; both end with 2.
+pub fn run<O: Write, E: Write>(alloc: Global, words: &[&str], out: &mut O, err: &mut E) -> u8
+    ensures { result ≤ 2 }
+{
+    let end = match words {
+        ["sell", rest @ ..] => sell(alloc, rest, out, err),
+        _ => Err(BadWords::Shape),
+    };
+    match end {
+        Ok(end) => end as u8,
+        Err(fault) => refused_words(err, fault),
+    }
+}
+
+/// Says what is wrong with the words, and answers the exit status.
+pub(crate) fn refused_words<E: Write>(err: &mut E, fault: BadWords) -> u8
+    ensures { result ≤ 2 }
+{
+    let line = match fault {
+        BadWords::Shape => "bad words\n",
+        BadWords::Value => "bad word\n",
+        BadWords::Memory => "refused 15 Memory\n",
+    };
+    // Where the error output fails there is nowhere left to say so: the status tells.
+    let _ = err.write_all(line.as_bytes());
+    match fault {
+        BadWords::Shape | BadWords::Value => End::BadWords as u8,
+        BadWords::Memory => End::Refused as u8,
+    }
+}
+
+fn sell<O: Write, E: Write>(
+    alloc: Global,
+    words: &[&str],
+    out: &mut O,
+    err: &mut E,
+) -> Result<End, BadWords> {
+    let sell = Sell::read(alloc, words)?;
+    match sell.run(alloc, out, err) {
+        Ok(None) => Ok(End::Done),
+        Ok(Some(_)) | Err(_) => Ok(End::Refused),
+    }
+}

@@ -1,0 +1,75 @@
+use crate::trial::{TrialFault, trial};
+use crate::words::{self, BadWords};
+use std::alloc::Global;
+use std::io::{self, Write};
+use sts_fields::{Base, Moment, TidFault};
+use sts_token::{Plain, read_key};
+
+/// What `sell` is asked to do: amounts in tenths of a kWh, sold to one meter at a moment.
+#[derive(Drop)]
+pub struct Sell {
+    base: Base,
+    key: u64,
+    moment: Moment,
+    amounts: Vec<u32>,
+}
+
+impl Sell {
+    /// Reads the words after `sell`: `--base Y --key K --at S T..`, in this order.
+    pub(crate) fn read(alloc: Global, words: &[&str]) -> Result<Sell, BadWords> {
+        let ["--base", base, "--key", key, "--at", at, amounts @ ..] = words else {
+            return Err(BadWords::Shape);
+        };
+        if amounts.is_empty() {
+            return Err(BadWords::Shape);
+        }
+        let base = words::base(base).ok_or(BadWords::Value)?;
+        let key = read_key(key.as_bytes()).ok_or(BadWords::Value)?;
+        let moment = words::moment(at).ok_or(BadWords::Value)?;
+        let amounts = words::all_tenths(alloc, amounts)?;
+        Ok(Sell {
+            base,
+            key,
+            moment,
+            amounts,
+        })
+    }
+
+    /// Sells, and prints each token on a line of the output, then why it stopped on the error output.
+    pub(crate) fn run<O: Write, E: Write>(
+        &self,
+        alloc: Global,
+        out: &mut O,
+        err: &mut E,
+    ) -> io::Result<Option<TrialFault>> {
+        let (tokens, fault) = trial(
+            alloc,
+            &Plain,
+            self.key,
+            self.base,
+            self.moment,
+            &self.amounts,
+        );
+        for token in &tokens {
+            out.write_all(token)?;
+            out.write_all(b"\n")?;
+        }
+        if let Some(fault) = fault {
+            write_fault(err, fault)?;
+        }
+        Ok(fault)
+    }
+}
+
+// A line that says why no more was sold.
+fn write_fault<E: Write>(err: &mut E, fault: TrialFault) -> io::Result<()> {
+    match fault {
+        TrialFault::Amount => err.write_all(b"refused amount\n"),
+        TrialFault::Tid(TidFault::BeforeBase) => err.write_all(b"refused 7 BeforeBase\n"),
+        TrialFault::Tid(TidFault::PastEnd | TidFault::IdentifiersSpent) => {
+            err.write_all(b"refused 8 IdentifiersSpent\n")
+        }
+        TrialFault::Tid(TidFault::IdentifierAhead) => err.write_all(b"refused 9 IdentifierAhead\n"),
+        TrialFault::Memory => err.write_all(b"refused 15 Memory\n"),
+    }
+}

@@ -1,0 +1,56 @@
+ghost use Rattle.std.specs.Prelude.{◌≡◌, ◌<◌, ◌^◌, ◌↔◌, IsSome, IfSome};
+ghost use Rattle.std.specs.Str.Parse.{IsNumeral, digits_value};
+
+use std::alloc::Global;
+use sts_fields::{Base, Moment};
+
+/// What is wrong with the words of a command line.
+#[derive(Clone, Copy, Debug, PartialEq, Eq)]
+pub enum BadWords {
+    /// Their shape or their order.
+    Shape,
+    /// A value outside its rule.
+    Value,
+    /// There was no room to keep what they say.
+    Memory,
+}
+
+/// A number in ASCII digits, leading zeros allowed, or `None` exactly where the word is none or 2^64 and more.
+pub(crate) fn number(word: &str) -> Option<u64>
+    ensures numeral { IsSome result ↔ (IsNumeral 10 word.now × (digits_value 10 word.now < 2 ^ 64)) }
+    ensures value { IfSome result (λ n. digits_value 10 word.now ≡ n) }
+{
+    if word.as_bytes().first() == Some(&b'+') {
+        return None;
+    }
+    word.parse().ok()
+}
+
+/// The base date that a word names by its year.
+pub(crate) fn base(word: &str) -> Option<Base> {
+    let year = u32::try_from(number(word)?).ok()?;
+    Base::of_year(year)
+}
+
+/// The moment that a word gives in Unix seconds.
+pub(crate) fn moment(word: &str) -> Option<Moment> {
+    let seconds = i64::try_from(number(word)?).ok()?;
+    Moment::of_secs(seconds)
+}
+
+/// An amount in tenths of a kWh, whether a token can carry it or not.
+pub(crate) fn tenths(word: &str) -> Option<u32> {
+    u32::try_from(number(word)?).ok()
+}
+
+/// The amounts that some words give.
+pub(crate) fn all_tenths(alloc: Global, words: &[&str]) -> Result<Vec<u32>, BadWords> {
+    let Ok(mut amounts) = Vec::with_capacity(alloc, words.len()) else {
+        return Err(BadWords::Memory);
+    };
+    for word in words {
+        let tenths = tenths(word).ok_or(BadWords::Value)?;
+        amounts.push(tenths).map_err(|_| BadWords::Memory)?;
+    }
+    Ok(amounts)
+}
