@@ -1,4 +1,4 @@
-use crate::{Amount, Base, Moment, TidFault, minute, next_tid};
+use crate::{Amount, Base, LAST_TID, Moment, TidFault, minute, next_tid};
 use std::test::Fail;
 
 #[test]
@@ -100,6 +100,10 @@ fn fresh_identifiers(rt: HostRuntime) {
         (0, Some(16_777_215), Err(TidFault::IdentifiersSpent)),
     ];
     for (now, last, tid) in cases {
+        assert!(rt; now <= LAST_TID);
+        if let Some(sold) = last {
+            assert!(rt; sold <= LAST_TID);
+        }
         assert_eq!(rt; next_tid(now, last), tid, "{last:?} at {now}");
     }
 }

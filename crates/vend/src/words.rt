@@ -1,5 +1,6 @@
-ghost use Rattle.std.specs.Prelude.{◌≡◌, ◌<◌, ◌^◌, ◌↔◌, IsSome, IfSome};
+ghost use Rattle.std.specs.Prelude.{◌≡◌, ◌<◌, ◌≤◌, ◌^◌, ◌↔◌, ◌⊎◌, IsSome, IfSome};
 ghost use Rattle.std.specs.Str.Parse.{IsNumeral, digits_value};
+ghost use Rattle.sts_fields.specs.Base.{year_of};
 
 use std::alloc::Global;
 use sts_fields::{Base, Moment};
@@ -27,19 +28,30 @@ pub(crate) fn number(word: &str) -> Option<u64>
 }
 
 /// The base date that a word names by its year.
-pub(crate) fn base(word: &str) -> Option<Base> {
+pub(crate) fn base(word: &str) -> Option<Base>
+    ensures year { IsSome result
+        ↔ (IsNumeral 10 word.now × ((digits_value 10 word.now ≡ 1993) ⊎ (digits_value 10 word.now ≡ 2014) ⊎ (digits_value 10 word.now ≡ 2035))) }
+    ensures value { IfSome result (λ base. year_of base ≡ digits_value 10 word.now) }
+{
     let year = u32::try_from(number(word)?).ok()?;
     Base::of_year(year)
 }
 
 /// The moment that a word gives in Unix seconds.
-pub(crate) fn moment(word: &str) -> Option<Moment> {
+pub(crate) fn moment(word: &str) -> Option<Moment>
+    ensures range { IsSome result
+        ↔ (IsNumeral 10 word.now × (725846400 ≤ digits_value 10 word.now) × (digits_value 10 word.now ≤ 4102444799)) }
+    ensures value { IfSome result (λ moment. moment ≡ digits_value 10 word.now) }
+{
     let seconds = i64::try_from(number(word)?).ok()?;
     Moment::of_secs(seconds)
 }
 
 /// An amount in tenths of a kWh, whether a token can carry it or not.
-pub(crate) fn tenths(word: &str) -> Option<u32> {
+pub(crate) fn tenths(word: &str) -> Option<u32>
+    ensures range { IsSome result ↔ (IsNumeral 10 word.now × (digits_value 10 word.now < 2 ^ 32)) }
+    ensures value { IfSome result (λ tenths. tenths ≡ digits_value 10 word.now) }
+{
     u32::try_from(number(word)?).ok()
 }
 

@@ -6,8 +6,9 @@ use Rattle.sts_token.proofs.digits.digits.Goals as goal
 
 pub loop-written-init : goal.loop-written-init
 loop-written-init g c =
+    let whole : g.row.N - 0 ≡ g.row.N = omega arith in
     let all : length (replicate g.row.N 48) ≡ g.row.N = length-replicate g.row.N 48 in
-    (all, ap (written_digits c.args.base c.args.number _) (omega arith) ∙ written_none c.args.base c.args.number g.row.N _ all)
+    (all, ap (written_digits c.args.base c.args.number _) whole ∙ written_none c.args.base c.args.number g.row.N _ all)
 
 pub loop-written-preserved : goal.loop-written-preserved
 loop-written-preserved g c =
