@@ -1,4 +1,5 @@
-ghost use Rattle.std.specs.Prelude.{◌≤◌};
+ghost use Rattle.std.specs.Prelude.{◌≡◌, ◌≢◌, ◌≤◌, codes};
+ghost use Rattle.vend.specs.Words.{status_of, text_at};
 
 use crate::sell::Sell;
 use crate::words::BadWords;
@@ -20,7 +21,8 @@ pub enum End {
 ///
 /// Any other words print `bad words`, a value outside its rule `bad word`; both end with 2.
 pub fn run<O: Write, E: Write>(alloc: Global, words: &[&str], out: &mut O, err: &mut E) -> u8
-    ensures { result ≤ 2 }
+    ensures status { result ≤ 2 }
+    ensures unknown { text_at words.now 0 ≢ codes "sell" → result ≡ 2 }
 {
     let end = match words {
         ["sell", rest @ ..] => sell(alloc, rest, out, err),
@@ -34,7 +36,7 @@ pub fn run<O: Write, E: Write>(alloc: Global, words: &[&str], out: &mut O, err: 
 
 /// Says what is wrong with the words, and answers the exit status.
 pub(crate) fn refused_words<E: Write>(err: &mut E, fault: BadWords) -> u8
-    ensures { result ≤ 2 }
+    ensures { result ≡ status_of fault }
 {
     let line = match fault {
         BadWords::Shape => "bad words\n",

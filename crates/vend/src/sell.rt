@@ -1,3 +1,6 @@
+ghost use Rattle.std.specs.Prelude.{◌≡◌, ◌↔◌, IfOk};
+ghost use Rattle.vend.specs.Words.{HasSellShape, SaysSale};
+
 use crate::trial::{TrialFault, trial};
 use crate::words::{self, BadWords};
 use std::alloc::Global;
@@ -16,17 +19,27 @@ pub struct Sell {
 
 impl Sell {
     /// Reads the words after `sell`: `--base Y --key K --at S T..`, in this order.
-    pub(crate) fn read(alloc: Global, words: &[&str]) -> Result<Sell, BadWords> {
+    pub(crate) fn read(alloc: Global, words: &[&str]) -> Result<Sell, BadWords>
+        ensures shape { (result ≡ Err BadWords.Shape) ↔ ¬ HasSellShape words.now }
+        ensures said { IfOk result (λ sell. SaysSale words.now sell.base sell.key sell.moment sell.amounts.items) }
+    {
         let ["--base", base, "--key", key, "--at", at, amounts @ ..] = words else {
             return Err(BadWords::Shape);
         };
         if amounts.is_empty() {
             return Err(BadWords::Shape);
         }
-        let base = words::base(base).ok_or(BadWords::Value)?;
-        let key = read_key(key.as_bytes()).ok_or(BadWords::Value)?;
-        let moment = words::moment(at).ok_or(BadWords::Value)?;
-        let amounts = words::all_tenths(alloc, amounts)?;
+        let (Some(base), Some(key), Some(moment)) = (
+            words::base(base),
+            read_key(key.as_bytes()),
+            words::moment(at),
+        ) else {
+            return Err(BadWords::Value);
+        };
+        let amounts = match words::all_tenths(alloc, amounts) {
+            Ok(amounts) => amounts,
+            Err(fault) => return Err(fault),
+        };
         Ok(Sell {
             base,
             key,

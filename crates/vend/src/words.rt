@@ -1,4 +1,5 @@
-ghost use Rattle.std.specs.Prelude.{◌≡◌, ◌<◌, ◌≤◌, ◌^◌, ◌↔◌, ◌⊎◌, IsSome, IfSome};
+ghost use Rattle.std.specs.Prelude.{◌≡◌, ◌<◌, ◌≤◌, ◌^◌, ◌↔◌, ◌⊎◌, ◌≢◌, IsSome, IfSome, IsOk, IfOk, All, map};
+ghost use Rattle.vend.specs.Words.{IsAmountText, worth};
 ghost use Rattle.std.specs.Str.Parse.{IsNumeral, digits_value};
 ghost use Rattle.sts_fields.specs.Base.{year_of};
 
@@ -56,13 +57,20 @@ pub(crate) fn tenths(word: &str) -> Option<u32>
 }
 
 /// The amounts that some words give.
-pub(crate) fn all_tenths(alloc: Global, words: &[&str]) -> Result<Vec<u32>, BadWords> {
+pub(crate) fn all_tenths(alloc: Global, words: &[&str]) -> Result<Vec<u32>, BadWords>
+    ensures value { IfOk result (λ amounts. amounts.items ≡ map (λ w. worth w.now) words.now) }
+    ensures good { IsOk result → All (λ w. IsAmountText w.now) words.now }
+    ensures bad { result ≡ Err BadWords.Value → ¬ All (λ w. IsAmountText w.now) words.now }
+    ensures never_shape { result ≢ Err BadWords.Shape }
+{
     let Ok(mut amounts) = Vec::with_capacity(alloc, words.len()) else {
         return Err(BadWords::Memory);
     };
     for word in words {
-        let tenths = tenths(word).ok_or(BadWords::Value)?;
-        amounts.push(tenths).map_err(|_| BadWords::Memory)?;
+        let Some(tenths) = tenths(word) else {
+            return Err(BadWords::Value);
+        };
+        amounts.push_reserved(tenths);
     }
     Ok(amounts)
 }
