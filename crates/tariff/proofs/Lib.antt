@@ -1,0 +1,9 @@
+pub mod CodeLemmas
+pub mod CostLemmas
+pub mod OutcomeLemmas
+pub mod PiecesLemmas
+pub mod PriceLemmas
+pub mod PurchaseLemmas
+pub mod SameLemmas
+pub mod StepsLemmas
+pub mod TextLemmas

@@ -1,0 +1,21 @@
+use Rattle.tariff.proofs.CostLemmas.{cost_of-parts, cost_of-rises}
+use Rattle.tariff.proofs.PurchaseLemmas.{computed_iff, more_for_more, none_iff, purchase_of-is, too_little_iff}
+use Rattle.tariff.proofs.purchase.purchase_law.Goals as goal
+
+pub returns-clause-parts : goal.returns-clause-parts
+returns-clause-parts c = cost_of-parts
+
+pub returns-clause-rises : goal.returns-clause-rises
+returns-clause-rises c = cost_of-rises
+
+pub returns-clause-more_for_more : goal.returns-clause-more_for_more
+returns-clause-more_for_more c = more_for_more
+
+pub returns-clause-computed : goal.returns-clause-computed
+returns-clause-computed c = λ steps prior tender b. computed_iff steps prior tender b _ (purchase_of-is steps prior tender)
+
+pub returns-clause-none : goal.returns-clause-none
+returns-clause-none c = λ steps prior tender. none_iff steps prior tender _ (purchase_of-is steps prior tender)
+
+pub returns-clause-too_little : goal.returns-clause-too_little
+returns-clause-too_little c = λ steps prior tender. too_little_iff steps prior tender _ (purchase_of-is steps prior tender)

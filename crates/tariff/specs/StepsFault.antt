@@ -1,0 +1,36 @@
+-- Why steps are no tariff's: the faults in the order of their tests, their numbers and names.
+use Rattle.std.specs.Prelude.{◌≡◌, ℕ, ◌<◌, List, [], length, All, codes}
+use Rattle.tariff.specs.declared.fault.StepsFault.{StepsFault}
+use Rattle.tariff.specs.declared.fault.StepsFault.TheVariants.{NoStep, TooMany, NotRising, BadPrice, EndMissing, Memory, BadText}
+use Rattle.tariff.specs.declared.step.Step.{Step}
+use Rattle.tariff.specs.Steps.{HasCount, HasEnds, HasPrice, IsRising, IsSteps}
+
+-- the fault is the first that the steps have; memory is wanted only where they have none
+abbrev pub FirstFault : List Step → StepsFault → Type 0
+FirstFault steps NoStep = steps ≡ []
+FirstFault steps TooMany = 8 < length steps
+FirstFault steps EndMissing = HasCount steps × ¬ HasEnds steps
+FirstFault steps NotRising = HasCount steps × HasEnds steps × ¬ IsRising steps
+FirstFault steps BadPrice = HasCount steps × HasEnds steps × IsRising steps × ¬ All HasPrice steps
+FirstFault steps Memory = IsSteps steps
+FirstFault steps BadText = ⊥
+
+-- the number that a user meets
+abbrev pub fault_number : StepsFault → ℕ
+fault_number NoStep = 1
+fault_number TooMany = 2
+fault_number NotRising = 3
+fault_number BadPrice = 4
+fault_number EndMissing = 5
+fault_number Memory = 6
+fault_number BadText = 7
+
+-- the name that a user meets
+abbrev pub fault_name : StepsFault → List ℕ
+fault_name NoStep = codes "NoStep"
+fault_name TooMany = codes "TooMany"
+fault_name NotRising = codes "NotRising"
+fault_name BadPrice = codes "BadPrice"
+fault_name EndMissing = codes "EndMissing"
+fault_name Memory = codes "Memory"
+fault_name BadText = codes "BadText"

@@ -1,0 +1,154 @@
+use crate::{Step, Steps, StepsFault, Tender, buy, price};
+use std::alloc::Global;
+use std::test::Fail;
+
+// What a tender buys by the steps of a text: tenths, price and change.
+fn bought(
+    alloc: Global,
+    text: &[u8],
+    prior: u32,
+    cents: u64,
+) -> Result<Option<(u32, u32, u32)>, Fail> {
+    let steps = Steps::of_text(alloc, text)?;
+    let tender = Tender::read(cents).ok_or("no tender")?;
+    let bought = buy(&steps, u64::from(prior), tender);
+    Ok(bought.map(|b| (b.tenths.tenths(), b.price, b.change)))
+}
+
+#[test]
+fn buys(rt: HostRuntime) -> Result<(), Fail> {
+    let two = b"500:100;:200".as_slice();
+    let rows = [
+        (b":100".as_slice(), 0, 163_880, Some((16_384, 163_840, 40))),
+        (b":1".as_slice(), 0, 1, Some((10, 1, 0))),
+        (two, 490, 200, Some((15, 200, 0))),
+        (two, 499, 20, Some((1, 10, 10))),
+        (two, 500, 20, Some((1, 20, 0))),
+        (b":100".as_slice(), 0, 9, None),
+        (
+            b":1".as_slice(),
+            0,
+            100_000_000,
+            Some((18_201_624, 1_820_163, 98_179_837)),
+        ),
+    ];
+    for (text, prior, cents, want) in rows {
+        assert_eq!(rt; bought(rt.alloc(), text, prior, cents)?, want);
+    }
+    Ok(())
+}
+
+#[test]
+fn prices(rt: HostRuntime) -> Result<(), Fail> {
+    let steps = Steps::of_text(rt.alloc(), b"500:100;:200")?;
+    // Ten tenths at 100 and five at 200 are 200 cents; one tenth of 1 cent is rounded up.
+    assert_eq!(rt; price(&steps, 490, 15), 200);
+    assert_eq!(rt; price(&steps, 0, 0), 0);
+    assert_eq!(rt; price(&Steps::of_text(rt.alloc(), b":1")?, 0, 1), 1);
+    Ok(())
+}
+
+// The fault of a text, if it has one.
+fn fault(alloc: Global, text: &[u8]) -> Option<StepsFault> {
+    match Steps::of_text(alloc, text) {
+        Ok(_) => None,
+        Err(fault) => Some(fault),
+    }
+}
+
+#[test]
+fn faults_of_texts(rt: HostRuntime) {
+    let rows = [
+        (b"500:100;:200".as_slice(), None),
+        (b"1:1;2:1;3:1;4:1;5:1;6:1;7:1;:1".as_slice(), None),
+        (
+            b"1:1;2:1;3:1;4:1;5:1;6:1;7:1;8:1;:1".as_slice(),
+            Some(StepsFault::TooMany),
+        ),
+        (b"4294967295:1000000;:1".as_slice(), None),
+        (b"500:100".as_slice(), Some(StepsFault::EndMissing)),
+        (b":100;:200".as_slice(), Some(StepsFault::EndMissing)),
+        (b"0:1;:1".as_slice(), Some(StepsFault::NotRising)),
+        (b"2:1;2:1;:1".as_slice(), Some(StepsFault::NotRising)),
+        (b":0".as_slice(), Some(StepsFault::BadPrice)),
+        (b":1000001".as_slice(), Some(StepsFault::BadPrice)),
+        // The first test that fails answers.
+        (b"2:0;2:0".as_slice(), Some(StepsFault::EndMissing)),
+        (b"2:0;2:0;:0".as_slice(), Some(StepsFault::NotRising)),
+        (
+            b"0:0;0:0;0:0;0:0;0:0;0:0;0:0;0:0;0:0".as_slice(),
+            Some(StepsFault::TooMany),
+        ),
+        (b"0:0;x:0".as_slice(), Some(StepsFault::BadText)),
+    ];
+    for (text, want) in rows {
+        assert_eq!(rt; fault(rt.alloc(), text), want);
+    }
+}
+
+#[test]
+fn texts_of_no_steps(rt: HostRuntime) {
+    let texts = [
+        b"".as_slice(),
+        b":".as_slice(),
+        b"1".as_slice(),
+        b";".as_slice(),
+        b":1;".as_slice(),
+        b":01".as_slice(),
+        b"00:1;:1".as_slice(),
+        b":+1".as_slice(),
+        b":-1".as_slice(),
+        b": 1".as_slice(),
+        b":1:1".as_slice(),
+        b":4294967296".as_slice(),
+        b"4294967296:1;:1".as_slice(),
+        b"\xff:1".as_slice(),
+    ];
+    for text in texts {
+        assert_eq!(rt; fault(rt.alloc(), text), Some(StepsFault::BadText));
+    }
+}
+
+#[test]
+fn reads_steps(rt: HostRuntime) -> Result<(), Fail> {
+    let list = [
+        Step {
+            ends: Some(500),
+            price: 100,
+        },
+        Step {
+            ends: None,
+            price: 200,
+        },
+    ];
+    let read = Steps::read(rt.alloc(), &list)?;
+    assert_eq!(rt; read.as_slice(), list.as_slice());
+    assert!(rt; read == Steps::of_text(rt.alloc(), b"500:100;:200")?);
+    assert!(rt; read == read.clone()?);
+    assert!(rt; read != Steps::of_text(rt.alloc(), b"500:100;:201")?);
+    assert!(rt; matches!(Steps::read(rt.alloc(), &[]), Err(StepsFault::NoStep)));
+    assert!(rt;
+        matches!(
+            Steps::read(rt.alloc(), &list[..1]),
+            Err(StepsFault::EndMissing)
+        )
+    );
+    Ok(())
+}
+
+#[test]
+fn names_of_faults(rt: HostRuntime) {
+    assert_eq!(rt; StepsFault::EndMissing.number(), 5);
+    assert_eq!(rt; StepsFault::EndMissing.name(), "EndMissing");
+}
+
+#[test]
+fn tenders(rt: HostRuntime) {
+    assert_eq!(rt; Tender::read(0), None);
+    assert_eq!(rt; Tender::read(1).map(|t| t.cents()), Some(1));
+    assert_eq!(rt;
+        Tender::read(100_000_000).map(|t| t.cents()),
+        Some(100_000_000)
+    );
+    assert_eq!(rt; Tender::read(100_000_001), None);
+}
