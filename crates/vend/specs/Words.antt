@@ -1,5 +1,5 @@
 -- What the words of a sale say.
-use Rattle.std.specs.Prelude.{◌≡◌, ℕ, ◌<◌, ◌≤◌, ◌^◌, List, [], length, drop, map, slice_index_or, codes}
+use Rattle.std.specs.Prelude.{◌≡◌, ℕ, ◌<◌, ◌≤◌, ◌^◌, ◌⊎◌, List, [], length, drop, map, slice_index_or, codes}
 use Rattle.std.specs.Borrow.{Bor}
 use Rattle.std.specs.Str.Parse.{IsNumeral, digits_value}
 use Rattle.sts_fields.specs.Base.{year_of}
@@ -43,3 +43,7 @@ abbrev pub status_of : BadWords → ℕ
 status_of Shape = 2
 status_of Value = 2
 status_of Memory = 1
+
+-- the words that a command begins with
+abbrev pub IsCommand : List ℕ → Type 0
+IsCommand text = (text ≡ codes "sell") ⊎ (text ≡ codes "quote")

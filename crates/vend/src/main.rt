@@ -8,6 +8,7 @@ use std::io::{self, Write};
 use std::process::ExitCode;
 use std::rt::Env;
 
+mod quote;
 mod run;
 mod sell;
 mod trial;

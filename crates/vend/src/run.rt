@@ -1,6 +1,7 @@
-ghost use Rattle.std.specs.Prelude.{◌≡◌, ◌≢◌, ◌≤◌, codes};
-ghost use Rattle.vend.specs.Words.{status_of, text_at};
+ghost use Rattle.std.specs.Prelude.{◌≡◌, ◌≤◌};
+ghost use Rattle.vend.specs.Words.{IsCommand, status_of, text_at};
 
+use crate::quote::Quote;
 use crate::sell::Sell;
 use crate::words::BadWords;
 use std::alloc::Global;
@@ -22,10 +23,11 @@ pub enum End {
 /// Any other words print `bad words`, a value outside its rule `bad word`; both end with 2.
 pub fn run<O: Write, E: Write>(alloc: Global, words: &[&str], out: &mut O, err: &mut E) -> u8
     ensures status { result ≤ 2 }
-    ensures unknown { text_at words.now 0 ≢ codes "sell" → result ≡ 2 }
+    ensures unknown { ¬ IsCommand (text_at words.now 0) → result ≡ 2 }
 {
     let end = match words {
         ["sell", rest @ ..] => sell(alloc, rest, out, err),
+        ["quote", rest @ ..] => quote(alloc, rest, out, err),
         _ => Err(BadWords::Shape),
     };
     match end {
@@ -61,5 +63,18 @@ fn sell<O: Write, E: Write>(
     match sell.run(alloc, out, err) {
         Ok(None) => Ok(End::Done),
         Ok(Some(_)) | Err(_) => Ok(End::Refused),
+    }
+}
+
+fn quote<O: Write, E: Write>(
+    alloc: Global,
+    words: &[&str],
+    out: &mut O,
+    err: &mut E,
+) -> Result<End, BadWords> {
+    let quote = Quote::read(alloc, words)?;
+    match quote.run(out, err) {
+        Ok(true) => Ok(End::Done),
+        Ok(false) | Err(_) => Ok(End::Refused),
     }
 }

@@ -1,0 +1,62 @@
+ghost use Rattle.std.specs.Prelude.{◌≤◌};
+
+use crate::words::{self, BadWords};
+use std::alloc::Global;
+use std::io::{self, Write};
+use tariff::{Steps, StepsFault, Tender, buy};
+
+/// The greatest count of tenths of a kWh that a month may have had before.
+const GREATEST_PRIOR: u64 = 100_000_000_000_000_000;
+
+/// What `quote` is asked: what a tender buys of some steps after the tenths that the month had before.
+#[derive(Drop)]
+pub struct Quote {
+    steps: Steps,
+    prior: u64,
+    tender: Tender,
+    ghost prior_in_range: { prior ≤ 100000000000000000 },
+}
+
+impl Quote {
+    /// Reads the words after `quote`: `STEPS PRIOR TENDER`.
+    pub(crate) fn read(alloc: Global, words: &[&str]) -> Result<Quote, BadWords> {
+        let [steps, prior, tender] = words else {
+            return Err(BadWords::Shape);
+        };
+        let steps = match Steps::of_text(alloc, steps.as_bytes()) {
+            Ok(steps) => steps,
+            Err(StepsFault::Memory) => return Err(BadWords::Memory),
+            Err(_) => return Err(BadWords::Value),
+        };
+        let (Some(prior), Some(tender)) = (words::number(prior), tender_of(tender)) else {
+            return Err(BadWords::Value);
+        };
+        if prior > GREATEST_PRIOR {
+            return Err(BadWords::Value);
+        }
+        Ok(Quote {
+            steps,
+            prior,
+            tender,
+        })
+    }
+
+    /// Prints the tenths, the price and the change, or why nothing is bought; answers whether something is.
+    pub(crate) fn run<O: Write, E: Write>(&self, out: &mut O, err: &mut E) -> io::Result<bool> {
+        match buy(&self.steps, self.prior, self.tender) {
+            Some(bought) => {
+                writeln!(out, "{} {} {}", bought.tenths.tenths(), bought.price, bought.change)?;
+                Ok(true)
+            }
+            None => {
+                err.write_all(b"refused 10 TooLittle\n")?;
+                Ok(false)
+            }
+        }
+    }
+}
+
+// The tender of so many cents.
+fn tender_of(word: &str) -> Option<Tender> {
+    Tender::read(words::number(word)?)
+}
