@@ -1,5 +1,11 @@
 pub mod BlockLemmas
 pub mod CheckLemmas
+pub mod DecimalLemmas
 pub mod DigitsLemmas
 pub mod KeyLemmas
+pub mod MeterLawLemmas
+pub mod MeterLemmas
+pub mod NumberLemmas
+pub mod ReadingLemmas
+pub mod SoldLemmas
 pub mod TokenLemmas

@@ -1,6 +1,13 @@
 pub mod Block
 pub mod Check
+pub mod Demo
+pub mod DemoLaws
 pub mod Digits
 pub mod Fields
 pub mod Key
+pub mod Meter
+pub mod Reading
+pub mod Sold
 pub mod Token
+pub mod TokenFault
+pub mod Transform

@@ -4,16 +4,26 @@
 #![tactic(auto)]
 
 pub use check::check16;
+pub use demo::Demo;
+pub use fault::TokenFault;
 pub use fields::Fields;
 pub use key::{key_law, key_text, read_key};
+pub use meter::meter_law;
+pub use reading::{read, read_law};
 pub use token::{token_law, write};
 pub use transform::{BlockTransform, Plain};
 
 mod block;
 mod check;
+mod demo;
 mod digits;
+mod fault;
 mod fields;
 mod key;
+mod meter;
+mod reading;
+#[cfg(test)]
+mod reading_tests;
 #[cfg(test)]
 mod tests;
 mod token;
