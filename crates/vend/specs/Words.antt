@@ -46,4 +46,4 @@ status_of Memory = 1
 
 -- the words that a command begins with
 abbrev pub IsCommand : List ℕ → Type 0
-IsCommand text = (text ≡ codes "sell") ⊎ (text ≡ codes "quote")
+IsCommand text = (text ≡ codes "sell") ⊎ (text ≡ codes "meter") ⊎ (text ≡ codes "quote")

@@ -8,9 +8,13 @@ use std::io::{self, Write};
 use std::process::ExitCode;
 use std::rt::Env;
 
+mod enter;
 mod quote;
 mod run;
 mod sell;
+mod shipped;
+#[cfg(test)]
+mod tests;
 mod trial;
 mod words;
 
@@ -46,6 +50,3 @@ fn run_given(rt: &HostRuntime, given: &[String]) -> u8 {
         Err(_) => refused_words(&mut rt.stderr(), BadWords::Memory),
     }
 }
-
-#[cfg(test)]
-mod tests;

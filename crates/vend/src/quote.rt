@@ -45,7 +45,13 @@ impl Quote {
     pub(crate) fn run<O: Write, E: Write>(&self, out: &mut O, err: &mut E) -> io::Result<bool> {
         match buy(&self.steps, self.prior, self.tender) {
             Some(bought) => {
-                writeln!(out, "{} {} {}", bought.tenths.tenths(), bought.price, bought.change)?;
+                writeln!(
+                    out,
+                    "{} {} {}",
+                    bought.tenths.tenths(),
+                    bought.price,
+                    bought.change
+                )?;
                 Ok(true)
             }
             None => {

@@ -1,11 +1,14 @@
 ghost use Rattle.std.specs.Prelude.{◌≡◌, ◌≤◌};
 ghost use Rattle.vend.specs.Words.{IsCommand, status_of, text_at};
 
+use crate::enter::Enter;
 use crate::quote::Quote;
 use crate::sell::Sell;
+use crate::shipped::Shipped;
 use crate::words::BadWords;
 use std::alloc::Global;
 use std::io::Write;
+use sts_token::{Demo, Plain};
 
 /// How a command ended; the numbers are the exit statuses.
 #[derive(Clone, Copy, Debug, PartialEq, Eq)]
@@ -27,6 +30,7 @@ pub fn run<O: Write, E: Write>(alloc: Global, words: &[&str], out: &mut O, err: 
 {
     let end = match words {
         ["sell", rest @ ..] => sell(alloc, rest, out, err),
+        ["meter", rest @ ..] => meter(rest, out),
         ["quote", rest @ ..] => quote(alloc, rest, out, err),
         _ => Err(BadWords::Shape),
     };
@@ -59,10 +63,24 @@ fn sell<O: Write, E: Write>(
     out: &mut O,
     err: &mut E,
 ) -> Result<End, BadWords> {
+    let (transform, words) = Shipped::take(words)?;
     let sell = Sell::read(alloc, words)?;
-    match sell.run(alloc, out, err) {
+    let ended = match transform {
+        Shipped::Plain => sell.run(alloc, &Plain, out, err),
+        Shipped::Demo => sell.run(alloc, &Demo, out, err),
+    };
+    match ended {
         Ok(None) => Ok(End::Done),
         Ok(Some(_)) | Err(_) => Ok(End::Refused),
+    }
+}
+
+fn meter<O: Write>(words: &[&str], out: &mut O) -> Result<End, BadWords> {
+    let (transform, words) = Shipped::take(words)?;
+    let enter = Enter::read(words)?;
+    match enter.run(transform, out) {
+        Ok(()) => Ok(End::Done),
+        Err(_) => Ok(End::Refused),
     }
 }
 
@@ -72,6 +90,8 @@ fn quote<O: Write, E: Write>(
     out: &mut O,
     err: &mut E,
 ) -> Result<End, BadWords> {
+    // No token is written or read here, so the transform does not matter.
+    let (_, words) = Shipped::take(words)?;
     let quote = Quote::read(alloc, words)?;
     match quote.run(out, err) {
         Ok(true) => Ok(End::Done),

@@ -6,7 +6,7 @@ use crate::words::{self, BadWords};
 use std::alloc::Global;
 use std::io::{self, Write};
 use sts_fields::{Base, Moment, TidFault};
-use sts_token::{Plain, read_key};
+use sts_token::{BlockTransform, read_key};
 
 /// What `sell` is asked to do: amounts in tenths of a kWh, sold to one meter at a moment.
 #[derive(Drop)]
@@ -49,15 +49,16 @@ impl Sell {
     }
 
     /// Sells, and prints each token on a line of the output, then why it stopped on the error output.
-    pub(crate) fn run<O: Write, E: Write>(
+    pub(crate) fn run<T: BlockTransform, O: Write, E: Write>(
         &self,
         alloc: Global,
+        transform: &T,
         out: &mut O,
         err: &mut E,
     ) -> io::Result<Option<TrialFault>> {
         let (tokens, fault) = trial(
             alloc,
-            &Plain,
+            transform,
             self.key,
             self.base,
             self.moment,

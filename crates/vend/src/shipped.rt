@@ -1,0 +1,20 @@
+use crate::words::BadWords;
+
+/// A transform that ships, by the name that a command line gives it.
+#[derive(Clone, Copy, Debug, PartialEq, Eq)]
+pub enum Shipped {
+    Plain,
+    Demo,
+}
+
+impl Shipped {
+    /// Takes `--transform plain|demo` off the front of the words; where it is not there, the transform is `Plain`.
+    pub(crate) fn take<'w, 't>(words: &'w [&'t str]) -> Result<(Shipped, &'w [&'t str]), BadWords> {
+        match words {
+            ["--transform", "plain", rest @ ..] => Ok((Shipped::Plain, rest)),
+            ["--transform", "demo", rest @ ..] => Ok((Shipped::Demo, rest)),
+            ["--transform", _, ..] => Err(BadWords::Value),
+            _ => Ok((Shipped::Plain, words)),
+        }
+    }
+}
