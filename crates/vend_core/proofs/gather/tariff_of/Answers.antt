@@ -1,0 +1,22 @@
+use Rattle.std.proofs.Common.{◌≡◌, [], sym, ◌∙◌, ap, List, Option, Some, None, refl, unwrap_or, is_some}
+use Rattle.std.specs.Option.{option_copied}
+use Rattle.tariff.specs.declared.step.Step.{Step}
+use Rattle.vend_core.specs.PlainRows.{row_of}
+use denote.Ref.{Bor}
+use Rattle.vend_core.proofs.gather.tariff_of.Goals as goal
+
+-- a reference is there where a value is
+is_some-option_copied : {T : Type 0} (r : Option (Bor T)) → is_some (option_copied r) ≡ is_some r
+is_some-option_copied None = refl
+is_some-option_copied (Some x) = refl
+
+pub unwrap-requires : goal.unwrap-requires
+unwrap-requires c =
+    sym (is_some-option_copied c.steps_under.result)
+    ∙ ap is_some (c.steps_under.ensures ∙ ap (λ l. row_of l c.args.meter.now.tariff) c.deref.ensures.value)
+    ∙ c.args.records.now.have_tariffs c.args.number.now c.args.meter.now c.requires
+
+pub returns : goal.returns
+returns c =
+    ap (λ (r : Option (Bor (List Step))). unwrap_or (option_copied r) []) (sym c.unwrap.ensures)
+    ∙ ap (λ o. unwrap_or o []) (c.steps_under.ensures ∙ ap (λ l. row_of l c.args.meter.now.tariff) c.deref.ensures.value)

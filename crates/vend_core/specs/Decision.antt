@@ -1,0 +1,172 @@
+-- How the office decides a request: the tests in their order, and what a granted request changes.
+use Rattle.std.specs.Prelude.{ℕ, ◌+◌, ◌&&◌, ◌==◌, Bool, List, length, nat_lt, if◌then◌else◌, Option, Some, None, Result, Ok, Err, option_map, bytes_eq}
+use Rattle.std.specs.Option.{ok_or}
+use Rattle.sts_fields.specs.Calendar.{month_at}
+use Rattle.sts_fields.specs.Tid.{fresh_after, minute_of}
+use Rattle.sts_fields.specs.declared.fault.TidFault.{TidFault}
+use Rattle.sts_fields.specs.declared.fault.TidFault.TheVariants.{BeforeBase, PastEnd, IdentifiersSpent, IdentifierAhead}
+use Rattle.sts_token.specs.Token.{token_of}
+use Rattle.tariff.specs.Purchase.{purchase_of}
+pub use Rattle.tariff.specs.StepsEq.{step_eq, steps_eq}
+use Rattle.tariff.specs.declared.step.Step.{Step}
+use Rattle.vend_core.specs.Lookup.{base_eq, greatest_of, open_shift, prior, sale_numbered, sale_of_ref, sales_of_shift, shift_numbered, steps_for, used}
+use Rattle.vend_core.specs.Office.{Office, greatest_count}
+use Rattle.vend_core.specs.declared.answer.Answer.{Answer}
+use Rattle.vend_core.specs.declared.answer.Answer.TheVariants as answers
+use Rattle.vend_core.specs.declared.change.Change.{Change}
+use Rattle.vend_core.specs.declared.change.Edit.{Edit}
+use Rattle.vend_core.specs.declared.change.Edit.TheVariants as edits
+use Rattle.vend_core.specs.declared.meter.Meter.{Meter}
+use Rattle.vend_core.specs.declared.refusal.Refusal.{Refusal}
+use Rattle.vend_core.specs.declared.refusal.Refusal.TheVariants as refusals
+use Rattle.vend_core.specs.declared.request.Order.{Order}
+use Rattle.vend_core.specs.declared.request.Request.{Request}
+use Rattle.vend_core.specs.declared.request.Request.TheVariants as requests
+use Rattle.vend_core.specs.declared.request.Stamped.{Stamped}
+use Rattle.vend_core.specs.declared.sale.Sale.{Sale}
+use Rattle.vend_core.specs.declared.shift.Shift.{Shift}
+
+-- the next test, if the one before is passed
+infixl 10 ◌>>=◌
+abbrev pub ◌>>=◌ : {A B : Type 0} → Result A Refusal → (A → Result B Refusal) → Result B Refusal
+(Ok x) >>= f = f x
+(Err e) >>= f = Err e
+
+-- a request is granted, and changes nothing
+abbrev pub unchanged : Answer → Result Change Refusal
+unchanged answer = Ok (record { edit = None; answer = answer })
+
+-- a request is granted, and makes an edit
+abbrev pub changed : Edit → Answer → Result Change Refusal
+changed edit answer = Ok (record { edit = Some edit; answer = answer })
+
+-- two meters are the same
+abbrev pub meter_eq : Meter → Meter → Bool
+meter_eq a b = base_eq a.base b.base && bytes_eq a.tariff b.tariff && (a.key == b.key)
+
+-- why a moment has no minute, or a sale no identifier, as a refusal
+abbrev pub refusal_of : TidFault → Refusal
+refusal_of BeforeBase = refusals.BeforeBase
+refusal_of PastEnd = refusals.IdentifiersSpent
+refusal_of IdentifiersSpent = refusals.IdentifiersSpent
+refusal_of IdentifierAhead = refusals.IdentifierAhead
+
+abbrev pub or_refusal : {A : Type 0} → Result A TidFault → Result A Refusal
+or_refusal (Ok x) = Ok x
+or_refusal (Err fault) = Err (refusal_of fault)
+
+-- the number of the next row, where there is room for one: counts go up to a thousand million
+abbrev pub next_number : ℕ → Result ℕ Refusal
+next_number count = if nat_lt count greatest_count then Ok (count + 1) else Err refusals.OfficeFull
+
+-- AddTariff, where there are these steps under the name
+abbrev pub add_tariff : List ℕ → List Step → Option (List Step) → Result Change Refusal
+add_tariff name steps None = changed (edits.AddTariff name steps) answers.Done
+add_tariff name steps (Some there) = if steps_eq there steps then unchanged answers.Done else Err refusals.Differs
+
+-- AddMeter, where there is this meter under the number, and these steps under its tariff's name
+abbrev pub add_meter : List ℕ → Meter → Option Meter → Option (List Step) → Result Change Refusal
+add_meter number m (Some there) tariff = if meter_eq there m then unchanged answers.Done else Err refusals.Differs
+add_meter number m None (Some steps) = changed (edits.AddMeter number m) answers.Done
+add_meter number m None None = Err refusals.NoTariff
+
+-- SetTariff
+abbrev pub set_tariff : List ℕ → List ℕ → Option Meter → Option (List Step) → Result Change Refusal
+set_tariff number name meter tariff = do
+  m ← ok_or meter refusals.NoMeter
+  steps ← ok_or tariff refusals.NoTariff
+  changed (edits.SetTariff number name) answers.Done
+
+-- OpenShift, where the operator has this open shift and there are so many shifts
+abbrev pub open_a_shift : ℕ → List ℕ → Option Shift → ℕ → Result Change Refusal
+open_a_shift moment operator (Some there) count = Err refusals.ShiftOpen
+open_a_shift moment operator None count = do
+  number ← next_number count
+  changed (edits.OpenShift (record { number = number; operator = operator; opened = moment; closed = None })) (answers.Opened number)
+
+-- CloseShift
+abbrev pub close_shift : ℕ → Option Shift → Result Change Refusal
+close_shift moment shift = do
+  s ← ok_or shift refusals.NoShift
+  changed (edits.CloseShift s.number moment) (answers.Closed s.number)
+
+-- Sell, where this sale was made under the operator's ref: the same order gets it again
+abbrev pub sell_again : Order → Sale → Result Change Refusal
+sell_again order first =
+    if bytes_eq first.meter order.meter && (first.tender == order.tender) then unchanged (answers.Sold first)
+    else Err refusals.RefReused
+
+-- what a sale looks at of its meter: the meter, the steps of its tariff, the last identifier under its base, the month's tenths
+pub record MeterFacts : Type 0 where
+  pub meter : Meter
+  pub steps : List Step
+  pub last : Option ℕ
+  pub prior : ℕ
+
+-- a new sale: the operator's open shift, the meter, its minute, the fresh identifier, the purchase, and room for one more
+abbrev pub sell : (ℕ → ℕ → ℕ) → ℕ → ℕ → Order → Option Shift → Option MeterFacts → ℕ → Result Change Refusal
+sell forward moment nibble order shift meter count = do
+  s ← ok_or shift refusals.NoShift
+  m ← ok_or meter refusals.NoMeter
+  now ← or_refusal (minute_of m.meter.base moment)
+  tid ← or_refusal (fresh_after now m.last)
+  buy ← ok_or (purchase_of m.steps m.prior order.tender) refusals.TooLittle
+  number ← next_number count
+  let sale : Sale = record {
+    number = number;
+    moment = moment;
+    shift = s.number;
+    operator = order.operator;
+    order_ref = order.order_ref;
+    meter = order.meter;
+    base = m.meter.base;
+    tid = tid;
+    rnd = nibble;
+    tenths = buy.tenths;
+    price = buy.price;
+    tender = order.tender;
+    digits = token_of forward m.meter.key (record { rnd = nibble; tid = tid; tenths = buy.tenths });
+  } in changed (edits.AddSale sale) (answers.Sold sale)
+
+-- Sell, where the operator made this sale under the ref
+abbrev pub sell_once : (ℕ → ℕ → ℕ) → ℕ → ℕ → Order → Option Sale → Option Shift → Option MeterFacts → ℕ → Result Change Refusal
+sell_once forward moment nibble order (Some first) shift meter count = sell_again order first
+sell_once forward moment nibble order None shift meter count = sell forward moment nibble order shift meter count
+
+-- Reprint: the sale as it was stored
+abbrev pub reprint : Option Sale → Result Change Refusal
+reprint sale = do
+  s ← ok_or sale refusals.NoSale
+  unchanged (answers.Reprinted s)
+
+-- ShiftReport, where these are the shift's sales
+abbrev pub report : Option Shift → List Sale → Result Change Refusal
+report shift sales = do
+  s ← ok_or shift refusals.NoSuchShift
+  unchanged (answers.Report s sales)
+
+-- what a sale at a moment looks at of the meter of this number
+abbrev pub meter_facts : Office → List ℕ → ℕ → Option MeterFacts
+meter_facts o number moment =
+    option_map (λ m. record {
+      meter = m;
+      steps = steps_for o m;
+      last = greatest_of (used o number m.base);
+      prior = prior o number (month_at moment);
+    }) (o.meters number)
+
+-- how an office decides a request
+abbrev pub decision_of : (ℕ → ℕ → ℕ) → Office → ℕ → ℕ → Request → Result Change Refusal
+decision_of forward o moment nibble (requests.AddTariff name steps) = add_tariff name steps (o.tariffs name)
+decision_of forward o moment nibble (requests.AddMeter number m) = add_meter number m (o.meters number) (o.tariffs m.tariff)
+decision_of forward o moment nibble (requests.SetTariff number name) = set_tariff number name (o.meters number) (o.tariffs name)
+decision_of forward o moment nibble (requests.OpenShift operator) = open_a_shift moment operator (open_shift o operator) (length o.shifts)
+decision_of forward o moment nibble (requests.CloseShift operator) = close_shift moment (open_shift o operator)
+decision_of forward o moment nibble (requests.Sell order) =
+    sell_once forward moment nibble order (sale_of_ref o order.operator order.order_ref) (open_shift o order.operator)
+    (meter_facts o order.meter moment) (length o.sales)
+decision_of forward o moment nibble (requests.Reprint number) = reprint (sale_numbered o number)
+decision_of forward o moment nibble (requests.ShiftReport number) = report (shift_numbered o number) (sales_of_shift o number)
+
+abbrev pub decision : (ℕ → ℕ → ℕ) → Office → Stamped → Result Change Refusal
+decision forward o at = decision_of forward o at.moment at.nibble at.request

@@ -1,0 +1,94 @@
+-- The office: what it holds, and what all that it holds keeps.
+use Rattle.std.specs.Prelude.{◌≡◌, ◌≢◌, ℕ, ◌+◌, ◌^◌, ◌<◌, ◌≤◌, List, [], length, Option, Some, None, IsSome, IsNone, All, AllPairs, slice_get}
+use Rattle.sts_fields.specs.Amount.{IsRepresentable}
+use Rattle.sts_fields.specs.Tid.{last_tid}
+use Rattle.sts_token.specs.Token.{AreTwentyDigits}
+use Rattle.tariff.specs.Steps.{IsSteps}
+use Rattle.tariff.specs.Tender.{IsTender}
+use Rattle.tariff.specs.declared.step.Step.{Step}
+use Rattle.vend_core.specs.Names.{IsMeterNo, IsName, IsOperator}
+use Rattle.vend_core.specs.declared.meter.Meter.{Meter}
+use Rattle.vend_core.specs.declared.sale.Sale.{Sale}
+use Rattle.vend_core.specs.declared.shift.Shift.{Shift}
+
+-- tariffs by name, meters by number, shifts and sales in the order that they came; no totals, and no last identifier
+pub record Office : Type 0 where
+  pub tariffs : List ℕ → Option (List Step)
+  pub meters : List ℕ → Option Meter
+  pub shifts : List Shift
+  pub sales : List Sale
+
+-- the office in which nothing is stored yet
+abbrev pub empty_office : Office
+empty_office = record { tariffs = λ _. None; meters = λ _. None; shifts = []; sales = [] }
+
+-- how many shifts and how many sales an office holds at the most
+abbrev pub greatest_count : ℕ
+greatest_count = 10 ^ 9
+
+-- a moment from 1993 to 2099, in Unix seconds
+abbrev pub IsMoment : ℕ → Type 0
+IsMoment secs = (725846400 ≤ secs) × (secs ≤ 4102444799)
+
+-- the values of a tariff under its name
+pub record IsTariffRow (name : List ℕ) (steps : List Step) : Type 0 where
+  pub named : IsName name
+  pub priced : IsSteps steps
+
+-- the values of a meter under its number; its tariff is one of the office's
+pub record IsMeterRow (o : Office) (number : List ℕ) (m : Meter) : Type 0 where
+  pub numbered : IsMeterNo number
+  pub key : m.key < 2 ^ 64
+  pub tariff : IsSome (o.tariffs m.tariff)
+
+-- the values of a shift; it is closed at a moment or open
+pub record IsShiftRow (s : Shift) : Type 0 where
+  pub operator : IsOperator s.operator
+  pub opened : IsMoment s.opened
+  pub closed : (secs : ℕ) → s.closed ≡ Some secs → IsMoment secs
+
+-- the values of a sale: it was made in a shift and to a meter of the office, and its price is at most the tender
+pub record IsSaleRow (o : Office) (s : Sale) : Type 0 where
+  pub moment : IsMoment s.moment
+  pub shift : (1 ≤ s.shift) × (s.shift ≤ length o.shifts)
+  pub operator : IsOperator s.operator
+  pub order_ref : IsName s.order_ref
+  pub meter : IsSome (o.meters s.meter)
+  pub tid : s.tid ≤ last_tid
+  pub rnd : s.rnd < 2 ^ 4
+  pub tenths : IsRepresentable s.tenths
+  pub some : 1 ≤ s.tenths
+  pub tender : IsTender s.tender
+  pub price : s.price ≤ s.tender
+  pub digits : AreTwentyDigits s.digits
+
+-- the rows are numbered 1, 2, 3 and on
+abbrev pub AreNumbered : {Row : Type 0} → (Row → ℕ) → List Row → Type 0
+AreNumbered {Row} number rows = (i : ℕ) (row : Row) → slice_get rows i ≡ Some row → number row ≡ i + 1
+
+-- two shifts, the first opened before the second, that are not both open for one operator
+abbrev pub NotBothOpen : Shift → Shift → Type 0
+NotBothOpen a b = IsNone a.closed → IsNone b.closed → a.operator ≢ b.operator
+
+-- two sales, the first made before the second: no identifier of a meter under a base and no ref is used twice
+pub record IsBefore (a b : Sale) : Type 0 where
+  pub number : a.number < b.number
+  pub tid : a.meter ≡ b.meter → a.base ≡ b.base → a.tid ≢ b.tid
+  pub order_ref : a.operator ≡ b.operator → a.order_ref ≢ b.order_ref
+
+-- the identifier of the later sale is the greater one, where meter and base agree
+abbrev pub Rises : Sale → Sale → Type 0
+Rises a b = a.meter ≡ b.meter → a.base ≡ b.base → a.tid < b.tid
+
+-- what an office keeps
+pub record IsOffice (o : Office) : Type 0 where
+  pub tariffs : (name : List ℕ) (steps : List Step) → o.tariffs name ≡ Some steps → IsTariffRow name steps
+  pub meters : (number : List ℕ) (m : Meter) → o.meters number ≡ Some m → IsMeterRow o number m
+  pub shifts : All IsShiftRow o.shifts
+  pub shift_numbers : AreNumbered (λ s. s.number) o.shifts
+  pub one_open : AllPairs NotBothOpen o.shifts
+  pub shift_count : length o.shifts ≤ greatest_count
+  pub sales : All (IsSaleRow o) o.sales
+  pub sale_numbers : AreNumbered (λ s. s.number) o.sales
+  pub before : AllPairs IsBefore o.sales
+  pub sale_count : length o.sales ≤ greatest_count

@@ -1,0 +1,27 @@
+use crate::answer::Answer;
+use crate::meter::Meter;
+use crate::meter_no::MeterNo;
+use crate::sale::Sale;
+use crate::shift::Shift;
+use crate::tariff_name::TariffName;
+use sts_fields::Moment;
+use tariff::Steps;
+
+/// A row that a granted request adds or sets.
+#[derive(Debug, Drop)]
+pub enum Edit {
+    AddTariff(TariffName, Steps),
+    AddMeter(MeterNo, Meter),
+    SetTariff(MeterNo, TariffName),
+    OpenShift(Shift),
+    /// The shift of this number, closed at this moment.
+    CloseShift(u32, Moment),
+    AddSale(Sale),
+}
+
+/// What a granted request changes, `None` where that is nothing, and its answer.
+#[derive(Debug, Drop)]
+pub struct Change {
+    pub edit: Option<Edit>,
+    pub answer: Answer,
+}

@@ -1,0 +1,293 @@
+ghost use Rattle.std.specs.Prelude.{◌≡◌, Ok, Some, None};
+ghost use Rattle.std.specs.Option.{option_copied};
+ghost use Rattle.tariff.specs.Purchase.{purchase_of};
+ghost use Rattle.vend_core.specs.Decision.{add_meter, add_tariff, changed, close_shift, decision, meter_eq, next_number, open_a_shift, reprint, sell, sell_again, set_tariff, steps_eq};
+ghost use Rattle.vend_core.specs.Facts.{AreFacts, IsUnlessMemory, report_found};
+ghost use Rattle.vend_core.specs.Office.{Office};
+
+use crate::answer::Answer;
+use crate::buyer::Buyer;
+use crate::change::{Change, Edit};
+use crate::facts::Facts;
+use crate::meter::Meter;
+use crate::meter_no::MeterNo;
+use crate::operator::Operator;
+use crate::refusal::Refusal;
+use crate::request::{Order, Request, Stamped};
+use crate::sale::Sale;
+use crate::sales::Sales;
+use crate::shift::Shift;
+use crate::tariff_name::TariffName;
+use std::alloc::Global;
+use sts_fields::{Moment, minute, next_tid};
+use sts_token::{BlockTransform, Fields, write};
+use tariff::{Buy, Steps, Tender, buy};
+
+// The greatest number of shifts, and of sales.
+const GREATEST_COUNT: u64 = 1_000_000_000;
+
+/// How an office with these facts decides a request: what changes, and the answer.
+///
+/// Besides the refusals of `docs/OFFICE.md` only `Refusal::Memory` comes, for want of memory.
+pub fn decide<T: BlockTransform>(
+    alloc: Global,
+    transform: &T,
+    facts: &Facts,
+    at: &Stamped,
+) -> Result<Change, Refusal>
+    ensures { (o : Office) → AreFacts o at.now facts.now
+        → IsUnlessMemory result (decision (T.forwards transform.now) o at.now) }
+{
+    match &at.request {
+        Request::AddTariff(name, steps) => add_tariff(*name, steps, facts.tariff.as_ref()),
+        Request::AddMeter(number, meter) => add_meter(
+            *number,
+            *meter,
+            facts.meter,
+            facts.tariff.as_ref(),
+        ),
+        Request::SetTariff(number, name) => set_tariff(
+            *number,
+            *name,
+            facts.meter,
+            facts.tariff.as_ref(),
+        ),
+        Request::OpenShift(operator) => open_shift(
+            at.moment,
+            *operator,
+            facts.open_shift,
+            facts.shift_count,
+        ),
+        Request::CloseShift(_) => close_shift(at.moment, facts.open_shift),
+        Request::Sell(order) => match &facts.first_sale {
+            Some(first) => sell_again(order, first),
+            None => sell(
+                transform,
+                at,
+                order,
+                facts.open_shift,
+                facts.buyer.as_ref(),
+                facts.sale_count,
+            ),
+        },
+        Request::Reprint(_) => reprint(facts.sale),
+        Request::ShiftReport(_) => report(alloc, facts.report.as_ref()),
+    }
+}
+
+// A granted request that changes nothing.
+fn unchanged(answer: Answer) -> Result<Change, Refusal>
+    ensures { result ≡ Ok (record { edit = None; answer = answer }) }
+{
+    Ok(Change { edit: None, answer })
+}
+
+// A granted request that makes an edit.
+fn changed(edit: Edit, answer: Answer) -> Result<Change, Refusal>
+    ensures { result ≡ Ok (record { edit = Some edit; answer = answer }) }
+{
+    Ok(Change {
+        edit: Some(edit),
+        answer,
+    })
+}
+
+// The number of the next row, where there is room for one.
+fn next_number(count: u64) -> Result<u32, Refusal>
+    ensures { result ≡ next_number count }
+{
+    if count < GREATEST_COUNT {
+        Ok((count + 1) as u32)
+    } else {
+        Err(Refusal::OfficeFull)
+    }
+}
+
+fn same_steps(there: &Steps, steps: &Steps) -> bool
+    ensures { result ≡ steps_eq there.now steps.now }
+{
+    there.as_slice() == steps.as_slice()
+}
+
+fn same_meter(there: &Meter, meter: &Meter) -> bool
+    ensures { result ≡ meter_eq there.now meter.now }
+{
+    there.base.year() == meter.base.year()
+        && there.tariff.as_bytes() == meter.tariff.as_bytes()
+        && there.key == meter.key
+}
+
+fn add_tariff(name: TariffName, steps: &Steps, there: Option<&Steps>) -> Result<Change, Refusal>
+    ensures { IsUnlessMemory result (add_tariff name steps.now (option_copied there.entry)) }
+{
+    match there {
+        Some(there) => {
+            if same_steps(there, steps) {
+                unchanged(Answer::Done)
+            } else {
+                Err(Refusal::Differs)
+            }
+        }
+        None => {
+            let steps = steps.clone()?;
+            changed(Edit::AddTariff(name, steps), Answer::Done)
+        }
+    }
+}
+
+fn add_meter(
+    number: MeterNo,
+    meter: Meter,
+    there: Option<Meter>,
+    tariff: Option<&Steps>,
+) -> Result<Change, Refusal>
+    ensures { result ≡ add_meter number meter there (option_copied tariff.entry) }
+{
+    if let Some(there) = there {
+        return if same_meter(&there, &meter) {
+            unchanged(Answer::Done)
+        } else {
+            Err(Refusal::Differs)
+        };
+    }
+    if tariff.is_none() {
+        return Err(Refusal::NoTariff);
+    }
+    changed(Edit::AddMeter(number, meter), Answer::Done)
+}
+
+fn set_tariff(
+    number: MeterNo,
+    name: TariffName,
+    meter: Option<Meter>,
+    tariff: Option<&Steps>,
+) -> Result<Change, Refusal>
+    ensures { result ≡ set_tariff number name meter (option_copied tariff.entry) }
+{
+    if meter.is_none() {
+        return Err(Refusal::NoMeter);
+    }
+    if tariff.is_none() {
+        return Err(Refusal::NoTariff);
+    }
+    changed(Edit::SetTariff(number, name), Answer::Done)
+}
+
+fn open_shift(
+    moment: Moment,
+    operator: Operator,
+    there: Option<Shift>,
+    count: u64,
+) -> Result<Change, Refusal>
+    ensures { result ≡ open_a_shift moment operator there count }
+{
+    if there.is_some() {
+        return Err(Refusal::ShiftOpen);
+    }
+    let number = next_number(count)?;
+    let shift = Shift {
+        number,
+        operator,
+        opened: moment,
+        closed: None,
+    };
+    changed(Edit::OpenShift(shift), Answer::Opened(number))
+}
+
+fn close_shift(moment: Moment, there: Option<Shift>) -> Result<Change, Refusal>
+    ensures { result ≡ close_shift moment there }
+{
+    let shift = there.ok_or(Refusal::NoShift)?;
+    changed(
+        Edit::CloseShift(shift.number, moment),
+        Answer::Closed(shift.number),
+    )
+}
+
+// The answer to an order under a ref that was used before.
+fn sell_again(order: &Order, first: &Sale) -> Result<Change, Refusal>
+    ensures { result ≡ sell_again order.now first.now }
+{
+    if first.meter.as_bytes() == order.meter.as_bytes()
+        && first.tender.cents() == order.tender.cents()
+    {
+        unchanged(Answer::Sold(*first))
+    } else {
+        Err(Refusal::RefReused)
+    }
+}
+
+fn sell<T: BlockTransform>(
+    transform: &T,
+    at: &Stamped,
+    order: &Order,
+    open_shift: Option<Shift>,
+    buyer: Option<&Buyer>,
+    count: u64,
+) -> Result<Change, Refusal>
+    ensures { result ≡ sell (T.forwards transform.now) at.now.moment at.now.nibble order.now
+        open_shift (option_copied buyer.entry) count }
+{
+    let shift = open_shift.ok_or(Refusal::NoShift)?;
+    let buyer = buyer.ok_or(Refusal::NoMeter)?;
+    let meter = buyer.meter;
+    let now = minute(meter.base, at.moment)?;
+    let tid = next_tid(now, buyer.last)?;
+    let bought = bought(buyer, order.tender).ok_or(Refusal::TooLittle)?;
+    let tenths = bought.tenths;
+    let number = next_number(count)?;
+    let fields = Fields {
+        rnd: at.nibble,
+        tid,
+        amount: tenths,
+    };
+    let sale = Sale {
+        number,
+        moment: at.moment,
+        shift: shift.number,
+        operator: order.operator,
+        order_ref: order.order_ref,
+        meter: order.meter,
+        base: meter.base,
+        tid,
+        rnd: at.nibble,
+        tenths,
+        price: bought.price,
+        tender: order.tender,
+        digits: write(transform, meter.key, fields),
+    };
+    sold(&sale)
+}
+
+// A new sale is added and answered.
+fn sold(sale: &Sale) -> Result<Change, Refusal>
+    ensures { result ≡ changed (Edit.AddSale sale.now) (Answer.Sold sale.now) }
+{
+    changed(Edit::AddSale(*sale), Answer::Sold(*sale))
+}
+
+// What the tender buys.
+fn bought(buyer: &Buyer, tender: Tender) -> Option<Buy>
+    ensures { result ≡ purchase_of buyer.now.steps buyer.now.prior tender }
+{
+    let prior = buyer.prior;
+    buy(&buyer.steps, prior, tender)
+}
+
+fn reprint(sale: Option<Sale>) -> Result<Change, Refusal>
+    ensures { result ≡ reprint sale }
+{
+    let sale = sale.ok_or(Refusal::NoSale)?;
+    unchanged(Answer::Reprinted(sale))
+}
+
+fn report(alloc: Global, found: Option<&(Shift, Sales)>) -> Result<Change, Refusal>
+    ensures { IsUnlessMemory result (report_found (option_copied found.entry)) }
+{
+    let (shift, sales) = found.ok_or(Refusal::NoSuchShift)?;
+    let sales = Vec::from_slice(alloc, sales.as_slice())?;
+    unchanged(Answer::Report(*shift, Sales::of(sales)))
+}
+
+#[cfg(test)]
+mod tests;

@@ -1,0 +1,53 @@
+use crate::buyer::Buyer;
+use crate::meter::Meter;
+use crate::sale::Sale;
+use crate::sales::Sales;
+use crate::shift::Shift;
+use tariff::Steps;
+
+/// What the tests of a request look at (`docs/OFFICE.md`, "Facts").
+///
+/// A request looks at some of the fields; the others may be left empty.
+#[derive(Debug, Drop)]
+pub struct Facts {
+    /// The steps under the request's tariff name.
+    pub tariff: Option<Steps>,
+    /// The meter under the request's number, where a meter is added or set.
+    pub meter: Option<Meter>,
+    /// The open shift of the request's operator.
+    pub open_shift: Option<Shift>,
+    /// How many shifts there are.
+    pub shift_count: u64,
+    /// The sale that the operator made under the order's ref.
+    pub first_sale: Option<Sale>,
+    /// What the sale looks at of the order's meter.
+    pub buyer: Option<Buyer>,
+    /// How many sales there are.
+    pub sale_count: u64,
+    /// The sale of the request's number.
+    pub sale: Option<Sale>,
+    /// The shift of the request's number, with its sales by number.
+    pub report: Option<(Shift, Sales)>,
+}
+
+impl Facts {
+    ghost use Rattle.std.specs.Prelude.{◌≡◌};
+    ghost use Rattle.vend_core.specs.Facts.{no_facts};
+
+    /// The facts in which nothing was found.
+    pub fn none() -> Facts
+        ensures { result ≡ no_facts }
+    {
+        Facts {
+            tariff: None,
+            meter: None,
+            open_shift: None,
+            shift_count: 0,
+            first_sale: None,
+            buyer: None,
+            sale_count: 0,
+            sale: None,
+            report: None,
+        }
+    }
+}

@@ -1,0 +1,49 @@
+//! The office of a vending station: its requests, its decisions, and the laws that hold of them.
+//!
+//! `docs/OFFICE.md` has the rules in words, and `specs/` has them as definitions.
+#![tactic(auto)]
+
+pub use answer::{Answer, Reply};
+pub use buyer::Buyer;
+pub use change::{Change, Edit};
+pub use decisions::decide;
+pub use facts::Facts;
+pub use history::history_law;
+pub use laws::office_law;
+pub use lists::Lists;
+pub use meter::Meter;
+pub use meter_no::MeterNo;
+pub use operator::Operator;
+pub use order_ref::Ref;
+pub use refusal::Refusal;
+pub use request::{Order, Request, Stamped};
+pub use sale::Sale;
+pub use sales::Sales;
+pub use shift::Shift;
+pub use sts_fields::Moment;
+pub use tariff::Tender;
+pub use tariff_name::TariffName;
+
+mod answer;
+mod apply;
+mod buyer;
+mod change;
+mod decisions;
+mod facts;
+mod gather;
+mod history;
+mod laws;
+mod lists;
+mod look_up;
+mod meter;
+mod meter_no;
+mod operator;
+mod order_ref;
+mod records;
+mod refusal;
+mod request;
+mod sale;
+mod sales;
+mod shift;
+mod short_text;
+mod tariff_name;

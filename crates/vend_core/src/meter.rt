@@ -1,0 +1,13 @@
+use crate::tariff_name::TariffName;
+use sts_fields::Base;
+
+/// What the office keeps of a meter, beside its number.
+#[derive(Clone, Copy, Debug, PartialEq, Eq)]
+pub struct Meter {
+    /// The base date that its identifiers count from.
+    pub base: Base,
+    /// The tariff that its sales are priced by.
+    pub tariff: TariffName,
+    /// The key that its tokens are written with.
+    pub key: u64,
+}

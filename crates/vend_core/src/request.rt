@@ -1,0 +1,44 @@
+ghost use Rattle.std.specs.Prelude.{◌<◌};
+
+use crate::meter::Meter;
+use crate::meter_no::MeterNo;
+use crate::operator::Operator;
+use crate::order_ref::Ref;
+use crate::tariff_name::TariffName;
+use sts_fields::Moment;
+use tariff::{Steps, Tender};
+
+/// What an operator asks the office for, paid by a tender of money.
+#[derive(Clone, Copy, Debug, PartialEq, Eq)]
+pub struct Order {
+    pub operator: Operator,
+    /// The order's name: an order that comes again under it is answered with the first sale.
+    pub order_ref: Ref,
+    pub meter: MeterNo,
+    pub tender: Tender,
+}
+
+/// A request to the office (`docs/OFFICE.md`).
+#[derive(Debug, Drop)]
+pub enum Request {
+    AddTariff(TariffName, Steps),
+    AddMeter(MeterNo, Meter),
+    SetTariff(MeterNo, TariffName),
+    OpenShift(Operator),
+    CloseShift(Operator),
+    Sell(Order),
+    /// A sale by its number.
+    Reprint(u32),
+    /// A shift by its number.
+    ShiftReport(u32),
+}
+
+/// A request with the moment at which it counts and a nibble for its token.
+#[derive(Debug, Drop)]
+pub struct Stamped {
+    pub moment: Moment,
+    /// Below 16.
+    pub nibble: u8,
+    pub request: Request,
+    ghost nibble_in_range: { nibble < 16 },
+}
