@@ -1,0 +1,182 @@
+-- What holds along steps and along whole folds: an office stays one, and its rows only grow.
+use Rattle.std.proofs.Common.{◌≡◌, ℕ, Bool, true, false, List, [], ◌∷◌, ◌++◌, length, Option, Some, None, Result, Ok, Err, refl, sym, ◌∙◌, ap, subst, arith}
+use Rattle.std.specs.Prelude.{◌&&◌, ◌==◌, All, Contains, IsNone, is_none, is_some, if◌then◌else◌, option_map, slice_get}
+use Rattle.std.proofs.lemmas.Bool.{false≢true}
+use Rattle.std.proofs.lemmas.Bool.Decides.{nat_tests}
+use Rattle.std.proofs.lemmas.List.{append-nil, append_assoc, length-append, get_or_append_left}
+use Rattle.std.proofs.lemmas.List.Elements.{All-head, All-tail, Contains-append_left}
+use Rattle.std.proofs.lemmas.Option.{get_or_from_slice_get, slice_get-get_or, slice_get-map, slice_get_within}
+use Rattle.sts_token.specs.Token.{KeepsRange}
+use Rattle.tariff.specs.declared.step.Step.{Step}
+use Rattle.vend_core.specs.Decision.{MeterFacts, add_meter, add_tariff, close_shift, decision_of, meter_eq, meter_facts, next_number, open_a_shift, report, reprint, sell, sell_once, set_tariff, steps_eq, unchanged}
+use Rattle.vend_core.specs.Fold.{after, applied, closed_at, office_after, step}
+use Rattle.vend_core.specs.Growth.{HasGrown, IsSameShift}
+use Rattle.vend_core.specs.Lookup.{open_shift, sale_numbered, sale_of_ref, sales_of_shift, shift_numbered}
+use Rattle.vend_core.specs.Office.{IsOffice, Office}
+use Rattle.vend_core.specs.Request.{IsStamped}
+use Rattle.vend_core.specs.declared.answer.Answer.{Answer}
+use Rattle.vend_core.specs.declared.change.Change.{Change}
+use Rattle.vend_core.specs.declared.change.Edit.TheVariants as edits
+use Rattle.vend_core.specs.declared.refusal.Refusal.{Refusal}
+use Rattle.vend_core.specs.declared.meter.Meter.{Meter}
+use Rattle.vend_core.specs.declared.request.Order.{Order}
+use Rattle.vend_core.specs.declared.request.Request.{Request}
+use Rattle.vend_core.specs.declared.request.Request.TheVariants as requests
+use Rattle.vend_core.specs.declared.request.Stamped.{Stamped}
+use Rattle.vend_core.specs.declared.sale.Sale.{Sale}
+use Rattle.vend_core.specs.declared.shift.Shift.{Shift}
+use Rattle.vend_core.proofs.DecisionLemmas.{after_test, sell_ok}
+use Rattle.vend_core.proofs.EditLemmas.{closing}
+use Rattle.vend_core.proofs.NewSaleLemmas.{LowerLaws}
+use Rattle.vend_core.proofs.OfficeLemmas.{step_keeps_office}
+use Rattle.vend_core.proofs.RowLemmas.{found, same_number}
+
+-- an office has grown out of itself, and out of what it had grown out of
+same_shift : (s : Shift) → IsSameShift s s
+same_shift s = record { number = refl; operator = refl; opened = refl; closed = λ some. refl }
+
+pub grown_none : (o : Office) → HasGrown o o
+grown_none o = record { sales = ([], sym (append-nil o.sales)); shifts = λ i s at. (s, at, same_shift s) }
+
+same_shift_twice : (a b c : Shift) → IsSameShift a b → IsSameShift b c → IsSameShift a c
+same_shift_twice a b c x y = record {
+  number = y.number ∙ x.number;
+  operator = y.operator ∙ x.operator;
+  opened = y.opened ∙ x.opened;
+  closed = λ some. y.closed (ap is_some (x.closed some) ∙ some) ∙ x.closed some;
+}
+
+pub grown_twice : (o p q : Office) → HasGrown o p → HasGrown p q → HasGrown o q
+grown_twice o p q a b = record {
+  sales = (a.sales.0 ++ b.sales.0, b.sales.1 ∙ ap (λ xs. xs ++ b.sales.0) a.sales.1 ∙ append_assoc o.sales a.sales.0 b.sales.0);
+  shifts = λ i s at.
+      let t = a.shifts i s at in
+      let u = b.shifts i t.0 t.1 in
+      (u.0, u.1, same_shift_twice s t.0 u.0 t.2 u.2);
+}
+
+-- the shifts of a grown office, where only sales came, a shift came, or one was closed
+pub grown_sale : (o : Office) (s : Sale) → HasGrown o (applied (edits.AddSale s) o)
+grown_sale o s = record { sales = (s ∷ [], refl); shifts = λ i t at. (t, at, same_shift t) }
+
+grown_shift : (o : Office) (s : Shift) → HasGrown o (applied (edits.OpenShift s) o)
+grown_shift o s = record {
+  sales = ([], sym (append-nil o.sales));
+  shifts = λ i t at.
+      let within = slice_get_within o.shifts i t at in (
+        t,
+        slice_get-get_or (o.shifts ++ s ∷ []) i t (omega (arith, within, length-append o.shifts (s ∷ [])))
+            ∙ ap Some (get_or_append_left o.shifts (s ∷ []) t i within ∙ get_or_from_slice_get o.shifts i t t at),
+        same_shift t,
+      );
+}
+
+closed_same : (number moment : ℕ) (s : Shift) (b : Bool) → (s.number == number) ≡ b → (b ≡ true → IsNone s.closed) → IsSameShift s (if b then closed_at moment s else s)
+closed_same number moment s true is opened = record { number = refl; operator = refl; opened = refl; closed = λ some. absurd (false≢true (sym (opened refl) ∙ some)) }
+closed_same number moment s false is opened = same_shift s
+
+grown_close : (o : Office) (c : Shift) (moment : ℕ) → IsOffice o → Contains o.shifts c → IsNone c.closed → HasGrown o (applied (edits.CloseShift c.number moment) o)
+grown_close o c moment office there none = record {
+  sales = ([], sym (append-nil o.sales));
+  shifts = λ i t at.
+      let within = slice_get_within o.shifts i t at in
+      let t_there : Contains o.shifts t = (i, within, get_or_from_slice_get o.shifts i t t at) in (
+        closing c.number moment t,
+        slice_get-map (closing c.number moment) o.shifts i ∙ ap (option_map (closing c.number moment)) at,
+        closed_same c.number moment t (t.number == c.number) refl (λ e.
+            let same : t ≡ c = same_number (λ s. s.number) o.shifts t c office.shift_numbers t_there there (grind (arith, nat_tests)) in
+            ap (λ (s : Shift). is_some s.closed) same ∙ none),
+      );
+}
+
+open_is_open : (x : Bool) (closed : Option ℕ) → (x && is_none closed) ≡ true → IsNone closed
+open_is_open true None e = refl
+open_is_open true (Some moment) e = cc
+open_is_open false None e = refl
+open_is_open false (Some moment) e = cc
+
+module _ (o : Office) (office : IsOffice o) where
+  grown_if : (b : Bool) (answer : Answer) (refusal : Refusal) → HasGrown o (office_after o (if b then unchanged answer else Err refusal))
+  grown_if true answer refusal = grown_none o
+  grown_if false answer refusal = grown_none o
+
+  kept_rows : (p : Office) → p.sales ≡ o.sales → p.shifts ≡ o.shifts → HasGrown o p
+  kept_rows p same_sales same_shifts = record {
+    sales = ([], same_sales ∙ sym (append-nil o.sales));
+    shifts = λ i s at. (s, ap (λ rows. slice_get rows i) same_shifts ∙ at, same_shift s);
+  }
+
+  grown_by_tariff : (name : List ℕ) (steps : List Step) (there : Option (List Step)) → HasGrown o (office_after o (add_tariff name steps there))
+  grown_by_tariff name steps None = kept_rows _ refl refl
+  grown_by_tariff name steps (Some there) = grown_if (steps_eq there steps) _ _
+
+  grown_by_meter : (number : List ℕ) (m : Meter) (there : Option Meter) (tariff : Option (List Step)) → HasGrown o (office_after o (add_meter number m there tariff))
+  grown_by_meter number m (Some there) tariff = grown_if (meter_eq there m) _ _
+  grown_by_meter number m None (Some steps) = kept_rows _ refl refl
+  grown_by_meter number m None None = grown_none o
+
+  grown_by_set : (number name : List ℕ) (there : Option Meter) (tariff : Option (List Step)) → HasGrown o (office_after o (set_tariff number name there tariff))
+  grown_by_set number name None tariff = grown_none o
+  grown_by_set number name (Some m) None = grown_none o
+  grown_by_set number name (Some m) (Some steps) = kept_rows _ refl refl
+
+  grown_by_open : (moment : ℕ) (operator : List ℕ) (there : Option Shift) (count : ℕ) → HasGrown o (office_after o (open_a_shift moment operator there count))
+  grown_by_open moment operator (Some there) count = grown_none o
+  grown_by_open moment operator None count = after_test (λ r. HasGrown o (office_after o r)) (next_number count) _ (λ refusal. grown_none o) (λ number next. grown_shift o _)
+
+  grown_by_close : (moment : ℕ) (operator : List ℕ) (there : Option Shift) → open_shift o operator ≡ there → HasGrown o (office_after o (close_shift moment there))
+  grown_by_close moment operator None e = grown_none o
+  grown_by_close moment operator (Some s) e =
+      let is = found _ o.shifts s e in
+      grown_close o s moment office is.0 (open_is_open _ s.closed is.1)
+
+  grown_by_new : (forward : ℕ → ℕ → ℕ) (moment nibble : ℕ) (order : Order) (shift : Option Shift) (meter : Option MeterFacts) (count : ℕ) (r : Result Change Refusal) → sell forward moment nibble order shift meter count ≡ r → HasGrown o (office_after o r)
+  grown_by_new forward moment nibble order shift meter count (Err refusal) e = grown_none o
+  grown_by_new forward moment nibble order shift meter count (Ok change) e =
+      let is = (sell_ok forward moment nibble order shift meter count change e).change_is in
+      subst (λ (c : Change). HasGrown o (office_after o (Ok c))) (sym is) (grown_sale o _)
+
+  grown_by_sell : (forward : ℕ → ℕ → ℕ) (moment nibble : ℕ) (order : Order) (first : Option Sale) (shift : Option Shift) (meter : Option MeterFacts) (count : ℕ) → HasGrown o (office_after o (sell_once forward moment nibble order first shift meter count))
+  grown_by_sell forward moment nibble order None shift meter count = grown_by_new forward moment nibble order shift meter count _ refl
+  grown_by_sell forward moment nibble order (Some first) shift meter count = grown_if _ _ _
+
+  grown_by_reprint : (sale : Option Sale) → HasGrown o (office_after o (reprint sale))
+  grown_by_reprint None = grown_none o
+  grown_by_reprint (Some s) = grown_none o
+
+  grown_by_report : (shift : Option Shift) (sales : List Sale) → HasGrown o (office_after o (report shift sales))
+  grown_by_report None sales = grown_none o
+  grown_by_report (Some s) sales = grown_none o
+
+  grown_by : (forward : ℕ → ℕ → ℕ) (moment nibble : ℕ) (request : Request) → HasGrown o (office_after o (decision_of forward o moment nibble request))
+  grown_by forward moment nibble (requests.AddTariff name steps) = grown_by_tariff name steps (o.tariffs name)
+  grown_by forward moment nibble (requests.AddMeter number m) = grown_by_meter number m (o.meters number) (o.tariffs m.tariff)
+  grown_by forward moment nibble (requests.SetTariff number name) = grown_by_set number name (o.meters number) (o.tariffs name)
+  grown_by forward moment nibble (requests.OpenShift operator) = grown_by_open moment operator (open_shift o operator) (length o.shifts)
+  grown_by forward moment nibble (requests.CloseShift operator) = grown_by_close moment operator (open_shift o operator) refl
+  grown_by forward moment nibble (requests.Sell order) =
+      grown_by_sell forward moment nibble order (sale_of_ref o order.operator order.order_ref) (open_shift o order.operator) (meter_facts o order.meter moment) (length o.sales)
+  grown_by forward moment nibble (requests.Reprint number) = grown_by_reprint (sale_numbered o number)
+  grown_by forward moment nibble (requests.ShiftReport number) = grown_by_report (shift_numbered o number) (sales_of_shift o number)
+
+pub step_grows : (forward : ℕ → ℕ → ℕ) (o : Office) (at : Stamped) → IsOffice o → HasGrown o (step forward o at)
+step_grows forward o at office = grown_by o office forward at.moment at.nibble at.request
+
+-- along a fold
+pub after_keeps_office : LowerLaws → (forward : ℕ → ℕ → ℕ) (o : Office) (ats : List Stamped) → IsOffice o → All IsStamped ats → KeepsRange forward → IsOffice (after forward o ats)
+unfolding after
+after_keeps_office laws forward o [] office are range = office
+after_keeps_office laws forward o (at ∷ ats) office are range =
+    after_keeps_office laws forward (step forward o at) ats (step_keeps_office laws forward o at office (All-head IsStamped at ats are) range) (All-tail IsStamped at ats are) range
+
+pub after_grows : LowerLaws → (forward : ℕ → ℕ → ℕ) (o : Office) (ats : List Stamped) → IsOffice o → All IsStamped ats → KeepsRange forward → HasGrown o (after forward o ats)
+unfolding after
+after_grows laws forward o [] office are range = grown_none o
+after_grows laws forward o (at ∷ ats) office are range =
+    let next = step_keeps_office laws forward o at office (All-head IsStamped at ats are) range in
+    grown_twice o (step forward o at) (after forward (step forward o at) ats) (step_grows forward o at office)
+    (after_grows laws forward (step forward o at) ats next (All-tail IsStamped at ats are) range)
+
+-- a sale that stands in an office stands in what it has grown to
+pub stands_on : (o p : Office) (s : Sale) → HasGrown o p → Contains o.sales s → Contains p.sales s
+stands_on o p s grown there = subst (λ (sales : List Sale). Contains sales s) (sym grown.sales.1) (Contains-append_left o.sales grown.sales.0 s there)

@@ -1,0 +1,174 @@
+-- A step of an office leads to an office.
+use Rattle.std.proofs.Common.{◌≡◌, ℕ, ◌<◌, Bool, true, false, List, length, Option, Some, None, Result, Ok, Err, refl, sym, ◌∙◌, ap, subst, arith}
+use Rattle.std.specs.Prelude.{◌&&◌, Contains, IsSome, bytes_eq, filter, is_some, if◌then◌else◌}
+use Rattle.std.proofs.lemmas.Bool.{false≢true}
+use Rattle.std.proofs.lemmas.List.Elements.{All-contains, All-nil}
+use Rattle.std.proofs.lemmas.Slice.Eq.{bytes_eq-Decides}
+use Rattle.sts_fields.specs.Amount.{IsRepresentable}
+use Rattle.sts_fields.specs.declared.base.Base.{Base}
+use Rattle.sts_fields.specs.declared.base.Base.TheVariants.{Y1993, Y2014, Y2035}
+use Rattle.sts_token.specs.Token.{KeepsRange}
+use Rattle.tariff.specs.Steps.{IsSteps}
+use Rattle.tariff.specs.Tender.{IsTender}
+use Rattle.tariff.specs.declared.step.Step.{Step}
+use Rattle.vend_core.specs.Decision.{add_meter, add_tariff, close_shift, decision_of, meter_facts, meter_eq, next_number, open_a_shift, report, reprint, sell, sell_again, sell_once, set_tariff, steps_eq, unchanged}
+use Rattle.vend_core.specs.Fold.{office_after, step}
+use Rattle.vend_core.specs.Lookup.{base_eq, open_shift, sale_numbered, sale_of_ref, sales_of_shift, shift_numbered, used}
+use Rattle.vend_core.specs.Names.{IsName, IsOperator}
+use Rattle.vend_core.specs.NewSale.{IsNewSale}
+use Rattle.vend_core.specs.Office.{IsBefore, IsMoment, IsOffice, IsSaleRow, IsShiftRow, Office, Rises, empty_office}
+use Rattle.vend_core.specs.Request.{IsMeter, IsOrder, IsRequest, IsStamped}
+use Rattle.vend_core.specs.declared.answer.Answer.{Answer}
+use Rattle.vend_core.specs.declared.change.Change.{Change}
+use Rattle.vend_core.specs.declared.meter.Meter.{Meter}
+use Rattle.vend_core.specs.declared.refusal.Refusal.{Refusal}
+use Rattle.vend_core.specs.declared.request.Order.{Order}
+use Rattle.vend_core.specs.declared.request.Request.{Request}
+use Rattle.vend_core.specs.declared.request.Request.TheVariants as requests
+use Rattle.vend_core.specs.declared.request.Stamped.{Stamped}
+use Rattle.vend_core.specs.declared.sale.Sale.{Sale}
+use Rattle.vend_core.specs.declared.shift.Shift.{Shift}
+use Rattle.vend_core.proofs.DecisionLemmas.{after_test, next_number_ok}
+use Rattle.vend_core.proofs.EditLemmas.{keeps_add_meter, keeps_add_sale, keeps_add_tariff, keeps_close_shift, keeps_open_shift, keeps_set_tariff}
+use Rattle.vend_core.proofs.NewSaleLemmas.{LowerLaws, granted_sale}
+use Rattle.vend_core.proofs.RowLemmas.{both_true, contains_map, found, found_none, kept, number_within}
+
+-- one base has one year, and so the test of two bases tells that they are one
+pub base_eq-refl : (b : Base) → base_eq b b ≡ true
+base_eq-refl Y1993 = refl
+base_eq-refl Y2014 = refl
+base_eq-refl Y2035 = refl
+
+-- where a test decides between no change and a refusal, the office stays
+kept_if : (o : Office) (b : Bool) (answer : Answer) (refusal : Refusal) → IsOffice o → IsOffice (office_after o (if b then unchanged answer else Err refusal))
+kept_if o true answer refusal office = office
+kept_if o false answer refusal office = office
+
+module _ (o : Office) (office : IsOffice o) where
+  by_add_tariff : (name : List ℕ) (steps : List Step) (there : Option (List Step)) → IsName name → IsSteps steps → IsOffice (office_after o (add_tariff name steps there))
+  by_add_tariff name steps None named priced = keeps_add_tariff o name steps office named priced
+  by_add_tariff name steps (Some there) named priced = kept_if o (steps_eq there steps) _ _ office
+
+  by_add_meter : (number : List ℕ) (m : Meter) (there : Option Meter) (tariff : Option (List Step)) → o.tariffs m.tariff ≡ tariff → IsMeter number m → IsOffice (office_after o (add_meter number m there tariff))
+  by_add_meter number m (Some there) tariff e is = kept_if o (meter_eq there m) _ _ office
+  by_add_meter number m None (Some steps) e is = keeps_add_meter o number m office is (ap is_some e)
+  by_add_meter number m None None e is = office
+
+  by_set_tariff : (number name : List ℕ) (there : Option Meter) (tariff : Option (List Step)) → o.tariffs name ≡ tariff → IsOffice (office_after o (set_tariff number name there tariff))
+  by_set_tariff number name None tariff e = office
+  by_set_tariff number name (Some m) None e = office
+  by_set_tariff number name (Some m) (Some steps) e = keeps_set_tariff o number name office (ap is_some e)
+
+  by_open_shift : (moment : ℕ) (operator : List ℕ) (there : Option Shift) → open_shift o operator ≡ there → IsMoment moment → IsOperator operator → IsOffice (office_after o (open_a_shift moment operator there (length o.shifts)))
+  by_open_shift moment operator (Some there) e is named = office
+  by_open_shift moment operator None e is named =
+      after_test (λ r. IsOffice (office_after o r)) (next_number (length o.shifts)) _ (λ refusal. office) (λ number next.
+      let n = next_number_ok (length o.shifts) number next in
+      keeps_open_shift o _ office (record { operator = named; opened = is; closed = λ secs none. cc }) n.1 e n.0)
+
+  by_close_shift : (moment : ℕ) (there : Option Shift) → IsMoment moment → IsOffice (office_after o (close_shift moment there))
+  by_close_shift moment None is = office
+  by_close_shift moment (Some s) is = keeps_close_shift o s.number moment office is
+
+  by_sell_again : (order : Order) (first : Sale) → IsOffice (office_after o (sell_again order first))
+  by_sell_again order first = kept_if o _ _ _ office
+
+  -- the identifier of a sale is among those used of its meter under its base
+  used_by : (a : Sale) (meter : List ℕ) (base : Base) → Contains o.sales a → a.meter ≡ meter → a.base ≡ base → Contains (used o meter base) a.tid
+  used_by a meter base there same_meter same_base =
+      let test = λ (s : Sale). bytes_eq s.meter meter && base_eq s.base base in
+      let x = (bytes_eq-Decides a.meter meter).1 same_meter in
+      let y : base_eq a.base base ≡ true = ap (λ b. base_eq a.base b) (sym same_base) ∙ base_eq-refl a.base in
+      contains_map (λ s. s.tid) (filter test o.sales) a (kept test o.sales a there (both_true _ _ x y))
+
+  -- a new sale's identifier is greater than those sold before, and it is after each one that stands
+  pub new_rises : (forward : ℕ → ℕ → ℕ) (at : Stamped) (order : Order) (s a : Sale) → IsNewSale forward o at order s → Contains o.sales a → Rises a s
+  new_rises forward at order s a new there same_meter same_base =
+      let u = used_by a order.meter new.to_meter.base there (same_meter ∙ new.meter) (same_base ∙ new.base) in
+      All-contains (λ u. u < s.tid) (used o order.meter new.to_meter.base) a.tid new.tid.0.may_sell.above_used u
+
+  after_sales : (forward : ℕ → ℕ → ℕ) (at : Stamped) (order : Order) (s a : Sale) → sale_of_ref o order.operator order.order_ref ≡ None → IsNewSale forward o at order s → Contains o.sales a → IsBefore a s
+  after_sales forward at order s a alone new there = record {
+    number = omega (arith, number_within (λ s. s.number) o.sales a office.sale_numbers there, new.number);
+    tid = λ same_meter same_base same. omega (arith, new_rises forward at order s a new there same_meter same_base, same);
+    order_ref = λ same_operator same_ref.
+        let fails = All-contains (λ (b : Sale). (bytes_eq b.operator order.operator && bytes_eq b.order_ref order.order_ref) ≡ false) o.sales a (found_none _ o.sales alone) there in
+        let x = (bytes_eq-Decides a.operator order.operator).1 (same_operator ∙ new.operator) in
+        let y = (bytes_eq-Decides a.order_ref order.order_ref).1 (same_ref ∙ new.order_ref) in
+        false≢true (sym fails ∙ both_true _ _ x y);
+  }
+
+  -- a new sale's row
+  new_row : (forward : ℕ → ℕ → ℕ) (at : Stamped) (order : Order) (s : Sale) → IsMoment at.moment → IsOrder order → IsNewSale forward o at order s → IsSaleRow o s
+  new_row forward at order s is ordered new =
+      let opened = found _ o.shifts new.in_shift new.shift_is in
+      let number = number_within (λ s. s.number) o.shifts new.in_shift office.shift_numbers opened.0 in
+      let some : IsSome (o.meters order.meter) = ap is_some new.meter_is in
+      let nibble = at.nibble_in_range in
+      let tid = new.tid.0.may_sell.within in
+      let bought = new.bought_is in
+      record {
+        moment = subst IsMoment (sym new.moment) is;
+        shift = (omega (arith, number, new.shift), omega (arith, number, new.shift));
+        operator = subst IsOperator (sym new.operator) ordered.operator;
+        order_ref = subst IsName (sym new.order_ref) ordered.order_ref;
+        meter = subst (λ n. IsSome (o.meters n)) (sym new.meter) some;
+        tid = tid;
+        rnd = omega (arith, nibble, new.rnd);
+        tenths = subst IsRepresentable (sym new.tenths) bought.representable;
+        some = omega (arith, bought.some, new.tenths);
+        tender = subst IsTender (sym new.tender) ordered.tender;
+        price = omega (arith, bought.within, new.price, new.tender);
+        digits = new.digits.digits;
+      }
+
+  module _ (laws : LowerLaws) (forward : ℕ → ℕ → ℕ) (range : KeepsRange forward) (at : Stamped) (moment : IsMoment at.moment) where
+    after_sell : (order : Order) → sale_of_ref o order.operator order.order_ref ≡ None → IsOrder order → (r : Result Change Refusal) → sell forward at.moment at.nibble order (open_shift o order.operator) (meter_facts o order.meter at.moment) (length o.sales) ≡ r → IsOffice (office_after o r)
+    after_sell order alone ordered (Err refusal) e = office
+    after_sell order alone ordered (Ok change) e =
+        let granted = granted_sale laws forward o at order change range office e in
+        subst (λ (c : Change). IsOffice (office_after o (Ok c))) (sym granted.change_is)
+        (keeps_add_sale o granted.sale office (new_row forward at order granted.sale moment ordered granted.new) granted.new.number
+        (λ a there. after_sales forward at order granted.sale a alone granted.new there) granted.room)
+
+    by_sell : (order : Order) (first : Option Sale) → sale_of_ref o order.operator order.order_ref ≡ first → IsOrder order → IsOffice (office_after o (sell_once forward at.moment at.nibble order first (open_shift o order.operator) (meter_facts o order.meter at.moment) (length o.sales)))
+    by_sell order (Some first) e ordered = by_sell_again order first
+    by_sell order None e ordered =
+        after_sell order e ordered (sell forward at.moment at.nibble order (open_shift o order.operator) (meter_facts o order.meter at.moment) (length o.sales)) refl
+
+    by_reprint : (sale : Option Sale) → IsOffice (office_after o (reprint sale))
+    by_reprint None = office
+    by_reprint (Some s) = office
+
+    by_report : (shift : Option Shift) (sales : List Sale) → IsOffice (office_after o (report shift sales))
+    by_report None sales = office
+    by_report (Some s) sales = office
+
+    by_request : (request : Request) → IsRequest request → IsOffice (office_after o (decision_of forward o at.moment at.nibble request))
+    by_request (requests.AddTariff name steps) is = by_add_tariff name steps (o.tariffs name) is.0 is.1
+    by_request (requests.AddMeter number m) is = by_add_meter number m (o.meters number) (o.tariffs m.tariff) refl is
+    by_request (requests.SetTariff number name) is = by_set_tariff number name (o.meters number) (o.tariffs name) refl
+    by_request (requests.OpenShift operator) is = by_open_shift at.moment operator (open_shift o operator) refl moment is
+    by_request (requests.CloseShift operator) is = by_close_shift at.moment (open_shift o operator) moment
+    by_request (requests.Sell order) is = by_sell order (sale_of_ref o order.operator order.order_ref) refl is
+    by_request (requests.Reprint number) is = by_reprint (sale_numbered o number)
+    by_request (requests.ShiftReport number) is = by_report (shift_numbered o number) (sales_of_shift o number)
+
+-- a step of an office leads to an office
+pub step_keeps_office : LowerLaws → (forward : ℕ → ℕ → ℕ) (o : Office) (at : Stamped) → IsOffice o → IsStamped at → KeepsRange forward → IsOffice (step forward o at)
+step_keeps_office laws forward o at office is range = by_request o office laws forward range at is.moment at.request is.request
+
+-- the empty office is one
+pub empty_is_office : IsOffice empty_office
+empty_is_office = record {
+  tariffs = λ name steps e. cc;
+  meters = λ number m e. cc;
+  shifts = All-nil IsShiftRow;
+  shift_numbers = λ i row e. cc;
+  one_open = λ i j d before within. absurd (omega arith);
+  shift_count = omega arith;
+  sales = All-nil (IsSaleRow empty_office);
+  sale_numbers = λ i row e. cc;
+  before = λ i j d before within. absurd (omega arith);
+  sale_count = omega arith;
+}

@@ -1,0 +1,87 @@
+-- The rules refuse for reasons of the request's own: never for memory, for the store, or because the office stopped.
+use Rattle.std.proofs.Common.{◌≡◌, ◌≢◌, ℕ, ◌+◌, Bool, true, false, List, Option, Some, None, Result, Ok, Err, length, refl, sym, ◌∙◌, ap}
+use Rattle.std.specs.Prelude.{if◌then◌else◌, nat_lt}
+use Rattle.std.specs.Option.{ok_or}
+use Rattle.std.proofs.lemmas.Bool.{false≢true}
+use Rattle.sts_fields.specs.Tid.{fresh_after, minute_of}
+use Rattle.sts_fields.specs.declared.fault.TidFault.{TidFault}
+use Rattle.sts_fields.specs.declared.fault.TidFault.TheVariants.{BeforeBase, PastEnd, IdentifiersSpent, IdentifierAhead}
+use Rattle.tariff.specs.Purchase.{purchase_of}
+use Rattle.tariff.specs.declared.step.Step.{Step}
+use Rattle.vend_core.specs.Decision.{◌>>=◌, MeterFacts, add_meter, add_tariff, decision_of, meter_eq, meter_facts, open_a_shift, or_refusal, sell_once, steps_eq, unchanged}
+use Rattle.vend_core.specs.Fold.{reply, reply_of}
+use Rattle.vend_core.specs.Life.{acknowledges}
+use Rattle.vend_core.specs.Lookup.{open_shift, sale_numbered, sale_of_ref, shift_numbered}
+use Rattle.vend_core.specs.Office.{Office, greatest_count}
+use Rattle.vend_core.specs.declared.answer.Answer.{Answer}
+use Rattle.vend_core.specs.declared.change.Change.{Change}
+use Rattle.vend_core.specs.declared.meter.Meter.{Meter}
+use Rattle.vend_core.specs.declared.refusal.Refusal.{Refusal}
+use Rattle.vend_core.specs.declared.refusal.Refusal.TheVariants as refusals
+use Rattle.vend_core.specs.declared.request.Order.{Order}
+use Rattle.vend_core.specs.declared.request.Request.{Request}
+use Rattle.vend_core.specs.declared.request.Request.TheVariants as requests
+use Rattle.vend_core.specs.declared.request.Stamped.{Stamped}
+use Rattle.vend_core.specs.declared.sale.Sale.{Sale}
+use Rattle.vend_core.specs.declared.shift.Shift.{Shift}
+
+-- the decision is granted, or refused for a reason of the request's own
+abbrev IsOwn : Result Change Refusal → Type 0
+IsOwn r = acknowledges (reply_of r) ≡ true
+
+-- so it is through each kind of test
+own_there : {A : Type 0} (o : Option A) (refusal : Refusal) (f : A → Result Change Refusal) → IsOwn (Err refusal) → ((x : A) → IsOwn (f x)) → IsOwn (ok_or o refusal >>= f)
+own_there None refusal f own rest = own
+own_there (Some x) refusal f own rest = rest x
+
+own_minute : {A : Type 0} (r : Result A TidFault) (f : A → Result Change Refusal) → ((x : A) → IsOwn (f x)) → IsOwn (or_refusal r >>= f)
+own_minute (Ok x) f rest = rest x
+own_minute (Err BeforeBase) f rest = refl
+own_minute (Err PastEnd) f rest = refl
+own_minute (Err IdentifiersSpent) f rest = refl
+own_minute (Err IdentifierAhead) f rest = refl
+
+own_room : (count : ℕ) (b : Bool) (f : ℕ → Result Change Refusal) → ((x : ℕ) → IsOwn (f x)) → IsOwn ((if b then Ok (count + 1) else Err refusals.OfficeFull) >>= f)
+own_room count true f rest = rest (count + 1)
+own_room count false f rest = refl
+
+own_if : (b : Bool) (answer : Answer) (refusal : Refusal) → IsOwn (Err refusal) → IsOwn (if b then unchanged answer else Err refusal)
+own_if true answer refusal own = refl
+own_if false answer refusal own = own
+
+own_tariff : (name : List ℕ) (steps : List Step) (there : Option (List Step)) → IsOwn (add_tariff name steps there)
+own_tariff name steps None = refl
+own_tariff name steps (Some there) = own_if (steps_eq there steps) _ refusals.Differs refl
+
+own_meter : (number : List ℕ) (m : Meter) (there : Option Meter) (tariff : Option (List Step)) → IsOwn (add_meter number m there tariff)
+own_meter number m (Some there) tariff = own_if (meter_eq there m) _ refusals.Differs refl
+own_meter number m None (Some steps) = refl
+own_meter number m None None = refl
+
+own_open : (moment : ℕ) (operator : List ℕ) (there : Option Shift) (count : ℕ) → IsOwn (open_a_shift moment operator there count)
+own_open moment operator (Some there) count = refl
+own_open moment operator None count = own_room count (nat_lt count greatest_count) _ (λ number. refl)
+
+own_sell : (forward : ℕ → ℕ → ℕ) (moment nibble : ℕ) (order : Order) (first : Option Sale) (shift : Option Shift) (meter : Option MeterFacts) (count : ℕ) → IsOwn (sell_once forward moment nibble order first shift meter count)
+own_sell forward moment nibble order (Some first) shift meter count = own_if _ _ refusals.RefReused refl
+own_sell forward moment nibble order None shift meter count =
+    own_there shift refusals.NoShift _ refl (λ s. own_there meter refusals.NoMeter _ refl (λ m.
+    own_minute (minute_of m.meter.base moment) _ (λ now. own_minute (fresh_after now m.last) _ (λ tid.
+    own_there (purchase_of m.steps m.prior order.tender) refusals.TooLittle _ refl (λ buy. own_room count (nat_lt count greatest_count) _ (λ number. refl))))))
+
+own_decision : (forward : ℕ → ℕ → ℕ) (o : Office) (moment nibble : ℕ) (request : Request) → IsOwn (decision_of forward o moment nibble request)
+own_decision forward o moment nibble (requests.AddTariff name steps) = own_tariff name steps (o.tariffs name)
+own_decision forward o moment nibble (requests.AddMeter number m) = own_meter number m (o.meters number) (o.tariffs m.tariff)
+own_decision forward o moment nibble (requests.SetTariff number name) = own_there (o.meters number) refusals.NoMeter _ refl (λ m. own_there (o.tariffs name) refusals.NoTariff _ refl (λ steps. refl))
+own_decision forward o moment nibble (requests.OpenShift operator) = own_open moment operator (open_shift o operator) (length o.shifts)
+own_decision forward o moment nibble (requests.CloseShift operator) = own_there (open_shift o operator) refusals.NoShift _ refl (λ s. refl)
+own_decision forward o moment nibble (requests.Sell order) =
+    own_sell forward moment nibble order (sale_of_ref o order.operator order.order_ref) (open_shift o order.operator) (meter_facts o order.meter moment) (length o.sales)
+own_decision forward o moment nibble (requests.Reprint number) = own_there (sale_numbered o number) refusals.NoSale _ refl (λ s. refl)
+own_decision forward o moment nibble (requests.ShiftReport number) = own_there (shift_numbered o number) refusals.NoSuchShift _ refl (λ s. refl)
+
+pub own_reply : (forward : ℕ → ℕ → ℕ) (o : Office) (at : Stamped) → acknowledges (reply forward o at) ≡ true
+own_reply forward o at = own_decision forward o at.moment at.nibble at.request
+
+pub never_answers : (forward : ℕ → ℕ → ℕ) (o : Office) (at : Stamped) (refusal : Refusal) → acknowledges (Err refusal) ≡ false → reply forward o at ≢ Err refusal
+never_answers forward o at refusal own e = false≢true (sym own ∙ ap acknowledges (sym e) ∙ own_reply forward o at)

@@ -1,0 +1,77 @@
+use Rattle.vend_core.proofs.CashLemmas.{cash_adds_up}
+use Rattle.vend_core.proofs.HistoryLemmas.{one_handed_number, one_handed_ref, one_handed_tid, same_digits}
+use Rattle.vend_core.proofs.LifeLemmas.{handed_stands, lives_office}
+use Rattle.vend_core.proofs.MeterLemmas.{MeterLaws, accepted_is, bound_above, credit_is, credit_within, first_entry_is, in_order_is}
+use Rattle.vend_core.proofs.NewSaleLemmas.{LowerLaws}
+use Rattle.vend_core.proofs.RiseLemmas.{lives_rise}
+use Rattle.vend_core.proofs.SaleLemmas.{handed_tid, handed_token}
+use Rattle.vend_core.proofs.ServedLemmas.{goes_on_both}
+use Rattle.vend_core.proofs.history.history_law.Goals as goal
+
+-- the laws that the body calls
+lower : goal.After-meter_law → LowerLaws
+lower c = record { fresh = c.fresh_law.ensures.computed; purchase = c.purchase_law.ensures.computed; token = c.token_law.ensures.has_text }
+
+meter : goal.After-meter_law → MeterLaws
+meter c =
+    let m = c.meter_law.ensures in
+    record {
+      one_text = c.token_law.ensures.one_text;
+      taken = m.taken;
+      first_entry = m.first_entry;
+      in_order = m.in_order;
+      credit = m.credit;
+      at_most_sold = m.at_most_sold;
+      below_bound = m.below_bound;
+    }
+
+pub returns-clause-offices : goal.returns-clause-offices
+returns-clause-offices c = lives_office (lower c)
+
+pub returns-clause-stands : goal.returns-clause-stands
+returns-clause-stands c = handed_stands (lower c)
+
+pub returns-clause-one_identifier : goal.returns-clause-one_identifier
+returns-clause-one_identifier c = one_handed_tid (lower c)
+
+pub returns-clause-one_number : goal.returns-clause-one_number
+returns-clause-one_number c = one_handed_number (lower c)
+
+pub returns-clause-one_ref : goal.returns-clause-one_ref
+returns-clause-one_ref c = one_handed_ref (lower c)
+
+pub returns-clause-rising : goal.returns-clause-rising
+returns-clause-rising c = lives_rise (lower c)
+
+pub returns-clause-reprint : goal.returns-clause-reprint
+returns-clause-reprint c = same_digits (lower c)
+
+pub returns-clause-cash : goal.returns-clause-cash
+returns-clause-cash c = λ lives forward o ats are. cash_adds_up forward o ats (lives_office (lower c) lives o are)
+
+pub returns-clause-identifiers : goal.returns-clause-identifiers
+returns-clause-identifiers c = handed_tid (lower c)
+
+pub returns-clause-written : goal.returns-clause-written
+returns-clause-written c = handed_token (lower c)
+
+pub returns-clause-first_entry : goal.returns-clause-first_entry
+returns-clause-first_entry c = λ lives o m sales came s are to from in_s not. first_entry_is (lower c) (meter c) lives o are m sales to came from s in_s not
+
+pub returns-clause-in_order : goal.returns-clause-in_order
+returns-clause-in_order c = in_order_is (lower c) (meter c)
+
+pub returns-clause-credit : goal.returns-clause-credit
+returns-clause-credit c = λ lives o m sales came are to from. credit_is (lower c) (meter c) lives o are m sales to came from
+
+pub returns-clause-accepted : goal.returns-clause-accepted
+returns-clause-accepted c = λ lives o m sales came s are to from. accepted_is (lower c) (meter c) lives o are m sales to came from s
+
+pub returns-clause-at_most_sold : goal.returns-clause-at_most_sold
+returns-clause-at_most_sold c = λ lives o m sales came are to from. credit_within (lower c) (meter c) lives o are m sales to came from
+
+pub returns-clause-below_bound : goal.returns-clause-below_bound
+returns-clause-below_bound c = λ lives o m sales are to. bound_above (lower c) (meter c) lives o are m sales to
+
+pub returns-clause-goes_on : goal.returns-clause-goes_on
+returns-clause-goes_on c = goes_on_both

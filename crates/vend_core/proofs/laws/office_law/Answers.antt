@@ -1,0 +1,61 @@
+use Rattle.std.proofs.Common.{refl}
+use Rattle.vend_core.specs.Lookup.{used}
+use Rattle.vend_core.specs.declared.refusal.Refusal.TheVariants.{Memory, Store, Stopped}
+use Rattle.vend_core.proofs.AnswerLemmas.{answered_stand, sells_one}
+use Rattle.vend_core.proofs.CashLemmas.{cash_adds_up}
+use Rattle.vend_core.proofs.FoldLemmas.{after_grows, after_keeps_office}
+use Rattle.vend_core.proofs.LawLemmas.{new_sale_is, one_of_tid, reports_the_shift, reprints_the_sale, sold_again}
+use Rattle.vend_core.proofs.NewSaleLemmas.{LowerLaws, greatest_is_last}
+use Rattle.vend_core.proofs.OfficeLemmas.{step_keeps_office}
+use Rattle.vend_core.proofs.RefusalLemmas.{never_answers}
+use Rattle.vend_core.proofs.RiseLemmas.{after_rises}
+use Rattle.vend_core.proofs.laws.office_law.Goals as goal
+
+-- the laws that the body calls
+lower : goal.After-token_law → LowerLaws
+lower c = record { fresh = c.fresh_law.ensures.computed; purchase = c.purchase_law.ensures.computed; token = c.token_law.ensures.has_text }
+
+pub returns-clause-keeps_office : goal.returns-clause-keeps_office
+returns-clause-keeps_office c = step_keeps_office (lower c)
+
+pub returns-clause-keeps_along : goal.returns-clause-keeps_along
+returns-clause-keeps_along c = after_keeps_office (lower c)
+
+pub returns-clause-new_sale : goal.returns-clause-new_sale
+returns-clause-new_sale c = new_sale_is (lower c)
+
+pub returns-clause-at_most_one : goal.returns-clause-at_most_one
+returns-clause-at_most_one c = sells_one (lower c)
+
+pub returns-clause-again : goal.returns-clause-again
+returns-clause-again c = sold_again
+
+pub returns-clause-reprinted : goal.returns-clause-reprinted
+returns-clause-reprinted c = reprints_the_sale
+
+pub returns-clause-reported : goal.returns-clause-reported
+returns-clause-reported c = reports_the_shift
+
+pub returns-clause-answers_stand : goal.returns-clause-answers_stand
+returns-clause-answers_stand c = answered_stand
+
+pub returns-clause-grows : goal.returns-clause-grows
+returns-clause-grows c = after_grows (lower c)
+
+pub returns-clause-rising : goal.returns-clause-rising
+returns-clause-rising c = after_rises (lower c)
+
+pub returns-clause-never_again : goal.returns-clause-never_again
+returns-clause-never_again c = one_of_tid
+
+pub returns-clause-cash : goal.returns-clause-cash
+returns-clause-cash c = cash_adds_up
+
+pub returns-clause-last : goal.returns-clause-last
+returns-clause-last c = greatest_is_last
+
+pub returns-clause-fresh : goal.returns-clause-fresh
+returns-clause-fresh c = λ o meter base now. c.fresh_law.ensures.computed (used o meter base) now _ (greatest_is_last (used o meter base))
+
+pub returns-clause-rules_alone : goal.returns-clause-rules_alone
+returns-clause-rules_alone c = λ forward o at. (never_answers forward o at Memory refl, never_answers forward o at Store refl, never_answers forward o at Stopped refl)

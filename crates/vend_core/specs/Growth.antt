@@ -1,0 +1,20 @@
+-- How an office grows: rows come at the end, and none goes.
+use Rattle.std.specs.Prelude.{◌≡◌, ℕ, ◌++◌, List, Some, IsSome, slice_get}
+use Rattle.vend_core.specs.Office.{Office}
+use Rattle.vend_core.specs.declared.shift.Shift.{Shift}
+
+-- the later list begins with the earlier one
+abbrev pub BeginsWith : {Row : Type 0} → List Row → List Row → Type 0
+BeginsWith {Row} later earlier = (rest : List Row) × (later ≡ earlier ++ rest)
+
+-- a shift and the same one later: once it is closed it stays as it is
+pub record IsSameShift (earlier later : Shift) : Type 0 where
+  pub number : later.number ≡ earlier.number
+  pub operator : later.operator ≡ earlier.operator
+  pub opened : later.opened ≡ earlier.opened
+  pub closed : IsSome earlier.closed → later.closed ≡ earlier.closed
+
+-- an office and the same one later: its sales stand unchanged, and its shifts but for their closing
+pub record HasGrown (earlier later : Office) : Type 0 where
+  pub sales : BeginsWith later.sales earlier.sales
+  pub shifts : (i : ℕ) (s : Shift) → slice_get earlier.shifts i ≡ Some s → (t : Shift) × (slice_get later.shifts i ≡ Some t) × IsSameShift s t

@@ -1,0 +1,100 @@
+ghost use Rattle.std.specs.Prelude.{◌≡◌, ◌-◌, ◌<◌, ◌≤◌, ◌^◌, ◌↔◌, ◌++◌, ◌∷◌, [], ℕ, List, Option, Some, All, AllPairs, Contains, map, sum_by};
+ghost use Rattle.sts_fields.specs.Tid.{IsReserved};
+ghost use Rattle.sts_token.specs.Meter.{Accepts, WasAccepted, credit_of};
+ghost use Rattle.sts_token.specs.Token.{KeepsRange};
+ghost use Rattle.vend_core.specs.Cash.{AskForReports, cash_of, cash_of_reports};
+ghost use Rattle.vend_core.specs.Fold.{after, step};
+ghost use Rattle.vend_core.specs.Life.{Answered, AreLives, IsHanded, Life, life_of};
+ghost use Rattle.vend_core.specs.NewSale.{fields_of};
+ghost use Rattle.vend_core.specs.Office.{IsOffice, Office, Rises};
+ghost use Rattle.vend_core.specs.Request.{IsStamped};
+ghost use Rattle.vend_core.specs.SoldTokens.{AreSalesTo, SimMeter, WasWritten, accepted_of, digits_of, later_sales_come, reads_by, tokens_of};
+ghost use Rattle.vend_core.specs.declared.answer.Answer.{Answer};
+ghost use Rattle.vend_core.specs.declared.request.Stamped.{Stamped};
+ghost use Rattle.vend_core.specs.declared.sale.Sale.{Sale};
+
+use sts_fields::fresh_law;
+use sts_token::{meter_law, token_law};
+use tariff::purchase_law;
+
+/// What holds over all lives of an office, whatever was asked and wherever each life stopped.
+///
+/// A life ends when its program does; the next one opens an office that the one before may leave.
+pub fn history_law()
+    ensures offices { (lives : List Life) (o : Office) → AreLives lives o → IsOffice o }
+
+    // From each office that may be left lives go on: requests served, up to one in doubt, are a life.
+    ensures goes_on { (lives : List Life) (o : Office)
+        (forward : ℕ → ℕ → ℕ) (ats : List Stamped) (last : Option Stamped)
+        → AreLives lives o → KeepsRange forward
+        → All IsStamped ats → ((at : Stamped) → last ≡ Some at → IsStamped at)
+        → AreLives (lives ++ life_of forward o ats last ∷ []) (after forward o ats)
+        × ((at : Stamped) → last ≡ Some at
+        → AreLives (lives ++ life_of forward o ats last ∷ []) (step forward (after forward o ats) at)) }
+
+    // A sale that was handed out stands, unchanged, in every office that the last life may leave.
+    ensures stands { (lives : List Life) (o : Office) (s : Sale)
+        → AreLives lives o → IsHanded lives s → Contains o.sales s }
+
+    // One identifier of a meter under a base is of one sale; so is a number, and an operator's ref.
+    ensures one_identifier { (lives : List Life) (o : Office) (a b : Sale)
+        → AreLives lives o → IsHanded lives a → IsHanded lives b
+        → a.meter ≡ b.meter → a.base ≡ b.base → a.tid ≡ b.tid → a ≡ b }
+    ensures one_number { (lives : List Life) (o : Office) (a b : Sale)
+        → AreLives lives o → IsHanded lives a → IsHanded lives b → a.number ≡ b.number → a ≡ b }
+    ensures one_ref { (lives : List Life) (o : Office) (a b : Sale)
+        → AreLives lives o → IsHanded lives a → IsHanded lives b
+        → a.operator ≡ b.operator → a.order_ref ≡ b.order_ref → a ≡ b }
+
+    // The identifiers of a meter under a base rise.
+    ensures rising { (lives : List Life) (o : Office) → AreLives lives o → AllPairs Rises o.sales }
+
+    // A reprint is the first token, whatever transforms the lives have.
+    ensures reprint { (lives : List Life) (o : Office) (first again : Sale)
+        → AreLives lives o → Answered lives (Answer.Sold first) → Answered lives (Answer.Reprinted again)
+        → again.number ≡ first.number → again.digits ≡ first.digits }
+
+    // An identifier is at least 2 and not reserved, and a token was written in one of the lives.
+    ensures identifiers { (lives : List Life) (o : Office) (s : Sale)
+        → AreLives lives o → IsHanded lives s → (2 ≤ s.tid) × ¬ IsReserved s.tid }
+    ensures written { (lives : List Life) (o : Office) (s : Sale)
+        → AreLives lives o → IsHanded lives s → WasWritten lives s }
+
+    // The tokens of one meter's sales under one base come to a new meter in any order, with repeats.
+    // One that had not come yet is accepted exactly if those of fewer than fifty later sales came
+    // before it; so in order of sale all are.
+    ensures first_entry { (lives : List Life) (o : Office) (m : SimMeter) (sales came : List Sale) (s : Sale)
+        → AreLives lives o → AreSalesTo lives m sales
+        → All (Contains sales) came → Contains sales s → ¬ Contains came s
+        → (Accepts (reads_by m) (tokens_of came) s.digits (fields_of s)
+        ↔ (later_sales_come sales came s < 50)) }
+    ensures in_order { (lives : List Life) (o : Office) (m : SimMeter) (earlier later : List Sale) (s : Sale)
+        → AreLives lives o → AreSalesTo lives m (earlier ++ s ∷ later)
+        → Accepts (reads_by m) (tokens_of earlier) s.digits (fields_of s) }
+
+    // The credit is then the sum of the sales accepted, each once: at most what was sold, which is
+    // below the greatest credit that a meter holds.
+    ensures credit { (lives : List Life) (o : Office) (m : SimMeter) (sales came : List Sale)
+        → AreLives lives o → AreSalesTo lives m sales → All (Contains sales) came
+        → credit_of (reads_by m) (tokens_of came)
+        ≡ sum_by (λ s. s.tenths) (accepted_of (reads_by m) (tokens_of came) sales) }
+    ensures accepted { (lives : List Life) (o : Office) (m : SimMeter) (sales came : List Sale) (s : Sale)
+        → AreLives lives o → AreSalesTo lives m sales → All (Contains sales) came
+        → (Contains (accepted_of (reads_by m) (tokens_of came) sales) s
+        ↔ (Contains sales s × WasAccepted (reads_by m) (map digits_of came) s.tid)) }
+    ensures at_most_sold { (lives : List Life) (o : Office) (m : SimMeter) (sales came : List Sale)
+        → AreLives lives o → AreSalesTo lives m sales → All (Contains sales) came
+        → credit_of (reads_by m) (tokens_of came) ≤ sum_by (λ s. s.tenths) sales }
+    ensures below_bound { (lives : List Life) (o : Office) (m : SimMeter) (sales : List Sale)
+        → AreLives lives o → AreSalesTo lives m sales
+        → sum_by (λ s. s.tenths) sales < 2 ^ 64 - 1 }
+
+    // The reports of all shifts hold the money of all sales.
+    ensures cash { (lives : List Life) (forward : ℕ → ℕ → ℕ) (o : Office) (ats : ℕ → Stamped)
+        → AreLives lives o → AskForReports ats → cash_of_reports forward o ats ≡ cash_of o.sales }
+{
+    fresh_law();
+    purchase_law();
+    token_law();
+    meter_law();
+}
