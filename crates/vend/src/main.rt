@@ -10,6 +10,7 @@ use std::rt::Env;
 
 mod enter;
 mod quote;
+mod refused;
 mod run;
 mod sell;
 mod shipped;

@@ -1,9 +1,11 @@
 ghost use Rattle.std.specs.Prelude.{◌≤◌};
 
+use crate::refused::write_refusal;
 use crate::words::{self, BadWords};
 use std::alloc::Global;
 use std::io::{self, Write};
 use tariff::{Steps, StepsFault, Tender, buy};
+use vend_core::Refusal;
 
 /// The greatest count of tenths of a kWh that a month may have had before.
 const GREATEST_PRIOR: u64 = 100_000_000_000_000_000;
@@ -55,7 +57,7 @@ impl Quote {
                 Ok(true)
             }
             None => {
-                err.write_all(b"refused 10 TooLittle\n")?;
+                write_refusal(err, Refusal::TooLittle)?;
                 Ok(false)
             }
         }

@@ -3,12 +3,14 @@ ghost use Rattle.vend.specs.Words.{IsCommand, status_of, text_at};
 
 use crate::enter::Enter;
 use crate::quote::Quote;
+use crate::refused::write_refusal;
 use crate::sell::Sell;
 use crate::shipped::Shipped;
 use crate::words::BadWords;
 use std::alloc::Global;
 use std::io::Write;
 use sts_token::{Demo, Plain};
+use vend_core::Refusal;
 
 /// How a command ended; the numbers are the exit statuses.
 #[derive(Clone, Copy, Debug, PartialEq, Eq)]
@@ -44,13 +46,12 @@ pub fn run<O: Write, E: Write>(alloc: Global, words: &[&str], out: &mut O, err: 
 pub(crate) fn refused_words<E: Write>(err: &mut E, fault: BadWords) -> u8
     ensures { result ≡ status_of fault }
 {
-    let line = match fault {
-        BadWords::Shape => "bad words\n",
-        BadWords::Value => "bad word\n",
-        BadWords::Memory => "refused 15 Memory\n",
-    };
     // Where the error output fails there is nowhere left to say so: the status tells.
-    let _ = err.write_all(line.as_bytes());
+    let _ = match fault {
+        BadWords::Shape => err.write_all(b"bad words\n"),
+        BadWords::Value => err.write_all(b"bad word\n"),
+        BadWords::Memory => write_refusal(err, Refusal::Memory),
+    };
     match fault {
         BadWords::Shape | BadWords::Value => End::BadWords as u8,
         BadWords::Memory => End::Refused as u8,

@@ -1,12 +1,14 @@
 ghost use Rattle.std.specs.Prelude.{◌≡◌, ◌↔◌, IfOk};
 ghost use Rattle.vend.specs.Words.{HasSellShape, SaysSale};
 
+use crate::refused::write_refusal;
 use crate::trial::{TrialFault, trial};
 use crate::words::{self, BadWords};
 use std::alloc::Global;
 use std::io::{self, Write};
-use sts_fields::{Base, Moment, TidFault};
+use sts_fields::{Base, Moment};
 use sts_token::{BlockTransform, read_key};
+use vend_core::Refusal;
 
 /// What `sell` is asked to do: amounts in tenths of a kWh, sold to one meter at a moment.
 #[derive(Drop)]
@@ -79,11 +81,7 @@ impl Sell {
 fn write_fault<E: Write>(err: &mut E, fault: TrialFault) -> io::Result<()> {
     match fault {
         TrialFault::Amount => err.write_all(b"refused amount\n"),
-        TrialFault::Tid(TidFault::BeforeBase) => err.write_all(b"refused 7 BeforeBase\n"),
-        TrialFault::Tid(TidFault::PastEnd | TidFault::IdentifiersSpent) => {
-            err.write_all(b"refused 8 IdentifiersSpent\n")
-        }
-        TrialFault::Tid(TidFault::IdentifierAhead) => err.write_all(b"refused 9 IdentifierAhead\n"),
-        TrialFault::Memory => err.write_all(b"refused 15 Memory\n"),
+        TrialFault::Tid(fault) => write_refusal(err, Refusal::from(fault)),
+        TrialFault::Memory => write_refusal(err, Refusal::Memory),
     }
 }
