@@ -29,12 +29,16 @@ no_facts = record {
   report = None;
 }
 
--- what a sale looks at in an office
-pub record AreSaleFacts (o : Office) (moment : ℕ) (order : Order) (f : Facts) : Type 0 where
-  pub first_sale : f.first_sale ≡ sale_of_ref o order.operator order.order_ref
+-- what a new sale looks at in an office
+pub record AreNewSaleFacts (o : Office) (moment : ℕ) (order : Order) (f : Facts) : Type 0 where
   pub open_shift : f.open_shift ≡ open_shift o order.operator
   pub buyer : f.buyer ≡ meter_facts o order.meter moment
   pub sale_count : f.sale_count ≡ length o.sales
+
+-- what an order looks at: the sale under its ref, and the rest only where there is none
+pub record AreSaleFacts (o : Office) (moment : ℕ) (order : Order) (f : Facts) : Type 0 where
+  pub first_sale : f.first_sale ≡ sale_of_ref o order.operator order.order_ref
+  pub new_sale : f.first_sale ≡ None → AreNewSaleFacts o moment order f
 
 -- the shift of a number with its sales
 abbrev pub report_of : Office → ℕ → Option (Shift × List Sale)

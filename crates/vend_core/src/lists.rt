@@ -3,6 +3,7 @@ use crate::apply::apply;
 use crate::change::Change;
 use crate::decisions::decide;
 use crate::gather::facts;
+use crate::laws::office_law;
 use crate::records::Records;
 use crate::request::Stamped;
 use crate::sale::Sale;
@@ -69,12 +70,24 @@ impl<T> Lists<T> {
 impl<T: BlockTransform> Lists<T> {
     ghost use Rattle.std.specs.Prelude.{◌≡◌};
     ghost use Rattle.vend_core.specs.Lists.{IsServed, office_of, transform_of};
+    ghost use Rattle.vend_core.specs.Office.{IsOffice};
+    ghost use Rattle.vend_core.specs.Request.{IsStamped};
 
     /// Serves a request: its answer, or why it is refused.
     ///
     /// A refused request leaves the office as it was. Besides the refusals of `docs/OFFICE.md` only
     /// `Refusal::Memory` comes, where a vector found no memory.
     pub fn serve(&mut self, at: &Stamped) -> Reply
+        ensures served { IsServed (T.forwards (transform_of self.old)) (office_of self.old) at.now result (office_of self.new) }
+        ensures office { IsOffice (office_of self.old) → IsStamped at.now → IsOffice (office_of self.new) }
+        ensures transform { transform_of self.new ≡ transform_of self.old }
+    {
+        office_law();
+        self.served(at)
+    }
+
+    // Serves a request, whatever the office that the lists keep.
+    fn served(&mut self, at: &Stamped) -> Reply
         ensures served { IsServed (T.forwards (transform_of self.old)) (office_of self.old) at.now result (office_of self.new) }
         ensures transform { transform_of self.new ≡ transform_of self.old }
     {

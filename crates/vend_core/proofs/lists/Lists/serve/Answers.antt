@@ -1,10 +1,14 @@
-use Rattle.vend_core.specs.Lists.{recorded}
-use Rattle.vend_core.proofs.FitsLemmas.{fits_if_decided}
+use Rattle.std.proofs.Common.{sym, subst, inl, inr}
+use Rattle.vend_core.specs.Lists.{office_of}
+use Rattle.vend_core.specs.Office.{IsOffice}
 use Rattle.vend_core.proofs.lists.Lists.serve.Goals as goal
 
-pub apply-requires : goal.apply-requires
-apply-requires g c =
+pub returns-clause-office : goal.returns-clause-office
+returns-clause-office g c = λ office stamped.
     let now = c.args.self.now in
-    let o = recorded now.records in
-    fits_if_decided (g.T.BlockTransform.forwards now.transform) o c.args.at.now c.in_ok-edit.field-0 c.in-Some.edit
-    (c.in_ok-edit.ensures o c.in_ok-facts.ensures) c.in-Some.is
+    elim c.served.ensures.served [
+    | inl step ↦
+      subst IsOffice (sym step.1) (c.office_law.ensures.keeps_office (g.T.BlockTransform.forwards now.transform) (office_of now) c.args.at.now
+        office stamped (g.met.T.BlockTransform.forward_range now.transform))
+    | inr none ↦ subst IsOffice (sym none.1) office
+    ]
