@@ -7,8 +7,8 @@ pub returns-clause-office : goal.returns-clause-office
 returns-clause-office g c = λ office stamped.
     let now = c.args.self.now in
     elim c.served.ensures.served [
-    | inl step ↦
-      subst IsOffice (sym step.1) (c.office_law.ensures.keeps_office (g.T.BlockTransform.forwards now.transform) (office_of now) c.args.at.now
-        office stamped (g.met.T.BlockTransform.forward_range now.transform))
-    | inr none ↦ subst IsOffice (sym none.1) office
+      | inl step ↦
+          subst IsOffice (sym step.1) (c.office_law.ensures.keeps_office (g.T.BlockTransform.forwards now.transform) (office_of now) c.args.at.now
+          office stamped (g.met.T.BlockTransform.forward_range now.transform))
+      | inr none ↦ subst IsOffice (sym none.1) office
     ]
