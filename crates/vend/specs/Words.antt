@@ -6,7 +6,7 @@ use Rattle.sts_fields.specs.Base.{year_of}
 use Rattle.sts_fields.specs.declared.base.Base.{Base}
 use Rattle.vend.specs.declared.words.BadWords.{BadWords}
 use Rattle.vend.specs.declared.words.BadWords.TheVariants.{Shape, Value, Memory}
-use Rattle.sts_token.specs.Key.{IsKeyText}
+use Rattle.sts_token.specs.Key.{AreKeyDigits, IsKeyText}
 
 -- words, as the texts that they refer to
 abbrev pub Words : Type 0
@@ -47,3 +47,14 @@ status_of Memory = 1
 -- the words that a command begins with
 abbrev pub IsCommand : List ℕ → Type 0
 IsCommand text = (text ≡ codes "sell") ⊎ (text ≡ codes "meter") ⊎ (text ≡ codes "quote")
+
+-- the words after `meter` are --key K TOKEN.., with the digits of a key
+pub record AreEntryWords (words : Words) : Type 0 where
+  pub count : 3 ≤ length words
+  pub key_word : text_at words 0 ≡ codes "--key"
+  pub key : AreKeyDigits (text_at words 1)
+
+-- the words ask to enter tokens into a meter
+pub record AskToEnter (words : Words) : Type 0 where
+  pub command : text_at words 0 ≡ codes "meter"
+  pub rest : AreEntryWords (drop 1 words)

@@ -1,3 +1,6 @@
+ghost use Rattle.std.specs.Prelude.{◌↔◌, IsOk};
+ghost use Rattle.vend.specs.Words.{AreEntryWords};
+
 use crate::shipped::Shipped;
 use crate::words::BadWords;
 use sim_meter::{Answer, Meter};
@@ -13,7 +16,9 @@ pub struct Enter<'w, 't> {
 
 impl<'w, 't> Enter<'w, 't> {
     /// Reads the words after `meter`: `--key K TOKEN..`.
-    pub(crate) fn read(words: &'w [&'t str]) -> Result<Enter<'w, 't>, BadWords> {
+    pub(crate) fn read(words: &'w [&'t str]) -> Result<Enter<'w, 't>, BadWords>
+        ensures { IsOk result ↔ AreEntryWords words.now }
+    {
         let ["--key", key, tokens @ ..] = words else {
             return Err(BadWords::Shape);
         };

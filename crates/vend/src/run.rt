@@ -1,5 +1,5 @@
-ghost use Rattle.std.specs.Prelude.{◌≡◌, ◌≤◌};
-ghost use Rattle.vend.specs.Words.{IsCommand, status_of, text_at};
+ghost use Rattle.std.specs.Prelude.{◌≡◌, ◌≢◌, ◌≤◌, IsOk, IfOk};
+ghost use Rattle.vend.specs.Words.{AreEntryWords, AskToEnter, IsCommand, status_of, text_at};
 
 use crate::enter::Enter;
 use crate::quote::Quote;
@@ -29,6 +29,7 @@ pub enum End {
 pub fn run<O: Write, E: Write>(alloc: Global, words: &[&str], out: &mut O, err: &mut E) -> u8
     ensures status { result ≤ 2 }
     ensures unknown { ¬ IsCommand (text_at words.now 0) → result ≡ 2 }
+    ensures entered { AskToEnter words.now → result ≤ 1 }
 {
     let end = match words {
         ["sell", rest @ ..] => sell(alloc, rest, out, err),
@@ -76,7 +77,10 @@ fn sell<O: Write, E: Write>(
     }
 }
 
-fn meter<O: Write>(words: &[&str], out: &mut O) -> Result<End, BadWords> {
+fn meter<O: Write>(words: &[&str], out: &mut O) -> Result<End, BadWords>
+    ensures entered { AreEntryWords words.now → IsOk result }
+    ensures known { IfOk result (λ end. end ≢ End.BadWords) }
+{
     let (transform, words) = Shipped::take(words)?;
     let enter = Enter::read(words)?;
     match enter.run(transform, out) {

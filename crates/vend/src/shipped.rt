@@ -1,3 +1,6 @@
+ghost use Rattle.std.specs.Prelude.{◌≡◌, ◌≢◌, codes};
+ghost use Rattle.vend.specs.Words.{text_at};
+
 use crate::words::BadWords;
 
 /// A transform that ships, by the name that a command line gives it.
@@ -9,7 +12,9 @@ pub enum Shipped {
 
 impl Shipped {
     /// Takes `--transform plain|demo` off the front of the words; where it is not there, the transform is `Plain`.
-    pub(crate) fn take<'w, 't>(words: &'w [&'t str]) -> Result<(Shipped, &'w [&'t str]), BadWords> {
+    pub(crate) fn take<'w, 't>(words: &'w [&'t str]) -> Result<(Shipped, &'w [&'t str]), BadWords>
+        ensures plain { text_at words.now 0 ≢ codes "--transform" → result ≡ Ok (Shipped.Plain, words.entry) }
+    {
         match words {
             ["--transform", "plain", rest @ ..] => Ok((Shipped::Plain, rest)),
             ["--transform", "demo", rest @ ..] => Ok((Shipped::Demo, rest)),
