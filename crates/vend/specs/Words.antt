@@ -1,5 +1,5 @@
--- What the words of a sale say.
-use Rattle.std.specs.Prelude.{◌≡◌, ℕ, ◌<◌, ◌≤◌, ◌^◌, ◌⊎◌, List, [], length, drop, map, slice_index_or, codes}
+-- What the words of a command line say.
+use Rattle.std.specs.Prelude.{◌≡◌, ◌≢◌, ℕ, ◌<◌, ◌≤◌, ◌^◌, ◌⊎◌, List, [], length, drop, map, slice_index_or, codes}
 use Rattle.std.specs.Borrow.{Bor}
 use Rattle.std.specs.Str.Parse.{IsNumeral, digits_value}
 use Rattle.sts_fields.specs.Base.{year_of}
@@ -54,7 +54,11 @@ pub record AreEntryWords (words : Words) : Type 0 where
   pub key_word : text_at words 0 ≡ codes "--key"
   pub key : AreKeyDigits (text_at words 1)
 
+-- the words that are left where a choice of the transform stands in front and is taken off, or none does
+abbrev pub AreLeft : Words → Words → Type 0
+AreLeft words rest = ((text_at words 0 ≡ codes "--transform") × ((text_at words 1 ≡ codes "plain") ⊎ (text_at words 1 ≡ codes "demo")) × (rest ≡ drop 2 words)) ⊎ ((text_at words 0 ≢ codes "--transform") × (rest ≡ words))
+
 -- the words ask to enter tokens into a meter
 pub record AskToEnter (words : Words) : Type 0 where
   pub command : text_at words 0 ≡ codes "meter"
-  pub rest : AreEntryWords (drop 1 words)
+  pub rest : (rest : Words) × AreLeft (drop 1 words) rest × AreEntryWords rest

@@ -1,5 +1,5 @@
 ghost use Rattle.std.specs.Prelude.{◌≡◌, ◌≢◌, ◌≤◌, IsOk, IfOk};
-ghost use Rattle.vend.specs.Words.{AreEntryWords, AskToEnter, IsCommand, status_of, text_at};
+ghost use Rattle.vend.specs.Words.{AreEntryWords, AreLeft, AskToEnter, IsCommand, Words, status_of, text_at};
 
 use crate::enter::Enter;
 use crate::quote::Quote;
@@ -78,7 +78,7 @@ fn sell<O: Write, E: Write>(
 }
 
 fn meter<O: Write>(words: &[&str], out: &mut O) -> Result<End, BadWords>
-    ensures entered { AreEntryWords words.now → IsOk result }
+    ensures entered { (rest : Words) → AreLeft words.now rest → AreEntryWords rest → IsOk result }
     ensures known { IfOk result (λ end. end ≢ End.BadWords) }
 {
     let (transform, words) = Shipped::take(words)?;
