@@ -48,10 +48,14 @@ status_of Memory = 1
 abbrev pub IsCommand : List ℕ → Type 0
 IsCommand text = (text ≡ codes "sell") ⊎ (text ≡ codes "meter") ⊎ (text ≡ codes "quote")
 
--- the words after `meter` are --key K TOKEN.., with the digits of a key
-pub record AreEntryWords (words : Words) : Type 0 where
+-- the words after `meter` stand in the order --key K TOKEN..
+pub record HasEntryShape (words : Words) : Type 0 where
   pub count : 3 ≤ length words
   pub key_word : text_at words 0 ≡ codes "--key"
+
+-- they have that shape, with the digits of a key
+pub record AreEntryWords (words : Words) : Type 0 where
+  pub shape : HasEntryShape words
   pub key : AreKeyDigits (text_at words 1)
 
 -- the words that are left where a choice of the transform stands in front and is taken off, or none does

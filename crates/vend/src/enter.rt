@@ -1,5 +1,5 @@
-ghost use Rattle.std.specs.Prelude.{◌↔◌, IsOk};
-ghost use Rattle.vend.specs.Words.{AreEntryWords};
+ghost use Rattle.std.specs.Prelude.{◌≡◌, ◌≢◌, ◌↔◌, IsOk};
+ghost use Rattle.vend.specs.Words.{AreEntryWords, HasEntryShape};
 
 use crate::shipped::Shipped;
 use crate::words::BadWords;
@@ -17,7 +17,9 @@ pub struct Enter<'w, 't> {
 impl<'w, 't> Enter<'w, 't> {
     /// Reads the words after `meter`: `--key K TOKEN..`.
     pub(crate) fn read(words: &'w [&'t str]) -> Result<Enter<'w, 't>, BadWords>
-        ensures { IsOk result ↔ AreEntryWords words.now }
+        ensures reads { IsOk result ↔ AreEntryWords words.now }
+        ensures shape { (result ≡ Err BadWords.Shape) ↔ ¬ HasEntryShape words.now }
+        ensures never_memory { result ≢ Err BadWords.Memory }
     {
         let ["--key", key, tokens @ ..] = words else {
             return Err(BadWords::Shape);

@@ -9,4 +9,4 @@ returns-in_err-transform-clause-entered g c = λ rest left asked.
 
 pub returns-in_err-enter-clause-entered : goal.returns-in_err-enter-clause-entered
 returns-in_err-enter-clause-entered g c = λ rest left asked.
-    absurd (false≢true (c.in_err-enter.ensures.1 (subst AreEntryWords (sym (c.in_ok-transform.ensures.taken rest left).1) asked)))
+    absurd (false≢true (c.in_err-enter.ensures.reads.1 (subst AreEntryWords (sym (c.in_ok-transform.ensures.taken rest left).1) asked)))
