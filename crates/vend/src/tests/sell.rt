@@ -1,5 +1,6 @@
 //! `sell`: the tokens of a trial, and what it refuses.
 use super::{KEY, expect};
+use crate::run::run;
 use crate::trial::{TrialFault, trial};
 use std::test::Fail;
 use sts_fields::{Base, Moment, TidFault};
@@ -275,4 +276,25 @@ fn nibbles_go_round(rt: HostRuntime) -> Result<(), Fail> {
     assert_eq!(rt; none.len(), 0);
     assert_eq!(rt; fault, Some(TrialFault::Tid(TidFault::BeforeBase)));
     Ok(())
+}
+
+#[test]
+fn an_output_fails_within_a_token(rt: HostRuntime) {
+    let mut room = [0u8; 30];
+    let mut out = &mut room[..];
+    let mut err = Vec::new(rt.alloc());
+    let words = [
+        "sell",
+        "--base",
+        "2014",
+        "--key",
+        KEY,
+        "--at",
+        "1388534430",
+        "1",
+        "1",
+    ];
+    assert_eq!(rt; run(rt.alloc(), &words, &mut out, &mut err), 1);
+    assert_eq!(rt; err.len(), 0);
+    assert_eq!(rt; room[..21], *b"00072057602627981690\n".as_slice());
 }
