@@ -1,10 +1,11 @@
 -- The ranges of the four exponents are disjoint, and in each the amounts lie a step apart.
-use Rattle.std.proofs.Common.{◌≡◌, ℕ, zero, suc, ◌+◌, ◌-◌, ◌*◌, ◌/◌, ◌%◌, ◌^◌, ◌<◌, ◌≤◌, sym, ◌∙◌, subst, arith}
+use Rattle.std.proofs.Common.{◌≡◌, ℕ, zero, suc, ◌+◌, ◌-◌, ◌*◌, ◌/◌, ◌%◌, ◌^◌, ◌<◌, ◌≤◌, inl, inr, sym, ◌∙◌, subst, add-zero, add-suc, arith}
+use Rattle.std.proofs.lemmas.Bool.{cases_lt}
 use Rattle.std.proofs.lemmas.Bool.Decides.{nat_tests}
-use Rattle.sts_fields.specs.Amount.{HasParts, IsFloor, IsInRange, IsRepresentable, amount_of, code_of, exponent_of, start_of}
+use Rattle.sts_fields.specs.Amount.{HasParts, IsFloor, IsRepresentable, LiesIn, amount_of, amount_of_code, code_of, exponent_of, greatest_amount, start_of}
 
 -- an exponent's range is told by the count of the starts below
-exponent_of-range : (t e : ℕ) → IsInRange t e → exponent_of t ≡ e
+exponent_of-range : (t e : ℕ) → LiesIn t e → exponent_of t ≡ e
 exponent_of-range t zero r = let next = r.before_next (omega arith) in grind (arith, nat_tests)
 exponent_of-range t (suc zero) r = let from = r.from_start in let next = r.before_next (omega arith) in grind (arith, nat_tests)
 exponent_of-range t (suc (suc zero)) r = let from = r.from_start in let next = r.before_next (omega arith) in grind (arith, nat_tests)
@@ -12,11 +13,11 @@ exponent_of-range t (suc (suc (suc zero))) r = let from = r.from_start in grind 
 exponent_of-range t (suc (suc (suc (suc e)))) r = let past = r.exponent in absurd (omega arith)
 
 -- an amount has one exponent
-pub same_exponent : (t e k : ℕ) → IsInRange t e → IsInRange t k → e ≡ k
+pub same_exponent : (t e k : ℕ) → LiesIn t e → LiesIn t k → e ≡ k
 same_exponent t e k r s = sym (exponent_of-range t e r) ∙ exponent_of-range t k s
 
 -- an amount lies in the range of its exponent
-pub range_from_parts : (t e m : ℕ) → HasParts t e m → IsInRange t e
+pub range_from_parts : (t e m : ℕ) → HasParts t e m → LiesIn t e
 range_from_parts t zero m p =
     let small = p.mantissa in
     let gives = p.gives in
@@ -44,7 +45,7 @@ mantissa_from_parts t (suc (suc (suc zero))) m p = let gives = p.gives in (omega
 mantissa_from_parts t (suc (suc (suc (suc e)))) m p = let past = p.exponent in absurd (omega arith)
 
 -- rounded down to a whole step, what lies in a range is an amount
-pub rounded_down_parts : (t e : ℕ) → IsInRange t e → t ≤ 18201624 → HasParts (t - (t - start_of e) % 10 ^ e) e ((t - start_of e) / 10 ^ e)
+pub rounded_down_parts : (t e : ℕ) → LiesIn t e → t ≤ greatest_amount → HasParts (t - (t - start_of e) % 10 ^ e) e ((t - start_of e) / 10 ^ e)
 rounded_down_parts t zero r top =
     let next = r.before_next (omega arith) in
     record { exponent = omega arith; mantissa = omega arith; gives = omega arith }
@@ -62,7 +63,7 @@ rounded_down_parts t (suc (suc (suc zero))) r top =
 rounded_down_parts t (suc (suc (suc (suc e)))) r top = let past = r.exponent in absurd (omega arith)
 
 -- no step of an exponent lies between what was rounded down and where it came from
-no_step_between : (t e m : ℕ) → IsInRange t e → amount_of e m ≤ t → amount_of e m ≤ t - (t - start_of e) % 10 ^ e
+no_step_between : (t e m : ℕ) → LiesIn t e → amount_of e m ≤ t → amount_of e m ≤ t - (t - start_of e) % 10 ^ e
 no_step_between t zero m r within = omega arith
 no_step_between t (suc zero) m r within = let from = r.from_start in omega arith
 no_step_between t (suc (suc zero)) m r within = let from = r.from_start in omega arith
@@ -70,11 +71,11 @@ no_step_between t (suc (suc (suc zero))) m r within = let from = r.from_start in
 no_step_between t (suc (suc (suc (suc e)))) m r within = let past = r.exponent in absurd (omega arith)
 
 -- what is greater than a rounded amount, and not past where it came from, lies in the same range
-range_between : (t u v e : ℕ) → IsInRange t e → start_of e ≤ u → u < v → v ≤ t → IsInRange v e
+range_between : (t u v e : ℕ) → LiesIn t e → start_of e ≤ u → u < v → v ≤ t → LiesIn v e
 range_between t u v e r low above within =
     record { exponent = r.exponent; from_start = omega arith; before_next = λ k. let next = r.before_next k in omega arith }
 
-pub floor_is : (t e : ℕ) → IsInRange t e → t ≤ 18201624 → IsFloor t (t - (t - start_of e) % 10 ^ e)
+pub floor_is : (t e : ℕ) → LiesIn t e → t ≤ greatest_amount → IsFloor t (t - (t - start_of e) % 10 ^ e)
 floor_is t e r top =
     let parts = rounded_down_parts t e r top in
     record {
@@ -88,19 +89,19 @@ floor_is t e r top =
           omega arith;
     }
 
-pub representable_from_no_rest : (t e : ℕ) → IsInRange t e → t ≤ 18201624 → (t - start_of e) % 10 ^ e ≡ 0 → IsRepresentable t
+pub representable_from_no_rest : (t e : ℕ) → LiesIn t e → t ≤ greatest_amount → (t - start_of e) % 10 ^ e ≡ 0 → IsRepresentable t
 representable_from_no_rest t e r top none =
     let parts = rounded_down_parts t e r top in
     let whole : t - (t - start_of e) % 10 ^ e ≡ t = omega arith in
     (e, (t - start_of e) / 10 ^ e, subst (λ (u : ℕ). HasParts u e ((t - start_of e) / 10 ^ e)) whole parts)
 
-pub no_rest_from_representable : (t e : ℕ) → IsInRange t e → IsRepresentable t → (t - start_of e) % 10 ^ e ≡ 0
+pub no_rest_from_representable : (t e : ℕ) → LiesIn t e → IsRepresentable t → (t - start_of e) % 10 ^ e ≡ 0
 no_rest_from_representable t e r carried =
     let same = same_exponent t carried.0 e (range_from_parts _ _ _ carried.2) r in
     subst (λ (k : ℕ). (t - start_of k) % 10 ^ k ≡ 0) same (mantissa_from_parts _ _ _ carried.2).1
 
 -- no token carries more than the greatest amount
-pub representable_bound : (t e m : ℕ) → HasParts t e m → t ≤ 18201624
+pub representable_bound : (t e m : ℕ) → HasParts t e m → t ≤ greatest_amount
 representable_bound t zero m p = let small = p.mantissa in let gives = p.gives in omega arith
 representable_bound t (suc zero) m p = let small = p.mantissa in let gives = p.gives in omega arith
 representable_bound t (suc (suc zero)) m p = let small = p.mantissa in let gives = p.gives in omega arith
@@ -108,7 +109,7 @@ representable_bound t (suc (suc (suc zero))) m p = let small = p.mantissa in let
 representable_bound t (suc (suc (suc (suc e)))) m p = let past = p.exponent in absurd (omega arith)
 
 -- what can be carried has for its mantissa the steps above the start of its range
-pub parts_in_range : (t e : ℕ) → IsInRange t e → IsRepresentable t → HasParts t e ((t - start_of e) / 10 ^ e)
+pub parts_in_range : (t e : ℕ) → LiesIn t e → IsRepresentable t → HasParts t e ((t - start_of e) / 10 ^ e)
 parts_in_range t e r carried =
     let parts = carried.2 in
     let same = same_exponent t carried.0 e (range_from_parts _ _ _ parts) r in
@@ -127,3 +128,42 @@ code_from_parts t e m p =
     let same = exponent_of-range t e (range_from_parts _ _ _ p) in
     let at_e = subst (λ (j : ℕ). (t - start_of j) / 10 ^ j ≡ m) (sym same) (mantissa_from_parts _ _ _ p).0 in
     omega (arith, same, at_e)
+
+-- ---- the amounts rise with their codes
+amount_from : (e m : ℕ) → start_of e ≤ amount_of e m
+amount_from e m = omega arith
+
+start_rises : (e n : ℕ) → start_of e ≤ start_of (e + n)
+start_rises e zero = rw add-zero (omega arith)
+start_rises e (suc n) = rw add-suc (omega (arith, start_rises e n))
+
+-- a greater mantissa of one exponent is more
+mantissa_rises : (e m n : ℕ) → e < 4 → m < n → amount_of e m < amount_of e n
+mantissa_rises zero m n small less = omega arith
+mantissa_rises (suc zero) m n small less = omega arith
+mantissa_rises (suc (suc zero)) m n small less = omega arith
+mantissa_rises (suc (suc (suc zero))) m n small less = omega arith
+mantissa_rises (suc (suc (suc (suc e)))) m n small less = absurd (omega arith)
+
+amount_before : (e m : ℕ) → e < 4 → m < 2 ^ 14 → amount_of e m < start_of (suc e)
+amount_before zero m small fits = omega arith
+amount_before (suc zero) m small fits = omega arith
+amount_before (suc (suc zero)) m small fits = omega arith
+amount_before (suc (suc (suc zero))) m small fits = omega arith
+amount_before (suc (suc (suc (suc e)))) m small fits = absurd (omega arith)
+
+-- so is a greater exponent
+exponent_rises : (e m k n : ℕ) → e < k → k < 4 → m < 2 ^ 14 → amount_of e m < amount_of k n
+exponent_rises e m k n less small fits =
+    let before = amount_before e m (omega arith) fits in
+    let next : suc e + (k - suc e) ≡ k = omega arith in
+    let starts = subst (λ (j : ℕ). start_of (suc e) ≤ start_of j) next (start_rises (suc e) (k - suc e)) in
+    omega (arith, before, starts, amount_from k n)
+
+pub amount_of_code-rises : (c d : ℕ) → c < d → d < 2 ^ 16 → amount_of_code c < amount_of_code d
+amount_of_code-rises c d less fits = elim (cases_lt (c / 2 ^ 14) (d / 2 ^ 14)) [
+  | inl below ↦ exponent_rises (c / 2 ^ 14) (c % 2 ^ 14) (d / 2 ^ 14) (d % 2 ^ 14) below (omega arith) (omega arith)
+  | inr most ↦
+      let same : c / 2 ^ 14 ≡ d / 2 ^ 14 = omega arith in
+      subst (λ (e : ℕ). amount_of_code c < amount_of e (d % 2 ^ 14)) same (mantissa_rises (c / 2 ^ 14) (c % 2 ^ 14) (d % 2 ^ 14) (omega arith) (omega arith))
+]

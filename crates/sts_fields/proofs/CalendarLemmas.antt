@@ -18,7 +18,7 @@ use Rattle.jiff_core.proofs.DateTimeLemmas.{civil_nanos-parts}
 use Rattle.sts_fields.specs.declared.base.Base.{Base}
 use Rattle.sts_fields.specs.declared.base.Base.TheVariants.{Y1993, Y2014, Y2035}
 use Rattle.sts_fields.specs.Base.{base_date, year_of}
-use Rattle.sts_fields.specs.Calendar.{IsCivil, IsWithinRanges, civil_at, first_day, month_at, new_year, time_of_day}
+use Rattle.sts_fields.specs.Calendar.{IsCivil, IsWithinRanges, civil_at, first_day, month_at, month_number, new_year, time_of_day}
 use borrow.Author.Differences.{up, down}
 
 -- from a on p holds of k numbers, and of none of the later ones among the n
@@ -135,10 +135,6 @@ civil-day secs c i =
     let minute = i.minute in
     let second = i.second in
     omega (arith, signed_arith, days_from_civil-day_count (pos c.year) c.month c.day)
-
--- the number of a date's month since January 1993
-abbrev pub month_number : Civil → ℕ
-month_number c = (c.year - 1993) * 12 + (c.month - 1)
 
 first_of_month : (c : Civil) → IsCivilDate (pos c.year) c.month c.day → 1993 ≤ c.year → first_count (month_number c) ≡ day_count (pos c.year) c.month 1
 first_of_month c date from =

@@ -1,5 +1,5 @@
 -- Transfer amounts in tenths of a kWh: which ones a token can carry, and the code of each.
-use Rattle.std.specs.Prelude.{◌≡◌, ℕ, zero, suc, ◌+◌, ◌-◌, ◌*◌, ◌/◌, ◌^◌, ◌<◌, ◌≤◌, [], ◌∷◌, nat_le}
+use Rattle.std.specs.Prelude.{◌≡◌, ℕ, zero, suc, ◌+◌, ◌-◌, ◌*◌, ◌/◌, ◌%◌, ◌^◌, ◌<◌, ◌≤◌, [], ◌∷◌, nat_le}
 use Rattle.std.specs.List.{count_by}
 
 -- the least amount of an exponent: the sum, over n from 1 to it, of 2 ^ 14 * 10 ^ (n - 1)
@@ -25,6 +25,14 @@ IsRepresentable t = (e : ℕ) × (m : ℕ) × HasParts t e m
 abbrev pub IsCode : ℕ → ℕ → Type 0
 IsCode t c = (e : ℕ) × (m : ℕ) × HasParts t e m × (c ≡ e * 2 ^ 14 + m)
 
+-- the amount of a code of sixteen bits
+abbrev pub amount_of_code : ℕ → ℕ
+amount_of_code code = amount_of (code / 2 ^ 14) (code % 2 ^ 14)
+
+-- the greatest amount that a token can carry: that of the greatest code
+abbrev pub greatest_amount : ℕ
+greatest_amount = 18201624
+
 -- how many of the exponents from 1 on begin at t or below it
 abbrev pub exponent_of : ℕ → ℕ
 exponent_of t = count_by (λ e. nat_le (start_of e) t) (1 ∷ 2 ∷ 3 ∷ [])
@@ -38,7 +46,7 @@ abbrev pub code_of : ℕ → ℕ
 code_of t = exponent_of t * 2 ^ 14 + mantissa_of t
 
 -- t lies in the range of exponent e: from its least amount to before that of the next exponent
-pub record IsInRange (t e : ℕ) : Type 0 where
+pub record LiesIn (t e : ℕ) : Type 0 where
   pub exponent : e < 4
   pub from_start : start_of e ≤ t
   pub before_next : e < 3 → t < start_of (suc e)

@@ -1,5 +1,5 @@
--- The date and the time of day that a clock in UTC shows at a moment, and the months since January 1993.
-use Rattle.std.specs.Prelude.{◌≡◌, ℕ, ◌+◌, ◌*◌, ◌/◌, ◌%◌, ◌<◌, ℤ, pos, ◌+ℤ◌, ◌-ℤ◌, ◌*ℤ◌, int_le, unsigned_abs}
+-- The date and the time of day that a clock in UTC shows, and the months since January 1993.
+use Rattle.std.specs.Prelude.{◌≡◌, ℕ, ◌+◌, ◌-◌, ◌*◌, ◌/◌, ◌%◌, ◌<◌, ℤ, pos, ◌+ℤ◌, ◌-ℤ◌, ◌*ℤ◌, int_le, unsigned_abs}
 use Rattle.std.specs.Int.{IsInRange}
 use Rattle.std.specs.List.{count_by, range_with_len}
 pub use Rattle.jiff_core.specs.Calendar.{days_from_civil, IsCivilDate}
@@ -21,6 +21,10 @@ pub record IsCivil (secs : ℕ) (c : Civil) : Type 0 where
   pub second : c.second < 60
   pub seconds : day_number c *ℤ pos 86400 +ℤ pos (time_of_day c) ≡ pos secs
 
+-- the months from January 1993 to the month of the date
+abbrev pub month_number : Civil → ℕ
+month_number c = (c.year - 1993) * 12 + (c.month - 1)
+
 -- the year is one of 1993 to 2099, and the other parts are those that a calendar and a clock have
 pub record IsWithinRanges (c : Civil) : Type 0 where
   pub year : IsInRange 1993 2099 c.year
@@ -38,7 +42,8 @@ first_day n = days_from_civil (pos (1993 + n / 12)) (n % 12 + 1) 1
 unfoldable pub month_at : ℕ → ℕ
 month_at secs = count_by (λ n. int_le (first_day n) (pos (secs / 86400))) (range_with_len 1 1283)
 
--- what a clock in UTC shows from 1993 to 2099, by the month and the days since it began: `IsCivil` says what it is
+-- what a clock in UTC shows from 1993 to 2099, by the month and the days since it began:
+-- `IsCivil` says what it is
 unfoldable pub civil_at : ℕ → Civil
 civil_at secs =
     let n = month_at secs in

@@ -45,7 +45,8 @@ pub record IsFresh (used : List ℕ) (now t : ℕ) : Type 0 where
 abbrev pub FreshOutcome : List ℕ → ℕ → Result ℕ TidFault → Type 0
 FreshOutcome used now (Ok t) = IsFresh used now t × (t ≤ now + greatest_lead)
 FreshOutcome used now (Err IdentifiersSpent) = (t : ℕ) → ¬ MaySell used now t
-FreshOutcome used now (Err IdentifierAhead) = (t : ℕ) × IsFresh used now t × (now + greatest_lead < t)
+FreshOutcome used now (Err IdentifierAhead) =
+    (t : ℕ) × IsFresh used now t × (now + greatest_lead < t)
 FreshOutcome used now (Err BeforeBase) = ⊥
 FreshOutcome used now (Err PastEnd) = ⊥
 

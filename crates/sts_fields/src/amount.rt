@@ -1,12 +1,12 @@
 ghost use Rattle.std.specs.Prelude.{◌≡◌, ◌*◌, ◌/◌, ◌%◌, ◌+◌, ◌^◌, ◌<◌, ◌≤◌, ◌↔◌, ℕ, IsSome, IfSome};
-ghost use Rattle.sts_fields.specs.Amount.{HasParts, IsCode, IsFloor, IsInRange, IsRepresentable, amount_of, code_of, exponent_of, start_of};
+ghost use Rattle.sts_fields.specs.Amount.{HasParts, IsCode, IsFloor, IsRepresentable, LiesIn, amount_of_code, code_of, exponent_of, greatest_amount, start_of};
 
 use std::marker::Model;
 
 /// A transfer amount: a number of tenths of a kWh that a token can carry.
 ///
 /// It is written as a code of sixteen bits, an exponent of two and a mantissa of fourteen
-/// (`docs/PROFILE.md`, "Amounts"). Contracts see its tenths, from 0 to 18201624.
+/// (`docs/PROFILE.md`, "Amounts"). Contracts see its tenths, from 0 to `greatest_amount`.
 #[derive(Clone, Copy, Debug, PartialEq, Eq, PartialOrd, Ord, Hash)]
 pub struct Amount {
     tenths: u32,
@@ -45,7 +45,7 @@ impl Amount {
 
     /// The greatest amount that is not above so many tenths of a kWh.
     pub fn floor(tenths: u32) -> Amount
-        requires { tenths ≤ 18201624 }
+        requires { tenths ≤ greatest_amount }
         ensures { IsFloor tenths result }
     {
         let exponent = exponent(tenths);
@@ -75,7 +75,8 @@ impl Amount {
 
     /// The amount that a code stands for. Each of the 65536 codes stands for one.
     pub fn of_code(code: u16) -> Amount
-        ensures { result ≡ amount_of (code / 2 ^ 14) (code % 2 ^ 14) }
+        ensures code { IsCode result code }
+        ensures value { result ≡ amount_of_code code }
     {
         let exponent = u32::from(code / 16_384);
         let mantissa = u32::from(code % 16_384);
@@ -88,7 +89,7 @@ impl Amount {
 // The exponent of the range that so many tenths lie in.
 fn exponent(tenths: u32) -> u32
     ensures value { result ≡ exponent_of tenths }
-    ensures range { IsInRange tenths result }
+    ensures range { LiesIn tenths result }
 {
     if tenths < 16_384 {
         0
@@ -130,10 +131,14 @@ fn start(exponent: u32) -> u32
 /// What the code of an amount means: codes and representable amounts correspond one to one.
 pub fn amount_law()
     ensures one_pair { (t e m k n : ℕ) → HasParts t e m → HasParts t k n → (e ≡ k) × (m ≡ n) }
-    ensures each_code { (c : ℕ) → c < 2 ^ 16 → IsCode (amount_of (c / 2 ^ 14) (c % 2 ^ 14)) c }
+    ensures each_code { (c : ℕ) → c < 2 ^ 16 → IsCode (amount_of_code c) c }
     ensures each_amount { (t : ℕ) → IsRepresentable t → IsCode t (code_of t) }
     ensures one_code { (t c d : ℕ) → IsCode t c → IsCode t d → c ≡ d }
     ensures one_amount { (t u c : ℕ) → IsCode t c → IsCode u c → t ≡ u }
     ensures sixteen_bits { (t c : ℕ) → IsCode t c → c < 2 ^ 16 }
-    ensures greatest { (t : ℕ) → IsRepresentable t → t ≤ 18201624 }
+
+    // Amounts rise with their codes, up to the greatest.
+    ensures rises { (c d : ℕ) → c < d → d < 2 ^ 16 → amount_of_code c < amount_of_code d }
+    ensures greatest { (t : ℕ) → IsRepresentable t → t ≤ greatest_amount }
+    ensures greatest_code { amount_of_code 65535 ≡ greatest_amount }
 {}

@@ -1,4 +1,5 @@
-ghost use Rattle.std.specs.Prelude.{◌≡◌, ◌≤ℤ◌, ◌↔◌, pos, IsSome, IfSome};
+ghost use Rattle.std.specs.Prelude.{◌≡◌, ◌≤ℤ◌, ◌↔◌, ℕ, pos, IsSome, IfSome};
+ghost use Rattle.sts_fields.specs.Moment.{IsMoment, first_moment, last_moment};
 
 use std::marker::Model;
 
@@ -11,13 +12,14 @@ pub struct Moment {
 }
 
 impl Model for Moment {
-    ghost use Rattle.std.specs.Prelude.{ℕ, ◌≤◌};
+    ghost use Rattle.std.specs.Prelude.{ℕ};
+    ghost use Rattle.sts_fields.specs.Moment.{IsMoment};
 
     ghost Value = { ℕ };
 
     ghost view = { λ m. m.seconds };
 
-    ghost invariant = { λ m. (725846400 ≤ m.seconds) × (m.seconds ≤ 4102444799) };
+    ghost invariant = { λ m. IsMoment m.seconds };
 
     ghost inverse = { λ s. record { seconds = s } };
 }
@@ -31,7 +33,8 @@ impl Moment {
 
     /// The moment of so many Unix seconds, or `None` exactly outside 1993 to 2099.
     pub fn of_secs(seconds: i64) -> Option<Moment>
-        ensures range { IsSome result ↔ ((pos 725846400 ≤ℤ seconds) × (seconds ≤ℤ pos 4102444799)) }
+        ensures range { IsSome result
+            ↔ ((pos first_moment ≤ℤ seconds) × (seconds ≤ℤ pos last_moment)) }
         ensures value { IfSome result (λ moment. pos moment ≡ seconds) }
     {
         if (Self::FIRST..=Self::LAST).contains(&seconds) {
@@ -46,8 +49,7 @@ impl Moment {
     /// The Unix seconds.
     pub fn secs(self) -> i64
         ensures value { result ≡ pos self }
-        ensures from_first { pos 725846400 ≤ℤ result }
-        ensures to_last { result ≤ℤ pos 4102444799 }
+        ensures range { IsMoment self }
     {
         i64::from(self.seconds)
     }

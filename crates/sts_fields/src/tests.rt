@@ -1,4 +1,4 @@
-use crate::{Amount, Base, LAST_TID, Moment, TidFault, minute, next_tid};
+use crate::{Amount, Base, LAST_TID, Memory, Moment, TidFault, minute, next_tid};
 use std::test::Fail;
 
 #[test]
@@ -20,6 +20,7 @@ fn amounts_and_codes(rt: HostRuntime) -> Result<(), Fail> {
         assert_eq!(rt; amount.code(), code, "at {tenths}");
         assert_eq!(rt; Amount::of_code(code), amount);
     }
+    assert_eq!(rt; Amount::of_code(u16::MAX).tenths(), Amount::MAX_TENTHS);
     for tenths in [16_385, 180_220, 1_818_525, 18_201_625, u32::MAX] {
         assert_eq!(rt; Amount::of_tenths(tenths), None, "at {tenths}");
     }
@@ -109,15 +110,33 @@ fn fresh_identifiers(rt: HostRuntime) {
 }
 
 #[test]
-fn faults_have_numbers_and_names(rt: HostRuntime) {
+fn faults(rt: HostRuntime) -> Result<(), Fail> {
     let faults = [
-        (TidFault::BeforeBase, 1, "BeforeBase"),
-        (TidFault::PastEnd, 2, "PastEnd"),
-        (TidFault::IdentifiersSpent, 3, "IdentifiersSpent"),
-        (TidFault::IdentifierAhead, 4, "IdentifierAhead"),
+        (
+            TidFault::BeforeBase,
+            (1, "BeforeBase"),
+            "the moment is before the base date",
+        ),
+        (
+            TidFault::PastEnd,
+            (2, "PastEnd"),
+            "the moment is past the last identifier of the base date",
+        ),
+        (
+            TidFault::IdentifiersSpent,
+            (3, "IdentifiersSpent"),
+            "no identifier of the base date is left for this meter",
+        ),
+        (
+            TidFault::IdentifierAhead,
+            (4, "IdentifierAhead"),
+            "the next identifier is more than a day ahead",
+        ),
     ];
-    for (fault, number, name) in faults {
-        assert_eq!(rt; fault.number(), number);
-        assert_eq!(rt; fault.name(), name);
+    for (fault, called, sentence) in faults {
+        assert_eq!(rt; (fault.number(), fault.name()), called);
+        assert_eq!(rt; fault.to_string(rt.alloc())?.as_str(), sentence);
     }
+    assert_eq!(rt; Memory.to_string(rt.alloc())?.as_str(), "out of memory");
+    Ok(())
 }

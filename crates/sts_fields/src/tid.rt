@@ -21,7 +21,8 @@ const RESERVED: u32 = 1;
 pub fn minute(base: Base, moment: Moment) -> Result<u32, TidFault>
     ensures value { result ≡ minute_of base moment }
     ensures before { (result ≡ Err TidFault.BeforeBase) ↔ (moment < base_date base) }
-    ensures past { (result ≡ Err TidFault.PastEnd) ↔ ((base_date base ≤ moment) × (last_tid < minutes_since base moment)) }
+    ensures past { (result ≡ Err TidFault.PastEnd)
+        ↔ ((base_date base ≤ moment) × (last_tid < minutes_since base moment)) }
 {
     let now = moment.seconds();
     let start = base::seconds(base);
@@ -35,17 +36,20 @@ pub fn minute(base: Base, moment: Moment) -> Result<u32, TidFault>
     Ok(minutes)
 }
 
-/// The identifier that a sale in a minute takes, after the greatest one sold to the meter under this base.
+/// The identifier that a sale in a minute takes, after the greatest one sold to the meter under
+/// this base.
 ///
-/// It is the least from the minute on, of at least 2, that is not reserved and above every one sold.
+/// It is the least from the minute on, of at least 2, that is not reserved and above every one
+/// sold.
 pub fn next_tid(minute: u32, last: Option<u32>) -> Result<u32, TidFault>
-    requires minute { minute ≤ 16777215 }
-    requires last { ForSome last (λ tid. tid ≤ 16777215) }
+    requires minute { minute ≤ last_tid }
+    requires last { ForSome last (λ tid. tid ≤ last_tid) }
     ensures outcome { (used : List ℕ) → IsLast used last → FreshOutcome used minute result }
     ensures spent { (used : List ℕ) → IsLast used last
         → ((result ≡ Err TidFault.IdentifiersSpent) ↔ ((t : ℕ) → ¬ MaySell used minute t)) }
     ensures ahead { (used : List ℕ) → IsLast used last
-        → ((result ≡ Err TidFault.IdentifierAhead) ↔ ((t : ℕ) × IsFresh used minute t × (minute + greatest_lead < t))) }
+        → ((result ≡ Err TidFault.IdentifierAhead)
+        ↔ ((t : ℕ) × IsFresh used minute t × (minute + greatest_lead < t))) }
     ensures value { result ≡ fresh_after minute last }
 {
     let lowest = match last {
@@ -70,10 +74,12 @@ pub fn next_tid(minute: u32, last: Option<u32>) -> Result<u32, TidFault>
 pub fn fresh_law()
     ensures never_reserved { (used : List ℕ) (now t : ℕ) → IsFresh used now t → ¬ IsReserved t }
     ensures never_zero { (used : List ℕ) (now t : ℕ) → IsFresh used now t → t ≢ 0 }
-    ensures never_sold_before { (used : List ℕ) (now t : ℕ) → IsFresh used now t → ¬ Contains used t }
+    ensures never_sold_before { (used : List ℕ) (now t : ℕ)
+        → IsFresh used now t → ¬ Contains used t }
     ensures one { (used : List ℕ) (now s t : ℕ) → IsFresh used now s → IsFresh used now t → s ≡ t }
 
-    // A sale in a minute has one outcome, and `fresh_after` computes it from the greatest identifier sold.
+    // A sale in a minute has one outcome, and `fresh_after` computes it from the greatest
+    // identifier sold.
     ensures one_outcome { (used : List ℕ) (now : ℕ) (r s : Result ℕ TidFault)
         → FreshOutcome used now r → FreshOutcome used now s → r ≡ s }
     ensures computed { (used : List ℕ) (now : ℕ) (last : Option ℕ) → IsLast used last

@@ -1,4 +1,4 @@
-use Rattle.sts_fields.proofs.AmountLemmas.{representable_bound, same_parts, code_from_parts}
+use Rattle.sts_fields.proofs.AmountLemmas.{amount_of_code-rises, representable_bound, same_parts, code_from_parts}
 use Rattle.sts_fields.proofs.amount.amount_law.Goals as goal
 
 pub returns-clause-one_pair : goal.returns-clause-one_pair
@@ -12,3 +12,6 @@ returns-clause-one_code c = λ t a b p q. let same = same_parts t _ _ _ _ p.2 q.
 
 pub returns-clause-greatest : goal.returns-clause-greatest
 returns-clause-greatest c = λ t carried. representable_bound _ _ _ carried.2
+
+pub returns-clause-rises : goal.returns-clause-rises
+returns-clause-rises c = amount_of_code-rises

@@ -1,0 +1,14 @@
+-- Moments: the seconds of the years 1993 to 2099, in UTC.
+use Rattle.std.specs.Prelude.{ℕ, ◌≤◌}
+
+-- 1993-01-01T00:00:00Z in Unix seconds
+abbrev pub first_moment : ℕ
+first_moment = 725846400
+
+-- 2099-12-31T23:59:59Z in Unix seconds
+abbrev pub last_moment : ℕ
+last_moment = 4102444799
+
+-- these Unix seconds are a moment's
+abbrev pub IsMoment : ℕ → Type 0
+IsMoment secs = (first_moment ≤ secs) × (secs ≤ last_moment)
