@@ -3,6 +3,7 @@ use Rattle.std.specs.Prelude.{◌≡◌, ℕ, ◌+◌, ◌-◌, ◌*◌, ◌/◌
 use Rattle.std.specs.Int.{IsInRange}
 use Rattle.std.specs.List.{count_by, range_with_len}
 pub use Rattle.jiff_core.specs.Calendar.{days_from_civil, IsCivilDate}
+use Rattle.sts_fields.specs.Moment.{UnixSeconds}
 use Rattle.sts_fields.specs.declared.calendar.date_time.Civil.{Civil}
 
 -- how many days the date lies after 1 January 1970
@@ -14,7 +15,7 @@ abbrev pub time_of_day : Civil → ℕ
 time_of_day c = c.hour * 3600 + c.minute * 60 + c.second
 
 -- a clock in UTC shows c at these Unix seconds: a date that the calendar has, and a time of day
-pub record IsCivil (secs : ℕ) (c : Civil) : Type 0 where
+pub record IsCivil (secs : UnixSeconds) (c : Civil) : Type 0 where
   pub date : IsCivilDate (pos c.year) c.month c.day
   pub hour : c.hour < 24
   pub minute : c.minute < 60
@@ -39,12 +40,12 @@ unfoldable pub first_day : ℕ → ℤ
 first_day n = days_from_civil (pos (1993 + n / 12)) (n % 12 + 1) 1
 
 -- how many of the months from February 1993 to December 2099 have begun by these Unix seconds
-unfoldable pub month_at : ℕ → ℕ
+unfoldable pub month_at : UnixSeconds → ℕ
 month_at secs = count_by (λ n. int_le (first_day n) (pos (secs / 86400))) (range_with_len 1 1283)
 
 -- what a clock in UTC shows from 1993 to 2099, by the month and the days since it began:
 -- `IsCivil` says what it is
-unfoldable pub civil_at : ℕ → Civil
+unfoldable pub civil_at : UnixSeconds → Civil
 civil_at secs =
     let n = month_at secs in
     record {

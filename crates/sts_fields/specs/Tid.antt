@@ -1,6 +1,7 @@
 -- Token identifiers: the minutes from a base date, and the one that a sale takes.
 use Rattle.std.specs.Prelude.{◌≡◌, ℕ, ◌+◌, ◌-◌, ◌/◌, ◌%◌, ◌<◌, ◌≤◌, ◌==◌, max, List, [], Option, Some, None, Result, Ok, Err, if◌then◌else◌, nat_lt, All, Contains}
 use Rattle.sts_fields.specs.Base.{base_date}
+use Rattle.sts_fields.specs.Moment.{UnixSeconds}
 use Rattle.sts_fields.specs.declared.base.Base.{Base}
 use Rattle.sts_fields.specs.declared.fault.TidFault.{TidFault}
 use Rattle.sts_fields.specs.declared.fault.TidFault.TheVariants.{BeforeBase, PastEnd, IdentifiersSpent, IdentifierAhead}
@@ -14,11 +15,11 @@ abbrev pub greatest_lead : ℕ
 greatest_lead = 1440
 
 -- the whole minutes from a base date to a moment that is not before it
-abbrev pub minutes_since : Base → ℕ → ℕ
+abbrev pub minutes_since : Base → UnixSeconds → ℕ
 minutes_since base moment = (moment - base_date base) / 60
 
 -- the present minute under a base date, where the moment lies in its range
-abbrev pub minute_of : Base → ℕ → Result ℕ TidFault
+abbrev pub minute_of : Base → UnixSeconds → Result ℕ TidFault
 minute_of base moment =
     if nat_lt moment (base_date base) then Err BeforeBase
     else (if nat_lt last_tid (minutes_since base moment) then Err PastEnd
