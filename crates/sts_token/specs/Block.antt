@@ -17,6 +17,7 @@ check_of_payload payload = check_of (bytes_high_first 7 payload)
 abbrev pub block_of : ℕ → TokenFields → ℕ
 block_of subclass f = payload_of subclass f * 2 ^ 16 + check_of_payload (payload_of subclass f)
 
--- the number of a transformed block: two of its bits, 28 and 27, move to the top, and the class, 0, takes their place
+-- the number of a transformed block: two of its bits, 28 and 27, move to the top, and the class, 0,
+-- takes their place
 abbrev pub number_of : ℕ → ℕ
 number_of block = block / 2 ^ 27 % 4 * 2 ^ 64 + block / 2 ^ 29 * 2 ^ 29 + block % 2 ^ 27

@@ -7,7 +7,8 @@ use Rattle.std.specs.Int.{bit_at}
 abbrev pub bits_of : ℕ → List ℕ
 bits_of byte = map (bit_at byte) (0 ∷ 1 ∷ 2 ∷ 3 ∷ 4 ∷ 5 ∷ 6 ∷ 7 ∷ [])
 
--- the check after one more bit: shifted right, and A001 added where the bit shifted out is another one
+-- the check after one more bit: shifted right, and A001 added where the bit shifted out is another
+-- one
 abbrev pub check_step : ℕ → ℕ → ℕ
 check_step check bit = if check % 2 == bit then check / 2 else bit_xor (check / 2) 0xA001
 

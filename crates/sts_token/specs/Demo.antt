@@ -2,6 +2,7 @@
 use Rattle.std.specs.Prelude.{ℕ, ◌+◌, ◌*◌, ◌/◌, ◌%◌, ◌^◌, List, [], ◌∷◌, bit_xor, reverse}
 use Rattle.std.specs.Int.{rotate_left, w32}
 use Rattle.std.specs.List.{fold}
+use Rattle.sts_token.specs.Token.{Way}
 use Rattle.sts_token.specs.declared.demo.Halves.{Halves}
 
 -- a number of 64 bits as its halves, and back
@@ -19,18 +20,23 @@ mixed half round_key =
 
 -- a round, and the round undone
 abbrev pub after_round : Halves → ℕ → Halves
-after_round halves round_key = record { left = halves.right; right = bit_xor halves.left (mixed halves.right round_key) }
+after_round halves round_key =
+    record { left = halves.right; right = bit_xor halves.left (mixed halves.right round_key) }
 
 abbrev pub before_round : Halves → ℕ → Halves
-before_round halves round_key = record { left = bit_xor halves.right (mixed halves.left round_key); right = halves.left }
+before_round halves round_key =
+    record { left = bit_xor halves.right (mixed halves.left round_key); right = halves.left }
 
 -- the key's high half, its low half, and each of them changed
 abbrev pub round_keys : ℕ → List ℕ
-round_keys key = key / 2 ^ 32 ∷ key % 2 ^ 32 ∷ bit_xor (key / 2 ^ 32) 0xA5A5A5A5 ∷ bit_xor (key % 2 ^ 32) 0x5A5A5A5A ∷ []
+round_keys key =
+    let high = key / 2 ^ 32 in
+    let low = key % 2 ^ 32 in
+    high ∷ low ∷ bit_xor high 0xA5A5A5A5 ∷ bit_xor low 0x5A5A5A5A ∷ []
 
 -- the rounds in order, and undone from the last one back
-unfoldable pub demo_forward : ℕ → ℕ → ℕ
+unfoldable pub demo_forward : Way
 demo_forward key block = joined (fold after_round (halves_of block) (round_keys key))
 
-unfoldable pub demo_inverse : ℕ → ℕ → ℕ
+unfoldable pub demo_inverse : Way
 demo_inverse key block = joined (fold before_round (halves_of block) (reverse (round_keys key)))

@@ -1,16 +1,17 @@
 -- What a meter answers to a token, and its credit, over all that was entered into it.
 use Rattle.std.specs.Prelude.{◌≡◌, ℕ, ◌-◌, ◌^◌, ◌==◌, ◌||◌, Bool, min, List, [], ◌∷◌, ◌++◌, map, Result, Ok, Err, if◌then◌else◌, nat_le, nat_lt, nat_eq, sum, count_by}
 use Rattle.std.specs.List.{fold, list_any}
+use Rattle.sts_fields.specs.Text.{Text}
 use Rattle.sts_token.specs.Fields.{TokenFields}
 use Rattle.sts_token.specs.declared.fault.TokenFault.{TokenFault}
 
 -- how a meter reads texts: `reading_of` its transform and key
 abbrev pub Reader : Type 0
-Reader = List ℕ → Result TokenFields TokenFault
+Reader = Text → Result TokenFields TokenFault
 
 -- what is done to a meter: a text is entered, or the meter is cleared
 pub data Entry : Type 0 where
-  entered : List ℕ → Entry
+  entered : Text → Entry
   cleared : Entry
 
 -- what a meter makes of an identifier
@@ -29,7 +30,10 @@ is_among taken t = list_any (nat_eq t) taken
 
 -- the answer where these identifiers were accepted since the start or the last clearing
 abbrev pub answer_to : List ℕ → ℕ → TidAnswer
-answer_to taken t = if is_old taken t then old else (if t == 0 || is_among taken t then used else accepted)
+answer_to taken t =
+    if is_old taken t then old
+    else (if t == 0 || is_among taken t then used
+    else accepted)
 
 -- what a meter took: the identifiers accepted since the start or the last clearing, and the
 -- amounts of all tokens accepted, clearings or not; the last one first
@@ -60,15 +64,16 @@ abbrev pub credit_of : Reader → List Entry → ℕ
 credit_of read history = min (2 ^ 64 - 1) (sum (taken_over read history).amounts)
 
 -- the meter accepts the text, which reads as these fields, after these entries
-pub record Accepts (read : Reader) (history : List Entry) (text : List ℕ) (f : TokenFields) : Type 0 where
+pub record Accepts (read : Reader) (history : List Entry) (text : Text) (f : TokenFields) :
+    Type 0 where
   pub reads : read text ≡ Ok f
   pub answer : answer_to (taken_over read history).tids f.tid ≡ accepted
 
 -- one of the texts, entered one after another into a new meter, was accepted with this identifier
-pub record WasAccepted (read : Reader) (texts : List (List ℕ)) (t : ℕ) : Type 0 where
-  pub earlier : List (List ℕ)
-  pub text : List ℕ
-  pub later : List (List ℕ)
+pub record WasAccepted (read : Reader) (texts : List Text) (t : ℕ) : Type 0 where
+  pub earlier : List Text
+  pub text : Text
+  pub later : List Text
   pub fields : TokenFields
   pub one_of : texts ≡ earlier ++ text ∷ later
   pub accepts : Accepts read (map entered earlier) text fields

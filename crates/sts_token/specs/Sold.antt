@@ -2,7 +2,7 @@
 use Rattle.std.specs.Prelude.{ℕ, ◌<◌, ◌≤◌, ◌&&◌, List, All, AllPairs, map, filter, nat_lt, count_by}
 use Rattle.sts_token.specs.Fields.{AreFields, TokenFields}
 use Rattle.sts_token.specs.Meter.{Entry, Reader, entered, is_among, taken_over}
-use Rattle.sts_token.specs.Token.{token_of}
+use Rattle.sts_token.specs.Token.{Way, token_of}
 
 -- fields of tokens in the order of their sale: the identifiers rise from 1 on
 pub record AreSold (sold : List TokenFields) : Type 0 where
@@ -14,7 +14,7 @@ abbrev pub tid_of : TokenFields → ℕ
 tid_of f = f.tid
 
 -- the tokens of these fields are entered, one after another
-abbrev pub entries_of : (ℕ → ℕ → ℕ) → ℕ → List TokenFields → List Entry
+abbrev pub entries_of : Way → ℕ → List TokenFields → List Entry
 entries_of forward key fields = map (λ f. entered (token_of forward key f)) fields
 
 -- how many of the tokens sold later than f are among those that came

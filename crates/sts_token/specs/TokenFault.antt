@@ -1,5 +1,6 @@
 -- Why a text is not read: the numbers and names of the faults.
-use Rattle.std.specs.Prelude.{ℕ, List, codes}
+use Rattle.std.specs.Prelude.{ℕ, codes}
+use Rattle.sts_fields.specs.Text.{Text}
 use Rattle.sts_token.specs.declared.fault.TokenFault.{TokenFault}
 use Rattle.sts_token.specs.declared.fault.TokenFault.TheVariants.{NotTwentyDigits, TooLarge, WrongClass, BadCheck, WrongSubclass}
 
@@ -12,7 +13,7 @@ fault_number BadCheck = 4
 fault_number WrongSubclass = 5
 
 -- the name that a user meets
-abbrev pub fault_name : TokenFault → List ℕ
+abbrev pub fault_name : TokenFault → Text
 fault_name NotTwentyDigits = codes "NotTwentyDigits"
 fault_name TooLarge = codes "TooLarge"
 fault_name WrongClass = codes "WrongClass"

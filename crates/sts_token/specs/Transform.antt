@@ -1,13 +1,14 @@
 -- What a block transform keeps: blocks of 64 bits, each of its two ways undoing the other.
 use Rattle.std.specs.Prelude.{◌≡◌, ℕ, ◌<◌, ◌^◌}
-use Rattle.sts_token.specs.Token.{KeepsRange}
+use Rattle.sts_token.specs.Token.{KeepsRange, Way}
 
 -- what one way made of a block, the other way makes that block of again
-abbrev pub Undoes : (ℕ → ℕ → ℕ) → (ℕ → ℕ → ℕ) → Type 0
-Undoes back there = (key block : ℕ) → key < 2 ^ 64 → block < 2 ^ 64 → back key (there key block) ≡ block
+abbrev pub Undoes : Way → Way → Type 0
+Undoes back there = (key block : ℕ) → key < 2 ^ 64 → block < 2 ^ 64
+    → back key (there key block) ≡ block
 
 -- the two ways of a transform
-pub record IsTransform (forward inverse : ℕ → ℕ → ℕ) : Type 0 where
+pub record IsTransform (forward inverse : Way) : Type 0 where
   pub forward_range : KeepsRange forward
   pub inverse_range : KeepsRange inverse
   pub inverse_undoes : Undoes inverse forward

@@ -1,10 +1,12 @@
-ghost use Rattle.std.specs.Prelude.{◌≡◌, ◌<◌, ◌^◌, ◌↔◌, ℕ, List, is_some, IsSome, IfSome};
+ghost use Rattle.std.specs.Prelude.{◌≡◌, ◌<◌, ◌^◌, ◌↔◌, ℕ, is_some, IsSome, IfSome};
 ghost use Rattle.std.specs.Char.{digit_value};
+ghost use Rattle.sts_fields.specs.Text.{Text};
 ghost use Rattle.sts_token.specs.Key.{AreKeyDigits, IsKeyText, is_lower_hexdigit};
 
 use crate::digits::digits;
 
-/// The key that sixteen lower-case hexadecimal digits stand for, or `None` exactly where the text is not that.
+/// The key that sixteen lower-case hexadecimal digits stand for, or `None` exactly where the text
+/// is not that.
 pub fn read_key(text: &[u8]) -> Option<u64>
     ensures digits { IsSome result ↔ AreKeyDigits text.now }
     ensures value { IfSome result (λ key. IsKeyText key text.now) }
@@ -28,9 +30,9 @@ pub fn key_text(key: u64) -> [u8; 16]
 
 /// What a key's text means: each key has one, and each text is of one key.
 pub fn key_law()
-    ensures one_text { (key : ℕ) (a b : List ℕ) → IsKeyText key a → IsKeyText key b → a ≡ b }
-    ensures one_key { (j k : ℕ) (text : List ℕ) → IsKeyText j text → IsKeyText k text → j ≡ k }
-    ensures within { (key : ℕ) (text : List ℕ) → IsKeyText key text → key < 2 ^ 64 }
+    ensures one_text { (key : ℕ) (a b : Text) → IsKeyText key a → IsKeyText key b → a ≡ b }
+    ensures one_key { (j k : ℕ) (text : Text) → IsKeyText j text → IsKeyText k text → j ≡ k }
+    ensures within { (key : ℕ) (text : Text) → IsKeyText key text → key < 2 ^ 64 }
 {}
 
 // The value of a lower-case hexadecimal digit.

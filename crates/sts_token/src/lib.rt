@@ -1,4 +1,5 @@
-//! Credit tokens: twenty digits that carry an amount and an identifier, under a block transform and a key.
+//! Credit tokens: twenty digits that carry an amount and an identifier, under a block transform and
+//! a key.
 //!
 //! `docs/PROFILE.md` has the rules in words, and `specs/` has them as definitions.
 #![tactic(auto)]

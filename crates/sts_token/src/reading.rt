@@ -1,7 +1,8 @@
-ghost use Rattle.std.specs.Prelude.{◌≡◌, ◌≢◌, ◌/◌, ◌<◌, ◌≤◌, ◌^◌, ◌==◌, ◌↔◌, ℕ, List, Option, Result, not, if◌then◌else◌, nat_le};
+ghost use Rattle.std.specs.Prelude.{◌≡◌, ◌≢◌, ◌/◌, ◌<◌, ◌≤◌, ◌^◌, ◌==◌, ◌↔◌, ℕ, Option, Result, not, if◌then◌else◌, nat_le};
 ghost use Rattle.sts_token.specs.Fields.{AreFields, TokenFields};
 ghost use Rattle.sts_token.specs.Reading.{Carries, IsOfClassZero, Reads, block_numbered, block_reading, class_of, is_twenty_digits, number_in, reading_of};
-ghost use Rattle.sts_token.specs.Token.{AreTwentyDigits, IsToken, token_of};
+ghost use Rattle.sts_token.specs.Token.{AreTwentyDigits, IsToken, Way, token_of};
+ghost use Rattle.sts_fields.specs.Text.{Text};
 ghost use Rattle.sts_token.specs.Transform.{IsTransform};
 ghost use Rattle.sts_token.specs.declared.fault.TokenFault.{TokenFault};
 
@@ -11,24 +12,31 @@ use crate::fields::Fields;
 use crate::transform::BlockTransform;
 use sts_fields::{Amount, amount_law};
 
-/// The fields of the token that a text is, or the first fault that it has (`docs/PROFILE.md`, "Reading").
+/// The fields of the token that a text is, or its first fault (`docs/PROFILE.md`, "Reading").
 pub fn read<T: BlockTransform>(transform: &T, key: u64, text: &[u8]) -> Result<Fields, TokenFault>
-    ensures reading { Reads (T.forwards transform.now) (T.inverses transform.now) key text.now result }
+    ensures reading { Reads (T.forwards transform.now) (T.inverses transform.now) key text.now
+        result }
     ensures value { result ≡ reading_of (T.inverses transform.now) key text.now }
 
-    // Some fields exactly where the text is their token, and each fault exactly where no test before it fails.
+    // Some fields exactly where the text is their token, and each fault exactly where no test
+    // before it fails.
     ensures token { (f : TokenFields) → AreFields f
         → ((result ≡ Ok f) ↔ IsToken (T.forwards transform.now) key f text.now) }
-    ensures not_twenty_digits { (result ≡ Err TokenFault.NotTwentyDigits) ↔ ¬ AreTwentyDigits text.now }
-    ensures too_large { (result ≡ Err TokenFault.TooLarge) ↔ (AreTwentyDigits text.now × (2 ^ 66 ≤ number_in text.now)) }
+    ensures not_twenty_digits { (result ≡ Err TokenFault.NotTwentyDigits)
+        ↔ ¬ AreTwentyDigits text.now }
+    ensures too_large { (result ≡ Err TokenFault.TooLarge)
+        ↔ (AreTwentyDigits text.now × (2 ^ 66 ≤ number_in text.now)) }
     ensures wrong_class { (result ≡ Err TokenFault.WrongClass)
-        ↔ (AreTwentyDigits text.now × (number_in text.now < 2 ^ 66) × (class_of (number_in text.now) ≢ 0)) }
+        ↔ (AreTwentyDigits text.now × (number_in text.now < 2 ^ 66)
+        × (class_of (number_in text.now) ≢ 0)) }
     ensures bad_check { (result ≡ Err TokenFault.BadCheck)
         ↔ (IsOfClassZero text.now
-        × ((subclass : ℕ) (f : TokenFields) → ¬ Carries (T.inverses transform.now) key text.now subclass f)) }
+        × ((subclass : ℕ) (f : TokenFields)
+        → ¬ Carries (T.inverses transform.now) key text.now subclass f)) }
     ensures wrong_subclass { (result ≡ Err TokenFault.WrongSubclass)
         ↔ (IsOfClassZero text.now
-        × (subclass : ℕ) × (f : TokenFields) × Carries (T.inverses transform.now) key text.now subclass f × (subclass ≢ 0)) }
+        × (subclass : ℕ) × (f : TokenFields)
+        × Carries (T.inverses transform.now) key text.now subclass f × (subclass ≢ 0)) }
 {
     // Its clauses say what the steps below come to.
     read_law();
@@ -42,17 +50,20 @@ pub fn read<T: BlockTransform>(transform: &T, key: u64, text: &[u8]) -> Result<F
         )
 }
 
-/// What reading means, whatever the transform and the key: a text has one reading, and the texts that
-/// read as some fields are the one token that is written of them.
+/// What reading means, whatever the transform and the key: a text has one reading, and the texts
+/// that read as some fields are the one token that is written of them.
 pub fn read_law()
-    ensures computed { (forward inverse : ℕ → ℕ → ℕ) (key : ℕ) (text : List ℕ) → IsTransform forward inverse → key < 2 ^ 64
+    ensures computed { (forward inverse : Way) (key : ℕ) (text : Text)
+        → IsTransform forward inverse → key < 2 ^ 64
         → Reads forward inverse key text (reading_of inverse key text) }
-    ensures one_reading { (forward inverse : ℕ → ℕ → ℕ) (key : ℕ) (text : List ℕ) (r s : Result TokenFields TokenFault)
+    ensures one_reading { (forward inverse : Way) (key : ℕ) (text : Text)
+        (r s : Result TokenFields TokenFault)
         → IsTransform forward inverse → key < 2 ^ 64
         → Reads forward inverse key text r → Reads forward inverse key text s → r ≡ s }
-    ensures written { (forward inverse : ℕ → ℕ → ℕ) (key : ℕ) (f : TokenFields) → IsTransform forward inverse → key < 2 ^ 64
-        → AreFields f → Reads forward inverse key (token_of forward key f) (Ok f) }
-    ensures one_text { (forward inverse : ℕ → ℕ → ℕ) (key : ℕ) (f : TokenFields) (text : List ℕ)
+    ensures written { (forward inverse : Way) (key : ℕ) (f : TokenFields)
+        → IsTransform forward inverse → key < 2 ^ 64 → AreFields f
+        → Reads forward inverse key (token_of forward key f) (Ok f) }
+    ensures one_text { (forward inverse : Way) (key : ℕ) (f : TokenFields) (text : Text)
         → IsTransform forward inverse → key < 2 ^ 64
         → Reads forward inverse key text (Ok f) → text ≡ token_of forward key f }
 {

@@ -72,16 +72,37 @@ fn demo_transforms(rt: HostRuntime) -> Result<(), Fail> {
 }
 
 #[test]
-fn faults_have_numbers_and_names(rt: HostRuntime) {
+fn faults(rt: HostRuntime) -> Result<(), Fail> {
     let faults = [
-        (TokenFault::NotTwentyDigits, 1, "NotTwentyDigits"),
-        (TokenFault::TooLarge, 2, "TooLarge"),
-        (TokenFault::WrongClass, 3, "WrongClass"),
-        (TokenFault::BadCheck, 4, "BadCheck"),
-        (TokenFault::WrongSubclass, 5, "WrongSubclass"),
+        (
+            TokenFault::NotTwentyDigits,
+            (1, "NotTwentyDigits"),
+            "a token is twenty digits",
+        ),
+        (
+            TokenFault::TooLarge,
+            (2, "TooLarge"),
+            "the number of the digits is too large for a token",
+        ),
+        (
+            TokenFault::WrongClass,
+            (3, "WrongClass"),
+            "the token is of another class than 0",
+        ),
+        (
+            TokenFault::BadCheck,
+            (4, "BadCheck"),
+            "the check of the token is wrong",
+        ),
+        (
+            TokenFault::WrongSubclass,
+            (5, "WrongSubclass"),
+            "the token is of another subclass than 0",
+        ),
     ];
-    for (fault, number, name) in faults {
-        assert_eq!(rt; fault.number(), number);
-        assert_eq!(rt; fault.name(), name);
+    for (fault, called, sentence) in faults {
+        assert_eq!(rt; (fault.number(), fault.name()), called);
+        assert_eq!(rt; fault.to_string(rt.alloc())?.as_str(), sentence);
     }
+    Ok(())
 }

@@ -1,6 +1,7 @@
-ghost use Rattle.std.specs.Prelude.{◌≡◌, ◌<◌, ◌^◌, ℕ, List};
+ghost use Rattle.std.specs.Prelude.{◌≡◌, ◌<◌, ◌^◌, ℕ};
 ghost use Rattle.sts_token.specs.Fields.{AreFields, TokenFields};
-ghost use Rattle.sts_token.specs.Token.{IsToken, KeepsRange, token_of};
+ghost use Rattle.sts_token.specs.Token.{IsToken, KeepsRange, Way, token_of};
+ghost use Rattle.sts_fields.specs.Text.{Text};
 
 use crate::block::{block, number};
 use crate::digits::digits;
@@ -16,11 +17,12 @@ pub fn write<T: BlockTransform>(transform: &T, key: u64, fields: Fields) -> [u8;
     digits(10, number(transform.forward(key, block(fields))))
 }
 
-/// What a token means: under a transform and a key, each fields that a token can carry have one text.
+/// What a token means: under a transform and a key, fields that a token can carry have one text.
 pub fn token_law()
-    ensures has_text { (forward : ℕ → ℕ → ℕ) (key : ℕ) (f : TokenFields)
-        → KeepsRange forward → key < 2 ^ 64 → AreFields f → IsToken forward key f (token_of forward key f) }
-    ensures one_text { (forward : ℕ → ℕ → ℕ) (key : ℕ) (f : TokenFields) (a b : List ℕ)
+    ensures has_text { (forward : Way) (key : ℕ) (f : TokenFields)
+        → KeepsRange forward → key < 2 ^ 64 → AreFields f
+        → IsToken forward key f (token_of forward key f) }
+    ensures one_text { (forward : Way) (key : ℕ) (f : TokenFields) (a b : Text)
         → IsToken forward key f a → IsToken forward key f b → a ≡ b }
 {
     amount_law();

@@ -1,5 +1,6 @@
 ghost use Rattle.std.specs.Prelude.{◌≡◌, ◌<◌, ◌^◌, ℕ};
 ghost use Rattle.std.proofs.Common.{rules};
+ghost use Rattle.sts_token.specs.Token.{Way};
 
 /// A way to scramble a block of 64 bits with a key of 64 bits, and back.
 ///
@@ -7,10 +8,10 @@ ghost use Rattle.std.proofs.Common.{rules};
 /// secrecy (`docs/PROFILE.md`, "Transforms").
 pub trait BlockTransform {
     /// What `forward` gives for a key and a block.
-    ghost forwards: { Self → ℕ → ℕ → ℕ };
+    ghost forwards: { Self → Way };
 
     /// What `inverse` gives for a key and a block.
-    ghost inverses: { Self → ℕ → ℕ → ℕ };
+    ghost inverses: { Self → Way };
 
     /// The block as it is sent.
     fn forward(&self, key: u64, block: u64) -> u64
