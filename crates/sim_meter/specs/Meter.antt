@@ -1,8 +1,10 @@
 -- What a meter answers, and the entries that it may come from.
 use Rattle.std.specs.Prelude.{◌≡◌, ℕ, ◌-◌, ◌^◌, Bool, true, false, min, List, length, Result, Ok, Err, count_by, nat_lt, sum}
+use Rattle.sts_fields.specs.Text.{Text}
 use Rattle.sts_token.specs.Fields.{TokenFields}
 use Rattle.sts_token.specs.Meter.{Entry, Reader, Taken, TidAnswer, accepted, answer_to, old, taken_over, used}
 use Rattle.sts_token.specs.Reading.{reading_of}
+use Rattle.sts_token.specs.Token.{Way}
 use Rattle.sts_token.specs.declared.fault.TokenFault.{TokenFault}
 use Rattle.sim_meter.specs.declared.answer.Answer.{Answer}
 use Rattle.sim_meter.specs.declared.answer.Answer.TheVariants.{Accepted, Used, Old, Refused}
@@ -14,13 +16,14 @@ answer_for f accepted = Accepted f.tenths
 answer_for f used = Used
 answer_for f old = Old
 
--- the answer to what a text was read as, where these identifiers were accepted since the start or the last clearing
+-- the answer to what a text was read as, where these identifiers were accepted since the start or
+-- the last clearing
 abbrev pub answer_with : List ℕ → Result TokenFields TokenFault → Answer
 answer_with taken (Ok f) = answer_for f (answer_to taken f.tid)
 answer_with taken (Err fault) = Refused fault
 
 -- the answer to a text after these entries
-abbrev pub answer_after : Reader → List Entry → List ℕ → Answer
+abbrev pub answer_after : Reader → List Entry → Text → Answer
 answer_after read history text = answer_with (taken_over read history).tids (read text)
 
 abbrev pub is_accepted : Answer → Bool
@@ -41,6 +44,7 @@ pub record Holds {T : Type 0} (taken : Taken) (meter : Meter T) : Type 0 where
   pub credit : meter.credit ≡ min (2 ^ 64 - 1) (sum taken.amounts)
 
 -- the meter reads texts as `read`, and was given these entries since it was new
-pub record ComesFrom {T : Type 0} (inverses : T → ℕ → ℕ → ℕ) (read : Reader) (history : List Entry) (meter : Meter T) : Type 0 where
-  pub reads : (text : List ℕ) → reading_of (inverses meter.transform) meter.key text ≡ read text
+pub record ComesFrom {T : Type 0} (inverses : T → Way) (read : Reader) (history : List Entry)
+    (meter : Meter T) : Type 0 where
+  pub reads : (text : Text) → reading_of (inverses meter.transform) meter.key text ≡ read text
   pub holds : Holds (taken_over read history) meter

@@ -6,9 +6,10 @@ use sts_token::TokenFault;
 pub enum Answer {
     /// The token is taken, and its amount added to the credit.
     Accepted(Amount),
-    /// The token's identifier was accepted before, or is 0.
+    /// The token's identifier is 0, or was accepted since the start or the last clearing, and it is
+    /// not `Old`.
     Used,
-    /// Fifty greater identifiers were accepted before.
+    /// At least fifty of the identifiers accepted since the start or the last clearing are greater.
     Old,
     /// The text cannot be read as a token.
     Refused(TokenFault),

@@ -10,8 +10,9 @@ use sts_token::{BlockTransform, Fields, read};
 
 /// A meter with its transform and key.
 ///
-/// Contracts say what it does by the entries that it comes from: `ComesFrom T.inverses reader history`
-/// holds of a meter that reads texts as `reader` and was given these texts and clearings since it was new.
+/// Contracts say what it does by the entries that it comes from: `ComesFrom T.inverses reader
+/// history` holds of a meter that reads texts as `reader` and was given these texts and clearings
+/// since it was new.
 #[derive(Drop)]
 pub struct Meter<T> {
     transform: T,
@@ -35,11 +36,14 @@ impl<T: BlockTransform> Meter<T> {
         }
     }
 
-    /// Enters a text (`docs/PROFILE.md`, "The meter"). Every answer but `Accepted` leaves the meter unchanged.
+    /// Enters a text (`docs/PROFILE.md`, "The meter"). Every answer but `Accepted` leaves the meter
+    /// unchanged.
     pub fn enter(&mut self, text: &[u8]) -> Answer
-        ensures answer { (reader : Reader) (history : List Entry) → ComesFrom T.inverses reader history self.old
+        ensures answer { (reader : Reader) (history : List Entry)
+            → ComesFrom T.inverses reader history self.old
             → result ≡ answer_after reader history text.now }
-        ensures entered { (reader : Reader) (history : List Entry) → ComesFrom T.inverses reader history self.old
+        ensures entered { (reader : Reader) (history : List Entry)
+            → ComesFrom T.inverses reader history self.old
             → ComesFrom T.inverses reader (history ++ entered text.now ∷ []) self.new }
         ensures unchanged { is_accepted result ≡ false → self.new ≡ self.old }
     {
@@ -51,7 +55,8 @@ impl<T: BlockTransform> Meter<T> {
 
     /// The credit in tenths of a kWh. It stays at 2^64 - 1 once it would pass it.
     pub fn credit(&self) -> u64
-        ensures { (reader : Reader) (history : List Entry) → ComesFrom T.inverses reader history self.now
+        ensures { (reader : Reader) (history : List Entry)
+            → ComesFrom T.inverses reader history self.now
             → result ≡ credit_of reader history }
     {
         self.credit
@@ -59,7 +64,8 @@ impl<T: BlockTransform> Meter<T> {
 
     /// Forgets the identifiers that were accepted, and keeps the credit.
     pub fn clear(&mut self)
-        ensures { (reader : Reader) (history : List Entry) → ComesFrom T.inverses reader history self.old
+        ensures { (reader : Reader) (history : List Entry)
+            → ComesFrom T.inverses reader history self.old
             → ComesFrom T.inverses reader (history ++ cleared ∷ []) self.new }
     {
         self.store = [0; PLACES];

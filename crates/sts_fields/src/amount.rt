@@ -59,6 +59,7 @@ impl Amount {
     pub fn tenths(self) -> u32
         ensures value { result ≡ self }
         ensures representable { IsRepresentable result }
+        ensures within { result ≤ greatest_amount }
     {
         self.tenths
     }

@@ -8,7 +8,8 @@ use Rattle.std.proofs.lemmas.Fmt.{IsAscii-decimal}
 use Rattle.std.proofs.lemmas.Str.{IsUtf8-append, IsUtf8-from_ascii, IsUtf8-nil}
 use Rattle.std.proofs.lemmas.List.Splits.{join_with_byte-slice_split, length-slice_split, slice_split_at, slice_split_none}
 use Rattle.tariff.specs.declared.step.Step.{Step}
-use Rattle.tariff.specs.StepsText.{AreFirst, IsStepsText, IsWritable, end_text, step_text, steps_text}
+use Rattle.tariff.specs.Pieces.{AreFirst}
+use Rattle.tariff.specs.StepsText.{IsStepsText, IsWritable, end_text, step_text, steps_text}
 use Rattle.tariff.proofs.TextLemmas.{Lacks, Lacks-step_text, eqb_self, same_step}
 
 -- parts that lack the byte they are joined with are the parts at which it cuts

@@ -6,8 +6,10 @@ use Rattle.std.proofs.lemmas.Bool.Decides.{nat_tests}
 use Rattle.tariff.specs.declared.bought.Buy.{Buy}
 use Rattle.tariff.specs.declared.step.Step.{Step}
 use Rattle.tariff.specs.Cost.{cost_of}
-use Rattle.tariff.specs.Purchase.{IsGreatestCode, IsPurchase, amount_of_code, bought, greatest_passing, purchase_of}
-use Rattle.tariff.proofs.CodeLemmas.{amount_of_code-representable, amount_of_code-rises, amount_of_code-some, code_from_representable}
+use Rattle.tariff.specs.Purchase.{IsPurchase, bought, greatest_passing, purchase_of}
+use Rattle.tariff.specs.GreatestCode.{IsGreatestCode}
+use Rattle.sts_fields.specs.Amount.{amount_of_code}
+use Rattle.tariff.proofs.CodeLemmas.{AmountLaw, amount_of_code-representable, amount_of_code-rises, amount_of_code-some, code_from_representable}
 use Rattle.tariff.proofs.CostLemmas.{cost_of-rises}
 
 -- the greatest number from 1 to n that passes
@@ -47,20 +49,20 @@ greatest_passing-is test zero = λ j some within. absurd (omega arith)
 greatest_passing-is test (suc n) = passing_step test n (test (suc n)) (greatest_passing test n) refl (greatest_passing-is test n)
 
 -- the greatest code that a tender covers gives the purchase
-pub purchase_from_code : (steps : List Step) (prior tender code : ℕ) → code < 2 ^ 16 → IsGreatestCode steps prior tender code → IsPurchase steps prior tender (bought steps prior tender (amount_of_code code))
-purchase_from_code steps prior tender code fits g = record {
-  representable = amount_of_code-representable code fits;
-  some = amount_of_code-some code g.some fits;
+pub purchase_from_code : AmountLaw → (steps : List Step) (prior tender code : ℕ) → code < 2 ^ 16 → IsGreatestCode steps prior tender code → IsPurchase steps prior tender (bought steps prior tender (amount_of_code code))
+purchase_from_code law steps prior tender code fits g = record {
+  representable = amount_of_code-representable law code fits;
+  some = amount_of_code-some law code g.some fits;
   price = refl;
   within = g.covered;
   greatest = λ t carried cheap.
-      let other = code_from_representable t carried in
+      let other = code_from_representable law t carried in
       elim (cases_lt code other.0) [
         | inl above ↦
             let dear = g.greatest other.0 above other.1 in
             let same = ap (cost_of steps prior) other.2 in
             absurd (omega arith)
-        | inr within ↦ subst (λ (u : ℕ). u ≤ amount_of_code code) other.2 (amount_of_code-rises other.0 code within fits)
+        | inr within ↦ subst (λ (u : ℕ). u ≤ amount_of_code code) other.2 (amount_of_code-rises law other.0 code within fits)
       ];
   change = omega (arith, g.covered);
 }
@@ -69,18 +71,18 @@ purchase_from_code steps prior tender code fits g = record {
 abbrev pub Outcome : List Step → ℕ → ℕ → Option Buy → Type 0
 Outcome steps prior tender r = MatchOption r (tender < cost_of steps prior 1) (IsPurchase steps prior tender)
 
-outcome_from_passing : (steps : List Step) (prior tender : ℕ) (r : Option ℕ) → Passing (λ code. leb (cost_of steps prior (amount_of_code code)) tender) 65535 r → Outcome steps prior tender (option_map (λ code. bought steps prior tender (amount_of_code code)) r)
-outcome_from_passing steps prior tender None none = let dear = none 1 (omega arith) (omega arith) in grind (arith, nat_tests)
-outcome_from_passing steps prior tender (Some code) g =
-    purchase_from_code steps prior tender code (omega (arith, g.within)) (record {
+outcome_from_passing : AmountLaw → (steps : List Step) (prior tender : ℕ) (r : Option ℕ) → Passing (λ code. leb (cost_of steps prior (amount_of_code code)) tender) 65535 r → Outcome steps prior tender (option_map (λ code. bought steps prior tender (amount_of_code code)) r)
+outcome_from_passing law steps prior tender None none = let dear = none 1 (omega arith) (omega arith) in grind (arith, nat_tests)
+outcome_from_passing law steps prior tender (Some code) g =
+    purchase_from_code law steps prior tender code (omega (arith, g.within)) (record {
       some = g.some;
       covered = let passes = g.passes in grind (arith, nat_tests);
       greatest = λ k above fits. let fails = g.greatest k above (omega arith) in grind (arith, nat_tests);
     })
 
-pub purchase_of-is : (steps : List Step) (prior tender : ℕ) → Outcome steps prior tender (purchase_of steps prior tender)
+pub purchase_of-is : AmountLaw → (steps : List Step) (prior tender : ℕ) → Outcome steps prior tender (purchase_of steps prior tender)
 unfolding purchase_of
-purchase_of-is steps prior tender = outcome_from_passing steps prior tender _ (greatest_passing-is (λ code. leb (cost_of steps prior (amount_of_code code)) tender) 65535)
+purchase_of-is law steps prior tender = outcome_from_passing law steps prior tender _ (greatest_passing-is (λ code. leb (cost_of steps prior (amount_of_code code)) tender) 65535)
 
 -- what is bought covers a tenth at least
 pub purchase_covers : (steps : List Step) (prior tender : ℕ) (b : Buy) → IsPurchase steps prior tender b → cost_of steps prior 1 ≤ tender
@@ -129,12 +131,12 @@ found steps prior tender None dear covered = absurd (omega (arith, dear, covered
 found steps prior tender (Some b) p covered = (b, p)
 
 -- a greater tender buys no less
-pub more_for_more : (steps : List Step) (prior less more : ℕ) (b : Buy) → IsPurchase steps prior less b → less ≤ more → (c : Buy) × IsPurchase steps prior more c × (b.tenths ≤ c.tenths)
-more_for_more steps prior less more b p rises =
+pub more_for_more : AmountLaw → (steps : List Step) (prior less more : ℕ) (b : Buy) → IsPurchase steps prior less b → less ≤ more → (c : Buy) × IsPurchase steps prior more c × (b.tenths ≤ c.tenths)
+more_for_more law steps prior less more b p rises =
     let covered = purchase_covers steps prior less b p in
-    let bought = found steps prior more _ (purchase_of-is steps prior more) (omega arith) in
+    let bought = found steps prior more _ (purchase_of-is law steps prior more) (omega arith) in
     (bought.0, bought.1, bought.1.greatest b.tenths p.representable (omega (arith, p.price, p.within)))
 
 -- codes from one that the tender doesn't cover on are not covered
-pub dear_above : (steps : List Step) (prior tender code k : ℕ) → ¬ (cost_of steps prior (amount_of_code code) ≤ tender) → code ≤ k → k < 2 ^ 16 → tender < cost_of steps prior (amount_of_code k)
-dear_above steps prior tender code k dear from fits = omega (arith, dear, cost_of-rises steps prior _ _ (amount_of_code-rises code k from fits))
+pub dear_above : AmountLaw → (steps : List Step) (prior tender code k : ℕ) → ¬ (cost_of steps prior (amount_of_code code) ≤ tender) → code ≤ k → k < 2 ^ 16 → tender < cost_of steps prior (amount_of_code k)
+dear_above law steps prior tender code k dear from fits = omega (arith, dear, cost_of-rises steps prior _ _ (amount_of_code-rises law code k from fits))

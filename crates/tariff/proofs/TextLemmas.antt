@@ -11,14 +11,15 @@ use Rattle.std.proofs.lemmas.List.{drop-drop, drop_at, get_or_append_left, get_o
 use Rattle.std.proofs.lemmas.List.Elements.{All-append, All-cons, All-nil}
 use Rattle.std.proofs.lemmas.List.Sums.{position_or_len_is}
 use Rattle.tariff.specs.declared.step.Step.{Step}
-use Rattle.tariff.specs.StepsText.{IsPadded, colon, IsWritable, end_text, step_text}
+use Rattle.tariff.specs.Pieces.{HasLead}
+use Rattle.tariff.specs.StepsText.{colon, IsWritable, end_text, step_text}
 
 -- each byte of a number is a digit
 digit_in : (n i : ℕ) → n < 2 ^ 64 → i < length (decimal n) → (48 ≤ get_or (decimal n) i 0) × (get_or (decimal n) i 0 ≤ 57)
 digit_in n i small there = digit_at (decimal n) i (decimal_is_IsNumeral n small).0.1 there
 
 -- no sign and no leading zero
-pub decimal_plain : (n : ℕ) → n < 2 ^ 64 → ¬ IsPadded (decimal n)
+pub decimal_plain : (n : ℕ) → n < 2 ^ 64 → ¬ HasLead (decimal n)
 decimal_plain n small (inl plus) = let first = digit_in n 0 small (decimal_nonempty n small) in omega arith
 decimal_plain zero small (inr p) = let one = ap length (decimal_digit 0 (omega arith)) in let long = p.1 in omega arith
 decimal_plain (suc n) small (inr p) = let first = first_decimal (suc n) (omega arith) small in let z = p.0 in omega arith
@@ -30,7 +31,7 @@ own : IsNumeralModel (AllDigits 10) (digits_value 10)
 own = numerals_by_value (AllDigits 10) tells_digits
 
 -- what `parse` reads of digits that no plus and no leading zero stands before
-pub number_from_parse : {E : Type 0} (ds : List ℕ) (r : Result ℕ E) → ParsesUnsigned 32 10 ds r → ¬ IsPadded ds → MatchOption (result_ok r) ((n : ℕ) → n < 2 ^ 32 → ds ≢ decimal n) (λ n. ds ≡ decimal n)
+pub number_from_parse : {E : Type 0} (ds : List ℕ) (r : Result ℕ E) → ParsesUnsigned 32 10 ds r → ¬ HasLead ds → MatchOption (result_ok r) ((n : ℕ) → n < 2 ^ 32 → ds ≢ decimal n) (λ n. ds ≡ decimal n)
 number_from_parse {E} ds (Ok x) parsed plain =
     let ok = parse_plain own {E = E} 32 ds (Ok x) parsed (λ plus. plain (inl plus)) in
     let short : get_or ds 0 0 ≡ 48 → length ds ≡ 1 = λ z. at_most_one ds ok.0.1 (λ long. plain (inr (z, long))) in

@@ -1,7 +1,11 @@
 -- What electricity costs: the step of each tenth of a kWh, and the price of a run of tenths.
-use Rattle.std.specs.Prelude.{ℕ, zero, suc, ◌+◌, ◌/◌, Bool, true, List, Option, nat_lt, find}
+use Rattle.std.specs.Prelude.{ℕ, zero, suc, ◌+◌, ◌/◌, ◌^◌, Bool, true, List, Option, nat_lt, find}
 use Rattle.std.specs.Option.{option_map_or}
 use Rattle.tariff.specs.declared.step.Step.{Step}
+
+-- the most tenths that a month may have had before: more than 10^9 sales of the greatest amount
+abbrev pub greatest_prior : ℕ
+greatest_prior = 10 ^ 17
 
 -- the step ends after tenth i of the month, counted from 0, or has no end
 abbrev pub ends_after : ℕ → Step → Bool

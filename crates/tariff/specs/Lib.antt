@@ -1,4 +1,6 @@
 pub mod Cost
+pub mod GreatestCode
+pub mod Pieces
 pub mod Purchase
 pub mod Steps
 pub mod StepsEq

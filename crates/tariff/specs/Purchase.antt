@@ -1,11 +1,12 @@
 -- What a tender of money buys.
-use Rattle.std.specs.Prelude.{◌≡◌, ℕ, zero, suc, ◌+◌, ◌-◌, ◌/◌, ◌%◌, ◌^◌, ◌<◌, ◌≤◌, Bool, List, Option, Some, None, if◌then◌else◌, nat_le, option_map}
-use Rattle.sts_fields.specs.Amount.{IsRepresentable, amount_of}
+use Rattle.std.specs.Prelude.{◌≡◌, ℕ, zero, suc, ◌+◌, ◌-◌, ◌≤◌, Bool, List, Option, Some, None, if◌then◌else◌, nat_le, option_map}
+use Rattle.sts_fields.specs.Amount.{IsRepresentable, amount_of_code}
 use Rattle.tariff.specs.declared.bought.Buy.{Buy}
 use Rattle.tariff.specs.declared.step.Step.{Step}
 use Rattle.tariff.specs.Cost.{cost_of}
 
--- b is the purchase: the greatest amount that a token can carry of those that cost at most the tender
+-- b is the purchase: the greatest amount that a token can carry of those that cost at most the
+-- tender
 pub record IsPurchase (steps : List Step) (prior tender : ℕ) (b : Buy) : Type 0 where
   pub representable : IsRepresentable b.tenths
   pub some : 1 ≤ b.tenths
@@ -14,16 +15,6 @@ pub record IsPurchase (steps : List Step) (prior tender : ℕ) (b : Buy) : Type 
   pub greatest : (t : ℕ) → IsRepresentable t → cost_of steps prior t ≤ tender → t ≤ b.tenths
   pub change : b.price + b.change ≡ tender
 
--- the amount of a code of sixteen bits, in tenths
-abbrev pub amount_of_code : ℕ → ℕ
-amount_of_code code = amount_of (code / 2 ^ 14) (code % 2 ^ 14)
-
--- a tender covers the amount of this code, from 1 on, and of no greater one
-pub record IsGreatestCode (steps : List Step) (prior tender code : ℕ) : Type 0 where
-  pub some : 1 ≤ code
-  pub covered : cost_of steps prior (amount_of_code code) ≤ tender
-  pub greatest : (k : ℕ) → code < k → k < 2 ^ 16 → tender < cost_of steps prior (amount_of_code k)
-
 -- the greatest number from 1 to n that passes the test
 unfoldable pub greatest_passing : (ℕ → Bool) → ℕ → Option ℕ
 greatest_passing test zero = None
@@ -31,7 +22,9 @@ greatest_passing test (suc n) = if test (suc n) then Some (suc n) else greatest_
 
 -- t tenths, bought for a tender that covers their cost
 abbrev pub bought : List Step → ℕ → ℕ → ℕ → Buy
-bought steps prior tender t = record { tenths = t; price = cost_of steps prior t; change = tender - cost_of steps prior t }
+bought steps prior tender t =
+    let price = cost_of steps prior t in
+    record { tenths = t; price = price; change = tender - price }
 
 -- the purchase, by the greatest code whose amount the tender covers: `IsPurchase` says what it is
 unfoldable pub purchase_of : List Step → ℕ → ℕ → Option Buy

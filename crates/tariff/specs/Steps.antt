@@ -9,7 +9,9 @@ HasCount steps = (1 ≤ length steps) × (length steps ≤ 8)
 
 -- each step but the last has an upper end, and the last has none
 abbrev pub HasEnds : List Step → Type 0
-HasEnds steps = All (λ s. IsSome s.ends) (take (length steps - 1) steps) × All (λ s. IsNone s.ends) (drop (length steps - 1) steps)
+HasEnds steps =
+    All (λ s. IsSome s.ends) (take (length steps - 1) steps)
+    × All (λ s. IsNone s.ends) (drop (length steps - 1) steps)
 
 -- an upper end is a number of 32 bits
 abbrev pub EndFits : Step → Type 0

@@ -13,5 +13,9 @@ step_eq a b = option_eq nat_eq a.ends b.ends && (a.price == b.price)
 abbrev pub steps_eq : List Step → List Step → Bool
 steps_eq = pointwise step_eq
 
+-- the law of `Eq`, which stands here since the proof of a law of a trait may name `specs/` alone
 pub steps_eq-equiv : IsEquivalence steps_eq
-steps_eq-equiv = lists_equiv (and_equiv (on_equiv (λ s. s.ends) (options_equiv nat_eq_equiv)) (on_equiv (λ s. s.price) nat_eq_equiv))
+steps_eq-equiv =
+    let ends = on_equiv (λ (s : Step). s.ends) (options_equiv nat_eq_equiv) in
+    let prices = on_equiv (λ (s : Step). s.price) nat_eq_equiv in
+    lists_equiv (and_equiv ends prices)

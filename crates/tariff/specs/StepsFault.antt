@@ -1,5 +1,6 @@
 -- Why steps are no tariff's: the faults in the order of their tests, their numbers and names.
 use Rattle.std.specs.Prelude.{◌≡◌, ℕ, ◌<◌, List, [], length, All, codes}
+use Rattle.sts_fields.specs.Text.{Text}
 use Rattle.tariff.specs.declared.fault.StepsFault.{StepsFault}
 use Rattle.tariff.specs.declared.fault.StepsFault.TheVariants.{NoStep, TooMany, NotRising, BadPrice, EndMissing, Memory, BadText}
 use Rattle.tariff.specs.declared.step.Step.{Step}
@@ -26,7 +27,7 @@ fault_number Memory = 6
 fault_number BadText = 7
 
 -- the name that a user meets
-abbrev pub fault_name : StepsFault → List ℕ
+abbrev pub fault_name : StepsFault → Text
 fault_name NoStep = codes "NoStep"
 fault_name TooMany = codes "TooMany"
 fault_name NotRising = codes "NotRising"

@@ -4,7 +4,7 @@
 #![tactic(auto)]
 
 pub use bought::Buy;
-pub use cost::{price, price_law};
+pub use cost::{MAX_PRIOR, price, price_law};
 pub use fault::StepsFault;
 pub use purchase::{buy, purchase_law};
 pub use step::Step;

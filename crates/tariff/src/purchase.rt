@@ -1,24 +1,29 @@
 ghost use Rattle.std.specs.Prelude.{◌≡◌, ◌≢◌, ◌+◌, ◌-◌, ◌*◌, ◌^◌, ◌<◌, ◌≤◌, ◌↔◌, ◌⊎◌, ℕ, List, Option, IsTrue, MatchOption};
 ghost use Rattle.tariff.specs.declared.bought.Buy.{Buy};
 ghost use Rattle.tariff.specs.declared.step.Step.{Step};
-ghost use Rattle.tariff.specs.Cost.{cost_of};
-ghost use Rattle.tariff.specs.Purchase.{IsGreatestCode, IsPurchase, amount_of_code, purchase_of};
+ghost use Rattle.sts_fields.specs.Amount.{amount_of_code};
+ghost use Rattle.tariff.specs.Cost.{cost_of, greatest_prior};
+ghost use Rattle.tariff.specs.GreatestCode.{IsGreatestCode};
+ghost use Rattle.tariff.specs.Purchase.{IsPurchase, purchase_of};
 
 use crate::bought::Buy;
 use crate::cost::price;
 use crate::steps::Steps;
 use crate::tender::Tender;
-use sts_fields::Amount;
+use sts_fields::{Amount, amount_law};
 
-/// What a tender buys after the month's `prior` tenths, or `None` exactly where one tenth costs more.
+/// What a tender buys after the month's `prior` tenths, at most `MAX_PRIOR`, or `None` exactly
+/// where one tenth costs more.
 ///
 /// It is the greatest amount that a token can carry whose price is at most the tender
 /// (`docs/PROFILE.md`, "Purchases").
 pub fn buy(steps: &Steps, prior: u64, tender: Tender) -> Option<Buy>
-    requires { prior ≤ 10 ^ 17 }
-    ensures purchase { MatchOption result (tender < cost_of steps.now prior 1) (IsPurchase steps.now prior tender) }
+    requires { prior ≤ greatest_prior }
+    ensures purchase { MatchOption result (tender < cost_of steps.now prior 1)
+        (IsPurchase steps.now prior tender) }
     ensures value { result ≡ purchase_of steps.now prior tender }
 {
+    amount_law();
     let cents = tender.cents();
     if price(steps, prior, 1) > u64::from(cents) {
         return None;
@@ -34,10 +39,11 @@ pub fn buy(steps: &Steps, prior: u64, tender: Tender) -> Option<Buy>
 
 // The greatest code whose amount costs at most so many cents, by halving the codes that are left.
 fn greatest_code(steps: &Steps, prior: u64, cents: u32) -> u16
-    requires prior { prior ≤ 10 ^ 17 }
+    requires prior { prior ≤ greatest_prior }
     requires tenth { cost_of steps.now prior 1 ≤ cents }
     ensures { IsGreatestCode steps.now prior cents result }
 {
+    amount_law();
     let mut low: u16 = 1;
     let mut high = u16::MAX;
     while low < high {
@@ -53,7 +59,7 @@ fn greatest_code(steps: &Steps, prior: u64, cents: u32) -> u16
 
 // Whether so many cents cover what the amount of a code costs.
 fn covers(steps: &Steps, prior: u64, cents: u32, code: u16) -> bool
-    requires { prior ≤ 10 ^ 17 }
+    requires { prior ≤ greatest_prior }
     ensures { IsTrue result ↔ (cost_of steps.now prior (amount_of_code code) ≤ cents) }
 {
     price(steps, prior, Amount::of_code(code).tenths()) <= u64::from(cents)
@@ -65,13 +71,15 @@ pub fn purchase_law()
     ensures parts { (steps : List Step) (prior t u : ℕ)
         → (cost_of steps prior t + cost_of steps (prior + t) u ≡ cost_of steps prior (t + u))
         ⊎ (cost_of steps prior t + cost_of steps (prior + t) u ≡ cost_of steps prior (t + u) + 1) }
-    ensures rises { (steps : List Step) (prior t u : ℕ) → t ≤ u → cost_of steps prior t ≤ cost_of steps prior u }
+    ensures rises { (steps : List Step) (prior t u : ℕ)
+        → t ≤ u → cost_of steps prior t ≤ cost_of steps prior u }
 
     // A purchase costs no more than the tender, and a greater tender buys no less.
     ensures within { (steps : List Step) (prior tender : ℕ) (b : Buy)
         → IsPurchase steps prior tender b → cost_of steps prior b.tenths ≤ tender }
     ensures more_for_more { (steps : List Step) (prior less more : ℕ) (b : Buy)
-        → IsPurchase steps prior less b → less ≤ more → (c : Buy) × IsPurchase steps prior more c × (b.tenths ≤ c.tenths) }
+        → IsPurchase steps prior less b → less ≤ more
+        → (c : Buy) × IsPurchase steps prior more c × (b.tenths ≤ c.tenths) }
 
     // There is one purchase at most, and `purchase_of` computes it.
     ensures one { (steps : List Step) (prior tender : ℕ) (b c : Buy)
@@ -79,7 +87,10 @@ pub fn purchase_law()
     ensures computed { (steps : List Step) (prior tender : ℕ) (b : Buy)
         → ((purchase_of steps prior tender ≡ Some b) ↔ IsPurchase steps prior tender b) }
     ensures none { (steps : List Step) (prior tender : ℕ)
-        → ((purchase_of steps prior tender ≡ None) ↔ ((b : Buy) → ¬ IsPurchase steps prior tender b)) }
+        → ((purchase_of steps prior tender ≡ None)
+        ↔ ((b : Buy) → ¬ IsPurchase steps prior tender b)) }
     ensures too_little { (steps : List Step) (prior tender : ℕ)
         → ((purchase_of steps prior tender ≡ None) ↔ (tender < cost_of steps prior 1)) }
-{}
+{
+    amount_law();
+}

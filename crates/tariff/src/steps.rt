@@ -1,4 +1,5 @@
-ghost use Rattle.std.specs.Prelude.{◌≡◌, ◌≢◌, ◌≤◌, ◌<◌, ◌↔◌, ◌⊎◌, ℕ, IfOk, IsOk, IsTrue, All, List, length};
+ghost use Rattle.std.specs.Prelude.{◌≡◌, ◌≢◌, ◌≤◌, ◌<◌, ◌↔◌, ◌⊎◌, IfOk, IsOk, IsTrue, All, List, length};
+ghost use Rattle.sts_fields.specs.Text.{Text};
 ghost use Rattle.tariff.specs.declared.step.Step.{Step};
 ghost use Rattle.tariff.specs.Steps.{HasCount, HasEnds, HasPrice, IsRising, IsSteps};
 ghost use Rattle.tariff.specs.StepsFault.{FirstFault};
@@ -41,11 +42,16 @@ impl Steps {
         ensures reads { (IsOk result ⊎ (result ≡ Err StepsFault.Memory)) ↔ IsSteps steps.now }
 
         // Each fault comes exactly where it is the first; these are no texts.
-        ensures no_step { (result ≡ Err StepsFault.NoStep) ↔ FirstFault steps.now StepsFault.NoStep }
-        ensures too_many { (result ≡ Err StepsFault.TooMany) ↔ FirstFault steps.now StepsFault.TooMany }
-        ensures end_missing { (result ≡ Err StepsFault.EndMissing) ↔ FirstFault steps.now StepsFault.EndMissing }
-        ensures not_rising { (result ≡ Err StepsFault.NotRising) ↔ FirstFault steps.now StepsFault.NotRising }
-        ensures bad_price { (result ≡ Err StepsFault.BadPrice) ↔ FirstFault steps.now StepsFault.BadPrice }
+        ensures no_step { (result ≡ Err StepsFault.NoStep)
+            ↔ FirstFault steps.now StepsFault.NoStep }
+        ensures too_many { (result ≡ Err StepsFault.TooMany)
+            ↔ FirstFault steps.now StepsFault.TooMany }
+        ensures end_missing { (result ≡ Err StepsFault.EndMissing)
+            ↔ FirstFault steps.now StepsFault.EndMissing }
+        ensures not_rising { (result ≡ Err StepsFault.NotRising)
+            ↔ FirstFault steps.now StepsFault.NotRising }
+        ensures bad_price { (result ≡ Err StepsFault.BadPrice)
+            ↔ FirstFault steps.now StepsFault.BadPrice }
         ensures never_bad_text { result ≢ Err StepsFault.BadText }
     {
         if let Some(fault) = check::first_fault(steps) {
@@ -61,16 +67,22 @@ impl Steps {
         ensures reads { (IsOk result ⊎ (result ≡ Err StepsFault.Memory))
             ↔ ((steps : List Step) × IsStepsText text.now steps × IsSteps steps) }
 
-        // Each fault comes exactly where the text is that of steps which have it first, or of no steps.
-        ensures bad_text { (result ≡ Err StepsFault.BadText) ↔ ((steps : List Step) → ¬ IsStepsText text.now steps) }
+        // Each fault comes exactly where the text is that of steps which have it first, or of no
+        // steps.
+        ensures bad_text { (result ≡ Err StepsFault.BadText)
+            ↔ ((steps : List Step) → ¬ IsStepsText text.now steps) }
         ensures too_many { (result ≡ Err StepsFault.TooMany)
-            ↔ ((steps : List Step) × IsStepsText text.now steps × FirstFault steps StepsFault.TooMany) }
+            ↔ ((steps : List Step) × IsStepsText text.now steps
+            × FirstFault steps StepsFault.TooMany) }
         ensures end_missing { (result ≡ Err StepsFault.EndMissing)
-            ↔ ((steps : List Step) × IsStepsText text.now steps × FirstFault steps StepsFault.EndMissing) }
+            ↔ ((steps : List Step) × IsStepsText text.now steps
+            × FirstFault steps StepsFault.EndMissing) }
         ensures not_rising { (result ≡ Err StepsFault.NotRising)
-            ↔ ((steps : List Step) × IsStepsText text.now steps × FirstFault steps StepsFault.NotRising) }
+            ↔ ((steps : List Step) × IsStepsText text.now steps
+            × FirstFault steps StepsFault.NotRising) }
         ensures bad_price { (result ≡ Err StepsFault.BadPrice)
-            ↔ ((steps : List Step) × IsStepsText text.now steps × FirstFault steps StepsFault.BadPrice) }
+            ↔ ((steps : List Step) × IsStepsText text.now steps
+            × FirstFault steps StepsFault.BadPrice) }
         ensures never_no_step { result ≢ Err StepsFault.NoStep }
     {
         let Some(pieces) = text::read_pieces(text) else {
@@ -124,11 +136,12 @@ impl Eq for Steps {
     ghost laws = { steps_eq-equiv };
 }
 
-/// What the text of steps means: one list of steps for a text, and a text for each list of a tariff.
+/// What the text of steps means: one list of steps for a text, and a text for each list of a
+/// tariff.
 pub fn steps_text_law()
-    ensures one_list { (text : List ℕ) (steps others : List Step)
+    ensures one_list { (text : Text) (steps others : List Step)
         → IsStepsText text steps → IsStepsText text others → steps ≡ others }
-    ensures one_text { (text other : List ℕ) (steps : List Step)
+    ensures one_text { (text other : Text) (steps : List Step)
         → IsStepsText text steps → IsStepsText other steps → text ≡ other }
     ensures each_list { (steps : List Step) → IsSteps steps → IsStepsText (steps_text steps) steps }
 {}

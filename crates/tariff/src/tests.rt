@@ -136,10 +136,69 @@ fn reads_steps(rt: HostRuntime) -> Result<(), Fail> {
     Ok(())
 }
 
+// The greatest count of steps: no contract tells how much memory there is.
 #[test]
-fn names_of_faults(rt: HostRuntime) {
-    assert_eq!(rt; StepsFault::EndMissing.number(), 5);
-    assert_eq!(rt; StepsFault::EndMissing.name(), "EndMissing");
+fn eight_steps(rt: HostRuntime) -> Result<(), Fail> {
+    let mut list = [Step {
+        ends: None,
+        price: 1_000_000,
+    }; Steps::MAX];
+    for (place, end) in [1, 20, 300, 4_000, 50_000, 600_000, u32::MAX]
+        .iter()
+        .enumerate()
+    {
+        list[place] = Step {
+            ends: Some(*end),
+            price: *end % 1_000 + 1,
+        };
+    }
+    let text = b"1:2;20:21;300:301;4000:1;50000:1;600000:1;4294967295:296;:1000000";
+    let read = Steps::read(rt.alloc(), &list)?;
+    assert_eq!(rt; read.as_slice(), list.as_slice());
+    assert_eq!(rt; read.clone()?.as_slice(), list.as_slice());
+    assert_eq!(rt;
+        Steps::of_text(rt.alloc(), text)?.as_slice(),
+        list.as_slice()
+    );
+    Ok(())
+}
+
+#[test]
+fn faults(rt: HostRuntime) -> Result<(), Fail> {
+    let faults = [
+        (StepsFault::NoStep, (1, "NoStep"), "there is no step"),
+        (
+            StepsFault::TooMany,
+            (2, "TooMany"),
+            "there are more than eight steps",
+        ),
+        (
+            StepsFault::NotRising,
+            (3, "NotRising"),
+            "an end is 0 or not greater than the one before",
+        ),
+        (
+            StepsFault::BadPrice,
+            (4, "BadPrice"),
+            "a price is not 1 to 1000000 cents",
+        ),
+        (
+            StepsFault::EndMissing,
+            (5, "EndMissing"),
+            "a step but the last has no end, or the last has one",
+        ),
+        (StepsFault::Memory, (6, "Memory"), "out of memory"),
+        (
+            StepsFault::BadText,
+            (7, "BadText"),
+            "the text is not that of steps",
+        ),
+    ];
+    for (fault, called, sentence) in faults {
+        assert_eq!(rt; (fault.number(), fault.name()), called);
+        assert_eq!(rt; fault.to_string(rt.alloc())?.as_str(), sentence);
+    }
+    Ok(())
 }
 
 #[test]

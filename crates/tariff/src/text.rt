@@ -1,6 +1,7 @@
 ghost use Rattle.std.specs.Prelude.{◌≡◌, ◌≢◌, ◌^◌, ◌<◌, ◌↔◌, ℕ, List, IsTrue, MatchOption, decimal};
 ghost use Rattle.tariff.specs.declared.step.Step.{Step};
-ghost use Rattle.tariff.specs.StepsText.{AreFirst, IsPadded, IsStepsText, IsWritable, step_text};
+ghost use Rattle.tariff.specs.Pieces.{AreFirst, HasLead};
+ghost use Rattle.tariff.specs.StepsText.{IsStepsText, IsWritable, step_text};
 
 use crate::check::MAX_STEPS;
 use crate::step::Step;
@@ -61,17 +62,18 @@ fn read_step(piece: &str) -> Option<Step>
 
 // The number of 32 bits that digits write, without a sign and without leading zeros.
 fn read_number(digits: &str) -> Option<u32>
-    ensures { MatchOption result ((n : ℕ) → n < 2 ^ 32 → digits.now ≢ decimal n) (λ n. digits.now ≡ decimal n) }
+    ensures { MatchOption result ((n : ℕ) → n < 2 ^ 32 → digits.now ≢ decimal n)
+        (λ n. digits.now ≡ decimal n) }
 {
-    if is_padded(digits) {
+    if has_lead(digits) {
         return None;
     }
     digits.parse().ok()
 }
 
-// Whether a plus or a leading zero stands first, which `parse` would take.
-fn is_padded(digits: &str) -> bool
-    ensures { IsTrue result ↔ IsPadded digits.now }
+// Whether a plus stands first, or a zero before other digits, which `parse` would take.
+fn has_lead(digits: &str) -> bool
+    ensures { IsTrue result ↔ HasLead digits.now }
 {
     match digits.as_bytes().first() {
         Some(b'+') => true,

@@ -1,6 +1,6 @@
 use Rattle.std.proofs.Common.{ℕ, ◌-◌, ◌^◌, ◌<◌, ◌≤◌}
 use Rattle.tariff.specs.Cost.{cost_of}
-use Rattle.tariff.specs.Purchase.{amount_of_code}
+use Rattle.sts_fields.specs.Amount.{amount_of_code}
 use Rattle.tariff.proofs.purchase.greatest_code.Given as goal
 
 abbrev pub invariant-loop-low : goal.invariant-loop-low
