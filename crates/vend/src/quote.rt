@@ -1,14 +1,12 @@
 ghost use Rattle.std.specs.Prelude.{◌≤◌};
+ghost use Rattle.tariff.specs.Cost.{greatest_prior};
 
 use crate::refused::write_refusal;
 use crate::words::{self, BadWords};
 use std::alloc::Global;
 use std::io::{self, Write};
-use tariff::{Steps, StepsFault, Tender, buy};
+use tariff::{MAX_PRIOR, Steps, StepsFault, Tender, buy};
 use vend_core::Refusal;
-
-/// The greatest count of tenths of a kWh that a month may have had before.
-const GREATEST_PRIOR: u64 = 100_000_000_000_000_000;
 
 /// What `quote` is asked: what a tender buys of some steps after the tenths that the month had before.
 #[derive(Drop)]
@@ -16,7 +14,7 @@ pub struct Quote {
     steps: Steps,
     prior: u64,
     tender: Tender,
-    ghost prior_in_range: { prior ≤ 100000000000000000 },
+    ghost prior_in_range: { prior ≤ greatest_prior },
 }
 
 impl Quote {
@@ -33,7 +31,7 @@ impl Quote {
         let (Some(prior), Some(tender)) = (words::number(prior), tender_of(tender)) else {
             return Err(BadWords::Value);
         };
-        if prior > GREATEST_PRIOR {
+        if prior > MAX_PRIOR {
             return Err(BadWords::Value);
         }
         Ok(Quote {
