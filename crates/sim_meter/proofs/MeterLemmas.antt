@@ -16,33 +16,46 @@ pub record Outcome {T : Type 0} (taken : Taken) (f : TokenFields) (answer : Answ
   pub holds : Holds (answered taken f (answer_to taken.tids f.tid)) after
 
 outcome : {T : Type 0} (taken : Taken) (f : TokenFields) (after : Meter T) (a : TidAnswer)
-    → answer_to taken.tids f.tid ≡ a → Holds (answered taken f a) after → Outcome taken f (answer_for f a) after
+    → answer_to taken.tids f.tid ≡ a → Holds (answered taken f a) after
+    → Outcome taken f (answer_for f a) after
 outcome {T} taken f after a e holds =
     record { answer_is = ap (answer_for f) (sym e); holds = subst (λ (b : TidAnswer). Holds {T = T} (answered taken f b) after) (sym e) holds }
 
-pub outcome_old : {T : Type 0} (taken : Taken) (f : TokenFields) (meter : Meter T) (i : ℕ) → Holds taken meter → IsLeast meter.store i
+pub outcome_old : {T : Type 0} (taken : Taken) (f : TokenFields) (meter : Meter T) (i : ℕ)
+    → Holds taken meter → IsLeast meter.store i
     → f.tid < get_or meter.store i 0 → Outcome taken f Old meter
 outcome_old taken f meter i holds is below =
-    outcome taken f meter old (answer_old meter.store taken.tids i f.tid holds.greatest is below) holds
+    outcome taken f meter old
+    (answer_old meter.store taken.tids i f.tid holds.greatest is below) holds
 
-pub outcome_used : {T : Type 0} (taken : Taken) (f : TokenFields) (meter : Meter T) (i : ℕ) → Holds taken meter → IsLeast meter.store i
-    → get_or meter.store i 0 ≤ f.tid → list_any (λ y. eqb y f.tid) meter.store ≡ true → Outcome taken f Used meter
+pub outcome_used : {T : Type 0} (taken : Taken) (f : TokenFields) (meter : Meter T) (i : ℕ)
+    → Holds taken meter → IsLeast meter.store i
+    → get_or meter.store i 0 ≤ f.tid → list_any (λ y. eqb y f.tid) meter.store ≡ true
+    → Outcome taken f Used meter
 outcome_used taken f meter i holds is above stored =
-    outcome taken f meter used (answer_used meter.store taken.tids i f.tid holds.greatest is above stored) holds
+    outcome taken f meter used
+    (answer_used meter.store taken.tids i f.tid holds.greatest is above stored) holds
 
-pub outcome_accepted : {T : Type 0} (taken : Taken) (f : TokenFields) (meter after : Meter T) (i : ℕ) → Holds taken meter → IsLeast meter.store i
+pub outcome_accepted : {T : Type 0} (taken : Taken) (f : TokenFields) (meter after : Meter T)
+    (i : ℕ) → Holds taken meter → IsLeast meter.store i
     → get_or meter.store i 0 ≤ f.tid → list_any (λ y. eqb y f.tid) meter.store ≡ false
-    → after.store ≡ set meter.store i f.tid → after.credit ≡ min (meter.credit + f.tenths) (2 ^ 64 - 1) → Outcome taken f (Accepted f.tenths) after
+    → after.store ≡ set meter.store i f.tid
+    → after.credit ≡ min (meter.credit + f.tenths) (2 ^ 64 - 1)
+    → Outcome taken f (Accepted f.tenths) after
 outcome_accepted taken f meter after i holds is above stored store credit =
-    outcome taken f after accepted (answer_accepted meter.store taken.tids i f.tid holds.greatest is above stored)
+    outcome taken f after accepted
+    (answer_accepted meter.store taken.tids i f.tid holds.greatest is above stored)
     (record {
-      greatest = rw store (holds_more meter.store taken.tids i f.tid holds.greatest is above stored);
+      greatest =
+          rw store (holds_more meter.store taken.tids i f.tid holds.greatest is above stored);
       credit = credit_more meter.credit f.tenths after.credit taken.amounts holds.credit credit;
     })
 
 -- ---- one more entry
-pub taken_more : (reader : Reader) (history : List Entry) (text : List ℕ) (f : TokenFields) → reader text ≡ Ok f
-    → taken_over reader (history ++ entered text ∷ []) ≡ answered (taken_over reader history) f (answer_to (taken_over reader history).tids f.tid)
+pub taken_more : (reader : Reader) (history : List Entry) (text : List ℕ) (f : TokenFields)
+    → reader text ≡ Ok f
+    → taken_over reader (history ++ entered text ∷ [])
+    ≡ answered (taken_over reader history) f (answer_to (taken_over reader history).tids f.tid)
 taken_more reader history text f reads =
     fold_push (after_entry reader) (record { tids = []; amounts = [] }) history (entered text)
     ∙ ap (after_reading (taken_over reader history)) reads

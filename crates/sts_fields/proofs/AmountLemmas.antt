@@ -7,8 +7,10 @@ use Rattle.sts_fields.specs.Amount.{HasParts, IsFloor, IsRepresentable, LiesIn, 
 -- an exponent's range is told by the count of the starts below
 exponent_of-range : (t e : ℕ) → LiesIn t e → exponent_of t ≡ e
 exponent_of-range t zero r = let next = r.before_next (omega arith) in grind (arith, nat_tests)
-exponent_of-range t (suc zero) r = let from = r.from_start in let next = r.before_next (omega arith) in grind (arith, nat_tests)
-exponent_of-range t (suc (suc zero)) r = let from = r.from_start in let next = r.before_next (omega arith) in grind (arith, nat_tests)
+exponent_of-range t (suc zero) r =
+    let from = r.from_start in let next = r.before_next (omega arith) in grind (arith, nat_tests)
+exponent_of-range t (suc (suc zero)) r =
+    let from = r.from_start in let next = r.before_next (omega arith) in grind (arith, nat_tests)
 exponent_of-range t (suc (suc (suc zero))) r = let from = r.from_start in grind (arith, nat_tests)
 exponent_of-range t (suc (suc (suc (suc e)))) r = let past = r.exponent in absurd (omega arith)
 
@@ -37,7 +39,8 @@ range_from_parts t (suc (suc (suc zero))) m p =
 range_from_parts t (suc (suc (suc (suc e)))) m p = let past = p.exponent in absurd (omega arith)
 
 -- the mantissa counts the steps above the start of the range, and nothing is left over
-pub mantissa_from_parts : (t e m : ℕ) → HasParts t e m → ((t - start_of e) / 10 ^ e ≡ m) × ((t - start_of e) % 10 ^ e ≡ 0)
+pub mantissa_from_parts : (t e m : ℕ) → HasParts t e m
+    → ((t - start_of e) / 10 ^ e ≡ m) × ((t - start_of e) % 10 ^ e ≡ 0)
 mantissa_from_parts t zero m p = let gives = p.gives in (omega arith, omega arith)
 mantissa_from_parts t (suc zero) m p = let gives = p.gives in (omega arith, omega arith)
 mantissa_from_parts t (suc (suc zero)) m p = let gives = p.gives in (omega arith, omega arith)
@@ -45,7 +48,8 @@ mantissa_from_parts t (suc (suc (suc zero))) m p = let gives = p.gives in (omega
 mantissa_from_parts t (suc (suc (suc (suc e)))) m p = let past = p.exponent in absurd (omega arith)
 
 -- rounded down to a whole step, what lies in a range is an amount
-pub rounded_down_parts : (t e : ℕ) → LiesIn t e → t ≤ greatest_amount → HasParts (t - (t - start_of e) % 10 ^ e) e ((t - start_of e) / 10 ^ e)
+pub rounded_down_parts : (t e : ℕ) → LiesIn t e → t ≤ greatest_amount
+    → HasParts (t - (t - start_of e) % 10 ^ e) e ((t - start_of e) / 10 ^ e)
 rounded_down_parts t zero r top =
     let next = r.before_next (omega arith) in
     record { exponent = omega arith; mantissa = omega arith; gives = omega arith }
@@ -63,19 +67,22 @@ rounded_down_parts t (suc (suc (suc zero))) r top =
 rounded_down_parts t (suc (suc (suc (suc e)))) r top = let past = r.exponent in absurd (omega arith)
 
 -- no step of an exponent lies between what was rounded down and where it came from
-no_step_between : (t e m : ℕ) → LiesIn t e → amount_of e m ≤ t → amount_of e m ≤ t - (t - start_of e) % 10 ^ e
+no_step_between : (t e m : ℕ) → LiesIn t e → amount_of e m ≤ t
+    → amount_of e m ≤ t - (t - start_of e) % 10 ^ e
 no_step_between t zero m r within = omega arith
 no_step_between t (suc zero) m r within = let from = r.from_start in omega arith
 no_step_between t (suc (suc zero)) m r within = let from = r.from_start in omega arith
 no_step_between t (suc (suc (suc zero))) m r within = let from = r.from_start in omega arith
-no_step_between t (suc (suc (suc (suc e)))) m r within = let past = r.exponent in absurd (omega arith)
+no_step_between t (suc (suc (suc (suc e)))) m r within =
+    let past = r.exponent in absurd (omega arith)
 
 -- what is greater than a rounded amount, and not past where it came from, lies in the same range
 range_between : (t u v e : ℕ) → LiesIn t e → start_of e ≤ u → u < v → v ≤ t → LiesIn v e
 range_between t u v e r low above within =
     record { exponent = r.exponent; from_start = omega arith; before_next = λ k. let next = r.before_next k in omega arith }
 
-pub floor_is : (t e : ℕ) → LiesIn t e → t ≤ greatest_amount → IsFloor t (t - (t - start_of e) % 10 ^ e)
+pub floor_is : (t e : ℕ) → LiesIn t e → t ≤ greatest_amount
+    → IsFloor t (t - (t - start_of e) % 10 ^ e)
 floor_is t e r top =
     let parts = rounded_down_parts t e r top in
     record {
@@ -85,17 +92,24 @@ floor_is t e r top =
           let low = (range_from_parts _ _ _ parts).from_start in
           let same = same_exponent v carried.0 e (range_from_parts _ _ _ carried.2) (range_between t _ v e r low above within) in
           let gives = subst (λ (k : ℕ). amount_of k carried.1 ≡ v) same carried.2.gives in
-          let below = no_step_between t e carried.1 r (subst (λ (k : ℕ). k ≤ t) (sym gives) within) in
+          let below =
+          no_step_between t e carried.1 r (subst (λ (k : ℕ). k ≤ t) (sym gives) within) in
           omega arith;
     }
 
-pub representable_from_no_rest : (t e : ℕ) → LiesIn t e → t ≤ greatest_amount → (t - start_of e) % 10 ^ e ≡ 0 → IsRepresentable t
+pub representable_from_no_rest : (t e : ℕ) → LiesIn t e → t ≤ greatest_amount
+    → (t - start_of e) % 10 ^ e ≡ 0 → IsRepresentable t
 representable_from_no_rest t e r top none =
     let parts = rounded_down_parts t e r top in
-    let whole : t - (t - start_of e) % 10 ^ e ≡ t = omega arith in
-    (e, (t - start_of e) / 10 ^ e, subst (λ (u : ℕ). HasParts u e ((t - start_of e) / 10 ^ e)) whole parts)
+    let whole : t - (t - start_of e) % 10 ^ e ≡ t = omega arith in (
+      e,
+      (t - start_of e) / 10 ^ e,
+      subst
+          (λ (u : ℕ). HasParts u e ((t - start_of e) / 10 ^ e)) whole parts,
+    )
 
-pub no_rest_from_representable : (t e : ℕ) → LiesIn t e → IsRepresentable t → (t - start_of e) % 10 ^ e ≡ 0
+pub no_rest_from_representable : (t e : ℕ) → LiesIn t e → IsRepresentable t
+    → (t - start_of e) % 10 ^ e ≡ 0
 no_rest_from_representable t e r carried =
     let same = same_exponent t carried.0 e (range_from_parts _ _ _ carried.2) r in
     subst (λ (k : ℕ). (t - start_of k) % 10 ^ k ≡ 0) same (mantissa_from_parts _ _ _ carried.2).1
@@ -104,29 +118,35 @@ no_rest_from_representable t e r carried =
 pub representable_bound : (t e m : ℕ) → HasParts t e m → t ≤ greatest_amount
 representable_bound t zero m p = let small = p.mantissa in let gives = p.gives in omega arith
 representable_bound t (suc zero) m p = let small = p.mantissa in let gives = p.gives in omega arith
-representable_bound t (suc (suc zero)) m p = let small = p.mantissa in let gives = p.gives in omega arith
-representable_bound t (suc (suc (suc zero))) m p = let small = p.mantissa in let gives = p.gives in omega arith
+representable_bound t (suc (suc zero)) m p =
+    let small = p.mantissa in let gives = p.gives in omega arith
+representable_bound t (suc (suc (suc zero))) m p =
+    let small = p.mantissa in let gives = p.gives in omega arith
 representable_bound t (suc (suc (suc (suc e)))) m p = let past = p.exponent in absurd (omega arith)
 
 -- what can be carried has for its mantissa the steps above the start of its range
-pub parts_in_range : (t e : ℕ) → LiesIn t e → IsRepresentable t → HasParts t e ((t - start_of e) / 10 ^ e)
+pub parts_in_range : (t e : ℕ) → LiesIn t e → IsRepresentable t
+    → HasParts t e ((t - start_of e) / 10 ^ e)
 parts_in_range t e r carried =
     let parts = carried.2 in
     let same = same_exponent t carried.0 e (range_from_parts _ _ _ parts) r in
     let mantissa = (mantissa_from_parts _ _ _ parts).0 in
-    subst (λ (k : ℕ). HasParts t k ((t - start_of k) / 10 ^ k)) same (subst (λ (m : ℕ). HasParts t carried.0 m) (sym mantissa) parts)
+    subst (λ (k : ℕ). HasParts t k ((t - start_of k) / 10 ^ k)) same
+    (subst (λ (m : ℕ). HasParts t carried.0 m) (sym mantissa) parts)
 
 -- the pair of exponent and mantissa is the only one
 pub same_parts : (t e m k n : ℕ) → HasParts t e m → HasParts t k n → (e ≡ k) × (m ≡ n)
 same_parts t e m k n p q =
     let same = same_exponent t e k (range_from_parts _ _ _ p) (range_from_parts _ _ _ q) in
-    let at_k = subst (λ (j : ℕ). (t - start_of j) / 10 ^ j ≡ m) same (mantissa_from_parts _ _ _ p).0 in
+    let at_k =
+    subst (λ (j : ℕ). (t - start_of j) / 10 ^ j ≡ m) same (mantissa_from_parts _ _ _ p).0 in
     (same, sym at_k ∙ (mantissa_from_parts _ _ _ q).0)
 
 pub code_from_parts : (t e m : ℕ) → HasParts t e m → code_of t ≡ e * 2 ^ 14 + m
 code_from_parts t e m p =
     let same = exponent_of-range t e (range_from_parts _ _ _ p) in
-    let at_e = subst (λ (j : ℕ). (t - start_of j) / 10 ^ j ≡ m) (sym same) (mantissa_from_parts _ _ _ p).0 in
+    let at_e =
+    subst (λ (j : ℕ). (t - start_of j) / 10 ^ j ≡ m) (sym same) (mantissa_from_parts _ _ _ p).0 in
     omega (arith, same, at_e)
 
 -- ---- the amounts rise with their codes
@@ -157,7 +177,8 @@ exponent_rises : (e m k n : ℕ) → e < k → k < 4 → m < 2 ^ 14 → amount_o
 exponent_rises e m k n less small fits =
     let before = amount_before e m (omega arith) fits in
     let next : suc e + (k - suc e) ≡ k = omega arith in
-    let starts = subst (λ (j : ℕ). start_of (suc e) ≤ start_of j) next (start_rises (suc e) (k - suc e)) in
+    let starts =
+    subst (λ (j : ℕ). start_of (suc e) ≤ start_of j) next (start_rises (suc e) (k - suc e)) in
     omega (arith, before, starts, amount_from k n)
 
 pub amount_of_code-rises : (c d : ℕ) → c < d → d < 2 ^ 16 → amount_of_code c < amount_of_code d
@@ -165,5 +186,6 @@ amount_of_code-rises c d less fits = elim (cases_lt (c / 2 ^ 14) (d / 2 ^ 14)) [
   | inl below ↦ exponent_rises (c / 2 ^ 14) (c % 2 ^ 14) (d / 2 ^ 14) (d % 2 ^ 14) below (omega arith) (omega arith)
   | inr most ↦
       let same : c / 2 ^ 14 ≡ d / 2 ^ 14 = omega arith in
-      subst (λ (e : ℕ). amount_of_code c < amount_of e (d % 2 ^ 14)) same (mantissa_rises (c / 2 ^ 14) (c % 2 ^ 14) (d % 2 ^ 14) (omega arith) (omega arith))
+      subst (λ (e : ℕ). amount_of_code c < amount_of e (d % 2 ^ 14)) same
+      (mantissa_rises (c / 2 ^ 14) (c % 2 ^ 14) (d % 2 ^ 14) (omega arith) (omega arith))
 ]

@@ -14,7 +14,8 @@ use Rattle.sts_token.proofs.DigitsLemmas.{all_digits, digits_value-digits_text, 
 pub written_key : (key : ℕ) → key < 2 ^ 64 → IsKeyText key (digits_text 16 16 key)
 written_key key small =
     record {
-      digits = record { sixteen = length-digits_text 16 16 key; digits = hexadecimal_passes 16 key };
+      digits =
+          record { sixteen = length-digits_text 16 16 key; digits = hexadecimal_passes 16 key };
       number = digits_value-digits_text 16 16 key (omega arith) (omega arith) small;
     }
 
@@ -39,13 +40,20 @@ key_room i key within small =
     let power : 16 ^ i ≤ 16 ^ 15 = pow-le-pow_right (lit< tt) low in
     omega arith
 
-pub turn_digits : (text : List ℕ) (i : ℕ) → i < length text → AllPass is_lower_hexdigit (take i text) → is_lower_hexdigit (get_or text i 0) ≡ true → AllPass is_lower_hexdigit (take (i + 1) text)
+pub turn_digits : (text : List ℕ) (i : ℕ) → i < length text
+    → AllPass is_lower_hexdigit (take i text) → is_lower_hexdigit (get_or text i 0) ≡ true
+    → AllPass is_lower_hexdigit (take (i + 1) text)
 turn_digits text i within before here =
-    subst (AllPass is_lower_hexdigit) (sym (take_more text i 0 within)) (All-push (λ x. is_lower_hexdigit x ≡ true) (take i text) (get_or text i 0) before here)
+    subst (AllPass is_lower_hexdigit) (sym (take_more text i 0 within))
+    (All-push (λ x. is_lower_hexdigit x ≡ true) (take i text) (get_or text i 0) before here)
 
-pub turn_number : (text : List ℕ) (i key value : ℕ) → i < length text → digits_value 16 (take i text) ≡ key → digit_value (get_or text i 0) ≡ value → digits_value 16 (take (i + 1) text) ≡ key * 16 + value
+pub turn_number : (text : List ℕ) (i key value : ℕ) → i < length text
+    → digits_value 16 (take i text) ≡ key → digit_value (get_or text i 0) ≡ value
+    → digits_value 16 (take (i + 1) text) ≡ key * 16 + value
 turn_number text i key value within before here =
-    digits_value_more 16 text i within ∙ ap (λ (n : ℕ). n * 16 + digit_value (get_or text i 0)) before ∙ ap (λ (n : ℕ). key * 16 + n) here
+    digits_value_more 16 text i within
+    ∙ ap (λ (n : ℕ). n * 16 + digit_value (get_or text i 0)) before
+    ∙ ap (λ (n : ℕ). key * 16 + n) here
 
 pub turn_fits : (i key value : ℕ) → key < 16 ^ i → value < 16 → key * 16 + value < 16 ^ (i + 1)
 turn_fits i key value small digit = omega (arith, pow-suc 16 i, ap (λ (k : ℕ). 16 ^ k) (add-one i))

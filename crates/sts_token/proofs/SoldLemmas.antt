@@ -37,19 +37,22 @@ rises (f ∷ sold) p = (
 )
 
 -- what holds of all holds of each
-pub holds_at : (P : TokenFields → Type 0) (f : TokenFields) (sold : List TokenFields) → AllByRecursion P sold → IsIn f sold → P f
+pub holds_at : (P : TokenFields → Type 0) (f : TokenFields) (sold : List TokenFields)
+    → AllByRecursion P sold → IsIn f sold → P f
 unfolding IsIn
 holds_at P f [] all i = absurd i
 holds_at P f (g ∷ sold) all (inl same) = subst P same all.0
 holds_at P f (g ∷ sold) all (inr i) = holds_at P f sold all.1 i
 
 -- ---- sums over those sold
-sum_same : (v w : TokenFields → ℕ) (sold : List TokenFields) → AllByRecursion (λ g. v g ≡ w g) sold → sum_by v sold ≡ sum_by w sold
+sum_same : (v w : TokenFields → ℕ) (sold : List TokenFields) → AllByRecursion (λ g. v g ≡ w g) sold
+    → sum_by v sold ≡ sum_by w sold
 sum_same v w [] all = refl
 sum_same v w (g ∷ sold) all =
     omega (arith, sum_by-cons v g sold, sum_by-cons w g sold, sum_same v w sold all.1, all.0)
 
-pub each : (P : TokenFields → Type 0) (Q : TokenFields → Type 0) → ((g : TokenFields) → P g → Q g) → (sold : List TokenFields) → AllByRecursion P sold → AllByRecursion Q sold
+pub each : (P : TokenFields → Type 0) (Q : TokenFields → Type 0) → ((g : TokenFields) → P g → Q g)
+    → (sold : List TokenFields) → AllByRecursion P sold → AllByRecursion Q sold
 each P Q step [] all = tt
 each P Q step (g ∷ sold) all = (step g all.0, each P Q step sold all.1)
 
@@ -57,11 +60,13 @@ each P Q step (g ∷ sold) all = (step g all.0, each P Q step sold all.1)
 unfoldable pub weight : (TokenFields → ℕ) → List ℕ → TokenFields → ℕ
 weight w tids g = cond (is_among tids g.tid) (w g) 0
 
-weight_other : (w : TokenFields → ℕ) (u : ℕ) (tids : List ℕ) (g : TokenFields) → g.tid ≢ u → weight w (u ∷ tids) g ≡ weight w tids g
+weight_other : (w : TokenFields → ℕ) (u : ℕ) (tids : List ℕ) (g : TokenFields) → g.tid ≢ u
+    → weight w (u ∷ tids) g ≡ weight w tids g
 unfolding weight
 weight_other w u tids g other = ap (λ (b : Bool). cond b (w g) 0) (among_other u tids g.tid other)
 
-weight_gained : (w : TokenFields → ℕ) (f : TokenFields) (tids : List ℕ) → is_among tids f.tid ≡ false → weight w (f.tid ∷ tids) f ≡ weight w tids f + w f
+weight_gained : (w : TokenFields → ℕ) (f : TokenFields) (tids : List ℕ) → is_among tids f.tid
+    ≡ false → weight w (f.tid ∷ tids) f ≡ weight w tids f + w f
 unfolding weight
 weight_gained w f tids none =
     let now = ap (λ (b : Bool). cond b (w f) 0) (among_first f.tid tids) in
@@ -69,14 +74,17 @@ weight_gained w f tids none =
     omega arith
 
 -- a token that was sold is taken: the sum over the taken gains its weight, once
-gained : (w : TokenFields → ℕ) (f : TokenFields) (tids : List ℕ) (sold : List TokenFields) → Rises sold → IsIn f sold → is_among tids f.tid ≡ false
+gained : (w : TokenFields → ℕ) (f : TokenFields) (tids : List ℕ) (sold : List TokenFields)
+    → Rises sold → IsIn f sold → is_among tids f.tid ≡ false
     → sum_by (weight w (f.tid ∷ tids)) sold ≡ sum_by (weight w tids) sold + w f
 unfolding Rises IsIn
 gained w f tids [] rising i none = absurd i
 gained w f tids (g ∷ sold) rising (inl same) none =
-    let above : AllByRecursion (λ h. f.tid < h.tid) sold = subst (λ (k : TokenFields). AllByRecursion (λ h. k.tid < h.tid) sold) same rising.0 in
+    let above : AllByRecursion (λ h. f.tid < h.tid) sold =
+    subst (λ (k : TokenFields). AllByRecursion (λ h. k.tid < h.tid) sold) same rising.0 in
     let rest = sum_same (weight w (f.tid ∷ tids)) (weight w tids) sold
-    (each (λ h. f.tid < h.tid) (λ h. weight w (f.tid ∷ tids) h ≡ weight w tids h) (λ h above. weight_other w f.tid tids h (omega arith)) sold above) in
+    (each (λ h. f.tid < h.tid) (λ h. weight w (f.tid ∷ tids) h ≡ weight w tids h)
+    (λ h above. weight_other w f.tid tids h (omega arith)) sold above) in
     let here = subst (λ (k : TokenFields). weight w (f.tid ∷ tids) k ≡ weight w tids k + w f) (sym same) (weight_gained w f tids none) in
     omega (arith, sum_by-cons (weight w (f.tid ∷ tids)) g sold, sum_by-cons (weight w tids) g sold)
 gained w f tids (g ∷ sold) rising (inr i) none =
@@ -88,8 +96,10 @@ gained w f tids (g ∷ sold) rising (inr i) none =
 -- ---- what a meter has taken, where the tokens that came were sold
 pub record Follows (sold : List TokenFields) (came : List ℕ) (taken : Taken) : Type 0 where
   pub taken_came : (t : ℕ) → is_among taken.tids t ≡ true → is_among came t ≡ true
-  pub counted : (p : ℕ → Bool) → count_by p taken.tids ≡ sum_by (weight (λ g. cond (p g.tid) 1 0) taken.tids) sold
-  pub passed : (t : ℕ) → is_among came t ≡ true → (is_among taken.tids t ≡ true) ⊎ (50 ≤ count_by (ltb t) taken.tids)
+  pub counted : (p : ℕ → Bool) → count_by p taken.tids
+      ≡ sum_by (weight (λ g. cond (p g.tid) 1 0) taken.tids) sold
+  pub passed : (t : ℕ) → is_among came t ≡ true
+      → (is_among taken.tids t ≡ true) ⊎ (50 ≤ count_by (ltb t) taken.tids)
   pub summed : sum taken.amounts ≡ sum_by (weight (λ g. g.tenths) taken.tids) sold
 
 none_taken : (w : TokenFields → ℕ) (sold : List TokenFields) → sum_by (weight w []) sold ≡ 0
@@ -107,21 +117,26 @@ follows_none sold =
     }
 
 -- one more came: it is the last one or one of the earlier ones
-push_among : (came : List ℕ) (u t : ℕ) → is_among (came ++ u ∷ []) t ≡ (is_among came t || (eqb t u || false))
+push_among : (came : List ℕ) (u t : ℕ) → is_among (came ++ u ∷ []) t
+    ≡ (is_among came t || (eqb t u || false))
 push_among came u t = list_any-append (eqb t) came (u ∷ [])
 
-among_push : (came : List ℕ) (u t : ℕ) → is_among (came ++ u ∷ []) t ≡ true → (is_among came t ≡ true) ⊎ (t ≡ u)
+among_push : (came : List ℕ) (u t : ℕ) → is_among (came ++ u ∷ []) t ≡ true
+    → (is_among came t ≡ true) ⊎ (t ≡ u)
 among_push came u t h =
     elim (or_cases (is_among came t) (eqb t u || false) (sym (push_among came u t) ∙ h)) [
       | inl earlier ↦ inl earlier
       | inr last ↦ inr (elim (or_cases (eqb t u) false last) [ inl same ↦ eqb-true t u same | inr none ↦ absurd (false≢true none) ])
     ]
 
-push_earlier : (came : List ℕ) (u t : ℕ) → is_among came t ≡ true → is_among (came ++ u ∷ []) t ≡ true
+push_earlier : (came : List ℕ) (u t : ℕ) → is_among came t ≡ true → is_among (came ++ u ∷ []) t
+    ≡ true
 push_earlier came u t h = push_among came u t ∙ or_left (is_among came t) (eqb t u || false) h
 
 push_last : (came : List ℕ) (t : ℕ) → is_among (came ++ t ∷ []) t ≡ true
-push_last came t = push_among came t t ∙ or_right (is_among came t) (eqb t t || false) (or_left (eqb t t) false (eq-eqb t t refl))
+push_last came t =
+    push_among came t t
+    ∙ or_right (is_among came t) (eqb t t || false) (or_left (eqb t t) false (eq-eqb t t refl))
 
 -- an accepted token is among the taken, and the greater ones stay as many or gain one
 follows_accepted : (sold : List TokenFields) (came : List ℕ) (taken : Taken) (f : TokenFields)
@@ -137,7 +152,8 @@ follows_accepted sold came taken f follows rising i new =
       counted = λ p.
           let w : TokenFields → ℕ = λ g. cond (p g.tid) 1 0 in
           let more = gained w f taken.tids sold rising i new.not_taken in
-          let count : count_by p (f.tid ∷ taken.tids) ≡ cond (p f.tid) 1 0 + count_by p taken.tids = sum_by-cons (λ t. cond (p t) 1 0) f.tid taken.tids in
+          let count : count_by p (f.tid ∷ taken.tids) ≡ cond (p f.tid) 1 0 + count_by p taken.tids =
+          sum_by-cons (λ t. cond (p t) 1 0) f.tid taken.tids in
           omega (arith, count, more, follows.counted p);
       passed = λ t h.
           let count : count_by (ltb t) (f.tid ∷ taken.tids) ≡ cond (ltb t f.tid) 1 0 + count_by (ltb t) taken.tids = sum_by-cons (λ u. cond (ltb t u) 1 0) f.tid taken.tids in
@@ -150,13 +166,15 @@ follows_accepted sold came taken f follows rising i new =
           ];
       summed =
           let more = gained (λ g. g.tenths) f taken.tids sold rising i new.not_taken in
-          let total : sum (f.tenths ∷ taken.amounts) ≡ f.tenths + sum taken.amounts = sum_by-cons (λ (x : ℕ). x) f.tenths taken.amounts in
+          let total : sum (f.tenths ∷ taken.amounts) ≡ f.tenths + sum taken.amounts =
+          sum_by-cons (λ (x : ℕ). x) f.tenths taken.amounts in
           omega (arith, total, more, follows.summed);
     }
 
 -- a token that is not accepted leaves the taken as they are, and is among them or passed by fifty
 follows_refused : (sold : List TokenFields) (came : List ℕ) (taken : Taken) (f : TokenFields)
-    → Follows sold came taken → (is_among taken.tids f.tid ≡ true) ⊎ (50 ≤ count_by (ltb f.tid) taken.tids)
+    → Follows sold came taken
+    → (is_among taken.tids f.tid ≡ true) ⊎ (50 ≤ count_by (ltb f.tid) taken.tids)
     → Follows sold (came ++ f.tid ∷ []) taken
 follows_refused sold came taken f follows why =
     record {
@@ -170,8 +188,10 @@ follows_refused sold came taken f follows why =
       summed = follows.summed;
     }
 
-follows_answer : (sold : List TokenFields) (came : List ℕ) (taken : Taken) (f : TokenFields) (a : TidAnswer)
-    → Follows sold came taken → Rises sold → IsIn f sold → 1 ≤ f.tid → answer_to taken.tids f.tid ≡ a
+follows_answer : (sold : List TokenFields) (came : List ℕ) (taken : Taken) (f : TokenFields)
+    (a : TidAnswer)
+    → Follows sold came taken → Rises sold → IsIn f sold → 1 ≤ f.tid
+    → answer_to taken.tids f.tid ≡ a
     → Follows sold (came ++ f.tid ∷ []) (answered taken f a)
 follows_answer sold came taken f accepted follows rising i above e =
     follows_accepted sold came taken f follows rising i (new_from_accepted taken.tids f.tid e)
@@ -190,23 +210,31 @@ pub record Comes (sold : List TokenFields) (f : TokenFields) : Type 0 where
   pub fields : AreFields f
   pub above : 1 ≤ f.tid
 
-follows_over : (read : Reader) (token : TokenFields → List ℕ) (sold came more : List TokenFields) (taken : Taken)
+follows_over : (read : Reader) (token : TokenFields
+    → List ℕ) (sold came more : List TokenFields) (taken : Taken)
     → IsReadAs read token → Rises sold → AllByRecursion (Comes sold) more
     → Follows sold (map tid_of came) taken
-    → Follows sold (map tid_of (came ++ more)) (fold (after_entry read) taken (map (λ f. entered (token f)) more))
+    → Follows sold (map tid_of (came ++ more))
+    (fold (after_entry read) taken (map (λ f. entered (token f)) more))
 follows_over read token sold came [] taken is rising all follows =
-    subst (λ (fs : List TokenFields). Follows sold (map tid_of fs) taken) (sym (append-nil came)) follows
+    subst (λ (fs : List TokenFields). Follows sold (map tid_of fs) taken)
+    (sym (append-nil came)) follows
 follows_over read token sold came (f ∷ more) taken is rising all follows =
     let next = follows_answer sold (map tid_of came) taken f (answer_to taken.tids f.tid) follows rising all.0.among all.0.above refl in
-    let came_next : map tid_of (came ++ f ∷ []) ≡ map tid_of came ++ f.tid ∷ [] = map-append tid_of came (f ∷ []) in
+    let came_next : map tid_of (came ++ f ∷ []) ≡ map tid_of came ++ f.tid ∷ [] =
+    map-append tid_of came (f ∷ []) in
     let answer : after_reading taken (read (token f)) ≡ answered taken f (answer_to taken.tids f.tid) = ap (after_reading taken) (is.reads f all.0.fields) in
-    let at_next = subst (λ (ts : List ℕ). Follows sold ts (after_reading taken (read (token f)))) (sym came_next)
+    let at_next =
+    subst (λ (ts : List ℕ). Follows sold ts (after_reading taken (read (token f)))) (sym came_next)
     (subst (λ (n : Taken). Follows sold (map tid_of came ++ f.tid ∷ []) n) (sym answer) next) in
     let rest = follows_over read token sold (came ++ f ∷ []) more (after_reading taken (read (token f))) is rising all.1 at_next in
-    subst (λ (fs : List TokenFields). Follows sold (map tid_of fs) (fold (after_entry read) (after_reading taken (read (token f))) (map (λ g. entered (token g)) more)))
+    subst (λ (fs : List TokenFields). Follows sold (map tid_of fs)
+    (fold (after_entry read) (after_reading taken (read (token f)))
+    (map (λ g. entered (token g)) more)))
     (append_assoc came (f ∷ []) more) rest
 
-pub comes : (sold : List TokenFields) → AreSold sold → (f : TokenFields) → Contains sold f → Comes sold f
+pub comes : (sold : List TokenFields) → AreSold sold → (f : TokenFields) → Contains sold f
+    → Comes sold f
 comes sold are f there =
     record {
       among = is_in f sold there;
@@ -219,4 +247,5 @@ pub follows : (read : Reader) (token : TokenFields → List ℕ) (sold came : Li
     → Follows sold (map tid_of came) (taken_over read (map (λ f. entered (token f)) came))
 follows read token sold came is are all =
     follows_over read token sold [] came (record { tids = []; amounts = [] }) is (rises sold are.rising)
-    (each (Contains sold) (Comes sold) (comes sold are) came (recursion_from_All (Contains sold) came all)) (follows_none sold)
+    (each (Contains sold) (Comes sold) (comes sold are) came
+    (recursion_from_All (Contains sold) came all)) (follows_none sold)

@@ -12,13 +12,17 @@ use Rattle.sts_token.specs.Token.{IsToken}
 use Rattle.sts_token.proofs.DigitsLemmas.{decimal_below, decimal_passes, decimal_told, digits_value-digits_text, length-digits_text, same_text}
 
 -- a block has 64 bits
-pub block_of-lt : (subclass : ℕ) (f : TokenFields) → subclass < 2 ^ 4 → f.rnd < 2 ^ 4 → f.tid < 2 ^ 24 → code_of f.tenths < 2 ^ 16 → block_of subclass f < 2 ^ 64
-block_of-lt subclass f s rnd tid code = omega (arith, check_of-lt (bytes_high_first 7 (payload_of subclass f)))
+pub block_of-lt : (subclass : ℕ) (f : TokenFields) → subclass < 2 ^ 4 → f.rnd < 2 ^ 4
+    → f.tid < 2 ^ 24 → code_of f.tenths < 2 ^ 16 → block_of subclass f < 2 ^ 64
+block_of-lt subclass f s rnd tid code =
+    omega (arith, check_of-lt (bytes_high_first 7 (payload_of subclass f)))
 
 pub number_of-lt : (block : ℕ) → block < 2 ^ 64 → number_of block < 2 ^ 66
 number_of-lt block small = omega arith
 
-pub written_token : (forward : ℕ → ℕ → ℕ) (key : ℕ) (f : TokenFields) → number_of (forward key (block_of 0 f)) < 10 ^ 20 → IsToken forward key f (digits_text 10 20 (number_of (forward key (block_of 0 f))))
+pub written_token : (forward : ℕ → ℕ → ℕ) (key : ℕ) (f : TokenFields)
+    → number_of (forward key (block_of 0 f)) < 10 ^ 20
+    → IsToken forward key f (digits_text 10 20 (number_of (forward key (block_of 0 f))))
 written_token forward key f small =
     let n = number_of (forward key (block_of 0 f)) in
     record {
@@ -26,7 +30,8 @@ written_token forward key f small =
       number = digits_value-digits_text 10 20 n (omega arith) (omega arith) small;
     }
 
-pub one_token : (forward : ℕ → ℕ → ℕ) (key : ℕ) (f : TokenFields) (a b : List ℕ) → IsToken forward key f a → IsToken forward key f b → a ≡ b
+pub one_token : (forward : ℕ → ℕ → ℕ) (key : ℕ) (f : TokenFields) (a b : List ℕ)
+    → IsToken forward key f a → IsToken forward key f b → a ≡ b
 one_token forward key f a b p q =
     same_text 10 is_ascii_digit decimal_below decimal_told a b
     (recursion_from_All (λ c. is_ascii_digit c ≡ true) a p.digits.digits)

@@ -26,7 +26,8 @@ module _ (law : AmountLaw) where
   amount_of_code-some c some fits = amount_of_code-rises 1 c some fits
 
   -- each amount that a token can carry has a code
-  pub code_from_representable : (t : ℕ) → IsRepresentable t → (c : ℕ) × (c < 2 ^ 16) × (amount_of_code c ≡ t)
+  pub code_from_representable : (t : ℕ) → IsRepresentable t
+      → (c : ℕ) × (c < 2 ^ 16) × (amount_of_code c ≡ t)
   code_from_representable t carried =
       let is = law.each_amount t carried in
       let fits = law.sixteen_bits t (code_of t) is in

@@ -5,7 +5,8 @@ pub returns-clause-one_pair : goal.returns-clause-one_pair
 returns-clause-one_pair c = same_parts
 
 pub returns-clause-each_amount : goal.returns-clause-each_amount
-returns-clause-each_amount c = λ t carried. (carried.0, carried.1, carried.2, code_from_parts _ _ _ carried.2)
+returns-clause-each_amount c =
+    λ t carried. (carried.0, carried.1, carried.2, code_from_parts _ _ _ carried.2)
 
 pub returns-clause-one_code : goal.returns-clause-one_code
 returns-clause-one_code c = λ t a b p q. let same = same_parts t _ _ _ _ p.2 q.2 in cc (p.3, q.3)

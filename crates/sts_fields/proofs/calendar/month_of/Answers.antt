@@ -13,5 +13,6 @@ pub returns-clause-date : goal.returns-clause-date
 returns-clause-date c = λ civil is.
     let moment : IsMoment c.args.moment = search rules in
     let years = civil-years c.args.moment civil moment.0 moment.1 is in
-    let month : month_at c.args.moment ≡ month_number civil = month_at-civil c.args.moment civil is years.0 years.1 in
+    let month : month_at c.args.moment ≡ month_number civil =
+    month_at-civil c.args.moment civil is years.0 years.1 in
     returns-clause-value c ∙ ap Ok month

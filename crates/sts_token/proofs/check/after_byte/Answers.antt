@@ -8,9 +8,11 @@ loop-init c = ap (bit_xor c.args.check) c.from.ensures ∙ mixed_none c.args.che
 
 pub loop-preserved : goal.loop-preserved
 loop-preserved c =
-    c.shifted-mixed.ensures ∙ ap (λ (m : ℕ). check_step m 0) c.loop.invariant ∙ mixed_more c.args.check c.args.byte c.loop.counter (omega arith)
+    c.shifted-mixed.ensures ∙ ap (λ (m : ℕ). check_step m 0) c.loop.invariant
+    ∙ mixed_more c.args.check c.args.byte c.loop.counter (omega arith)
 
 pub returns : goal.returns
 returns c =
     let all : c.loop.counter ≡ 8 = omega arith in
-    c.loop.invariant ∙ ap (mixed_after c.args.check c.args.byte) all ∙ mixed_all c.args.check c.args.byte (omega arith)
+    c.loop.invariant ∙ ap (mixed_after c.args.check c.args.byte) all
+    ∙ mixed_all c.args.check c.args.byte (omega arith)

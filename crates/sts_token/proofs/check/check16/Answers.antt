@@ -7,4 +7,6 @@ use Rattle.sts_token.proofs.check.check16.Goals as goal
 pub returns : goal.returns
 unfolding check_of
 returns c =
-    c.loop-byte.invariant ∙ ap (λ (bytes : List ℕ). fold check_step 0xFFFF (flat_map bits_of bytes)) (take_all c.loop-byte.byte-index c.args.bytes.now (omega arith))
+    c.loop-byte.invariant
+    ∙ ap (λ (bytes : List ℕ). fold check_step 0xFFFF (flat_map bits_of bytes))
+    (take_all c.loop-byte.byte-index c.args.bytes.now (omega arith))

@@ -5,4 +5,5 @@ use Rattle.sts_token.proofs.check.check16.Given as goal
 
 -- the check over the bytes so far
 abbrev pub invariant-loop-byte : goal.invariant-loop-byte
-invariant-loop-byte l = (l.check ≡ fold check_step 0xFFFF (flat_map bits_of (take l.byte-index l.bytes)))
+invariant-loop-byte l =
+    (l.check ≡ fold check_step 0xFFFF (flat_map bits_of (take l.byte-index l.bytes)))

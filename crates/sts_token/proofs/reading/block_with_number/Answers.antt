@@ -14,5 +14,7 @@ overflow_cast-result c =
 pub returns : goal.returns
 returns c =
     let small : c.args.number < 2 ^ 66 = omega arith in
-    let class_zero : class_of c.args.number ≡ 0 = omega (arith, and_mask (c.args.number / 2 ^ 27) 2) in
-    ap (λ (n : ℕ). Ok n) (masked_number c.args.number small) ∙ numbered_block c.args.number small class_zero
+    let class_zero : class_of c.args.number ≡ 0 =
+    omega (arith, and_mask (c.args.number / 2 ^ 27) 2) in
+    ap (λ (n : ℕ). Ok n) (masked_number c.args.number small)
+    ∙ numbered_block c.args.number small class_zero

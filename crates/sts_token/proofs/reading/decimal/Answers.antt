@@ -13,7 +13,8 @@ loop-digit-preserved c =
     let here = sym c.if-not-is_ascii_digit.ensures.value in
     record {
       digits = more_digits text l.digit-index c.loop-digit-test.true l.invariant.digits here;
-      number = rw c.from.ensures (more_number text l.digit-index l.number c.loop-digit-test.true l.invariant.number here);
+      number = rw c.from.ensures
+          (more_number text l.digit-index l.number c.loop-digit-test.true l.invariant.number here);
       fits = rw c.from.ensures (more_fits l.digit-index l.number _ l.invariant.fits here);
     }
 

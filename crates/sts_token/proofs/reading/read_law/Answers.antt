@@ -14,7 +14,8 @@ pub returns-clause-one_reading : goal.returns-clause-one_reading
 returns-clause-one_reading c = one_reading (amounts c)
 
 pub returns-clause-written : goal.returns-clause-written
-returns-clause-written c = λ forward inverse key f transform small fields. (fields, token_reads (amounts c) forward inverse key f transform small fields)
+returns-clause-written c = λ forward inverse key f transform small fields.
+    (fields, token_reads (amounts c) forward inverse key f transform small fields)
 
 pub returns-clause-one_text : goal.returns-clause-one_text
 returns-clause-one_text c = one_text (amounts c)

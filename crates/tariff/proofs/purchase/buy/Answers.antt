@@ -22,12 +22,20 @@ law c =
 -- what the greatest code gives is the purchase
 purchased : (c : goal.After-price-price) → IsPurchase c.args.steps.now c.args.prior c.args.tender (record { tenths = c.of_code-tenths.result; price = c.price-price.result; change = c.cents-cents.result - c.price-price.result })
 purchased c =
-    let code : IsGreatestCode c.args.steps.now c.args.prior c.args.tender c.greatest_code.result = rw c.cents-cents.ensures.value at c.greatest_code.ensures in
-    rw (c.price-price.ensures, c.tenths.ensures.value, c.of_code-tenths.ensures.value, c.cents-cents.ensures.value)
-    (purchase_from_code (law c) c.args.steps.now c.args.prior c.args.tender c.greatest_code.result (omega arith) code)
+    let code : IsGreatestCode c.args.steps.now c.args.prior c.args.tender c.greatest_code.result =
+    rw c.cents-cents.ensures.value at c.greatest_code.ensures in
+    rw (
+      c.price-price.ensures,
+      c.tenths.ensures.value,
+      c.of_code-tenths.ensures.value,
+      c.cents-cents.ensures.value,
+    )
+    (purchase_from_code (law c) c.args.steps.now c.args.prior c.args.tender c.greatest_code.result
+    (omega arith) code)
 
 pub returns-clause-purchase : goal.returns-clause-purchase
 returns-clause-purchase c = purchased c
 
 pub returns-clause-value : goal.returns-clause-value
-returns-clause-value c = same_outcome c.args.steps.now c.args.prior c.args.tender _ _ (purchased c) (purchase_of-is (law c) _ _ _)
+returns-clause-value c = same_outcome c.args.steps.now c.args.prior c.args.tender _ _ (purchased c)
+    (purchase_of-is (law c) _ _ _)

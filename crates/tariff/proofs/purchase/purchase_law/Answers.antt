@@ -19,10 +19,13 @@ pub returns-clause-more_for_more : goal.returns-clause-more_for_more
 returns-clause-more_for_more c = more_for_more (law c)
 
 pub returns-clause-computed : goal.returns-clause-computed
-returns-clause-computed c = λ steps prior tender b. computed_iff steps prior tender b _ (purchase_of-is (law c) steps prior tender)
+returns-clause-computed c = λ steps prior tender b. computed_iff steps prior tender b _
+    (purchase_of-is (law c) steps prior tender)
 
 pub returns-clause-none : goal.returns-clause-none
-returns-clause-none c = λ steps prior tender. none_iff steps prior tender _ (purchase_of-is (law c) steps prior tender)
+returns-clause-none c =
+    λ steps prior tender. none_iff steps prior tender _ (purchase_of-is (law c) steps prior tender)
 
 pub returns-clause-too_little : goal.returns-clause-too_little
-returns-clause-too_little c = λ steps prior tender. too_little_iff steps prior tender _ (purchase_of-is (law c) steps prior tender)
+returns-clause-too_little c = λ steps prior tender. too_little_iff steps prior tender _
+    (purchase_of-is (law c) steps prior tender)

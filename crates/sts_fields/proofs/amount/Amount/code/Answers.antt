@@ -9,4 +9,5 @@ overflow_cast-result c =
 
 pub returns-clause-code : goal.returns-clause-code
 returns-clause-code c =
-    rw (c.start.ensures, c.step.ensures, ← c.self.view_is) (_, _, parts_in_range _ _ c.exponent-exponent.ensures.range c.self.invariant, refl)
+    rw (c.start.ensures, c.step.ensures, ← c.self.view_is)
+    (_, _, parts_in_range _ _ c.exponent-exponent.ensures.range c.self.invariant, refl)

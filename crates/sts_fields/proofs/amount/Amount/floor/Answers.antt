@@ -7,4 +7,5 @@ invariant_of-result c =
 
 pub returns : goal.returns
 returns c =
-    rw (c.start.ensures, c.step.ensures) (floor_is c.args.tenths c.exponent-exponent.result c.exponent-exponent.ensures.range c.requires)
+    rw (c.start.ensures, c.step.ensures)
+    (floor_is c.args.tenths c.exponent-exponent.result c.exponent-exponent.ensures.range c.requires)

@@ -8,4 +8,5 @@ pub returns : goal.returns
 unfolding demo_forward
 returns c =
     let all = take_all c.loop-round_key.round_key-index (round_keys c.args.key) (omega (arith, ap length c.round_keys-round_key-items.ensures)) in
-    c.joined.ensures ∙ ap joined (c.loop-round_key.invariant ∙ ap (fold after_round (halves_of c.args.block)) all)
+    c.joined.ensures ∙ ap joined
+    (c.loop-round_key.invariant ∙ ap (fold after_round (halves_of c.args.block)) all)
