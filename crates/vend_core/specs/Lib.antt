@@ -14,5 +14,7 @@ pub mod OfficeLaws
 pub mod PlainRows
 pub mod Refusal
 pub mod Request
+pub mod RowCause
+pub mod Rows
 pub mod ShortText
 pub mod SoldTokens
