@@ -5,6 +5,7 @@ pub mod EditLemmas
 pub mod FitsLemmas
 pub mod FoldLemmas
 pub mod HistoryLemmas
+pub mod ImportLemmas
 pub mod LawLemmas
 pub mod LifeLemmas
 pub mod LookUpLemmas
@@ -20,3 +21,4 @@ pub mod RowLemmas
 pub mod SaleLemmas
 pub mod ServedLemmas
 pub mod ShortTextLemmas
+pub mod StayLemmas

@@ -1,5 +1,6 @@
 pub mod Cash
 pub mod Decision
+pub mod Edits
 pub mod Facts
 pub mod Fold
 pub mod Growth
