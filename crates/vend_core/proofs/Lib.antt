@@ -1,3 +1,4 @@
+pub mod AgainLemmas
 pub mod AnswerLemmas
 pub mod CashLemmas
 pub mod DecisionLemmas
@@ -6,6 +7,7 @@ pub mod FitsLemmas
 pub mod FoldLemmas
 pub mod HistoryLemmas
 pub mod ImportLemmas
+pub mod ImportWalkLemmas
 pub mod LawLemmas
 pub mod LifeLemmas
 pub mod LookUpLemmas
@@ -22,3 +24,4 @@ pub mod SaleLemmas
 pub mod ServedLemmas
 pub mod ShortTextLemmas
 pub mod StayLemmas
+pub mod TakenLemmas

@@ -5,6 +5,7 @@ pub mod Facts
 pub mod Fold
 pub mod Growth
 pub mod Handed
+pub mod Imports
 pub mod Life
 pub mod Lists
 pub mod Lookup
@@ -19,3 +20,4 @@ pub mod RowCause
 pub mod Rows
 pub mod ShortText
 pub mod SoldTokens
+pub mod Taken
