@@ -2,6 +2,7 @@ pub mod AnswerLemmas
 pub mod CashLemmas
 pub mod DecisionLemmas
 pub mod EditLemmas
+pub mod ExtendLemmas
 pub mod FitsLemmas
 pub mod FoldLemmas
 pub mod HistoryLemmas

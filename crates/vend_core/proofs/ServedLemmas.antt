@@ -23,23 +23,23 @@ stops_after (Err Store) rs own stops = cc
 stops_after (Err Stopped) rs own stops = cc
 stops_after (Err refusal) rs own stops = stops
 
-not_doubted : (r : Result Answer Refusal) → acknowledges r ≡ true → doubts r ≡ false
+pub not_doubted : (r : Result Answer Refusal) → acknowledges r ≡ true → doubts r ≡ false
 not_doubted (Ok answer) own = refl
 not_doubted (Err Memory) own = refl
 not_doubted (Err Store) own = cc
 not_doubted (Err Stopped) own = refl
 not_doubted (Err refusal) own = refl
 
-abbrev request_of : Exchange → Stamped
+abbrev pub request_of : Exchange → Stamped
 request_of e = e.request
 
-abbrev reply_in : Exchange → Result Answer Refusal
+abbrev pub reply_in : Exchange → Result Answer Refusal
 reply_in e = e.reply
 
-abbrev passes : Exchange → Bool
+abbrev pub passes : Exchange → Bool
 passes e = acknowledges e.reply
 
-abbrev is_doubted : Exchange → Bool
+abbrev pub is_doubted : Exchange → Bool
 is_doubted e = doubts e.reply
 
 module _ (forward : ℕ → ℕ → ℕ) where
@@ -123,7 +123,7 @@ module _ (forward : ℕ → ℕ → ℕ) where
       inr (at, subst (λ requests. Contains requests at) (sym (in_doubt_is o ats (Some at))) (contains_first at []), ap (λ p. step forward p at) (sym (present_is o ats (Some at))))
 
 -- lives go on
-led_on : (start : Office) (lives : List Life) (life : Life) (o p : Office) → LeadTo start lives o → IsLife life → life.opening ≡ o → MayLeave life p → LeadTo start (lives ++ life ∷ []) p
+pub led_on : (start : Office) (lives : List Life) (life : Life) (o p : Office) → LeadTo start lives o → IsLife life → life.opening ≡ o → MayLeave life p → LeadTo start (lives ++ life ∷ []) p
 led_on start [] life o p e is opens may = (is, opens ∙ e, (p, may, refl))
 led_on start (first ∷ lives) life o p (first_is, first_opens, (left, first_may, leads)) is opens may =
     (first_is, first_opens, (left, first_may, led_on left lives life o p leads is opens may))

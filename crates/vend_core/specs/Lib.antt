@@ -5,6 +5,7 @@ pub mod Fold
 pub mod Growth
 pub mod Handed
 pub mod Life
+pub mod LifeLaws
 pub mod Lists
 pub mod Lookup
 pub mod Names
@@ -16,3 +17,4 @@ pub mod Refusal
 pub mod Request
 pub mod ShortText
 pub mod SoldTokens
+pub mod Store
