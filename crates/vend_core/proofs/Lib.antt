@@ -1,3 +1,4 @@
+pub mod AlongLemmas
 pub mod AnswerLemmas
 pub mod CashLemmas
 pub mod DecisionLemmas
@@ -11,9 +12,12 @@ pub mod LifeLemmas
 pub mod LookUpLemmas
 pub mod LuhnLemmas
 pub mod MapLemmas
+pub mod MeetsLemmas
 pub mod MeterLemmas
 pub mod NewSaleLemmas
+pub mod NewestLemmas
 pub mod OfficeLemmas
+pub mod OrderLemmas
 pub mod PlainRowLemmas
 pub mod RefusalLemmas
 pub mod RiseLemmas
@@ -21,3 +25,5 @@ pub mod RowLemmas
 pub mod SaleLemmas
 pub mod ServedLemmas
 pub mod ShortTextLemmas
+pub mod StoreLemmas
+pub mod SumLemmas
