@@ -76,6 +76,7 @@ module _ (o : Office) (office : IsOffice o) where
         stands = is.stands;
         numbered = refl;
         only = λ t there same. same_number (λ (u : Shift). u.number) o.shifts t s office.shift_numbers there is.stands same;
+        still_open = is.still_open;
         is_open = ap (λ name. open_shift o name) is.operator ∙ e;
       })
 

@@ -116,7 +116,6 @@ module _ (o : Office) (office : IsOffice o) where
         tid = tid;
         rnd = omega (arith, nibble, new.rnd);
         tenths = subst IsRepresentable (sym new.tenths) bought.representable;
-        some = omega (arith, bought.some, new.tenths);
         tender = subst IsTender (sym new.tender) ordered.tender;
         price = omega (arith, bought.within, new.price, new.tender);
         digits = new.digits.digits;

@@ -19,7 +19,8 @@ extended life more = record life { exchanges = life.exchanges ++ more }
 
 -- the exchanges of these requests and their replies
 abbrev pub exchanges_of : List Stamped → List (Result Answer Refusal) → List Exchange
-exchanges_of (at ∷ ats) (reply ∷ replies) = record { request = at; reply = reply } ∷ exchanges_of ats replies
+exchanges_of (at ∷ ats) (reply ∷ replies) =
+    record { request = at; reply = reply } ∷ exchanges_of ats replies
 exchanges_of ats replies = []
 
 -- the life after one request more, which got this reply, and after many

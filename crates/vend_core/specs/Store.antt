@@ -65,10 +65,11 @@ pub record MeetsClosing (o : Office) (number secs : ℕ) : Type 0 where
   pub stands : Contains o.shifts shift
   pub numbered : shift.number ≡ number
   pub only : (t : Shift) → Contains o.shifts t → t.number ≡ number → t ≡ shift
+  pub still_open : IsNone shift.closed
   pub is_open : open_shift o shift.operator ≡ Some shift
 
--- a new sale: it has the next number, it is made in its operator's open shift to a meter that is there,
--- and neither its ref nor its identifier was used before
+-- a new sale: it has the next number, it is made in its operator's open shift and to a meter that is
+-- there, its ref is new, and its identifier is above those used of its meter under its base
 pub record MeetsNewSale (o : Office) (s : Sale) : Type 0 where
   pub values : IsSaleRow o s
   pub some : 1 ≤ s.tenths
@@ -87,7 +88,8 @@ pub record MeetsNewSale (o : Office) (s : Sale) : Type 0 where
 -- what an edit meets in the office that decided it
 abbrev pub Meets : Edit → Office → Type 0
 Meets (AddTariff name steps) o = IsName name × IsSteps steps × (o.tariffs name ≡ None)
-Meets (AddMeter number m) o = IsMeter number m × (o.meters number ≡ None) × IsSome (o.tariffs m.tariff)
+Meets (AddMeter number m) o =
+    IsMeter number m × (o.meters number ≡ None) × IsSome (o.tariffs m.tariff)
 Meets (SetTariff number name) o = IsSome (o.meters number) × IsSome (o.tariffs name)
 Meets (OpenShift s) o = MeetsNewShift o s
 Meets (CloseShift number moment) o = MeetsClosing o number moment

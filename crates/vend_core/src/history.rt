@@ -49,6 +49,10 @@ pub fn history_law()
     // The identifiers of a meter under a base rise.
     ensures rising { (lives : List Life) (o : Office) → AreLives lives o → AllPairs Rises o.sales }
 
+    // Each sale has a tenth at least.
+    ensures some_tenths { (lives : List Life) (o : Office)
+        → AreLives lives o → All (λ s. 1 ≤ s.tenths) o.sales }
+
     // A reprint is the first token, whatever transforms the lives have.
     ensures reprint { (lives : List Life) (o : Office) (first again : Sale)
         → AreLives lives o → Answered lives (Answer.Sold first) → Answered lives (Answer.Reprinted again)

@@ -58,7 +58,8 @@ pub fn life_law()
         ≡ extended_along life (ats ++ at ∷ []) (replies ++ reply ∷ []) }
     ensures served_along { (life : Life) (o : Office) (ats : List Stamped)
         → IsRunning life o → All IsStamped ats
-        → IsRunning (extended_along life ats (replies_to life.forward o ats)) (after life.forward o ats) }
+        → IsRunning (extended_along life ats (replies_to life.forward o ats))
+        (after life.forward o ats) }
 
     // What a life may leave is an office that has grown out of the one that it opened, and in it
     // stands each sale that the life handed out.

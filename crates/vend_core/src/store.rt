@@ -21,11 +21,12 @@ use sts_fields::{amount_law, fresh_law};
 use sts_token::token_law;
 use tariff::purchase_law;
 
-/// What an office's rows tell a store that keeps them: what a look-up finds, how sums grow, and what
-/// an edit meets.
+/// What an office's rows tell a store that keeps them: what a look-up finds, how sums grow, and
+/// what an edit meets.
 pub fn store_law()
     // The last identifier is the greatest one sold, and there is none where nothing was sold.
-    ensures greatest { (used : List ℕ) (last : Option ℕ) → (IsLast used last ↔ (last ≡ greatest_of used)) }
+    ensures greatest { (used : List ℕ) (last : Option ℕ)
+        → (IsLast used last ↔ (last ≡ greatest_of used)) }
     ensures last_sale { (o : Office) (number : List ℕ) (base : Base) (s : Sale)
         → IsOffice o → IsLastSale o number base s → greatest_of (used o number base) ≡ Some s.tid }
     ensures no_last_sale { (o : Office) (number : List ℕ) (base : Base)
@@ -46,19 +47,24 @@ pub fn store_law()
     ensures newest_along { (forward : ℕ → ℕ → ℕ) (o : Office) (ats : List Stamped)
         → IsOffice o → All IsStamped ats → KeepsRange forward
         → OnlyNewestOpen o → OnlyNewestOpen (after forward o ats) }
-    ensures newest_in_lives { (lives : List Life) (o : Office) → AreLives lives o → OnlyNewestOpen o }
+    ensures newest_in_lives { (lives : List Life) (o : Office)
+        → AreLives lives o → OnlyNewestOpen o }
 
     // A row is found by its number, which is its place, and a sale by the operator's ref.
     ensures shift_numbered { (o : Office) (number : ℕ) (s : Shift)
-        → IsOffice o → ((shift_numbered o number ≡ Some s) ↔ (Contains o.shifts s × (s.number ≡ number))) }
+        → IsOffice o
+        → ((shift_numbered o number ≡ Some s) ↔ (Contains o.shifts s × (s.number ≡ number))) }
     ensures no_shift_numbered { (o : Office) (number : ℕ)
-        → ((shift_numbered o number ≡ None) ↔ ((s : Shift) → Contains o.shifts s → s.number ≢ number)) }
+        → ((shift_numbered o number ≡ None)
+        ↔ ((s : Shift) → Contains o.shifts s → s.number ≢ number)) }
     ensures shift_at { (o : Office) (number : ℕ)
         → IsOffice o → 1 ≤ number → shift_numbered o number ≡ slice_get o.shifts (number - 1) }
     ensures sale_numbered { (o : Office) (number : ℕ) (s : Sale)
-        → IsOffice o → ((sale_numbered o number ≡ Some s) ↔ (Contains o.sales s × (s.number ≡ number))) }
+        → IsOffice o
+        → ((sale_numbered o number ≡ Some s) ↔ (Contains o.sales s × (s.number ≡ number))) }
     ensures no_sale_numbered { (o : Office) (number : ℕ)
-        → ((sale_numbered o number ≡ None) ↔ ((s : Sale) → Contains o.sales s → s.number ≢ number)) }
+        → ((sale_numbered o number ≡ None)
+        ↔ ((s : Sale) → Contains o.sales s → s.number ≢ number)) }
     ensures sale_at { (o : Office) (number : ℕ)
         → IsOffice o → 1 ≤ number → sale_numbered o number ≡ slice_get o.sales (number - 1) }
     ensures sale_of_ref { (o : Office) (name order_ref : List ℕ) (s : Sale)
@@ -68,7 +74,8 @@ pub fn store_law()
 
     // The sales of a shift, and those above a number.
     ensures sales_of_shift { (o : Office) (number : ℕ) (sales : List Sale)
-        → IsOffice o → (AreByNumber o (λ s. s.shift ≡ number) sales ↔ (sales ≡ sales_of_shift o number)) }
+        → IsOffice o
+        → (AreByNumber o (λ s. s.shift ≡ number) sales ↔ (sales ≡ sales_of_shift o number)) }
     ensures sales_above { (o : Office) (number limit : ℕ)
         → IsOffice o → sales_above o number limit ≡ take limit (drop number o.sales) }
 
@@ -91,10 +98,12 @@ pub fn store_law()
         → IsOffice o → prior o number month ≤ 10 ^ 17 }
 
     // What the office has where an edit that it decided is made.
-    ensures meets { (forward : ℕ → ℕ → ℕ) (o : Office) (at : Stamped) (change : Change) (edit : Edit)
+    ensures meets { (forward : ℕ → ℕ → ℕ) (o : Office) (at : Stamped)
+        (change : Change) (edit : Edit)
         → IsOffice o → IsStamped at → KeepsRange forward
         → decision forward o at ≡ Ok change → change.edit ≡ Some edit → Meets edit o }
-    ensures closes { (forward : ℕ → ℕ → ℕ) (o : Office) (at : Stamped) (name : List ℕ) (change : Change)
+    ensures closes { (forward : ℕ → ℕ → ℕ) (o : Office) (at : Stamped)
+        (name : List ℕ) (change : Change)
         → at.request ≡ Request.CloseShift name → decision forward o at ≡ Ok change
         → (s : Shift) × (open_shift o name ≡ Some s)
         × (change.edit ≡ Some (Edit.CloseShift s.number at.moment)) }
