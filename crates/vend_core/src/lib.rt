@@ -42,6 +42,7 @@ mod meter;
 mod meter_no;
 mod operator;
 mod order_ref;
+mod ranges;
 mod records;
 mod refusal;
 mod request;

@@ -71,7 +71,6 @@ impl<T: BlockTransform> Lists<T> {
     ghost use Rattle.std.specs.Prelude.{◌≡◌};
     ghost use Rattle.vend_core.specs.Lists.{IsServed, office_of, transform_of};
     ghost use Rattle.vend_core.specs.Office.{IsOffice};
-    ghost use Rattle.vend_core.specs.Request.{IsStamped};
 
     /// Serves a request: its answer, or why it is refused.
     ///
@@ -79,10 +78,11 @@ impl<T: BlockTransform> Lists<T> {
     /// `Refusal::Memory` comes, where a vector found no memory.
     pub fn serve(&mut self, at: &Stamped) -> Reply
         ensures served { IsServed (T.forwards (transform_of self.old)) (office_of self.old) at.now result (office_of self.new) }
-        ensures office { IsOffice (office_of self.old) → IsStamped at.now → IsOffice (office_of self.new) }
+        ensures office { IsOffice (office_of self.old) → IsOffice (office_of self.new) }
         ensures transform { transform_of self.new ≡ transform_of self.old }
     {
         office_law();
+        at.keeps_ranges();
         self.served(at)
     }
 
