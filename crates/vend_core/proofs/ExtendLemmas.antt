@@ -1,12 +1,14 @@
 -- A life with one exchange more: what it keeps, and what it may leave.
-use Rattle.std.proofs.Common.{◌≡◌, ◌≢◌, ℕ, ◌⊎◌, ◌↔◌, inl, inr, true, false, cond, List, [], ◌∷◌, ◌++◌, Result, Ok, Err, length, refl, sym, ◌∙◌, ap, subst, arith}
+use Rattle.std.proofs.Common.{◌≡◌, ◌≢◌, ℕ, ◌⊎◌, ◌↔◌, inl, inr, Bool, true, false, cond, List, [], ◌∷◌, ◌++◌, Result, Ok, Err, length, refl, sym, ◌∙◌, ap, subst, arith}
 use Rattle.std.specs.Prelude.{All, Contains, filter, map}
+use Rattle.std.proofs.Math.Seq.{take-length}
 use Rattle.std.proofs.lemmas.List.{append-nil, append_assoc, map-append}
-use Rattle.std.proofs.lemmas.List.Elements.{All-append, All-cons, All-head, All-nil, All-push, All-tail, filter-append}
+use Rattle.std.proofs.lemmas.List.Elements.{All-append, All-cons, All-head, All-nil, All-push, All-tail, Contains-push, filter-append}
 use Rattle.sts_token.specs.Token.{KeepsRange}
 use Rattle.vend_core.specs.Fold.{after, replies_to, reply, step}
 use Rattle.vend_core.specs.Growth.{HasGrown}
-use Rattle.vend_core.specs.Life.{AreLives, Exchange, HandsOut, IsLife, Life, MayLeave, StopsAtDoubt, acknowledged, acknowledges, doubts, in_doubt, present, replies_acknowledged}
+use Rattle.vend_core.specs.Handed.{sales_of}
+use Rattle.vend_core.specs.Life.{AreLives, Exchange, HandsOut, IsLife, LeadTo, Life, MayLeave, StopsAtDoubt, acknowledged, acknowledges, doubts, in_doubt, present, replies_acknowledged}
 use Rattle.vend_core.specs.LifeLaws.{GoesOn, IsRunning, OnlyReads, exchanges_of, extended, extended_along, extended_by, opened}
 use Rattle.vend_core.specs.Office.{IsOffice, Office, empty_office}
 use Rattle.vend_core.specs.Request.{IsStamped}
@@ -21,11 +23,22 @@ use Rattle.vend_core.proofs.LawLemmas.{reports_stay, reprints_stay}
 use Rattle.vend_core.proofs.LifeLemmas.{after-append, handed_left, left_office, opening_grown}
 use Rattle.vend_core.proofs.NewSaleLemmas.{LowerLaws}
 use Rattle.vend_core.proofs.RefusalLemmas.{own_reply}
-use Rattle.vend_core.proofs.RowLemmas.{contains_cases, contains_first}
-use Rattle.vend_core.proofs.ServedLemmas.{is_doubted, led_on, passes, reply_in, request_of}
+use Rattle.vend_core.proofs.RowLemmas.{contains_cases, contains_first, contains_map}
 
 abbrev Reply : Type 0
 Reply = Result Answer Refusal
+
+abbrev request_of : Exchange → Stamped
+request_of e = e.request
+
+abbrev reply_in : Exchange → Reply
+reply_in e = e.reply
+
+abbrev passes : Exchange → Bool
+passes e = acknowledges e.reply
+
+abbrev is_doubted : Exchange → Bool
+is_doubted e = doubts e.reply
 
 abbrev exchange : Stamped → Reply → Exchange
 exchange at reply = record { request = at; reply = reply }
@@ -280,12 +293,26 @@ runs_along life o (at ∷ ats) is stamped =
     subst (λ l. IsRunning l (after forward (step forward o at) ats)) (along_first life at ats r (replies_to forward (step forward o at) ats))
     (runs_along (extended_by life at r) (step forward o at) ats (runs_on life o at is (All-head IsStamped at ats stamped)) (All-tail IsStamped at ats stamped))
 
+-- what a life hands out
+pub hands_out_reply : (life : Life) (at : Stamped) (r : Reply) (s : Sale) → Contains (sales_of r) s → HandsOut (extended_by life at r) s
+hands_out_reply life at r s holds = inl (r, contains_map reply_in (life.exchanges ++ exchange at r ∷ []) (exchange at r) (Contains-push life.exchanges (exchange at r)), holds)
+
+pub hands_out_present : (life : Life) (o : Office) (s : Sale) → IsRunning life o → Contains o.sales s → HandsOut life s
+hands_out_present life o s is there =
+    let ats = acknowledged life in
+    inr (length ats, subst (λ (q : Office). Contains q.sales s) (sym is.present ∙ ap (λ begun. after life.forward life.opening begun) (sym (take-length ats))) there)
+
 -- what a life leaves, and lives that go on
 pub left_is : LowerLaws → (life : Life) (o : Office) → IsLife life → IsOffice life.opening → MayLeave life o → IsOffice o × HasGrown life.opening o
 left_is laws life o is office may = (left_office laws life is office o may, opening_grown laws life is office o may)
 
 pub handed_is : LowerLaws → (life : Life) (o : Office) (s : Sale) → IsLife life → IsOffice life.opening → MayLeave life o → HandsOut life s → Contains o.sales s
 handed_is laws life o s is office may hands = handed_left laws life is office o s may hands
+
+led_on : (start : Office) (lives : List Life) (life : Life) (o p : Office) → LeadTo start lives o → IsLife life → life.opening ≡ o → MayLeave life p → LeadTo start (lives ++ life ∷ []) p
+led_on start [] life o p e is opens may = (is, opens ∙ e, (p, may, refl))
+led_on start (first ∷ lives) life o p (first_is, first_opens, (left, first_may, leads)) is opens may =
+    (first_is, first_opens, (left, first_may, led_on left lives life o p leads is opens may))
 
 pub lives_go_on : (lives : List Life) (life : Life) (o p : Office) → AreLives lives o → IsLife life → life.opening ≡ o → MayLeave life p → AreLives (lives ++ life ∷ []) p
 lives_go_on lives life o p are is opens may = led_on empty_office lives life o p are is opens may

@@ -23,7 +23,6 @@ pub mod RefusalLemmas
 pub mod RiseLemmas
 pub mod RowLemmas
 pub mod SaleLemmas
-pub mod ServedLemmas
 pub mod ShortTextLemmas
 pub mod StoreLemmas
 pub mod SumLemmas

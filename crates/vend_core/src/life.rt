@@ -2,7 +2,8 @@ ghost use Rattle.std.specs.Prelude.{◌≡◌, ◌≢◌, ◌⊎◌, ◌↔◌, 
 ghost use Rattle.sts_token.specs.Token.{KeepsRange};
 ghost use Rattle.vend_core.specs.Fold.{after, replies_to, reply, step};
 ghost use Rattle.vend_core.specs.Growth.{HasGrown};
-ghost use Rattle.vend_core.specs.Life.{AreLives, HandsOut, IsLife, Life, MayLeave};
+ghost use Rattle.vend_core.specs.Handed.{sales_of};
+ghost use Rattle.vend_core.specs.Life.{HandsOut, IsLife, Life, MayLeave};
 ghost use Rattle.vend_core.specs.LifeLaws.{IsRunning, OnlyReads, extended_along, extended_by, opened};
 ghost use Rattle.vend_core.specs.Office.{IsOffice, Office};
 ghost use Rattle.vend_core.specs.Request.{IsStamped};
@@ -15,7 +16,9 @@ use sts_fields::fresh_law;
 use sts_token::token_law;
 use tariff::purchase_law;
 
-/// What one exchange more makes of a life, and one life more of lives.
+/// What a request and its reply make of a life.
+///
+/// By it a store keeps a life: it begins when an office is opened, and each call adds an exchange.
 pub fn life_law()
     // An office is opened: a life begins that goes on.
     ensures opens { (forward : ℕ → ℕ → ℕ) (o : Office)
@@ -61,6 +64,12 @@ pub fn life_law()
         → IsRunning (extended_along life ats (replies_to life.forward o ats))
         (after life.forward o ats) }
 
+    // A life hands out the sales of a reply, and those of its present office.
+    ensures replied { (life : Life) (at : Stamped) (reply : Result Answer Refusal) (s : Sale)
+        → Contains (sales_of reply) s → HandsOut (extended_by life at reply) s }
+    ensures listed { (life : Life) (o : Office) (s : Sale)
+        → IsRunning life o → Contains o.sales s → HandsOut life s }
+
     // What a life may leave is an office that has grown out of the one that it opened, and in it
     // stands each sale that the life handed out.
     ensures left { (life : Life) (o : Office)
@@ -69,11 +78,6 @@ pub fn life_law()
     ensures handed { (life : Life) (o : Office) (s : Sale)
         → IsLife life → IsOffice life.opening → MayLeave life o → HandsOut life s
         → Contains o.sales s }
-
-    // Lives go on by any life that opens an office which they may leave.
-    ensures goes_on { (lives : List Life) (life : Life) (o p : Office)
-        → AreLives lives o → IsLife life → life.opening ≡ o → MayLeave life p
-        → AreLives (lives ++ life ∷ []) p }
 {
     fresh_law();
     purchase_law();

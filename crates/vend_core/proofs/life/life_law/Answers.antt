@@ -1,4 +1,4 @@
-use Rattle.vend_core.proofs.ExtendLemmas.{along_none, along_one, doubted_leaves, fails_at, handed_is, left_is, lives_go_on, opens_running, read_leaves, running_leaves, runs_along, runs_on, runs_on_without_memory, stopped_is_life, stopped_stays}
+use Rattle.vend_core.proofs.ExtendLemmas.{along_none, along_one, doubted_leaves, fails_at, handed_is, hands_out_present, hands_out_reply, left_is, opens_running, read_leaves, running_leaves, runs_along, runs_on, runs_on_without_memory, stopped_is_life, stopped_stays}
 use Rattle.vend_core.proofs.NewSaleLemmas.{LowerLaws}
 use Rattle.vend_core.proofs.life.life_law.Goals as goal
 
@@ -42,11 +42,14 @@ returns-clause-along_one c = along_one
 pub returns-clause-served_along : goal.returns-clause-served_along
 returns-clause-served_along c = runs_along
 
+pub returns-clause-replied : goal.returns-clause-replied
+returns-clause-replied c = hands_out_reply
+
+pub returns-clause-listed : goal.returns-clause-listed
+returns-clause-listed c = hands_out_present
+
 pub returns-clause-left : goal.returns-clause-left
 returns-clause-left c = left_is (lower c)
 
 pub returns-clause-handed : goal.returns-clause-handed
 returns-clause-handed c = handed_is (lower c)
-
-pub returns-clause-goes_on : goal.returns-clause-goes_on
-returns-clause-goes_on c = lives_go_on
