@@ -7,6 +7,7 @@ pub mod ExtendLemmas
 pub mod FitsLemmas
 pub mod FoldLemmas
 pub mod HistoryLemmas
+pub mod ImportLemmas
 pub mod LawLemmas
 pub mod LifeLemmas
 pub mod LookUpLemmas
@@ -24,5 +25,6 @@ pub mod RiseLemmas
 pub mod RowLemmas
 pub mod SaleLemmas
 pub mod ShortTextLemmas
+pub mod StayLemmas
 pub mod StoreLemmas
 pub mod SumLemmas

@@ -1,5 +1,6 @@
 pub mod Cash
 pub mod Decision
+pub mod Edits
 pub mod Facts
 pub mod Fold
 pub mod Growth
@@ -15,6 +16,8 @@ pub mod OfficeLaws
 pub mod PlainRows
 pub mod Refusal
 pub mod Request
+pub mod RowCause
+pub mod Rows
 pub mod ShortText
 pub mod SoldTokens
 pub mod Store

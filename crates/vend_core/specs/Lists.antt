@@ -1,26 +1,36 @@
 -- The office that plain lists keep, and what serving a request does to it.
-use Rattle.std.specs.Prelude.{◌≡◌, ◌⊎◌, ℕ, ◌<◌, ◌≤◌, Result, Err, IsSome, length}
+use Rattle.std.specs.Prelude.{◌≡◌, ◌⊎◌, ℕ, ◌<◌, ◌≤◌, List, [], ◌∷◌, Result, Err, IsSome, length}
 use Rattle.sts_fields.specs.Tid.{last_tid}
+use Rattle.vend_core.specs.Edits.{with_row}
 use Rattle.vend_core.specs.Fold.{reply, step}
 use Rattle.vend_core.specs.Office.{Office, greatest_count}
 use Rattle.vend_core.specs.PlainRows.{office_of_rows}
 use Rattle.vend_core.specs.declared.answer.Answer.{Answer}
 use Rattle.vend_core.specs.declared.change.Edit.{Edit}
-use Rattle.vend_core.specs.declared.change.Edit.TheVariants.{AddTariff, AddMeter, SetTariff, OpenShift, CloseShift, AddSale}
+use Rattle.vend_core.specs.declared.change.Edit.TheVariants.{AddTariff, AddMeter, AddRows, SetTariff, OpenShift, CloseShift, AddSale}
 use Rattle.vend_core.specs.declared.lists.Lists.{Lists}
 use Rattle.vend_core.specs.declared.records.Records.{Records}
 use Rattle.vend_core.specs.declared.refusal.Refusal.{Refusal}
 use Rattle.vend_core.specs.declared.refusal.Refusal.TheVariants.{Memory}
 use Rattle.vend_core.specs.declared.request.Stamped.{Stamped}
+use Rattle.vend_core.specs.declared.row.Row.{Row}
+use Rattle.vend_core.specs.declared.row.Row.TheVariants as kinds
 
 -- the office that records stand for
 abbrev pub recorded : Records → Office
 recorded r = office_of_rows r.tariffs.items r.meters.items r.shifts.items r.sales.items
 
+-- rows of which each meter's tariff is the office's, or one of a row before it
+abbrev pub RowsFit : List Row → Office → Type 0
+RowsFit [] o = Unit {0}
+RowsFit (kinds.Tariff name steps ∷ rest) o = RowsFit rest (with_row (kinds.Tariff name steps) o)
+RowsFit (kinds.Meter number m ∷ rest) o = IsSome (o.tariffs m.tariff) × RowsFit rest (with_row (kinds.Meter number m) o)
+
 -- an edit that leaves each meter with a tariff of the office, each identifier within its range, and room for the count
 abbrev pub Fits : Edit → Office → Type 0
 Fits (AddTariff name steps) o = Unit {0}
 Fits (AddMeter number m) o = IsSome (o.tariffs m.tariff)
+Fits (AddRows rows) o = RowsFit rows o
 Fits (SetTariff number name) o = IsSome (o.tariffs name)
 Fits (OpenShift s) o = Unit {0}
 Fits (CloseShift number moment) o = Unit {0}

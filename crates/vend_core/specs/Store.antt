@@ -1,14 +1,17 @@
 -- What a store finds among the office's rows, and what an edit meets there.
-use Rattle.std.specs.Prelude.{◌≡◌, ◌↔◌, ℕ, ◌+◌, ◌<◌, ◌≤◌, List, Some, None, IsSome, IsNone, All, AllPairs, Contains, filter, length, nat_lt, take}
+use Rattle.std.specs.Prelude.{◌≡◌, ◌↔◌, ℕ, ◌+◌, ◌<◌, ◌≤◌, List, ◌≢◌, ◌∷◌, [], Some, None, IsSome, IsNone, All, AllPairs, Contains, filter, length, nat_lt, take}
 use Rattle.sts_fields.specs.declared.base.Base.{Base}
 use Rattle.tariff.specs.Steps.{IsSteps}
+use Rattle.vend_core.specs.Edits.{with_row}
 use Rattle.vend_core.specs.Lookup.{open_shift, sale_of_ref, used}
 use Rattle.vend_core.specs.Names.{IsName}
 use Rattle.vend_core.specs.Office.{IsBefore, IsMoment, IsSaleRow, IsShiftRow, Office, greatest_count}
 use Rattle.vend_core.specs.Request.{IsMeter}
 use Rattle.vend_core.specs.declared.change.Edit.{Edit}
-use Rattle.vend_core.specs.declared.change.Edit.TheVariants.{AddTariff, AddMeter, SetTariff, OpenShift, CloseShift, AddSale}
+use Rattle.vend_core.specs.declared.change.Edit.TheVariants.{AddTariff, AddMeter, AddRows, SetTariff, OpenShift, CloseShift, AddSale}
 use Rattle.vend_core.specs.declared.meter.Meter.{Meter}
+use Rattle.vend_core.specs.declared.row.Row.{Row}
+use Rattle.vend_core.specs.declared.row.Row.TheVariants as kinds
 use Rattle.vend_core.specs.declared.sale.Sale.{Sale}
 use Rattle.vend_core.specs.declared.shift.Shift.{Shift}
 
@@ -30,10 +33,6 @@ pub record IsNewestShift (o : Office) (name : List ℕ) (s : Shift) : Type 0 whe
   pub stands : Contains o.shifts s
   pub operator : s.operator ≡ name
   pub newest : (t : Shift) → Contains o.shifts t → t.operator ≡ name → t.number ≤ s.number
-
--- each shift that an operator has a later one beside is closed
-abbrev pub OnlyNewestOpen : Office → Type 0
-OnlyNewestOpen o = AllPairs (λ a b. a.operator ≡ b.operator → IsSome a.closed) o.shifts
 
 -- a sale that the operator made under the ref
 pub record IsUnderRef (o : Office) (name order_ref : List ℕ) (s : Sale) : Type 0 where
@@ -85,12 +84,30 @@ pub record MeetsNewSale (o : Office) (s : Sale) : Type 0 where
   pub above_used : All (λ tid. tid < s.tid) (used o s.meter s.base)
   pub after : (a : Sale) → Contains o.sales a → IsBefore a s
 
+-- a tariff or a meter that is added: its name or number is free, and a meter's tariff is there
+abbrev pub MeetsRow : Row → Office → Type 0
+MeetsRow (kinds.Tariff name steps) o = IsName name × IsSteps steps × (o.tariffs name ≡ None)
+MeetsRow (kinds.Meter number m) o =
+    IsMeter number m × (o.meters number ≡ None) × IsSome (o.tariffs m.tariff)
+
+-- rows that are added: each meets the office with the rows before it
+abbrev pub MeetRows : List Row → Office → Type 0
+MeetRows [] o = Unit {0}
+MeetRows (row ∷ rest) o = MeetsRow row o × MeetRows rest (with_row row o)
+
+-- a meter that is given a tariff: both are there, and the meter had another one
+pub record MeetsSetting (o : Office) (number name : List ℕ) : Type 0 where
+  pub meter : Meter
+  pub meter_is : o.meters number ≡ Some meter
+  pub other : meter.tariff ≢ name
+  pub tariff : IsSome (o.tariffs name)
+
 -- what an edit meets in the office that decided it
 abbrev pub Meets : Edit → Office → Type 0
-Meets (AddTariff name steps) o = IsName name × IsSteps steps × (o.tariffs name ≡ None)
-Meets (AddMeter number m) o =
-    IsMeter number m × (o.meters number ≡ None) × IsSome (o.tariffs m.tariff)
-Meets (SetTariff number name) o = IsSome (o.meters number) × IsSome (o.tariffs name)
+Meets (AddTariff name steps) o = MeetsRow (kinds.Tariff name steps) o
+Meets (AddMeter number m) o = MeetsRow (kinds.Meter number m) o
+Meets (AddRows rows) o = (1 ≤ length rows) × MeetRows rows o
+Meets (SetTariff number name) o = MeetsSetting o number name
 Meets (OpenShift s) o = MeetsNewShift o s
 Meets (CloseShift number moment) o = MeetsClosing o number moment
 Meets (AddSale s) o = MeetsNewSale o s

@@ -94,7 +94,7 @@ impl<T: BlockTransform> Lists<T> {
         let facts = facts(self.alloc, &self.records, at)?;
         let Change { edit, answer } = decide(self.alloc, &self.transform, &facts, at)?;
         if let Some(edit) = edit {
-            apply(&mut self.records, edit)?;
+            apply(self.alloc, &mut self.records, edit)?;
         }
         Ok(answer)
     }

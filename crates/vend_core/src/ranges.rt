@@ -1,9 +1,11 @@
 //! What the types of a request keep, told to whoever has one.
-ghost use Rattle.vend_core.specs.Request.{IsMeter, IsOrder, IsRequest};
+ghost use Rattle.std.specs.Prelude.{All};
+ghost use Rattle.vend_core.specs.Request.{IsMeter, IsOrder, IsRequest, IsRow};
 
 use crate::meter::Meter;
 use crate::meter_no::MeterNo;
 use crate::request::{Order, Request, Stamped};
+use crate::row::Row;
 
 impl Stamped {
     ghost use Rattle.vend_core.specs.Request.{IsStamped};
@@ -27,6 +29,7 @@ fn request_keeps_ranges(request: &Request)
             let _steps = steps.as_slice();
         }
         Request::AddMeter(number, meter) => meter_keeps_ranges(number, meter),
+        Request::Import(rows) => rows_keep_ranges(rows.as_slice()),
         Request::SetTariff(number, name) => {
             let _number = number.as_bytes();
             let _name = name.as_bytes();
@@ -40,6 +43,27 @@ fn request_keeps_ranges(request: &Request)
         Request::Sell(order) => order_keeps_ranges(order),
         Request::Reprint(_) => {}
         Request::ShiftReport(_) => {}
+    }
+}
+
+// The rows are gone through once: a list tells nothing of its members before they are looked at.
+fn rows_keep_ranges(rows: &[Row])
+    ensures { All IsRow rows.now }
+{
+    for row in rows {
+        row_keeps_ranges(row);
+    }
+}
+
+fn row_keeps_ranges(row: &Row)
+    ensures { IsRow row.now }
+{
+    match row {
+        Row::Tariff(name, steps) => {
+            let _name = name.as_bytes();
+            let _steps = steps.as_slice();
+        }
+        Row::Meter(number, meter) => meter_keeps_ranges(number, meter),
     }
 }
 

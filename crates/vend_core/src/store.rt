@@ -4,12 +4,11 @@ ghost use Rattle.sts_fields.specs.Tid.{IsLast, last_tid};
 ghost use Rattle.sts_fields.specs.declared.base.Base.{Base};
 ghost use Rattle.sts_token.specs.Token.{KeepsRange};
 ghost use Rattle.vend_core.specs.Decision.{decision};
-ghost use Rattle.vend_core.specs.Fold.{after, applied};
-ghost use Rattle.vend_core.specs.Life.{AreLives, Life};
+ghost use Rattle.vend_core.specs.Fold.{applied};
 ghost use Rattle.vend_core.specs.Lookup.{base_eq, greatest_of, open_shift, prior, sale_numbered, sale_of_ref, sales_of_shift, shift_numbered, used};
 ghost use Rattle.vend_core.specs.Office.{IsOffice, Office};
 ghost use Rattle.vend_core.specs.Request.{IsStamped};
-ghost use Rattle.vend_core.specs.Store.{AreByNumber, IsLastSale, IsNewestShift, IsOpenShift, IsUnderRef, Meets, OnlyNewestOpen, sales_above};
+ghost use Rattle.vend_core.specs.Store.{AreByNumber, IsLastSale, IsNewestShift, IsOpenShift, IsUnderRef, Meets, sales_above};
 ghost use Rattle.vend_core.specs.declared.change.Change.{Change};
 ghost use Rattle.vend_core.specs.declared.change.Edit.{Edit};
 ghost use Rattle.vend_core.specs.declared.request.Request.{Request};
@@ -39,16 +38,10 @@ pub fn store_law()
     ensures no_open_shift { (o : Office) (name : List ℕ)
         → ((open_shift o name ≡ None) ↔ ((s : Shift) → ¬ IsOpenShift o name s)) }
 
-    // Along requests, and so in all lives, only the newest shift of an operator may be open. Of any
-    // other office that is not said.
+    // Only the newest shift of an operator may be open: a look at it is enough.
     ensures newest { (o : Office) (name : List ℕ) (s : Shift)
-        → IsOffice o → OnlyNewestOpen o → IsNewestShift o name s
+        → IsOffice o → IsNewestShift o name s
         → open_shift o name ≡ (if is_none s.closed then Some s else None) }
-    ensures newest_along { (forward : ℕ → ℕ → ℕ) (o : Office) (ats : List Stamped)
-        → IsOffice o → All IsStamped ats → KeepsRange forward
-        → OnlyNewestOpen o → OnlyNewestOpen (after forward o ats) }
-    ensures newest_in_lives { (lives : List Life) (o : Office)
-        → AreLives lives o → OnlyNewestOpen o }
 
     // A row is found by its number, which is its place, and a sale by the operator's ref.
     ensures shift_numbered { (o : Office) (number : ℕ) (s : Shift)

@@ -2,7 +2,7 @@ use Rattle.vend_core.specs.declared.sale.Sale.{Sale}
 use Rattle.vend_core.specs.declared.shift.Shift.{Shift}
 use Rattle.vend_core.proofs.MeetsLemmas.{closes_the_open, decided_meets}
 use Rattle.vend_core.proofs.NewSaleLemmas.{LowerLaws}
-use Rattle.vend_core.proofs.NewestLemmas.{newest_in_lives, newest_is, newest_kept_along}
+use Rattle.vend_core.proofs.NewestLemmas.{newest_is}
 use Rattle.vend_core.proofs.OrderLemmas.{sales_above_are, sales_of_shift_are}
 use Rattle.vend_core.proofs.SumLemmas.{last_grows_by, last_rises_to, prior_grows_by, prior_in_range, used_in_range}
 use Rattle.vend_core.proofs.StoreLemmas.{last_is_greatest, last_sale_is, no_last_sale_is, no_number_is, no_open_shift_is, no_sale_of_ref_is, numbered_is, open_shift_is, row_at, sale_of_ref_is}
@@ -74,12 +74,6 @@ returns-clause-prior_range c = prior_in_range c.amount_law.ensures.greatest
 
 pub returns-clause-newest : goal.returns-clause-newest
 returns-clause-newest c = newest_is
-
-pub returns-clause-newest_along : goal.returns-clause-newest_along
-returns-clause-newest_along c = newest_kept_along (lower c)
-
-pub returns-clause-newest_in_lives : goal.returns-clause-newest_in_lives
-returns-clause-newest_in_lives c = newest_in_lives (lower c)
 
 pub returns-clause-meets : goal.returns-clause-meets
 returns-clause-meets c = decided_meets (lower c)
