@@ -11,7 +11,7 @@ use Rattle.tariff.specs.declared.step.Step.{Step}
 use Rattle.vend_core.specs.Fold.{applied, closed_at, with_tariff}
 use Rattle.vend_core.specs.Lookup.{open_shift}
 use Rattle.vend_core.specs.Names.{IsMeterNo, IsName}
-use Rattle.vend_core.specs.Office.{IsBefore, IsMeterRow, IsMoment, IsOffice, IsSaleRow, IsShiftRow, ClosedBefore, Office, greatest_count}
+use Rattle.vend_core.specs.Office.{IsBefore, IsMeterRow, IsMoment, IsOffice, IsSaleRow, IsShiftRow, NotBothOpen, Office, greatest_count}
 use Rattle.vend_core.specs.Request.{IsMeter}
 use Rattle.vend_core.specs.declared.change.Edit.TheVariants as edits
 use Rattle.vend_core.specs.declared.meter.Meter.{Meter}
@@ -59,7 +59,7 @@ keeps_add_tariff o name steps office named priced =
       meters = λ number m e. meter_row_kept o p number m kept (office.meters number m e);
       shifts = office.shifts;
       shift_numbers = office.shift_numbers;
-      closed_before = office.closed_before;
+      one_open = office.one_open;
       shift_count = office.shift_count;
       sales = All-weaker (IsSaleRow o) (IsSaleRow p) (sale_row_kept o p (omega arith) (λ n some. some)) o.sales office.sales;
       sale_numbers = office.sale_numbers;
@@ -79,7 +79,7 @@ keeps_add_meter o number m office is tariff =
       ];
       shifts = office.shifts;
       shift_numbers = office.shift_numbers;
-      closed_before = office.closed_before;
+      one_open = office.one_open;
       shift_count = office.shift_count;
       sales = All-weaker (IsSaleRow o) (IsSaleRow p) (sale_row_kept o p (omega arith) kept) o.sales office.sales;
       sale_numbers = office.sale_numbers;
@@ -108,7 +108,7 @@ keeps_set_tariff o number name office named =
       meters = λ q m e. set_row o p (bytes_eq q number) q name m (o.meters q) (λ n some. some) named (office.meters q) e;
       shifts = office.shifts;
       shift_numbers = office.shift_numbers;
-      closed_before = office.closed_before;
+      one_open = office.one_open;
       shift_count = office.shift_count;
       sales = All-weaker (IsSaleRow o) (IsSaleRow p) (sale_row_kept o p (omega arith) (λ n some. some_set (bytes_eq n number) name (o.meters n) some)) o.sales office.sales;
       sale_numbers = office.sale_numbers;
@@ -120,10 +120,6 @@ keeps_set_tariff o number name office named =
 both_open : (a : Shift) (operator : List ℕ) (b : Bool) → bytes_eq a.operator operator ≡ true → is_none a.closed ≡ b → IsNone a.closed → (bytes_eq a.operator operator && is_none a.closed) ≡ false → ⊥
 both_open a operator b same is none fails = let opened : is_none a.closed ≡ true = ap not none in grind (arith, nat_tests)
 
-closed_or_open : (closed : Option ℕ) → ¬ IsNone closed → IsSome closed
-closed_or_open None not = absurd (not refl)
-closed_or_open (Some secs) not = refl
-
 pub keeps_open_shift : (o : Office) (s : Shift) → IsOffice o → IsShiftRow s → s.number ≡ length o.shifts + 1 → open_shift o s.operator ≡ None → length o.shifts < greatest_count → IsOffice (applied (edits.OpenShift s) o)
 keeps_open_shift o s office row number alone room =
     let p = applied (edits.OpenShift s) o in
@@ -133,9 +129,9 @@ keeps_open_shift o s office row number alone room =
       meters = λ q m e. meter_row_kept o p q m (λ n some. some) (office.meters q m e);
       shifts = All-push IsShiftRow o.shifts s office.shifts row;
       shift_numbers = numbered_push (λ s. s.number) o.shifts s office.shift_numbers number;
-      closed_before = pairs_push ClosedBefore o.shifts s office.closed_before (λ a there same. closed_or_open a.closed (λ a_open.
+      one_open = pairs_push NotBothOpen o.shifts s office.one_open (λ a there a_open s_open same.
           both_open a s.operator _ ((bytes_eq-Decides a.operator s.operator).1 same) refl a_open
-          (All-contains (λ (b : Shift). (bytes_eq b.operator s.operator && is_none b.closed) ≡ false) o.shifts a (found_none _ o.shifts alone) there)));
+          (All-contains (λ (b : Shift). (bytes_eq b.operator s.operator && is_none b.closed) ≡ false) o.shifts a (found_none _ o.shifts alone) there));
       shift_count = omega arith;
       sales = All-weaker (IsSaleRow o) (IsSaleRow p) (sale_row_kept o p (omega arith) (λ n some. some)) o.sales office.sales;
       sale_numbers = office.sale_numbers;
@@ -155,11 +151,15 @@ closing_row : (b : Bool) (moment : ℕ) (s : Shift) → IsMoment moment → IsSh
 closing_row true moment s is row = record { operator = row.operator; opened = row.opened; closed = λ secs e. subst IsMoment (same_Some moment secs e) is }
 closing_row false moment s is row = row
 
-closing_before : (b c : Bool) (moment : ℕ) (s t : Shift) → ClosedBefore s t → ClosedBefore (if b then closed_at moment s else s) (if c then closed_at moment t else t)
-closing_before true true moment s t closed same = refl
-closing_before true false moment s t closed same = refl
-closing_before false true moment s t closed same = closed same
-closing_before false false moment s t closed same = closed same
+closing_open : (b : Bool) (moment : ℕ) (s : Shift) → IsNone (if b then closed_at moment s else s).closed → IsNone s.closed × ((if b then closed_at moment s else s).operator ≡ s.operator)
+closing_open true moment s none = cc
+closing_open false moment s none = (none, refl)
+
+closing_apart : (number moment : ℕ) (a b : Shift) → NotBothOpen a b → NotBothOpen (closing number moment a) (closing number moment b)
+closing_apart number moment a b apart a_open b_open same =
+    let x = closing_open (a.number == number) moment a a_open in
+    let y = closing_open (b.number == number) moment b b_open in
+    apart x.0 y.0 (sym x.1 ∙ same ∙ y.1)
 
 pub keeps_close_shift : (o : Office) (number moment : ℕ) → IsOffice o → IsMoment moment → IsOffice (applied (edits.CloseShift number moment) o)
 keeps_close_shift o number moment office is =
@@ -170,7 +170,7 @@ keeps_close_shift o number moment office is =
       meters = λ q m e. meter_row_kept o p q m (λ n some. some) (office.meters q m e);
       shifts = All-map IsShiftRow (closing number moment) o.shifts (All-weaker IsShiftRow (λ s. IsShiftRow (closing number moment s)) (λ s row. closing_row (s.number == number) moment s is row) o.shifts office.shifts);
       shift_numbers = numbered_map (λ s. s.number) (closing number moment) o.shifts (λ s. closing_number (s.number == number) moment s) office.shift_numbers;
-      closed_before = all_pairs_map ClosedBefore (closing number moment) o.shifts (λ a b closed. closing_before (a.number == number) (b.number == number) moment a b closed) office.closed_before;
+      one_open = all_pairs_map NotBothOpen (closing number moment) o.shifts (closing_apart number moment) office.one_open;
       shift_count = omega (arith, same, office.shift_count);
       sales = All-weaker (IsSaleRow o) (IsSaleRow p) (sale_row_kept o p (omega (arith, same)) (λ n some. some)) o.sales office.sales;
       sale_numbers = office.sale_numbers;
@@ -187,7 +187,7 @@ keeps_add_sale o s office row number after room =
       meters = λ q m e. meter_row_kept o p q m (λ n some. some) (office.meters q m e);
       shifts = office.shifts;
       shift_numbers = office.shift_numbers;
-      closed_before = office.closed_before;
+      one_open = office.one_open;
       shift_count = office.shift_count;
       sales = All-weaker (IsSaleRow o) (IsSaleRow p) (sale_row_kept o p (omega arith) (λ n some. some)) (o.sales ++ s ∷ []) (All-push (IsSaleRow o) o.sales s office.sales row);
       sale_numbers = numbered_push (λ s. s.number) o.sales s office.sale_numbers number;

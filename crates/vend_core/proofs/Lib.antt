@@ -16,7 +16,6 @@ pub mod MapLemmas
 pub mod MeetsLemmas
 pub mod MeterLemmas
 pub mod NewSaleLemmas
-pub mod NewestLemmas
 pub mod OfficeLemmas
 pub mod OrderLemmas
 pub mod PlainRowLemmas

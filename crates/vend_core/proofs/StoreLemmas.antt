@@ -10,7 +10,7 @@ use Rattle.sts_fields.specs.Tid.{IsLast}
 use Rattle.sts_fields.specs.declared.base.Base.{Base}
 use Rattle.sts_fields.specs.declared.base.Base.TheVariants.{Y1993, Y2014, Y2035}
 use Rattle.vend_core.specs.Lookup.{base_eq, greatest_of, open_shift, sale_of_ref, used}
-use Rattle.vend_core.specs.Office.{AreNumbered, ClosedBefore, IsOffice, Office}
+use Rattle.vend_core.specs.Office.{AreNumbered, IsOffice, NotBothOpen, Office}
 use Rattle.vend_core.specs.Store.{IsLastSale, IsOpenShift, IsUnderRef}
 use Rattle.vend_core.specs.declared.sale.Sale.{Sale}
 use Rattle.vend_core.specs.declared.shift.Shift.{Shift}
@@ -110,19 +110,15 @@ passes_open_shift name s operator opened = both_true _ _ ((bytes_eq-Decides s.op
 abbrev is_open_of : List ℕ → Shift → Bool
 is_open_of name s = bytes_eq s.operator name && is_none s.closed
 
-pub one_open_is : (o : Office) (s t : Shift) → IsOffice o → Contains o.shifts s → Contains o.shifts t → s.operator ≡ t.operator → IsNone s.closed → IsNone t.closed → s ≡ t
-one_open_is o s t office s_there t_there same s_open t_open =
-    elim (related ClosedBefore o.shifts s t office.closed_before s_there t_there) [
-      | inl one ↦ one
-      | inr (inl before) ↦ absurd (false≢true (sym s_open ∙ before same))
-      | inr (inr after) ↦ absurd (false≢true (sym t_open ∙ after (sym same)))
-    ]
-
 one_open_shift : (o : Office) (name : List ℕ) (s t : Shift) → IsOffice o → Contains o.shifts s → Contains o.shifts t → is_open_of name s ≡ true → is_open_of name t ≡ true → s ≡ t
 one_open_shift o name s t office s_there t_there s_passes t_passes =
     let s_is = open_shift_passes name s s_passes in
     let t_is = open_shift_passes name t t_passes in
-    one_open_is o s t office s_there t_there (s_is.0 ∙ sym t_is.0) s_is.1 t_is.1
+    elim (related NotBothOpen o.shifts s t office.one_open s_there t_there) [
+      | inl same ↦ same
+      | inr (inl before) ↦ absurd (before s_is.1 t_is.1 (s_is.0 ∙ sym t_is.0))
+      | inr (inr after) ↦ absurd (after t_is.1 s_is.1 (t_is.0 ∙ sym s_is.0))
+    ]
 
 pub open_shift_is : (o : Office) (name : List ℕ) (s : Shift) → IsOffice o → (open_shift o name ≡ Some s) ↔ IsOpenShift o name s
 open_shift_is o name s office =

@@ -1,5 +1,5 @@
 -- The office: what it holds, and what all that it holds keeps.
-use Rattle.std.specs.Prelude.{◌≡◌, ◌≢◌, ℕ, ◌+◌, ◌^◌, ◌<◌, ◌≤◌, List, [], length, Option, Some, None, IsSome, All, AllPairs, slice_get}
+use Rattle.std.specs.Prelude.{◌≡◌, ◌≢◌, ℕ, ◌+◌, ◌^◌, ◌<◌, ◌≤◌, List, [], length, Option, Some, None, IsSome, IsNone, All, AllPairs, slice_get}
 use Rattle.sts_fields.specs.Amount.{IsRepresentable}
 use Rattle.sts_fields.specs.Tid.{last_tid}
 use Rattle.sts_token.specs.Token.{AreTwentyDigits}
@@ -65,9 +65,9 @@ pub record IsSaleRow (o : Office) (s : Sale) : Type 0 where
 abbrev pub AreNumbered : {Row : Type 0} → (Row → ℕ) → List Row → Type 0
 AreNumbered {Row} number rows = (i : ℕ) (row : Row) → slice_get rows i ≡ Some row → number row ≡ i + 1
 
--- two shifts, the first opened before the second: it is closed, if they are of one operator
-abbrev pub ClosedBefore : Shift → Shift → Type 0
-ClosedBefore a b = a.operator ≡ b.operator → IsSome a.closed
+-- two shifts, the first opened before the second, that are not both open for one operator
+abbrev pub NotBothOpen : Shift → Shift → Type 0
+NotBothOpen a b = IsNone a.closed → IsNone b.closed → a.operator ≢ b.operator
 
 -- two sales, the first made before the second: no identifier of a meter under a base and no ref is used twice
 pub record IsBefore (a b : Sale) : Type 0 where
@@ -85,7 +85,7 @@ pub record IsOffice (o : Office) : Type 0 where
   pub meters : (number : List ℕ) (m : Meter) → o.meters number ≡ Some m → IsMeterRow o number m
   pub shifts : All IsShiftRow o.shifts
   pub shift_numbers : AreNumbered (λ s. s.number) o.shifts
-  pub closed_before : AllPairs ClosedBefore o.shifts
+  pub one_open : AllPairs NotBothOpen o.shifts
   pub shift_count : length o.shifts ≤ greatest_count
   pub sales : All (IsSaleRow o) o.sales
   pub sale_numbers : AreNumbered (λ s. s.number) o.sales

@@ -28,12 +28,6 @@ pub record IsOpenShift (o : Office) (name : List ℕ) (s : Shift) : Type 0 where
   pub operator : s.operator ≡ name
   pub still_open : IsNone s.closed
 
--- the operator's shift with the greatest number
-pub record IsNewestShift (o : Office) (name : List ℕ) (s : Shift) : Type 0 where
-  pub stands : Contains o.shifts s
-  pub operator : s.operator ≡ name
-  pub newest : (t : Shift) → Contains o.shifts t → t.operator ≡ name → t.number ≤ s.number
-
 -- a sale that the operator made under the ref
 pub record IsUnderRef (o : Office) (name order_ref : List ℕ) (s : Sale) : Type 0 where
   pub stands : Contains o.sales s

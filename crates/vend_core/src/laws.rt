@@ -1,4 +1,4 @@
-ghost use Rattle.std.specs.Prelude.{◌≡◌, ◌≢◌, ◌≤◌, ◌++◌, ◌∷◌, [], ℕ, List, IsNone, None, Ok, Err, All, AllPairs, Contains};
+ghost use Rattle.std.specs.Prelude.{◌≡◌, ◌≢◌, ◌≤◌, ◌++◌, ◌∷◌, [], ℕ, List, None, Ok, Err, All, AllPairs, Contains};
 ghost use Rattle.sts_fields.specs.Tid.{FreshOutcome, IsLast, fresh_after};
 ghost use Rattle.sts_fields.specs.declared.base.Base.{Base};
 ghost use Rattle.sts_token.specs.Token.{KeepsRange};
@@ -85,11 +85,6 @@ pub fn office_law()
     ensures never_again { (o : Office) (a b : Sale)
         → IsOffice o → Contains o.sales a → Contains o.sales b
         → a.meter ≡ b.meter → a.base ≡ b.base → a.tid ≡ b.tid → a ≡ b }
-
-    // An operator has at most one open shift.
-    ensures one_open { (o : Office) (a b : Shift)
-        → IsOffice o → Contains o.shifts a → Contains o.shifts b
-        → a.operator ≡ b.operator → IsNone a.closed → IsNone b.closed → a ≡ b }
 
     // A sale that a request makes has a tenth at least. (Of rows alone an office does not ask it.)
     ensures some_tenths { (forward : ℕ → ℕ → ℕ) (o : Office) (ats : List Stamped)

@@ -1,4 +1,4 @@
-ghost use Rattle.std.specs.Prelude.{◌≡◌, ◌≢◌, ◌↔◌, ◌&&◌, ◌==◌, ◌+◌, ◌-◌, ◌^◌, ◌<◌, ◌≤◌, ℕ, List, Option, Some, None, Ok, All, Contains, bytes_eq, drop, is_none, max, slice_get, take, unwrap_or, if◌then◌else◌};
+ghost use Rattle.std.specs.Prelude.{◌≡◌, ◌≢◌, ◌↔◌, ◌&&◌, ◌==◌, ◌+◌, ◌-◌, ◌^◌, ◌<◌, ◌≤◌, ℕ, List, Option, Some, None, Ok, All, Contains, bytes_eq, drop, max, slice_get, take, unwrap_or, if◌then◌else◌};
 ghost use Rattle.sts_fields.specs.Calendar.{month_at};
 ghost use Rattle.sts_fields.specs.Tid.{IsLast, last_tid};
 ghost use Rattle.sts_fields.specs.declared.base.Base.{Base};
@@ -8,7 +8,7 @@ ghost use Rattle.vend_core.specs.Fold.{applied};
 ghost use Rattle.vend_core.specs.Lookup.{base_eq, greatest_of, open_shift, prior, sale_numbered, sale_of_ref, sales_of_shift, shift_numbered, used};
 ghost use Rattle.vend_core.specs.Office.{IsOffice, Office};
 ghost use Rattle.vend_core.specs.Request.{IsStamped};
-ghost use Rattle.vend_core.specs.Store.{AreByNumber, IsLastSale, IsNewestShift, IsOpenShift, IsUnderRef, Meets, sales_above};
+ghost use Rattle.vend_core.specs.Store.{AreByNumber, IsLastSale, IsOpenShift, IsUnderRef, Meets, sales_above};
 ghost use Rattle.vend_core.specs.declared.change.Change.{Change};
 ghost use Rattle.vend_core.specs.declared.change.Edit.{Edit};
 ghost use Rattle.vend_core.specs.declared.request.Request.{Request};
@@ -37,11 +37,6 @@ pub fn store_law()
         → IsOffice o → ((open_shift o name ≡ Some s) ↔ IsOpenShift o name s) }
     ensures no_open_shift { (o : Office) (name : List ℕ)
         → ((open_shift o name ≡ None) ↔ ((s : Shift) → ¬ IsOpenShift o name s)) }
-
-    // Only the newest shift of an operator may be open: a look at it is enough.
-    ensures newest { (o : Office) (name : List ℕ) (s : Shift)
-        → IsOffice o → IsNewestShift o name s
-        → open_shift o name ≡ (if is_none s.closed then Some s else None) }
 
     // A row is found by its number, which is its place, and a sale by the operator's ref.
     ensures shift_numbered { (o : Office) (number : ℕ) (s : Shift)

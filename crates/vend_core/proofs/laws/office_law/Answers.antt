@@ -9,7 +9,6 @@ use Rattle.vend_core.proofs.NewSaleLemmas.{LowerLaws, greatest_is_last}
 use Rattle.vend_core.proofs.OfficeLemmas.{step_keeps_office}
 use Rattle.vend_core.proofs.RefusalLemmas.{never_answers}
 use Rattle.vend_core.proofs.RiseLemmas.{after_rises, after_sells_some}
-use Rattle.vend_core.proofs.StoreLemmas.{one_open_is}
 use Rattle.vend_core.proofs.laws.office_law.Goals as goal
 
 -- the laws that the body calls
@@ -63,6 +62,3 @@ returns-clause-rules_alone c = λ forward o at. (never_answers forward o at Memo
 
 pub returns-clause-some_tenths : goal.returns-clause-some_tenths
 returns-clause-some_tenths c = after_sells_some (lower c)
-
-pub returns-clause-one_open : goal.returns-clause-one_open
-returns-clause-one_open c = one_open_is

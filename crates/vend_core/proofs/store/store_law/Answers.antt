@@ -2,7 +2,6 @@ use Rattle.vend_core.specs.declared.sale.Sale.{Sale}
 use Rattle.vend_core.specs.declared.shift.Shift.{Shift}
 use Rattle.vend_core.proofs.MeetsLemmas.{closes_the_open, decided_meets}
 use Rattle.vend_core.proofs.NewSaleLemmas.{LowerLaws}
-use Rattle.vend_core.proofs.NewestLemmas.{newest_is}
 use Rattle.vend_core.proofs.OrderLemmas.{sales_above_are, sales_of_shift_are}
 use Rattle.vend_core.proofs.SumLemmas.{last_grows_by, last_rises_to, prior_grows_by, prior_in_range, used_in_range}
 use Rattle.vend_core.proofs.StoreLemmas.{last_is_greatest, last_sale_is, no_last_sale_is, no_number_is, no_open_shift_is, no_sale_of_ref_is, numbered_is, open_shift_is, row_at, sale_of_ref_is}
@@ -71,9 +70,6 @@ returns-clause-used_range c = used_in_range
 
 pub returns-clause-prior_range : goal.returns-clause-prior_range
 returns-clause-prior_range c = prior_in_range c.amount_law.ensures.greatest
-
-pub returns-clause-newest : goal.returns-clause-newest
-returns-clause-newest c = newest_is
 
 pub returns-clause-meets : goal.returns-clause-meets
 returns-clause-meets c = decided_meets (lower c)
