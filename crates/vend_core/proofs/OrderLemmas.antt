@@ -24,7 +24,7 @@ module _ {X : Type 0} (number : X → ℕ) where
 
   later_rise : (x : X) (xs : List X) → AreRising (x ∷ xs) → AreRising xs
   later_rise x xs rising i j d before within =
-      let e = rising (i + 1) (j + 1) d (omega arith) (omega arith) in rw (add-one, add-one) at e
+      let e = rising (i + 1) (j + 1) d (omega arith) (omega arith) in simp add-one at e
 
   same_first : (x y : X) (xs ys : List X) → AreRising (x ∷ xs) → AreRising (y ∷ ys) → Contains (y ∷ ys) x → Contains (x ∷ xs) y → x ≡ y
   same_first x y xs ys x_rise y_rise x_there y_there =

@@ -180,13 +180,13 @@ sale_of_ref_is o name order_ref s office =
     let a_is = under_ref_passes name order_ref a a_passes in
     let b_is = under_ref_passes name order_ref b b_passes in
     one_of_ref o a b office a_there b_there (a_is.0 ∙ sym b_is.0) (a_is.1 ∙ sym b_is.1)) s in (
-      λ e. let is = finds.0 e in let passes = under_ref_passes name order_ref s is.1 in record { stands = is.0; operator = passes.0; under = passes.1 },
-      λ is. finds.1 (is.stands, passes_under_ref name order_ref s is.operator is.under),
+      λ e. let is = finds.0 e in let passes = under_ref_passes name order_ref s is.1 in record { stands = is.0; operator = passes.0; order_ref = passes.1 },
+      λ is. finds.1 (is.stands, passes_under_ref name order_ref s is.operator is.order_ref),
     )
 
 pub no_sale_of_ref_is : (o : Office) (name order_ref : List ℕ) → (sale_of_ref o name order_ref ≡ None) ↔ ((s : Sale) → ¬ IsUnderRef o name order_ref s)
 no_sale_of_ref_is o name order_ref =
     let none = finds_none (is_under_ref name order_ref) o.sales in (
-      λ e s is. none.0 e s is.stands (passes_under_ref name order_ref s is.operator is.under),
-      λ no. none.1 (λ s there passes. let is = under_ref_passes name order_ref s passes in no s (record { stands = there; operator = is.0; under = is.1 })),
+      λ e s is. none.0 e s is.stands (passes_under_ref name order_ref s is.operator is.order_ref),
+      λ no. none.1 (λ s there passes. let is = under_ref_passes name order_ref s passes in no s (record { stands = there; operator = is.0; order_ref = is.1 })),
     )

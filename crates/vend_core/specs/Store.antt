@@ -29,10 +29,10 @@ pub record IsOpenShift (o : Office) (name : List ℕ) (s : Shift) : Type 0 where
   pub still_open : IsNone s.closed
 
 -- a sale that the operator made under the ref
-pub record IsUnderRef (o : Office) (name order_ref : List ℕ) (s : Sale) : Type 0 where
+pub record IsUnderRef (o : Office) (name text : List ℕ) (s : Sale) : Type 0 where
   pub stands : Contains o.sales s
   pub operator : s.operator ≡ name
-  pub under : s.order_ref ≡ order_ref
+  pub order_ref : s.order_ref ≡ text
 
 -- the sales of which P holds, by number
 pub record AreByNumber (o : Office) (P : Sale → Type 0) (sales : List Sale) : Type 0 where
