@@ -1,9 +1,9 @@
 -- A life with one exchange more: what it keeps, and what it may leave.
-use Rattle.std.proofs.Common.{◌≡◌, ◌≢◌, ℕ, ◌⊎◌, ◌↔◌, inl, inr, Bool, true, false, cond, List, [], ◌∷◌, ◌++◌, Result, Ok, Err, length, refl, sym, ◌∙◌, ap, subst, arith}
+use Rattle.std.proofs.Common.{◌≡◌, ◌≢◌, ℕ, ◌⊎◌, ◌↔◌, inl, inr, Bool, true, false, cond, List, [], ◌∷◌, ◌++◌, Result, Ok, Err, length, min, take, refl, sym, ◌∙◌, ap, subst, arith}
 use Rattle.std.specs.Prelude.{All, Contains, filter, map}
 use Rattle.std.proofs.Math.Seq.{take-length}
-use Rattle.std.proofs.lemmas.List.{append-nil, append_assoc, map-append}
-use Rattle.std.proofs.lemmas.List.Elements.{All-append, All-cons, All-head, All-nil, All-push, All-tail, Contains-push, filter-append}
+use Rattle.std.proofs.lemmas.List.{append-nil, append_assoc, map-append, take-append-le, take_min}
+use Rattle.std.proofs.lemmas.List.Elements.{All-append, All-cons, All-head, All-nil, All-push, All-tail, Contains-append_left, Contains-push, filter-append}
 use Rattle.sts_token.specs.Token.{KeepsRange}
 use Rattle.vend_core.specs.Fold.{after, replies_to, reply, step}
 use Rattle.vend_core.specs.Growth.{HasGrown}
@@ -301,6 +301,19 @@ pub hands_out_present : (life : Life) (o : Office) (s : Sale) → IsRunning life
 hands_out_present life o s is there =
     let ats = acknowledged life in
     inr (length ats, subst (λ (q : Office). Contains q.sales s) (sym is.present ∙ ap (λ begun. after life.forward life.opening begun) (sym (take-length ats))) there)
+
+-- a beginning of a list is one of the longer list
+begins_longer : (ats more : List Stamped) (n : ℕ) → take (min n (length ats)) (ats ++ more) ≡ take n ats
+begins_longer ats more n = take-append-le (min n (length ats)) ats more (omega arith) ∙ take_min n ats
+
+pub hands_out_still : (life : Life) (at : Stamped) (r : Reply) (s : Sale) → HandsOut life s → HandsOut (extended_by life at r) s
+hands_out_still life at r s (inl (q, there, holds)) =
+    inl (q, subst (λ rs. Contains rs q) (sym (map-append reply_in life.exchanges (exchange at r ∷ []))) (Contains-append_left (map reply_in life.exchanges) (r ∷ []) q there), holds)
+hands_out_still life at r s (inr (n, there)) =
+    let ats = acknowledged life in
+    let more = exchange at r ∷ [] in
+    let same = ap (λ all. take (min n (length ats)) all) (acknowledged_more life more) ∙ begins_longer ats (map request_of (filter passes more)) n in
+    inr (min n (length ats), subst (λ begun. Contains (after life.forward life.opening begun).sales s) (sym same) there)
 
 -- what a life leaves, and lives that go on
 pub left_is : LowerLaws → (life : Life) (o : Office) → IsLife life → IsOffice life.opening → MayLeave life o → IsOffice o × HasGrown life.opening o

@@ -64,11 +64,14 @@ pub fn life_law()
         → IsRunning (extended_along life ats (replies_to life.forward o ats))
         (after life.forward o ats) }
 
-    // A life hands out the sales of a reply, and those of its present office.
+    // A life hands out the sales of a reply, and those of its present office; what it handed out
+    // it has handed out for good.
     ensures replied { (life : Life) (at : Stamped) (reply : Result Answer Refusal) (s : Sale)
         → Contains (sales_of reply) s → HandsOut (extended_by life at reply) s }
     ensures listed { (life : Life) (o : Office) (s : Sale)
         → IsRunning life o → Contains o.sales s → HandsOut life s }
+    ensures for_good { (life : Life) (at : Stamped) (reply : Result Answer Refusal) (s : Sale)
+        → HandsOut life s → HandsOut (extended_by life at reply) s }
 
     // What a life may leave is an office that has grown out of the one that it opened, and in it
     // stands each sale that the life handed out.

@@ -1,4 +1,4 @@
-use Rattle.vend_core.proofs.ExtendLemmas.{along_none, along_one, doubted_leaves, fails_at, handed_is, hands_out_present, hands_out_reply, left_is, opens_running, read_leaves, running_leaves, runs_along, runs_on, runs_on_without_memory, stopped_is_life, stopped_stays}
+use Rattle.vend_core.proofs.ExtendLemmas.{along_none, along_one, doubted_leaves, fails_at, handed_is, hands_out_present, hands_out_reply, hands_out_still, left_is, opens_running, read_leaves, running_leaves, runs_along, runs_on, runs_on_without_memory, stopped_is_life, stopped_stays}
 use Rattle.vend_core.proofs.NewSaleLemmas.{LowerLaws}
 use Rattle.vend_core.proofs.life.life_law.Goals as goal
 
@@ -47,6 +47,9 @@ returns-clause-replied c = hands_out_reply
 
 pub returns-clause-listed : goal.returns-clause-listed
 returns-clause-listed c = hands_out_present
+
+pub returns-clause-for_good : goal.returns-clause-for_good
+returns-clause-for_good c = hands_out_still
 
 pub returns-clause-left : goal.returns-clause-left
 returns-clause-left c = left_is (lower c)
