@@ -25,56 +25,71 @@ use Rattle.vend_core.proofs.NewSaleLemmas.{LowerLaws}
 use Rattle.vend_core.proofs.RefusalLemmas.{own_reply}
 use Rattle.vend_core.proofs.RowLemmas.{contains_cases, contains_first, contains_map}
 
-abbrev Reply : Type 0
+abbrev pub Reply : Type 0
 Reply = Result Answer Refusal
 
-abbrev request_of : Exchange → Stamped
+abbrev pub request_of : Exchange → Stamped
 request_of e = e.request
 
-abbrev reply_in : Exchange → Reply
+abbrev pub reply_in : Exchange → Reply
 reply_in e = e.reply
 
-abbrev passes : Exchange → Bool
+abbrev pub passes : Exchange → Bool
 passes e = acknowledges e.reply
 
 abbrev is_doubted : Exchange → Bool
 is_doubted e = doubts e.reply
 
-abbrev exchange : Stamped → Reply → Exchange
+abbrev pub exchange : Stamped → Reply → Exchange
 exchange at reply = record { request = at; reply = reply }
 
 -- the replies to requests in two parts
-replies-append : (forward : ℕ → ℕ → ℕ) (o : Office) (ats more : List Stamped) → replies_to forward o (ats ++ more) ≡ replies_to forward o ats ++ replies_to forward (after forward o ats) more
+replies-append : (forward : ℕ → ℕ → ℕ) (o : Office) (ats more : List Stamped)
+    → replies_to forward o (ats ++ more)
+    ≡ replies_to forward o ats ++ replies_to forward (after forward o ats) more
 unfolding after replies_to
 replies-append forward o [] more = refl
-replies-append forward o (at ∷ ats) more = ap (λ rest. reply forward o at ∷ rest) (replies-append forward (step forward o at) ats more)
+replies-append forward o (at ∷ ats) more =
+    ap (λ rest. reply forward o at ∷ rest) (replies-append forward (step forward o at) ats more)
 
 -- what more exchanges bring
 module _ (life : Life) (more : List Exchange) where
-  acknowledged_more : acknowledged (extended life more) ≡ acknowledged life ++ map request_of (filter passes more)
-  acknowledged_more = ap (λ es. map request_of es) (filter-append passes life.exchanges more) ∙ map-append request_of (filter passes life.exchanges) (filter passes more)
+  pub acknowledged_more : acknowledged (extended life more)
+      ≡ acknowledged life ++ map request_of (filter passes more)
+  acknowledged_more = ap (λ es. map request_of es) (filter-append passes life.exchanges more)
+      ∙ map-append request_of (filter passes life.exchanges) (filter passes more)
 
-  replies_more : replies_acknowledged (extended life more) ≡ replies_acknowledged life ++ map reply_in (filter passes more)
-  replies_more = ap (λ es. map reply_in es) (filter-append passes life.exchanges more) ∙ map-append reply_in (filter passes life.exchanges) (filter passes more)
+  replies_more : replies_acknowledged (extended life more)
+      ≡ replies_acknowledged life ++ map reply_in (filter passes more)
+  replies_more = ap (λ es. map reply_in es) (filter-append passes life.exchanges more)
+      ∙ map-append reply_in (filter passes life.exchanges) (filter passes more)
 
-  doubted_more : in_doubt (extended life more) ≡ in_doubt life ++ map request_of (filter is_doubted more)
-  doubted_more = ap (λ es. map request_of es) (filter-append is_doubted life.exchanges more) ∙ map-append request_of (filter is_doubted life.exchanges) (filter is_doubted more)
+  doubted_more : in_doubt (extended life more)
+      ≡ in_doubt life ++ map request_of (filter is_doubted more)
+  doubted_more = ap (λ es. map request_of es) (filter-append is_doubted life.exchanges more)
+      ∙ map-append request_of (filter is_doubted life.exchanges) (filter is_doubted more)
 
-  present_more : present (extended life more) ≡ after life.forward (present life) (map request_of (filter passes more))
-  present_more = ap (λ ats. after life.forward life.opening ats) acknowledged_more ∙ after-append life.forward life.opening (acknowledged life) (map request_of (filter passes more))
+  present_more : present (extended life more)
+      ≡ after life.forward (present life) (map request_of (filter passes more))
+  present_more = ap (λ ats. after life.forward life.opening ats) acknowledged_more
+      ∙ after-append life.forward life.opening (acknowledged life)
+      (map request_of (filter passes more))
 
   -- they are a life's where the rules answered what they acknowledge, from the present office on
   life_more : IsLife life → All (λ e. IsStamped e.request) more
-      → map reply_in (filter passes more) ≡ replies_to life.forward (present life) (map request_of (filter passes more))
+      → map reply_in (filter passes more)
+          ≡ replies_to life.forward (present life) (map request_of (filter passes more))
       → StopsAtDoubt (map reply_in (life.exchanges ++ more)) → IsLife (extended life more)
   life_more is stamped answered stops = record {
     range = is.range;
-    stamped = All-append (λ (e : Exchange). IsStamped e.request) life.exchanges more is.stamped stamped;
+    stamped = All-append (λ (e : Exchange). IsStamped e.request) life.exchanges more is.stamped
+        stamped;
     replies =
         replies_more
         ∙ ap (λ rs. rs ++ map reply_in (filter passes more)) is.replies
         ∙ ap (λ rs. replies_to life.forward life.opening (acknowledged life) ++ rs) answered
-        ∙ sym (replies-append life.forward life.opening (acknowledged life) (map request_of (filter passes more)))
+        ∙ sym (replies-append life.forward life.opening (acknowledged life)
+            (map request_of (filter passes more)))
         ∙ ap (λ ats. replies_to life.forward life.opening ats) (sym acknowledged_more);
     stops = stops;
   }
@@ -83,17 +98,20 @@ module _ (life : Life) (more : List Exchange) where
 abbrev IsSound : Exchange → Type 0
 IsSound e = (e.reply ≢ Err Store) × (e.reply ≢ Err Stopped)
 
-stops_first : (r : Reply) (rs : List Reply) → r ≢ Err Store → r ≢ Err Stopped → StopsAtDoubt rs → StopsAtDoubt (r ∷ rs)
+stops_first : (r : Reply) (rs : List Reply) → r ≢ Err Store → r ≢ Err Stopped → StopsAtDoubt rs
+    → StopsAtDoubt (r ∷ rs)
 stops_first (Ok answer) rs store stopped stops = stops
 stops_first (Err Store) rs store stopped stops = absurd (store refl)
 stops_first (Err Stopped) rs store stopped stops = absurd (stopped refl)
 stops_first (Err refusal) rs store stopped stops = stops
 
-stops_later : (es more : List Exchange) → All IsSound es → StopsAtDoubt (map reply_in more) → StopsAtDoubt (map reply_in (es ++ more))
+stops_later : (es more : List Exchange) → All IsSound es → StopsAtDoubt (map reply_in more)
+    → StopsAtDoubt (map reply_in (es ++ more))
 stops_later [] more sound stops = stops
 stops_later (e ∷ es) more sound stops =
     let is = All-head IsSound e es sound in
-    stops_first e.reply (map reply_in (es ++ more)) is.0 is.1 (stops_later es more (All-tail IsSound e es sound) stops)
+    stops_first e.reply (map reply_in (es ++ more)) is.0 is.1
+        (stops_later es more (All-tail IsSound e es sound) stops)
 
 -- and it has no request in doubt
 no_doubt : (r : Reply) → r ≢ Err Store → doubts r ≡ false
@@ -104,7 +122,8 @@ no_doubt (Err refusal) store = refl
 no_doubts : (es : List Exchange) → All IsSound es → filter is_doubted es ≡ []
 no_doubts [] sound = refl
 no_doubts (e ∷ es) sound =
-    ap (λ b. cond b (e ∷ filter is_doubted es) (filter is_doubted es)) (no_doubt e.reply (All-head IsSound e es sound).0)
+    ap (λ b. cond b (e ∷ filter is_doubted es) (filter is_doubted es))
+        (no_doubt e.reply (All-head IsSound e es sound).0)
     ∙ no_doubts es (All-tail IsSound e es sound)
 
 undoubted : (life : Life) → GoesOn life → in_doubt life ≡ []
@@ -114,16 +133,19 @@ pub running_leaves : (life : Life) (o p : Office) → IsRunning life o → MayLe
 running_leaves life o p is = (
   λ may. elim may [
     | inl same ↦ same ∙ is.present
-    | inr (at, there, e) ↦ absurd (omega (arith, (subst (λ ats. Contains ats at) (undoubted life is.goes_on) there).1))
+    | inr (at, there, e) ↦ absurd
+        (omega (arith, (subst (λ ats. Contains ats at) (undoubted life is.goes_on) there).1))
   ],
   λ same. inl (same ∙ sym is.present),
 )
 
 -- a life begins
-pub opens_running : (forward : ℕ → ℕ → ℕ) (o : Office) → KeepsRange forward → IsRunning (opened forward o) o
+pub opens_running : (forward : ℕ → ℕ → ℕ) (o : Office) → KeepsRange forward
+    → IsRunning (opened forward o) o
 unfolding after replies_to
 opens_running forward o range = record {
-  is_life = record { range = range; stamped = All-nil (λ (e : Exchange). IsStamped e.request); replies = refl; stops = tt };
+  is_life = record { range = range; stamped =
+      All-nil (λ (e : Exchange). IsStamped e.request); replies = refl; stops = tt };
   goes_on = All-nil IsSound;
   present = refl;
 }
@@ -144,36 +166,46 @@ sound_reply (Err Stopped) own = cc
 sound_reply (Err refusal) own = (λ e. cc, λ e. cc)
 
 sole : (x y : Stamped) → Contains (y ∷ []) x → x ≡ y
-sole x y there = elim (contains_cases y x [] there) [ inl first ↦ sym first | inr further ↦ absurd (omega (arith, further.1)) ]
+sole x y there = elim
+    (contains_cases y x [] there)
+    [ inl first ↦ sym first | inr further ↦ absurd (omega (arith, further.1)) ]
 
 -- a request that only reads leaves the office
-only_reads : (forward : ℕ → ℕ → ℕ) (o : Office) (at : Stamped) (request : Request) → at.request ≡ request → OnlyReads request → step forward o at ≡ o
+only_reads : (forward : ℕ → ℕ → ℕ) (o : Office) (at : Stamped) (request : Request)
+    → at.request ≡ request → OnlyReads request → step forward o at ≡ o
 only_reads forward o at (Reprint number) is reads = reprints_stay forward o at number is
 only_reads forward o at (ShiftReport number) is reads = reports_stay forward o at number is
 only_reads forward o at request is reads = absurd reads
 
-module _ (life : Life) (o : Office) (at : Stamped) (is : IsRunning life o) (stamped : IsStamped at) where
+module _ (life : Life) (o : Office) (at : Stamped) (is : IsRunning life o)
+    (stamped : IsStamped at) where
   one_stamped : (r : Reply) → All (λ (e : Exchange). IsStamped e.request) (exchange at r ∷ [])
-  one_stamped r = All-cons (λ (e : Exchange). IsStamped e.request) (exchange at r) [] stamped (All-nil (λ (e : Exchange). IsStamped e.request))
+  one_stamped r = All-cons (λ (e : Exchange). IsStamped e.request) (exchange at r) [] stamped
+      (All-nil (λ (e : Exchange). IsStamped e.request))
 
   -- an exchange that is not acknowledged leaves the present office
   present_stays : (r : Reply) → acknowledges r ≡ false → present (extended_by life at r) ≡ o
   unfolding after
   present_stays r none =
       present_more life (exchange at r ∷ [])
-      ∙ ap (λ es. after life.forward (present life) (map request_of es)) (pass_none (exchange at r) none) ∙ is.present
+      ∙ ap (λ es. after life.forward (present life) (map request_of es))
+          (pass_none (exchange at r) none) ∙ is.present
 
-  is_life_unacknowledged : (r : Reply) → acknowledges r ≡ false → StopsAtDoubt (r ∷ []) → IsLife (extended_by life at r)
+  is_life_unacknowledged : (r : Reply) → acknowledges r ≡ false → StopsAtDoubt (r ∷ [])
+      → IsLife (extended_by life at r)
   unfolding replies_to
   is_life_unacknowledged r none stops =
       life_more life (exchange at r ∷ []) is.is_life (one_stamped r)
-      (ap (λ es. map reply_in es) (pass_none (exchange at r) none) ∙ ap (λ es. replies_to life.forward (present life) (map request_of es)) (sym (pass_none (exchange at r) none)))
+      (ap (λ es. map reply_in es) (pass_none (exchange at r) none)
+          ∙ ap (λ es. replies_to life.forward (present life) (map request_of es))
+          (sym (pass_none (exchange at r) none)))
       (stops_later life.exchanges (exchange at r ∷ []) is.goes_on stops)
 
   pub runs_on_without_memory : IsRunning (extended_by life at (Err Memory)) o
   runs_on_without_memory = record {
     is_life = is_life_unacknowledged (Err Memory) refl tt;
-    goes_on = All-push IsSound life.exchanges (exchange at (Err Memory)) is.goes_on (λ e. cc, λ e. cc);
+    goes_on = All-push IsSound life.exchanges (exchange at (Err Memory)) is.goes_on
+        (λ e. cc, λ e. cc);
     present = present_stays (Err Memory) refl;
   }
 
@@ -181,23 +213,30 @@ module _ (life : Life) (o : Office) (at : Stamped) (is : IsRunning life o) (stam
   fails_at = is_life_unacknowledged (Err Store) refl (All-nil _)
 
   doubted_alone : in_doubt (extended_by life at (Err Store)) ≡ at ∷ []
-  doubted_alone = doubted_more life (exchange at (Err Store) ∷ []) ∙ ap (λ ats. ats ++ at ∷ []) (undoubted life is.goes_on)
+  doubted_alone = doubted_more life (exchange at (Err Store) ∷ [])
+      ∙ ap (λ ats. ats ++ at ∷ []) (undoubted life is.goes_on)
 
-  pub doubted_leaves : (p : Office) → MayLeave (extended_by life at (Err Store)) p ↔ ((p ≡ o) ⊎ (p ≡ step life.forward o at))
+  pub doubted_leaves : (p : Office)
+      → MayLeave (extended_by life at (Err Store)) p ↔ ((p ≡ o) ⊎ (p ≡ step life.forward o at))
   doubted_leaves p = (
     λ may. elim may [
       | inl same ↦ inl (same ∙ present_stays (Err Store) refl)
       | inr (doubt, there, e) ↦
-          let only : doubt ≡ at = sole doubt at (subst (λ ats. Contains ats doubt) doubted_alone there) in
-          inr (e ∙ ap (λ q. step life.forward q doubt) (present_stays (Err Store) refl) ∙ ap (λ d. step life.forward o d) only)
+          let only : doubt ≡ at =
+              sole doubt at (subst (λ ats. Contains ats doubt) doubted_alone there) in
+          inr (e ∙ ap (λ q. step life.forward q doubt) (present_stays (Err Store) refl)
+              ∙ ap (λ d. step life.forward o d) only)
     ],
     λ may. elim may [
       | inl same ↦ inl (same ∙ sym (present_stays (Err Store) refl))
-      | inr stepped ↦ inr (at, subst (λ ats. Contains ats at) (sym doubted_alone) (contains_first at []), stepped ∙ ap (λ q. step life.forward q at) (sym (present_stays (Err Store) refl)))
+      | inr stepped ↦ inr (at,
+          subst (λ ats. Contains ats at) (sym doubted_alone) (contains_first at []), stepped
+          ∙ ap (λ q. step life.forward q at) (sym (present_stays (Err Store) refl)))
     ],
   )
 
-  pub read_leaves : (p : Office) → OnlyReads at.request → MayLeave (extended_by life at (Err Store)) p ↔ (p ≡ o)
+  pub read_leaves : (p : Office) → OnlyReads at.request
+      → MayLeave (extended_by life at (Err Store)) p ↔ (p ≡ o)
   read_leaves p reads =
       let same = only_reads life.forward o at at.request refl reads in
       let leaves = doubted_leaves p in (
@@ -215,8 +254,11 @@ module _ (life : Life) (o : Office) (at : Stamped) (is : IsRunning life o) (stam
       let sound = sound_reply r own in
       record {
         is_life = life_more life (exchange at r ∷ []) is.is_life (one_stamped r)
-            (ap (λ es. map reply_in es) one ∙ ap (λ q. reply life.forward q at ∷ []) (sym is.present) ∙ ap (λ es. replies_to life.forward (present life) (map request_of es)) (sym one))
-            (stops_later life.exchanges (exchange at r ∷ []) is.goes_on (stops_first r [] sound.0 sound.1 tt));
+            (ap (λ es. map reply_in es) one
+                ∙ ap (λ q. reply life.forward q at ∷ []) (sym is.present)
+                ∙ ap (λ es. replies_to life.forward (present life) (map request_of es)) (sym one))
+            (stops_later life.exchanges (exchange at r ∷ []) is.goes_on
+                (stops_first r [] sound.0 sound.1 tt));
         goes_on = All-push IsSound life.exchanges (exchange at r) is.goes_on sound;
         present =
             present_more life (exchange at r ∷ [])
@@ -225,10 +267,13 @@ module _ (life : Life) (o : Office) (at : Stamped) (is : IsRunning life o) (stam
       }
 
 -- nothing changes once the office stopped
-stops_twice : (r : Reply) (rs : List Reply) → (StopsAtDoubt rs → StopsAtDoubt (rs ++ Err Stopped ∷ [])) → StopsAtDoubt (r ∷ rs) → StopsAtDoubt (r ∷ (rs ++ Err Stopped ∷ []))
+stops_twice : (r : Reply) (rs : List Reply)
+    → (StopsAtDoubt rs → StopsAtDoubt (rs ++ Err Stopped ∷ [])) → StopsAtDoubt (r ∷ rs)
+    → StopsAtDoubt (r ∷ (rs ++ Err Stopped ∷ []))
 stops_twice (Ok answer) rs rest stops = rest stops
 stops_twice (Err Store) rs rest stops = All-push (λ r. r ≡ Err Stopped) rs (Err Stopped) stops refl
-stops_twice (Err Stopped) rs rest stops = All-push (λ r. r ≡ Err Stopped) rs (Err Stopped) stops refl
+stops_twice (Err Stopped) rs rest stops =
+    All-push (λ r. r ≡ Err Stopped) rs (Err Stopped) stops refl
 stops_twice (Err refusal) rs rest stops = rest stops
 
 stops_still : (rs : List Reply) → StopsAtDoubt rs → StopsAtDoubt (rs ++ Err Stopped ∷ [])
@@ -246,86 +291,27 @@ module _ (life : Life) (at : Stamped) where
   pub stopped_is_life : IsLife life → IsStamped at → IsLife (extended_by life at (Err Stopped))
   unfolding replies_to
   stopped_is_life is stamped =
-      life_more life (exchange at (Err Stopped) ∷ []) is (All-cons (λ (e : Exchange). IsStamped e.request) _ [] stamped (All-nil (λ (e : Exchange). IsStamped e.request))) refl
-      (subst StopsAtDoubt (sym (map-append reply_in life.exchanges (exchange at (Err Stopped) ∷ []))) (stops_still (map reply_in life.exchanges) is.stops))
+      life_more life (exchange at (Err Stopped) ∷ []) is
+          (All-cons (λ (e : Exchange). IsStamped e.request) _ [] stamped
+          (All-nil (λ (e : Exchange). IsStamped e.request))) refl
+      (subst StopsAtDoubt (sym
+          (map-append reply_in life.exchanges (exchange at (Err Stopped) ∷ [])))
+          (stops_still (map reply_in life.exchanges) is.stops))
 
-  pub stopped_stays : (p : Office) → MayLeave (extended_by life at (Err Stopped)) p ↔ MayLeave life p
+  pub stopped_stays : (p : Office)
+      → MayLeave (extended_by life at (Err Stopped)) p ↔ MayLeave life p
   stopped_stays p =
       let next = extended_by life at (Err Stopped) in (
         λ may. elim may [
           | inl same ↦ inl (same ∙ stopped_present)
-          | inr (doubt, there, e) ↦ inr (doubt, subst (λ ats. Contains ats doubt) stopped_doubts there, e ∙ ap (λ q. step life.forward q doubt) stopped_present)
+          | inr (doubt, there, e) ↦ inr
+              (doubt, subst (λ ats. Contains ats doubt) stopped_doubts there, e
+              ∙ ap (λ q. step life.forward q doubt) stopped_present)
         ],
         λ may. elim may [
           | inl same ↦ inl (same ∙ sym stopped_present)
-          | inr (doubt, there, e) ↦ inr (doubt, subst (λ ats. Contains ats doubt) (sym stopped_doubts) there, e ∙ ap (λ q. step life.forward q doubt) (sym stopped_present))
+          | inr (doubt, there, e) ↦ inr
+              (doubt, subst (λ ats. Contains ats doubt) (sym stopped_doubts) there, e
+              ∙ ap (λ q. step life.forward q doubt) (sym stopped_present))
         ],
       )
-
--- many exchanges are one after another
-extended_none : (life : Life) → extended life [] ≡ life
-extended_none life = ap (λ es. extended (opened life.forward life.opening) es) (append-nil life.exchanges)
-
-extended_twice : (life : Life) (es more : List Exchange) → extended (extended life es) more ≡ extended life (es ++ more)
-extended_twice life es more = ap (λ all. extended (opened life.forward life.opening) all) (append_assoc life.exchanges es more)
-
-pub along_none : (life : Life) → extended_along life [] [] ≡ life
-along_none life = extended_none life
-
-exchanges_push : (ats : List Stamped) (rs : List Reply) (at : Stamped) (r : Reply) → length ats ≡ length rs → exchanges_of ats rs ++ exchange at r ∷ [] ≡ exchanges_of (ats ++ at ∷ []) (rs ++ r ∷ [])
-exchanges_push [] [] at r same = refl
-exchanges_push [] (q ∷ rs) at r same = absurd (omega (arith, same))
-exchanges_push (a ∷ ats) [] at r same = absurd (omega (arith, same))
-exchanges_push (a ∷ ats) (q ∷ rs) at r same = ap (λ es. exchange a q ∷ es) (exchanges_push ats rs at r (omega (arith, same)))
-
-pub along_one : (life : Life) (ats : List Stamped) (rs : List Reply) (at : Stamped) (r : Reply) → length ats ≡ length rs → extended_by (extended_along life ats rs) at r ≡ extended_along life (ats ++ at ∷ []) (rs ++ r ∷ [])
-along_one life ats rs at r same = extended_twice life (exchanges_of ats rs) (exchange at r ∷ []) ∙ ap (λ es. extended life es) (exchanges_push ats rs at r same)
-
-along_first : (life : Life) (at : Stamped) (ats : List Stamped) (r : Reply) (rs : List Reply) → extended_along (extended_by life at r) ats rs ≡ extended_along life (at ∷ ats) (r ∷ rs)
-along_first life at ats r rs = extended_twice life (exchange at r ∷ []) (exchanges_of ats rs)
-
-pub runs_along : (life : Life) (o : Office) (ats : List Stamped) → IsRunning life o → All IsStamped ats → IsRunning (extended_along life ats (replies_to life.forward o ats)) (after life.forward o ats)
-unfolding after replies_to
-runs_along life o [] is stamped = subst (λ l. IsRunning l o) (sym (along_none life)) is
-runs_along life o (at ∷ ats) is stamped =
-    let forward = life.forward in
-    let r = reply forward o at in
-    subst (λ l. IsRunning l (after forward (step forward o at) ats)) (along_first life at ats r (replies_to forward (step forward o at) ats))
-    (runs_along (extended_by life at r) (step forward o at) ats (runs_on life o at is (All-head IsStamped at ats stamped)) (All-tail IsStamped at ats stamped))
-
--- what a life hands out
-pub hands_out_reply : (life : Life) (at : Stamped) (r : Reply) (s : Sale) → Contains (sales_of r) s → HandsOut (extended_by life at r) s
-hands_out_reply life at r s holds = inl (r, contains_map reply_in (life.exchanges ++ exchange at r ∷ []) (exchange at r) (Contains-push life.exchanges (exchange at r)), holds)
-
-pub hands_out_present : (life : Life) (o : Office) (s : Sale) → IsRunning life o → Contains o.sales s → HandsOut life s
-hands_out_present life o s is there =
-    let ats = acknowledged life in
-    inr (length ats, subst (λ (q : Office). Contains q.sales s) (sym is.present ∙ ap (λ begun. after life.forward life.opening begun) (sym (take-length ats))) there)
-
--- a beginning of a list is one of the longer list
-begins_longer : (ats more : List Stamped) (n : ℕ) → take (min n (length ats)) (ats ++ more) ≡ take n ats
-begins_longer ats more n = take-append-le (min n (length ats)) ats more (omega arith) ∙ take_min n ats
-
-pub hands_out_still : (life : Life) (at : Stamped) (r : Reply) (s : Sale) → HandsOut life s → HandsOut (extended_by life at r) s
-hands_out_still life at r s (inl (q, there, holds)) =
-    inl (q, subst (λ rs. Contains rs q) (sym (map-append reply_in life.exchanges (exchange at r ∷ []))) (Contains-append_left (map reply_in life.exchanges) (r ∷ []) q there), holds)
-hands_out_still life at r s (inr (n, there)) =
-    let ats = acknowledged life in
-    let more = exchange at r ∷ [] in
-    let same = ap (λ all. take (min n (length ats)) all) (acknowledged_more life more) ∙ begins_longer ats (map request_of (filter passes more)) n in
-    inr (min n (length ats), subst (λ begun. Contains (after life.forward life.opening begun).sales s) (sym same) there)
-
--- what a life leaves, and lives that go on
-pub left_is : LowerLaws → (life : Life) (o : Office) → IsLife life → IsOffice life.opening → MayLeave life o → IsOffice o × HasGrown life.opening o
-left_is laws life o is office may = (left_office laws life is office o may, opening_grown laws life is office o may)
-
-pub handed_is : LowerLaws → (life : Life) (o : Office) (s : Sale) → IsLife life → IsOffice life.opening → MayLeave life o → HandsOut life s → Contains o.sales s
-handed_is laws life o s is office may hands = handed_left laws life is office o s may hands
-
-led_on : (start : Office) (lives : List Life) (life : Life) (o p : Office) → LeadTo start lives o → IsLife life → life.opening ≡ o → MayLeave life p → LeadTo start (lives ++ life ∷ []) p
-led_on start [] life o p e is opens may = (is, opens ∙ e, (p, may, refl))
-led_on start (first ∷ lives) life o p (first_is, first_opens, (left, first_may, leads)) is opens may =
-    (first_is, first_opens, (left, first_may, led_on left lives life o p leads is opens may))
-
-pub lives_go_on : (lives : List Life) (life : Life) (o p : Office) → AreLives lives o → IsLife life → life.opening ≡ o → MayLeave life p → AreLives (lives ++ life ∷ []) p
-lives_go_on lives life o p are is opens may = led_on empty_office lives life o p are is opens may

@@ -4,6 +4,7 @@ pub mod CashLemmas
 pub mod DecisionLemmas
 pub mod EditLemmas
 pub mod ExtendLemmas
+pub mod ExtendManyLemmas
 pub mod FitsLemmas
 pub mod FoldLemmas
 pub mod HistoryLemmas

@@ -1,5 +1,5 @@
 use Rattle.vend_core.proofs.CashLemmas.{cash_adds_up}
-use Rattle.vend_core.proofs.ExtendLemmas.{lives_go_on}
+use Rattle.vend_core.proofs.ExtendManyLemmas.{lives_go_on}
 use Rattle.vend_core.proofs.HistoryLemmas.{one_handed_number, one_handed_ref, one_handed_tid, same_digits}
 use Rattle.vend_core.proofs.LifeLemmas.{handed_stands, lives_office}
 use Rattle.vend_core.proofs.MeterLemmas.{MeterLaws, accepted_is, bound_above, credit_is, credit_within, first_entry_is, in_order_is}

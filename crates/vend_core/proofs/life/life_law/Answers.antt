@@ -1,4 +1,5 @@
-use Rattle.vend_core.proofs.ExtendLemmas.{along_none, along_one, doubted_leaves, fails_at, handed_is, hands_out_present, hands_out_reply, hands_out_still, left_is, opens_running, read_leaves, running_leaves, runs_along, runs_on, runs_on_without_memory, stopped_is_life, stopped_stays}
+use Rattle.vend_core.proofs.ExtendLemmas.{doubted_leaves, fails_at, opens_running, read_leaves, running_leaves, runs_on, runs_on_without_memory, stopped_is_life, stopped_stays}
+use Rattle.vend_core.proofs.ExtendManyLemmas.{along_none, along_one, handed_is, hands_out_present, hands_out_reply, hands_out_still, left_is, runs_along}
 use Rattle.vend_core.proofs.NewSaleLemmas.{LowerLaws}
 use Rattle.vend_core.proofs.life.life_law.Goals as goal
 
