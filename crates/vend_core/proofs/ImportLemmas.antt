@@ -35,7 +35,7 @@ meter_grants o number m (Some there) has change is e = stands_if o (kinds.Meter 
 meter_grants o number m None true change is e = subst (Grants o (kinds.Meter number m)) (same_Ok _ _ e) (inr (refl, refl, (is, tt)))
 meter_grants o number m None false change is e = cc
 
-row_grants : (o : Office) (row : Row) (change : Change) → row_decision o row ≡ Ok change → Grants o row change
+pub row_grants : (o : Office) (row : Row) (change : Change) → row_decision o row ≡ Ok change → Grants o row change
 row_grants o (kinds.Tariff name steps) change e = tariff_grants o name steps (o.tariffs name) change e
 row_grants o (kinds.Meter number m) change e = meter_grants o number m (o.meters number) (is_some (o.tariffs m.tariff)) change refl e
 

@@ -1,3 +1,4 @@
+pub mod AgainLemmas
 pub mod AlongLemmas
 pub mod AnswerLemmas
 pub mod CashLemmas
@@ -9,6 +10,7 @@ pub mod FitsLemmas
 pub mod FoldLemmas
 pub mod HistoryLemmas
 pub mod ImportLemmas
+pub mod ImportWalkLemmas
 pub mod LawLemmas
 pub mod LifeLemmas
 pub mod LookUpLemmas
@@ -28,3 +30,4 @@ pub mod ShortTextLemmas
 pub mod StayLemmas
 pub mod StoreLemmas
 pub mod SumLemmas
+pub mod TakenLemmas

@@ -5,6 +5,7 @@ pub mod Facts
 pub mod Fold
 pub mod Growth
 pub mod Handed
+pub mod Imports
 pub mod Life
 pub mod LifeLaws
 pub mod Lists
@@ -21,3 +22,4 @@ pub mod Rows
 pub mod ShortText
 pub mod SoldTokens
 pub mod Store
+pub mod Taken

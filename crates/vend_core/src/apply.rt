@@ -19,11 +19,7 @@ use sts_fields::Moment;
 use tariff::Steps;
 
 /// Makes an edit. Want of memory leaves the records as they were.
-pub(crate) fn apply(
-    alloc: Global,
-    records: &mut Records,
-    edit: Edit,
-) -> Result<(), AllocError>
+pub(crate) fn apply(alloc: Global, records: &mut Records, edit: Edit) -> Result<(), AllocError>
     requires { Fits edit (recorded records.old) }
     ensures ok { OnOk result (recorded records.new ≡ applied edit (recorded records.old)) }
     ensures err { OnErr result (recorded records.new ≡ recorded records.old) }

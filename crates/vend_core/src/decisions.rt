@@ -1,4 +1,4 @@
-ghost use Rattle.std.specs.Prelude.{◌≡◌, ◌≢◌, ℕ, List, Ok, Err, Some, None, false};
+ghost use Rattle.std.specs.Prelude.{◌≡◌, ◌≢◌, ◌⊎◌, ℕ, List, IfErr, Ok, Err, Some, None, false};
 ghost use Rattle.std.specs.Option.{option_copied};
 ghost use Rattle.tariff.specs.Purchase.{purchase_of};
 ghost use Rattle.vend_core.specs.Decision.{add_meter, add_tariff, changed, close_shift, decision, is_new, meter_eq, next_number, open_a_shift, reprint, sell, sell_again, set_tariff, steps_eq};
@@ -124,7 +124,8 @@ pub(crate) fn same_meter(there: &Meter, meter: &Meter) -> bool
 
 // Whether a tariff is new where these steps are under its name, or why it is refused.
 pub(crate) fn is_new_tariff(steps: &Steps, there: Option<&Steps>) -> Result<bool, Refusal>
-    ensures { (name : List ℕ) → result ≡ is_new (add_tariff name steps.now (option_copied there.entry)) }
+    ensures value { (name : List ℕ) → result ≡ is_new (add_tariff name steps.now (option_copied there.entry)) }
+    ensures cause { IfErr result (λ refusal. refusal ≡ Refusal.Differs) }
 {
     match there {
         None => Ok(true),
@@ -139,7 +140,8 @@ pub(crate) fn is_new_meter(
     there: Option<Meter>,
     has_tariff: bool,
 ) -> Result<bool, Refusal>
-    ensures { (number : List ℕ) → result ≡ is_new (add_meter number meter.now there has_tariff) }
+    ensures value { (number : List ℕ) → result ≡ is_new (add_meter number meter.now there has_tariff) }
+    ensures causes { IfErr result (λ refusal. (refusal ≡ Refusal.Differs) ⊎ (refusal ≡ Refusal.NoTariff)) }
 {
     match there {
         Some(there) if same_meter(&there, meter) => Ok(false),

@@ -1,14 +1,12 @@
 //! How an import is decided: its rows in order, each against the office with the rows before it.
 ghost use Rattle.std.specs.Prelude.{◌≡◌, ◌≢◌, ◌≤◌, ◌⊎◌, ℕ, List, IfErr, IfOk, Ok, Err, None, Some, is_some, length};
-ghost use Rattle.std.specs.BTreeMap.{get_by};
-ghost use Rattle.std.specs.Cmp.Lexicographic.{slice_cmp};
-ghost use Rattle.std.specs.Option.{option_copied, option_map, option_or};
-ghost use Rattle.std.specs.Ordering.{nat_cmp};
+ghost use Rattle.std.specs.Option.{option_copied, option_or};
 ghost use Rattle.vend_core.specs.Decision.{at_row, import, new_rows};
 ghost use Rattle.vend_core.specs.Edits.{with_rows};
 ghost use Rattle.vend_core.specs.Facts.{AreRowsFacts, IsUnlessMemory, row_facts};
 ghost use Rattle.vend_core.specs.Office.{Office};
 ghost use Rattle.vend_core.specs.Rows.{greatest_rows};
+ghost use Rattle.vend_core.specs.Taken.{under};
 ghost use Rattle.vend_core.specs.declared.row_facts.RowFacts.{RowFacts};
 ghost use Rattle.vend_core.specs.declared.meter.Meter.{Meter};
 ghost use Rattle.vend_core.specs.declared.row.Row.TheVariants as kinds;
@@ -37,9 +35,9 @@ struct Taken<'a> {
     tariffs: BTreeMap<&'a [u8], &'a Steps>,
     meters: BTreeMap<&'a [u8], &'a Meter>,
     ghost tariffs_found: { (o : Office) (q : List ℕ) → (with_rows rows.items o).tariffs q
-        ≡ option_or (option_map (λ s. s.now) (get_by (λ k. slice_cmp nat_cmp q k.now) tariffs)) (o.tariffs q) },
+        ≡ option_or (under tariffs q) (o.tariffs q) },
     ghost meters_found: { (o : Office) (q : List ℕ) → (with_rows rows.items o).meters q
-        ≡ option_or (option_map (λ m. m.now) (get_by (λ k. slice_cmp nat_cmp q k.now) meters)) (o.meters q) },
+        ≡ option_or (under meters q) (o.meters q) },
 }
 
 impl<'a> Taken<'a> {
@@ -93,8 +91,9 @@ impl<'a> Taken<'a> {
 
     // Whether a row is new in the office with the rows taken before, or why it is refused.
     fn is_new(&self, row: &'a Row, found: Option<&'a RowFacts>) -> Result<bool, Refusal>
-        ensures { (o : Office) → option_copied found.entry ≡ Some (row_facts o row.now)
+        ensures value { (o : Office) → option_copied found.entry ≡ Some (row_facts o row.now)
             → result ≡ is_new (row_decision (with_rows self.now.rows.items o) row.now) }
+        ensures causes { IfErr result (λ refusal. (refusal ≡ Refusal.Differs) ⊎ (refusal ≡ Refusal.NoTariff)) }
     {
         match row {
             Row::Tariff(name, steps) => {
@@ -228,11 +227,7 @@ pub(crate) fn import<'a>(
 }
 
 // The new rows, or why one is refused.
-fn new_rows<'a>(
-    alloc: Global,
-    rows: &'a [Row],
-    found: &'a [RowFacts],
-) -> Result<Vec<Row>, Refusal>
+fn new_rows<'a>(alloc: Global, rows: &'a [Row], found: &'a [RowFacts]) -> Result<Vec<Row>, Refusal>
     requires { length rows.now ≤ greatest_rows }
     ensures ok { (o : Office) → AreRowsFacts o rows.now found.now
         → IfOk result (λ new. new_rows o 1 rows.now ≡ Ok new.items) }
