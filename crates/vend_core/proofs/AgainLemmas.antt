@@ -1,21 +1,24 @@
 -- An import that was granted and comes again, with no SetTariff in between, changes nothing.
-use Rattle.std.proofs.Common.{◌≡◌, ℕ, ◌+◌, inl, inr, Bool, true, false, List, [], ◌∷◌, length, Option, Some, None, Result, Ok, Err, is_some, refl, sym, ◌∙◌, ap, subst}
-use Rattle.std.specs.Prelude.{◌&&◌, ◌==◌, All, bytes_eq, if◌then◌else◌}
-use Rattle.std.proofs.lemmas.List.Elements.{All-cons, All-head, All-nil, All-tail}
+use Rattle.std.proofs.Common.{◌≡◌, ℕ, ◌+◌, Bool, true, false, List, [], ◌∷◌, length, Option, Some, None, Result, Ok, Err, is_some, refl, sym, ◌∙◌, ap, subst}
+use Rattle.std.specs.Prelude.{All, bytes_eq, if◌then◌else◌}
+use Rattle.std.proofs.lemmas.List.Elements.{All-cons, All-head, All-nil, All-tail, All-weaker}
+use Rattle.std.proofs.lemmas.Option.{none-some}
 use Rattle.std.proofs.lemmas.Slice.Eq.{bytes_eq-Decides}
 use Rattle.std.proofs.lemmas.Bool.Decides.{Decides-eqb}
 use Rattle.tariff.specs.StepsEq.{steps_eq-equiv}
 use Rattle.tariff.specs.declared.step.Step.{Step}
-use Rattle.vend_core.specs.Decision.{Buyer, add_meter, add_rows, add_tariff, buyer_of, changed, close_shift, decision_of, import, meter_eq, new_rows, next_number, open_a_shift, report, reprint, row_decision, sell, sell_once, set_tariff, steps_eq, unchanged}
-use Rattle.vend_core.specs.Edits.{applied, office_after, with_row, with_rows}
+use Rattle.vend_core.specs.Decision.{◌>>=◌, Buyer, at_row, add_meter, add_rows, add_tariff, buyer_of, changed, close_shift, decision_of, import, meter_eq, new_rows, next_number, open_a_shift, report, reprint, row_decision, sell, sell_once, steps_eq, unchanged}
+use Rattle.vend_core.specs.Edits.{office_after, with_rows}
 use Rattle.vend_core.specs.Fold.{after, reply, reply_of, step}
 use Rattle.vend_core.specs.Growth.{HaveStayed}
 use Rattle.vend_core.specs.Imports.{ImportsNothing, SetsNoTariff}
-use Rattle.vend_core.specs.Lookup.{base_eq, open_shift, sale_numbered, sale_of_ref, sales_of_shift, shift_numbered}
+use Rattle.vend_core.specs.Lookup.{open_shift, sale_numbered, sale_of_ref, sales_of_shift, shift_numbered}
 use Rattle.vend_core.specs.Office.{Office}
 use Rattle.vend_core.specs.declared.answer.Answer.{Answer}
 use Rattle.vend_core.specs.declared.answer.Answer.TheVariants as answers
 use Rattle.vend_core.specs.declared.change.Change.{Change}
+use Rattle.vend_core.specs.declared.change.Edit.{Edit}
+use Rattle.vend_core.specs.declared.change.Edit.TheVariants as edits
 use Rattle.vend_core.specs.declared.meter.Meter.{Meter}
 use Rattle.vend_core.specs.declared.refusal.Refusal.{Refusal}
 use Rattle.vend_core.specs.declared.refusal.Refusal.TheVariants as refusals
@@ -27,8 +30,8 @@ use Rattle.vend_core.specs.declared.row.Row.{Row}
 use Rattle.vend_core.specs.declared.row.Row.TheVariants as kinds
 use Rattle.vend_core.specs.declared.sale.Sale.{Sale}
 use Rattle.vend_core.specs.declared.shift.Shift.{Shift}
-use Rattle.vend_core.proofs.DecisionLemmas.{after_test, bind_ok, same_Ok, sell_ok}
-use Rattle.vend_core.proofs.ImportLemmas.{import_keeps, new_rows_keep, takes, taken_office}
+use Rattle.vend_core.proofs.DecisionLemmas.{after_test, same_Ok, sell_ok}
+use Rattle.vend_core.proofs.ImportLemmas.{after_add, import_keeps, new_rows_keep, takes, taken_office}
 use Rattle.vend_core.proofs.OfficeLemmas.{base_eq-refl}
 use Rattle.vend_core.proofs.RowLemmas.{both_true}
 use Rattle.vend_core.proofs.StayLemmas.{stayed_by_meter, stayed_by_row, stayed_by_tariff, stayed_if, stayed_none, stayed_twice}
@@ -91,12 +94,15 @@ after_stays forward o (at ∷ ats) others =
 abbrev pub Stands : Office → Row → Type 0
 Stands o row = row_decision o row ≡ unchanged answers.Done
 
+not_unchanged : (edit : Edit) (answer : Answer) → changed edit answer ≡ unchanged answers.Done → ⊥
+not_unchanged edit answer e = none-some edit (sym (ap (λ (c : Change). c.edit) (same_Ok _ _ e)))
+
 stands_tariff : (name : List ℕ) (steps : List Step) (there later : Option (List Step)) → ((s : List Step) → there ≡ Some s → later ≡ Some s) → add_tariff name steps there ≡ unchanged answers.Done → add_tariff name steps later ≡ unchanged answers.Done
-stands_tariff name steps None later stays e = cc
+stands_tariff name steps None later stays e = absurd (not_unchanged (edits.AddTariff name steps) answers.Done e)
 stands_tariff name steps (Some there) later stays e = ap (add_tariff name steps) (stays there refl) ∙ e
 
 stands_meter : (number : List ℕ) (m : Meter) (there later : Option Meter) (has had : Bool) → ((k : Meter) → there ≡ Some k → later ≡ Some k) → add_meter number m there has ≡ unchanged answers.Done → add_meter number m later had ≡ unchanged answers.Done
-stands_meter number m None later true had stays e = cc
+stands_meter number m None later true had stays e = absurd (not_unchanged (edits.AddMeter number m) answers.Done e)
 stands_meter number m None later false had stays e = cc
 stands_meter number m (Some there) later has had stays e = ap (λ k. add_meter number m k had) (stays there refl) ∙ e
 
@@ -153,3 +159,38 @@ new_rows_stand o number (row ∷ rest) new e =
     subst (λ (r : Office). All (Stands r) (row ∷ rest)) (sym (taken_office o number row rest new t))
     (All-cons (Stands q) row rest (stands_still p q row (new_rows_stay p (number + 1) rest t.more t.further) (granted_stands o row t.change t.granted))
     (new_rows_stand p (number + 1) rest t.more t.further))
+
+-- where all rows stand, none is new
+none_new : (o : Office) (number : ℕ) (rows : List Row) → All (Stands o) rows → new_rows o number rows ≡ Ok []
+none_new o number [] stand = refl
+none_new o number (row ∷ rest) stand =
+    ap (λ (r : Result Change Refusal). at_row number r >>= (λ change. new_rows (office_after o (Ok change)) (number + 1) rest >>= (λ new. Ok (if is_some change.edit then row ∷ new else new)))) (All-head (Stands o) row rest stand)
+    ∙ ap (λ (r : Result (List Row) Refusal). r >>= (λ new. Ok new)) (none_new o (number + 1) rest (All-tail (Stands o) row rest stand))
+
+-- an import that was granted leaves an office in which all its rows stand
+granted_import : (o : Office) (rows : List Row) (r : Result (List Row) Refusal) (new : ℕ) → new_rows o 1 rows ≡ r → reply_of (r >>= add_rows) ≡ Ok (answers.Imported new) → All (Stands (office_after o (r >>= add_rows))) rows
+granted_import o rows (Err refusal) new e granted = cc
+granted_import o rows (Ok added) new e granted = subst (λ (p : Office). All (Stands p) rows) (sym (after_add o added)) (new_rows_stand o 1 rows added e)
+
+all_stand_still : (o p : Office) (rows : List Row) → HaveStayed o p → All (Stands o) rows → All (Stands p) rows
+all_stand_still o p rows stayed stand = All-weaker (Stands o) (Stands p) (λ row stands. stands_still o p row stayed stands) rows stand
+
+pub imports_nothing : (forward : ℕ → ℕ → ℕ) (o : Office) (at : Stamped) (rows : List Row) → at.request ≡ requests.Import rows → All (Stands o) rows → ImportsNothing forward o at
+imports_nothing forward o at rows asks stand =
+    let decided : decision_of forward o at.moment at.nibble at.request ≡ unchanged (answers.Imported 0) =
+    ap (decision_of forward o at.moment at.nibble) asks ∙ ap (λ (r : Result (List Row) Refusal). r >>= add_rows) (none_new o 1 rows stand) in
+    (ap reply_of decided, ap (office_after o) decided)
+
+pub rows_stand : (forward : ℕ → ℕ → ℕ) (o : Office) (at : Stamped) (rows : List Row) (new : ℕ) → at.request ≡ requests.Import rows → reply forward o at ≡ Ok (answers.Imported new) → All (Stands (step forward o at)) rows
+rows_stand forward o at rows new asks granted =
+    let decided : decision_of forward o at.moment at.nibble at.request ≡ import o rows = ap (decision_of forward o at.moment at.nibble) asks in
+    subst (λ (r : Result Change Refusal). All (Stands (office_after o r)) rows) (sym decided)
+    (granted_import o rows (new_rows o 1 rows) new refl (ap reply_of (sym decided) ∙ granted))
+
+pub imported_again : (forward : ℕ → ℕ → ℕ) (o : Office) (at again : Stamped) (between : List Stamped) (rows : List Row) (new : ℕ)
+    → at.request ≡ requests.Import rows → again.request ≡ requests.Import rows → reply forward o at ≡ Ok (answers.Imported new) → All SetsNoTariff between
+    → ImportsNothing forward (after forward (step forward o at) between) again
+imported_again forward o at again between rows new asks asks_again granted others =
+    let p = step forward o at in
+    imports_nothing forward (after forward p between) again rows asks_again
+    (all_stand_still p (after forward p between) rows (after_stays forward p between others) (rows_stand forward o at rows new asks granted))

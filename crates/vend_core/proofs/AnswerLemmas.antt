@@ -4,7 +4,7 @@ use Rattle.std.specs.Prelude.{◌==◌, All, Contains, bytes_eq, if◌then◌els
 use Rattle.std.proofs.lemmas.List.Elements.{All-contains_itself, All-cons, All-filter, All-nil, Contains-push}
 use Rattle.sts_token.specs.Token.{KeepsRange}
 use Rattle.tariff.specs.declared.step.Step.{Step}
-use Rattle.vend_core.specs.Decision.{Buyer, add_meter, add_rows, add_tariff, changed, close_shift, decision_of, import, meter_eq, new_rows, buyer_of, next_number, row_decision, open_a_shift, report, reprint, sell, sell_once, set_tariff, steps_eq, unchanged}
+use Rattle.vend_core.specs.Decision.{Buyer, add_meter, add_rows, add_tariff, changed, close_shift, decision_of, import, meter_eq, new_rows, buyer_of, next_number, open_a_shift, report, reprint, sell, sell_once, set_tariff, steps_eq, unchanged}
 use Rattle.vend_core.specs.Edits.{with_row, with_rows}
 use Rattle.vend_core.specs.Fold.{office_after, reply, reply_of, step}
 use Rattle.vend_core.specs.Handed.{sales_in, sales_of}

@@ -1,5 +1,5 @@
 -- An import taken apart: what it makes of an office is what its new rows make, one after another.
-use Rattle.std.proofs.Common.{◌≡◌, ℕ, ◌+◌, ◌⊎◌, inl, inr, Bool, true, false, List, [], ◌∷◌, ◌++◌, length, Option, Some, None, Result, Ok, Err, is_some, refl, sym, ◌∙◌, ap, subst}
+use Rattle.std.proofs.Common.{◌≡◌, ℕ, ◌+◌, ◌⊎◌, inl, inr, Bool, true, false, List, [], ◌∷◌, ◌++◌, Option, Some, None, Result, Ok, Err, is_some, refl, sym, ◌∙◌, ap, subst}
 use Rattle.std.specs.Prelude.{All, if◌then◌else◌}
 use Rattle.std.proofs.lemmas.List.Elements.{All-head, All-tail}
 use Rattle.tariff.specs.declared.step.Step.{Step}
@@ -102,7 +102,7 @@ after_add o (row ∷ rest) = refl
 
 -- what each row keeps, an import keeps
 module _ (P : Office → Type 0) (Q : Row → Type 0) (each : (o : Office) (row : Row) → Q row → P o → P (office_after o (row_decision o row))) where
-  new_rows_keep : (o : Office) (number : ℕ) (rows new : List Row) → All Q rows → P o → new_rows o number rows ≡ Ok new → P (with_rows new o)
+  pub new_rows_keep : (o : Office) (number : ℕ) (rows new : List Row) → All Q rows → P o → new_rows o number rows ≡ Ok new → P (with_rows new o)
   new_rows_keep o number [] new are holds e = subst (λ (rows : List Row). P (with_rows rows o)) (same_Ok _ new e) holds
   new_rows_keep o number (row ∷ rest) new are holds e =
       let t = takes o number row rest new e in

@@ -6,7 +6,7 @@ use Rattle.std.proofs.lemmas.Bool.Decides.{nat_tests}
 use Rattle.std.proofs.lemmas.List.{append-nil, drop_all, drop_more, length-drop}
 use Rattle.std.proofs.lemmas.Option.{slice_get-get_or, slice_get_past, slice_get_read}
 use Rattle.vend_core.specs.Decision.{◌>>=◌, at_row, new_rows, row_decision}
-use Rattle.vend_core.specs.Edits.{office_after, with_row, with_rows}
+use Rattle.vend_core.specs.Edits.{office_after, with_rows}
 use Rattle.vend_core.specs.Facts.{AreRowsFacts, row_facts}
 use Rattle.vend_core.specs.Growth.{HaveStayed}
 use Rattle.vend_core.specs.Office.{Office}

@@ -1,14 +1,13 @@
 -- Tariffs and meters stay as they are, whatever is asked, but for SetTariff.
-use Rattle.std.proofs.Common.{◌≡◌, ℕ, Bool, true, false, List, Option, Some, None, Result, Ok, Err, is_some, refl, sym, ◌∙◌, ap, subst}
-use Rattle.std.specs.Prelude.{All, bytes_eq, if◌then◌else◌}
+use Rattle.std.proofs.Common.{◌≡◌, ℕ, Bool, true, false, List, Option, Some, None, Err, is_some, refl, ◌∙◌, ap}
+use Rattle.std.specs.Prelude.{bytes_eq, if◌then◌else◌}
 use Rattle.std.proofs.lemmas.Slice.Eq.{bytes_eq-Decides}
 use Rattle.tariff.specs.declared.step.Step.{Step}
 use Rattle.vend_core.specs.Decision.{add_meter, add_tariff, meter_eq, row_decision, steps_eq, unchanged}
-use Rattle.vend_core.specs.Edits.{office_after, with_row, with_rows}
+use Rattle.vend_core.specs.Edits.{office_after}
 use Rattle.vend_core.specs.Growth.{HaveStayed}
 use Rattle.vend_core.specs.Office.{Office}
 use Rattle.vend_core.specs.declared.answer.Answer.{Answer}
-use Rattle.vend_core.specs.declared.change.Change.{Change}
 use Rattle.vend_core.specs.declared.meter.Meter.{Meter}
 use Rattle.vend_core.specs.declared.refusal.Refusal.{Refusal}
 use Rattle.vend_core.specs.declared.refusal.Refusal.TheVariants as refusals
@@ -29,7 +28,7 @@ put_beside : {A : Type 0} (b : Bool) (q name : List ℕ) (x y : A) (rows : List 
 put_beside true q name x y rows is none at = let here : rows q ≡ rows name = ap rows ((bytes_eq-Decides q name).0 is) in cc
 put_beside false q name x y rows is none at = at
 
-stayed_if : (o : Office) (b : Bool) (answer : Answer) (refusal : Refusal) → HaveStayed o (office_after o (if b then unchanged answer else Err refusal))
+pub stayed_if : (o : Office) (b : Bool) (answer : Answer) (refusal : Refusal) → HaveStayed o (office_after o (if b then unchanged answer else Err refusal))
 stayed_if o true answer refusal = stayed_none o
 stayed_if o false answer refusal = stayed_none o
 

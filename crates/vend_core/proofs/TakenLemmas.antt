@@ -1,5 +1,5 @@
 -- Rows taken by an import, in two maps under their names: what is looked up there is what the office with the rows has.
-use Rattle.std.proofs.Common.{◌≡◌, ℕ, Bool, true, false, List, [], ◌∷◌, ◌++◌, Option, Some, None, Result, Ok, Err, is_some, refl, sym, ◌∙◌, ap, subst, Bor}
+use Rattle.std.proofs.Common.{◌≡◌, ℕ, Bool, true, false, List, [], ◌∷◌, ◌++◌, Option, Some, None, is_some, refl, sym, ◌∙◌, ap, Bor}
 use Rattle.std.specs.Prelude.{bytes_eq, cond, if◌then◌else◌}
 use Rattle.std.specs.BTreeMap.{BTreeMap, Updates, get_by}
 use Rattle.std.specs.Cmp.Lexicographic.{slice_cmp}
@@ -11,9 +11,7 @@ use Rattle.vend_core.specs.Decision.{add_meter}
 use Rattle.vend_core.specs.Edits.{with_row, with_rows}
 use Rattle.vend_core.specs.Office.{Office}
 use Rattle.vend_core.specs.Taken.{under}
-use Rattle.vend_core.specs.declared.change.Change.{Change}
 use Rattle.vend_core.specs.declared.meter.Meter.{Meter}
-use Rattle.vend_core.specs.declared.refusal.Refusal.{Refusal}
 use Rattle.vend_core.specs.declared.row.Row.{Row}
 
 -- what a look-up by a key gives is what is under its bytes

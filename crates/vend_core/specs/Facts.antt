@@ -104,6 +104,13 @@ takes_memory (Import rows) = true
 takes_memory (ShiftReport number) = true
 takes_memory request = false
 
+-- the requests that add no row and hand out no list: over plain lists they take no memory at all
+abbrev pub keeps_lists : Request → Bool
+keeps_lists (SetTariff number name) = true
+keeps_lists (CloseShift operator) = true
+keeps_lists (Reprint number) = true
+keeps_lists request = false
+
 -- the result is the decision, or want of memory
 abbrev pub IsUnlessMemory : Result Change Refusal → Result Change Refusal → Type 0
 IsUnlessMemory result decided = (result ≡ decided) ⊎ (result ≡ Err Memory)

@@ -1,5 +1,5 @@
 -- The office that plain lists keep, and what serving a request does to it.
-use Rattle.std.specs.Prelude.{◌≡◌, ◌⊎◌, ℕ, ◌<◌, ◌≤◌, List, [], ◌∷◌, Result, Err, IsSome, length}
+use Rattle.std.specs.Prelude.{◌≡◌, ◌⊎◌, ℕ, ◌<◌, ◌≤◌, Bool, true, false, List, [], ◌∷◌, Result, Err, IsSome, length}
 use Rattle.sts_fields.specs.Tid.{last_tid}
 use Rattle.vend_core.specs.Edits.{with_row}
 use Rattle.vend_core.specs.Fold.{reply, step}
@@ -36,10 +36,19 @@ Fits (OpenShift s) o = Unit {0}
 Fits (CloseShift number moment) o = Unit {0}
 Fits (AddSale s) o = (s.tid ≤ last_tid) × (length o.sales < greatest_count)
 
--- one request is served: with the step's reply and office, or, for want of memory, with no change
+-- an edit that adds no row
+abbrev pub sets_only : Edit → Bool
+sets_only (SetTariff number name) = true
+sets_only (CloseShift number moment) = true
+sets_only edit = false
+
+-- one request is served with the step's reply and office
+abbrev pub IsStep : (ℕ → ℕ → ℕ) → Office → Stamped → Result Answer Refusal → Office → Type 0
+IsStep forward before at result now = (result ≡ reply forward before at) × (now ≡ step forward before at)
+
+-- it is served so, or, for want of memory, with no change
 abbrev pub IsServed : (ℕ → ℕ → ℕ) → Office → Stamped → Result Answer Refusal → Office → Type 0
-IsServed forward before at result now =
-    ((result ≡ reply forward before at) × (now ≡ step forward before at)) ⊎ ((result ≡ Err Memory) × (now ≡ before))
+IsServed forward before at result now = IsStep forward before at result now ⊎ ((result ≡ Err Memory) × (now ≡ before))
 
 -- the office that lists keep, and the transform that their tokens are written with
 abbrev pub office_of : {T : Type 0} → Lists T → Office

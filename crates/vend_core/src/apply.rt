@@ -1,7 +1,7 @@
-ghost use Rattle.std.specs.Prelude.{◌≡◌, ◌==◌, ◌≤◌, ◌<◌, IfOk, OnOk, OnErr, IsSome, if◌then◌else◌, length, map, [], ◌∷◌, ◌++◌};
+ghost use Rattle.std.specs.Prelude.{◌≡◌, ◌==◌, ◌≤◌, ◌<◌, IfOk, IsOk, OnOk, OnErr, IsSome, true, if◌then◌else◌, length, map, [], ◌∷◌, ◌++◌};
 ghost use Rattle.sts_fields.specs.Tid.{last_tid};
 ghost use Rattle.vend_core.specs.Fold.{applied, closed_at};
-ghost use Rattle.vend_core.specs.Lists.{Fits, RowsFit, recorded};
+ghost use Rattle.vend_core.specs.Lists.{Fits, RowsFit, recorded, sets_only};
 ghost use Rattle.vend_core.specs.Office.{greatest_count};
 ghost use Rattle.vend_core.specs.PlainRows.{meters_of, row_with_tariff, tariffs_of};
 
@@ -21,6 +21,7 @@ use tariff::Steps;
 /// Makes an edit. Want of memory leaves the records as they were.
 pub(crate) fn apply(alloc: Global, records: &mut Records, edit: Edit) -> Result<(), AllocError>
     requires { Fits edit (recorded records.old) }
+    ensures exact { sets_only edit ≡ true → IsOk result }
     ensures ok { OnOk result (recorded records.new ≡ applied edit (recorded records.old)) }
     ensures err { OnErr result (recorded records.new ≡ recorded records.old) }
 {

@@ -1,7 +1,7 @@
-ghost use Rattle.std.specs.Prelude.{◌≡◌, IfOk, IsNone, List, Err, Some, is_some, length, true};
+ghost use Rattle.std.specs.Prelude.{◌≡◌, IfOk, IsNone, IsOk, List, Err, Some, is_some, length, true};
 ghost use Rattle.std.specs.Option.{option_copied};
 ghost use Rattle.vend_core.specs.Decision.{buyer_of, row_decision};
-ghost use Rattle.vend_core.specs.Facts.{AreFacts, AreMeterFacts, AreNewSaleFacts, AreOpeningFacts, AreRowsFacts, AreSaleFacts, AreSettingFacts, report_of, row_facts};
+ghost use Rattle.vend_core.specs.Facts.{AreFacts, AreMeterFacts, AreNewSaleFacts, AreOpeningFacts, AreRowsFacts, AreSaleFacts, AreSettingFacts, keeps_lists, report_of, row_facts};
 ghost use Rattle.vend_core.specs.Lists.{recorded};
 ghost use Rattle.vend_core.specs.Lookup.{steps_for};
 ghost use Rattle.vend_core.specs.Office.{Office};
@@ -28,7 +28,8 @@ use tariff::Steps;
 
 /// What the tests of a request look at in these records.
 pub(crate) fn facts(alloc: Global, records: &Records, at: &Stamped) -> Result<Facts, AllocError>
-    ensures { IfOk result (AreFacts (recorded records.now) at.now) }
+    ensures facts { IfOk result (AreFacts (recorded records.now) at.now) }
+    ensures exact { keeps_lists at.now.request ≡ true → IsOk result }
 {
     match &at.request {
         Request::AddTariff(name, _) => tariff_facts(records, name),

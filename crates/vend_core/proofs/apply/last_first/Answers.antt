@@ -1,4 +1,4 @@
-use Rattle.std.proofs.Common.{◌≡◌, ◌∙◌, ap, ◌++◌, ◌∷◌, [], List, Option}
+use Rattle.std.proofs.Common.{◌∙◌, ap, ◌++◌, ◌∷◌, [], Option}
 use Rattle.std.specs.Option.{option_to_list}
 use Rattle.vend_core.specs.declared.row.Row.{Row}
 use Rattle.vend_core.proofs.PlainRowLemmas.{moved_meter, moved_tariff}

@@ -1,4 +1,4 @@
-use Rattle.std.proofs.Common.{◌++◌, [], List, sym, subst}
+use Rattle.std.proofs.Common.{[], List, sym, subst}
 use Rattle.std.proofs.lemmas.List.{append-nil, drop_all}
 use Rattle.vend_core.specs.Facts.{AreRowsFacts}
 use Rattle.vend_core.specs.Lists.{recorded}

@@ -1,9 +1,9 @@
-use Rattle.std.proofs.Common.{◌≡◌, ◌∙◌, ap, sym, subst, arith, Option, Some, List, ℕ, ◌+◌, drop}
+use Rattle.std.proofs.Common.{◌≡◌, ◌∙◌, ap, sym, subst, arith, List, ◌+◌, drop}
 use Rattle.std.specs.Prelude.{slice_get}
 use Rattle.std.specs.Option.{option_copied}
 use Rattle.vend_core.specs.Decision.{new_rows}
 use Rattle.vend_core.specs.Edits.{with_rows}
-use Rattle.vend_core.specs.Facts.{AreRowsFacts, row_facts}
+use Rattle.vend_core.specs.Facts.{AreRowsFacts}
 use Rattle.vend_core.specs.Growth.{HaveStayed}
 use Rattle.vend_core.specs.Office.{Office}
 use Rattle.vend_core.specs.declared.row.Row.{Row}

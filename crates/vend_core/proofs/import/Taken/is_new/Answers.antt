@@ -1,5 +1,4 @@
-use Rattle.std.proofs.Common.{◌≡◌, ◌∙◌, ap, sym, is_some, List, Option, Some, Result}
-use Rattle.std.specs.Option.{option_copied, option_or}
+use Rattle.std.proofs.Common.{◌∙◌, ap, sym, is_some, List, Option, Some}
 use Rattle.tariff.specs.declared.step.Step.{Step}
 use Rattle.vend_core.specs.Decision.{add_tariff, is_new, row_decision}
 use Rattle.vend_core.specs.Edits.{with_rows}
