@@ -33,7 +33,6 @@ sale_row_kept o p more kept s row = record {
   tid = row.tid;
   rnd = row.rnd;
   tenths = row.tenths;
-  some = row.some;
   tender = row.tender;
   price = row.price;
   digits = row.digits;

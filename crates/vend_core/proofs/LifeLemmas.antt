@@ -21,7 +21,7 @@ use Rattle.vend_core.proofs.OfficeLemmas.{empty_is_office, step_keeps_office}
 use Rattle.vend_core.proofs.RowLemmas.{contains_cases, contains_map, kept, map_source}
 
 -- requests one after others
-after-append : (forward : ℕ → ℕ → ℕ) (o : Office) (ats more : List Stamped) → after forward o (ats ++ more) ≡ after forward (after forward o ats) more
+pub after-append : (forward : ℕ → ℕ → ℕ) (o : Office) (ats more : List Stamped) → after forward o (ats ++ more) ≡ after forward (after forward o ats) more
 unfolding after
 after-append forward o [] more = refl
 after-append forward o (at ∷ ats) more = after-append forward (step forward o at) ats more
@@ -64,11 +64,11 @@ module _ (laws : LowerLaws) where
     left_office o (inl e) = subst IsOffice (sym e) present_office
     left_office o (inr (at, there, e)) = subst IsOffice (sym e) (step_keeps_office laws life.forward (present life) at present_office (All-contains IsStamped (in_doubt life) at (doubted_stamped life is) there) is.range)
 
-    left_grown : (o : Office) → MayLeave life o → HasGrown (present life) o
+    pub left_grown : (o : Office) → MayLeave life o → HasGrown (present life) o
     left_grown o (inl e) = subst (λ p. HasGrown (present life) p) (sym e) (grown_none (present life))
     left_grown o (inr (at, there, e)) = subst (λ p. HasGrown (present life) p) (sym e) (step_grows life.forward (present life) at present_office)
 
-    opening_grown : (o : Office) → MayLeave life o → HasGrown life.opening o
+    pub opening_grown : (o : Office) → MayLeave life o → HasGrown life.opening o
     opening_grown o may = grown_twice life.opening (present life) o (after_grows laws life.forward life.opening (acknowledged life) office (acknowledged_stamped life is) is.range) (left_grown o may)
 
     -- a reply that hands out a sale acknowledges its request
@@ -90,7 +90,7 @@ module _ (laws : LowerLaws) where
         subst (λ (o : Office). Contains o.sales s) e
         (stands_on begun (after life.forward begun (drop n ats)) s (after_grows laws life.forward begun (drop n ats) begun_office (All-drop IsStamped n ats are) is.range) there)
 
-    handed_left : (o : Office) (s : Sale) → MayLeave life o → HandsOut life s → Contains o.sales s
+    pub handed_left : (o : Office) (s : Sale) → MayLeave life o → HandsOut life s → Contains o.sales s
     handed_left o s may hands = stands_on (present life) o s (left_grown o may) (handed_present s hands)
 
   -- along the lives

@@ -8,7 +8,7 @@ use Rattle.std.specs.Option.{ForSome}
 use Rattle.vend_core.specs.Lookup.{greatest_of}
 
 -- the greatest of some numbers and one more at the end
-greatest_of-push : (ns : List ℕ) (n : ℕ) → greatest_of (ns ++ n ∷ []) ≡ Some (max (unwrap_or (greatest_of ns) 0) n)
+pub greatest_of-push : (ns : List ℕ) (n : ℕ) → greatest_of (ns ++ n ∷ []) ≡ Some (max (unwrap_or (greatest_of ns) 0) n)
 greatest_of-push [] n = ap (λ (k : ℕ). let o : Option ℕ = Some k in o) (omega arith)
 greatest_of-push (m ∷ ns) n =
     let more : greatest_of (ns ++ n ∷ []) ≡ Some (max (unwrap_or (greatest_of ns) 0) n) = greatest_of-push ns n in

@@ -92,7 +92,7 @@ module _ (o : Office) (office : IsOffice o) where
   by_sell_again order first = kept_if o _ _ _ office
 
   -- the identifier of a sale is among those used of its meter under its base
-  used_by : (a : Sale) (meter : List ℕ) (base : Base) → Contains o.sales a → a.meter ≡ meter → a.base ≡ base → Contains (used o meter base) a.tid
+  pub used_by : (a : Sale) (meter : List ℕ) (base : Base) → Contains o.sales a → a.meter ≡ meter → a.base ≡ base → Contains (used o meter base) a.tid
   used_by a meter base there same_meter same_base =
       let test = λ (s : Sale). bytes_eq s.meter meter && base_eq s.base base in
       let x = (bytes_eq-Decides a.meter meter).1 same_meter in
@@ -105,7 +105,7 @@ module _ (o : Office) (office : IsOffice o) where
       let u = used_by a order.meter new.to_meter.base there (same_meter ∙ new.meter) (same_base ∙ new.base) in
       All-contains (λ u. u < s.tid) (used o order.meter new.to_meter.base) a.tid new.tid.0.may_sell.above_used u
 
-  after_sales : (forward : ℕ → ℕ → ℕ) (at : Stamped) (order : Order) (s a : Sale) → sale_of_ref o order.operator order.order_ref ≡ None → IsNewSale forward o at order s → Contains o.sales a → IsBefore a s
+  pub after_sales : (forward : ℕ → ℕ → ℕ) (at : Stamped) (order : Order) (s a : Sale) → sale_of_ref o order.operator order.order_ref ≡ None → IsNewSale forward o at order s → Contains o.sales a → IsBefore a s
   after_sales forward at order s a alone new there = record {
     number = omega (arith, number_within (λ s. s.number) o.sales a office.sale_numbers there, new.number);
     tid = λ same_meter same_base same. omega (arith, new_rises forward at order s a new there same_meter same_base, same);
@@ -117,7 +117,7 @@ module _ (o : Office) (office : IsOffice o) where
   }
 
   -- a new sale's row
-  new_row : (forward : ℕ → ℕ → ℕ) (at : Stamped) (order : Order) (s : Sale) → IsMoment at.moment → IsOrder order → IsNewSale forward o at order s → IsSaleRow o s
+  pub new_row : (forward : ℕ → ℕ → ℕ) (at : Stamped) (order : Order) (s : Sale) → IsMoment at.moment → IsOrder order → IsNewSale forward o at order s → IsSaleRow o s
   new_row forward at order s is ordered new =
       let opened = found _ o.shifts new.in_shift new.shift_is in
       let number = number_within (λ s. s.number) o.shifts new.in_shift office.shift_numbers opened.0 in
@@ -134,7 +134,6 @@ module _ (o : Office) (office : IsOffice o) where
         tid = tid;
         rnd = omega (arith, nibble, new.rnd);
         tenths = subst IsRepresentable (sym new.tenths) bought.representable;
-        some = omega (arith, bought.some, new.tenths);
         tender = subst IsTender (sym new.tender) ordered.tender;
         price = omega (arith, bought.within, new.price, new.tender);
         digits = new.digits.digits;

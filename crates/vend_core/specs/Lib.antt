@@ -7,6 +7,7 @@ pub mod Growth
 pub mod Handed
 pub mod Imports
 pub mod Life
+pub mod LifeLaws
 pub mod Lists
 pub mod Lookup
 pub mod Names
@@ -20,4 +21,5 @@ pub mod RowCause
 pub mod Rows
 pub mod ShortText
 pub mod SoldTokens
+pub mod Store
 pub mod Taken

@@ -90,17 +90,3 @@ HandsOut life s =
 
 abbrev pub IsHanded : List Life → Sale → Type 0
 IsHanded lives s = (life : Life) × Contains lives life × HandsOut life s
-
--- the exchanges in which these requests are served, one after another
-unfoldable pub served : (ℕ → ℕ → ℕ) → Office → List Stamped → List Exchange
-served forward o [] = []
-served forward o (at ∷ ats) = record { request = at; reply = reply forward o at } ∷ served forward (step forward o at) ats
-
--- the exchange at which the store fails, if there is one
-abbrev pub failed : Option Stamped → List Exchange
-failed None = []
-failed (Some at) = record { request = at; reply = Err Store } ∷ []
-
--- the life in which these requests are served, until the store fails at one or the program stops
-abbrev pub life_of : (ℕ → ℕ → ℕ) → Office → List Stamped → Option Stamped → Life
-life_of forward o ats last = record { opening = o; forward = forward; exchanges = served forward o ats ++ failed last }

@@ -57,7 +57,6 @@ pub record IsSaleRow (o : Office) (s : Sale) : Type 0 where
   pub tid : s.tid ≤ last_tid
   pub rnd : s.rnd < 2 ^ 4
   pub tenths : IsRepresentable s.tenths
-  pub some : 1 ≤ s.tenths
   pub tender : IsTender s.tender
   pub price : s.price ≤ s.tender
   pub digits : AreTwentyDigits s.digits

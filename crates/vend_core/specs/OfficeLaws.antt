@@ -1,8 +1,9 @@
 -- What the office's laws say of single requests.
-use Rattle.std.specs.Prelude.{◌≡◌, ◌⊎◌, ◌++◌, ◌∷◌, [], ℕ, Contains, Ok}
+use Rattle.std.specs.Prelude.{◌≡◌, ◌⊎◌, ◌++◌, ◌∷◌, [], ℕ, Ok}
 use Rattle.vend_core.specs.Fold.{reply, step}
 use Rattle.vend_core.specs.NewSale.{IsNewSale}
 use Rattle.vend_core.specs.Office.{Office}
+use Rattle.vend_core.specs.Store.{IsUnderRef}
 use Rattle.vend_core.specs.declared.answer.Answer.TheVariants as answers
 use Rattle.vend_core.specs.declared.request.Order.{Order}
 use Rattle.vend_core.specs.declared.request.Request.TheVariants as requests
@@ -10,10 +11,8 @@ use Rattle.vend_core.specs.declared.request.Stamped.{Stamped}
 use Rattle.vend_core.specs.declared.sale.Sale.{Sale}
 
 -- the order was served before, by this sale: the operator and the ref are its own
-pub record WasSold (o : Office) (order : Order) (first : Sale) : Type 0 where
-  pub stands : Contains o.sales first
-  pub operator : first.operator ≡ order.operator
-  pub order_ref : first.order_ref ≡ order.order_ref
+abbrev pub WasSold : Office → Order → Sale → Type 0
+WasSold o order first = IsUnderRef o order.operator order.order_ref first
 
 -- the order is the one that the sale was made for
 abbrev pub IsSameOrder : Order → Sale → Type 0

@@ -3,8 +3,7 @@ ghost use Rattle.sts_fields.specs.Tid.{IsReserved};
 ghost use Rattle.sts_token.specs.Meter.{Accepts, WasAccepted, credit_of};
 ghost use Rattle.sts_token.specs.Token.{KeepsRange};
 ghost use Rattle.vend_core.specs.Cash.{AskForReports, cash_of, cash_of_reports};
-ghost use Rattle.vend_core.specs.Fold.{after, step};
-ghost use Rattle.vend_core.specs.Life.{Answered, AreLives, IsHanded, Life, life_of};
+ghost use Rattle.vend_core.specs.Life.{Answered, AreLives, IsHanded, IsLife, Life, MayLeave};
 ghost use Rattle.vend_core.specs.NewSale.{fields_of};
 ghost use Rattle.vend_core.specs.Office.{IsOffice, Office, Rises};
 ghost use Rattle.vend_core.specs.Request.{IsStamped};
@@ -23,14 +22,11 @@ use tariff::purchase_law;
 pub fn history_law()
     ensures offices { (lives : List Life) (o : Office) → AreLives lives o → IsOffice o }
 
-    // From each office that may be left lives go on: requests served, up to one in doubt, are a life.
-    ensures goes_on { (lives : List Life) (o : Office)
-        (forward : ℕ → ℕ → ℕ) (ats : List Stamped) (last : Option Stamped)
-        → AreLives lives o → KeepsRange forward
-        → All IsStamped ats → ((at : Stamped) → last ≡ Some at → IsStamped at)
-        → AreLives (lives ++ life_of forward o ats last ∷ []) (after forward o ats)
-        × ((at : Stamped) → last ≡ Some at
-        → AreLives (lives ++ life_of forward o ats last ∷ []) (step forward (after forward o ats) at)) }
+    // Lives go on by any life that opens an office which they may leave. (`life_law` says what is
+    // a life.)
+    ensures goes_on { (lives : List Life) (life : Life) (o p : Office)
+        → AreLives lives o → IsLife life → life.opening ≡ o → MayLeave life p
+        → AreLives (lives ++ life ∷ []) p }
 
     // A sale that was handed out stands, unchanged, in every office that the last life may leave.
     ensures stands { (lives : List Life) (o : Office) (s : Sale)
@@ -48,6 +44,10 @@ pub fn history_law()
 
     // The identifiers of a meter under a base rise.
     ensures rising { (lives : List Life) (o : Office) → AreLives lives o → AllPairs Rises o.sales }
+
+    // Each sale has a tenth at least.
+    ensures some_tenths { (lives : List Life) (o : Office)
+        → AreLives lives o → All (λ s. 1 ≤ s.tenths) o.sales }
 
     // A reprint is the first token, whatever transforms the lives have.
     ensures reprint { (lives : List Life) (o : Office) (first again : Sale)

@@ -98,6 +98,11 @@ pub fn office_law()
         → IsOffice o → Contains o.sales a → Contains o.sales b
         → a.meter ≡ b.meter → a.base ≡ b.base → a.tid ≡ b.tid → a ≡ b }
 
+    // A sale that a request makes has a tenth at least. (Of rows alone an office does not ask it.)
+    ensures some_tenths { (forward : ℕ → ℕ → ℕ) (o : Office) (ats : List Stamped)
+        → IsOffice o → All IsStamped ats → KeepsRange forward
+        → All (λ s. 1 ≤ s.tenths) o.sales → All (λ s. 1 ≤ s.tenths) (after forward o ats).sales }
+
     // A sale costs at most its tender, and the reports of all shifts hold the money of all sales.
     ensures within_tender { (o : Office) → IsOffice o → All (λ s. s.price ≤ s.tender) o.sales }
     ensures cash { (forward : ℕ → ℕ → ℕ) (o : Office) (ats : ℕ → Stamped)

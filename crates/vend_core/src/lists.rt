@@ -72,7 +72,6 @@ impl<T: BlockTransform> Lists<T> {
     ghost use Rattle.vend_core.specs.Facts.{keeps_lists};
     ghost use Rattle.vend_core.specs.Lists.{IsServed, IsStep, office_of, transform_of};
     ghost use Rattle.vend_core.specs.Office.{IsOffice};
-    ghost use Rattle.vend_core.specs.Request.{IsStamped};
 
     /// Serves a request: its answer, or why it is refused.
     ///
@@ -82,10 +81,11 @@ impl<T: BlockTransform> Lists<T> {
     pub fn serve(&mut self, at: &Stamped) -> Reply
         ensures served { IsServed (T.forwards (transform_of self.old)) (office_of self.old) at.now result (office_of self.new) }
         ensures exact { keeps_lists at.now.request ≡ true → IsStep (T.forwards (transform_of self.old)) (office_of self.old) at.now result (office_of self.new) }
-        ensures office { IsOffice (office_of self.old) → IsStamped at.now → IsOffice (office_of self.new) }
+        ensures office { IsOffice (office_of self.old) → IsOffice (office_of self.new) }
         ensures transform { transform_of self.new ≡ transform_of self.old }
     {
         office_law();
+        at.keeps_ranges();
         self.served(at)
     }
 

@@ -1,11 +1,11 @@
 use Rattle.vend_core.proofs.CashLemmas.{cash_adds_up}
+use Rattle.vend_core.proofs.ExtendManyLemmas.{lives_go_on}
 use Rattle.vend_core.proofs.HistoryLemmas.{one_handed_number, one_handed_ref, one_handed_tid, same_digits}
 use Rattle.vend_core.proofs.LifeLemmas.{handed_stands, lives_office}
 use Rattle.vend_core.proofs.MeterLemmas.{MeterLaws, accepted_is, bound_above, credit_is, credit_within, first_entry_is, in_order_is}
 use Rattle.vend_core.proofs.NewSaleLemmas.{LowerLaws}
-use Rattle.vend_core.proofs.RiseLemmas.{lives_rise}
+use Rattle.vend_core.proofs.RiseLemmas.{lives_rise, lives_sell_some}
 use Rattle.vend_core.proofs.SaleLemmas.{handed_tid, handed_token}
-use Rattle.vend_core.proofs.ServedLemmas.{goes_on_both}
 use Rattle.vend_core.proofs.history.history_law.Goals as goal
 
 -- the laws that the body calls
@@ -43,6 +43,9 @@ returns-clause-one_ref c = one_handed_ref (lower c)
 pub returns-clause-rising : goal.returns-clause-rising
 returns-clause-rising c = lives_rise (lower c)
 
+pub returns-clause-some_tenths : goal.returns-clause-some_tenths
+returns-clause-some_tenths c = lives_sell_some (lower c)
+
 pub returns-clause-reprint : goal.returns-clause-reprint
 returns-clause-reprint c = same_digits (lower c)
 
@@ -74,4 +77,4 @@ pub returns-clause-below_bound : goal.returns-clause-below_bound
 returns-clause-below_bound c = λ lives o m sales are to. bound_above (lower c) (meter c) lives o are m sales to
 
 pub returns-clause-goes_on : goal.returns-clause-goes_on
-returns-clause-goes_on c = goes_on_both
+returns-clause-goes_on c = lives_go_on

@@ -9,7 +9,7 @@ use Rattle.vend_core.proofs.LawLemmas.{new_sale_is, one_of_tid, reports_the_shif
 use Rattle.vend_core.proofs.NewSaleLemmas.{LowerLaws, greatest_is_last}
 use Rattle.vend_core.proofs.OfficeLemmas.{step_keeps_office}
 use Rattle.vend_core.proofs.RefusalLemmas.{never_answers}
-use Rattle.vend_core.proofs.RiseLemmas.{after_rises}
+use Rattle.vend_core.proofs.RiseLemmas.{after_rises, after_sells_some}
 use Rattle.vend_core.proofs.laws.office_law.Goals as goal
 
 -- the laws that the body calls
@@ -60,6 +60,9 @@ returns-clause-fresh c = λ o meter base now. c.fresh_law.ensures.computed (used
 
 pub returns-clause-rules_alone : goal.returns-clause-rules_alone
 returns-clause-rules_alone c = λ forward o at. (never_answers forward o at Memory refl, never_answers forward o at Store refl, never_answers forward o at Stopped refl)
+
+pub returns-clause-some_tenths : goal.returns-clause-some_tenths
+returns-clause-some_tenths c = after_sells_some (lower c)
 
 pub returns-clause-stays : goal.returns-clause-stays
 returns-clause-stays c = step_stays

@@ -1,0 +1,116 @@
+-- The last identifier and the month's tenths: how one sale changes them, and how large they are.
+use Rattle.std.proofs.Common.{◌≡◌, ℕ, ◌+◌, ◌*◌, ◌^◌, ◌<◌, ◌≤◌, Bool, true, false, cond, List, [], ◌∷◌, ◌++◌, length, max, Option, Some, None, refl, ◌∙◌, ap, arith}
+use Rattle.std.specs.Prelude.{◌&&◌, ◌==◌, All, bytes_eq, filter, if◌then◌else◌, map, sum_by, unwrap_or}
+use Rattle.std.proofs.lemmas.List.{append-nil, map-append}
+use Rattle.std.proofs.lemmas.List.Elements.{All-contains, All-filter, All-map, All-weaker, filter-append}
+use Rattle.std.proofs.lemmas.List.Sums.{sum_by-append, sum_by-le}
+use Rattle.std.proofs.lemmas.Slice.Eq.{bytes_eq-Decides}
+use Rattle.sts_fields.specs.Amount.{IsRepresentable}
+use Rattle.sts_fields.specs.Calendar.{month_at}
+use Rattle.sts_fields.specs.Tid.{IsLast, last_tid}
+use Rattle.sts_fields.specs.declared.base.Base.{Base}
+use Rattle.vend_core.specs.Fold.{applied}
+use Rattle.vend_core.specs.Lookup.{base_eq, greatest_of, prior, used}
+use Rattle.vend_core.specs.Office.{IsOffice, IsSaleRow, Office}
+use Rattle.vend_core.specs.declared.change.Edit.TheVariants as edits
+use Rattle.vend_core.specs.declared.sale.Sale.{Sale}
+use Rattle.vend_core.proofs.LookUpLemmas.{greatest_of-push}
+use Rattle.vend_core.proofs.NewSaleLemmas.{greatest_is_last}
+use Rattle.vend_core.proofs.OfficeLemmas.{base_eq-refl}
+use Rattle.vend_core.proofs.RowLemmas.{both_true}
+use Rattle.vend_core.proofs.StoreLemmas.{is_to}
+
+abbrev tid_of : Sale → ℕ
+tid_of s = s.tid
+
+-- the identifiers used, with one sale more
+used_more : (o : Office) (s : Sale) (number : List ℕ) (base : Base)
+    → used (applied (edits.AddSale s) o) number base
+    ≡ used o number base ++ map tid_of (cond (is_to number base s) (s ∷ []) [])
+used_more o s number base =
+    ap (λ sales. map tid_of sales) (filter-append (is_to number base) o.sales (s ∷ []))
+    ∙ map-append tid_of (filter (is_to number base) o.sales)
+        (cond (is_to number base s) (s ∷ []) [])
+
+greatest_at : (ns : List ℕ) (s : Sale) (b : Bool)
+    → greatest_of (ns ++ map tid_of (cond b (s ∷ []) []))
+    ≡ (if b then Some (max (unwrap_or (greatest_of ns) 0) s.tid) else greatest_of ns)
+greatest_at ns s true = greatest_of-push ns s.tid
+greatest_at ns s false = ap greatest_of (append-nil ns)
+
+pub last_grows_by : (o : Office) (s : Sale) (number : List ℕ) (base : Base)
+    → greatest_of (used (applied (edits.AddSale s) o) number base)
+    ≡ (if bytes_eq s.meter number && base_eq s.base base then Some
+    (max (unwrap_or (greatest_of (used o number base)) 0) s.tid) else greatest_of
+    (used o number base))
+last_grows_by o s number base = ap greatest_of (used_more o s number base)
+    ∙ greatest_at (used o number base) s (is_to number base s)
+
+-- an identifier above those used is the greatest
+above_last : (ns : List ℕ) (last : Option ℕ) (tid : ℕ) → IsLast ns last → All (λ u. u < tid) ns
+    → max (unwrap_or last 0) tid ≡ tid
+above_last ns None tid is above = omega arith
+above_last ns (Some last) tid is above = let below : last < tid =
+    All-contains (λ u. u < tid) ns last above is.0 in omega arith
+
+pub last_rises_to : (o : Office) (s : Sale) → All (λ tid. tid < s.tid) (used o s.meter s.base)
+    → greatest_of (used (applied (edits.AddSale s) o) s.meter s.base) ≡ Some s.tid
+last_rises_to o s above =
+    let before = greatest_of (used o s.meter s.base) in
+    let own = both_true _ _ ((bytes_eq-Decides s.meter s.meter).1 refl) (base_eq-refl s.base) in
+    last_grows_by o s s.meter s.base
+    ∙ ap (λ b. if b then Some (max (unwrap_or before 0) s.tid) else before) own
+    ∙ ap (λ (k : ℕ). let r : Option ℕ = Some k in r)
+        (above_last (used o s.meter s.base) before s.tid
+        (greatest_is_last (used o s.meter s.base)) above)
+
+-- the tenths of a month, with one sale more
+abbrev is_in : List ℕ → ℕ → Sale → Bool
+is_in number month s = bytes_eq s.meter number && (month_at s.moment == month)
+
+abbrev tenths_of : Sale → ℕ
+tenths_of s = s.tenths
+
+sum_if : (s : Sale) (b : Bool) → sum_by tenths_of (cond b (s ∷ []) []) ≡ (if b then s.tenths else 0)
+sum_if s true = omega arith
+sum_if s false = refl
+
+pub prior_grows_by : (o : Office) (s : Sale) (number : List ℕ) (month : ℕ)
+    → prior (applied (edits.AddSale s) o) number month
+    ≡ prior o number month
+    + (if bytes_eq s.meter number && (month_at s.moment == month) then s.tenths else 0)
+prior_grows_by o s number month =
+    ap (λ sales. sum_by tenths_of sales) (filter-append (is_in number month) o.sales (s ∷ []))
+    ∙ sum_by-append tenths_of (filter (is_in number month) o.sales)
+        (cond (is_in number month s) (s ∷ []) [])
+    ∙ ap (λ n. prior o number month + n) (sum_if s (is_in number month s))
+
+pub used_in_range : (o : Office) (number : List ℕ) (base : Base) → IsOffice o
+    → All (λ tid. tid ≤ last_tid) (used o number base)
+used_in_range o number base office =
+    All-map (λ (tid : ℕ). tid ≤ last_tid) tid_of _
+    (All-filter (is_to number base) (λ (s : Sale). s.tid ≤ last_tid) o.sales
+        (All-weaker (IsSaleRow o) (λ s. s.tid ≤ last_tid) (λ s row. row.tid) o.sales office.sales))
+
+fewer : {X : Type 0} (p : X → Bool) (xs : List X) → length (filter p xs) ≤ length xs
+fewer p [] = omega arith
+fewer p (x ∷ xs) = fewer_at (p x) (fewer p xs)
+  where
+    fewer_at : (b : Bool) → length (filter p xs) ≤ length xs
+        → length (cond b (x ∷ filter p xs) (filter p xs)) ≤ length (x ∷ xs)
+    fewer_at true rest = omega arith
+    fewer_at false rest = omega arith
+
+pub prior_in_range : ((t : ℕ) → IsRepresentable t → t ≤ 18201624)
+    → (o : Office) (number : List ℕ) (month : ℕ) → IsOffice o → prior o number month ≤ 10 ^ 17
+prior_in_range greatest o number month office =
+    let rows = filter (is_in number month) o.sales in
+    let within : All (λ (s : Sale). s.tenths ≤ 18201624) rows =
+    All-filter (is_in number month) (λ (s : Sale). s.tenths ≤ 18201624) o.sales
+        (All-weaker (IsSaleRow o) (λ s. s.tenths ≤ 18201624)
+        (λ s row. greatest s.tenths row.tenths) o.sales office.sales) in
+    let sum : sum_by tenths_of rows ≤ length rows * 18201624 =
+        sum_by-le tenths_of 18201624 rows within in
+    let count : length rows ≤ length o.sales = fewer (is_in number month) o.sales in
+    let room = office.sale_count in
+    omega arith

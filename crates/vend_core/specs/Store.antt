@@ -1,0 +1,107 @@
+-- What a store finds among the office's rows, and what an edit meets there.
+use Rattle.std.specs.Prelude.{◌≡◌, ◌↔◌, ℕ, ◌+◌, ◌<◌, ◌≤◌, List, ◌≢◌, ◌∷◌, [], Some, None, IsSome, IsNone, All, AllPairs, Contains, filter, length, nat_lt, take}
+use Rattle.sts_fields.specs.declared.base.Base.{Base}
+use Rattle.tariff.specs.Steps.{IsSteps}
+use Rattle.vend_core.specs.Edits.{with_row}
+use Rattle.vend_core.specs.Lookup.{open_shift, sale_of_ref, used}
+use Rattle.vend_core.specs.Names.{IsName}
+use Rattle.vend_core.specs.Office.{IsBefore, IsMoment, IsSaleRow, IsShiftRow, Office, greatest_count}
+use Rattle.vend_core.specs.Request.{IsMeter}
+use Rattle.vend_core.specs.declared.change.Edit.{Edit}
+use Rattle.vend_core.specs.declared.change.Edit.TheVariants.{AddTariff, AddMeter, AddRows, SetTariff, OpenShift, CloseShift, AddSale}
+use Rattle.vend_core.specs.declared.meter.Meter.{Meter}
+use Rattle.vend_core.specs.declared.row.Row.{Row}
+use Rattle.vend_core.specs.declared.row.Row.TheVariants as kinds
+use Rattle.vend_core.specs.declared.sale.Sale.{Sale}
+use Rattle.vend_core.specs.declared.shift.Shift.{Shift}
+
+-- the sale has the greatest identifier that was sold to a meter under a base
+pub record IsLastSale (o : Office) (number : List ℕ) (base : Base) (s : Sale) : Type 0 where
+  pub stands : Contains o.sales s
+  pub meter : s.meter ≡ number
+  pub under : s.base ≡ base
+  pub greatest : (t : Sale) → Contains o.sales t → t.meter ≡ number → t.base ≡ base → t.tid ≤ s.tid
+
+-- an open shift of the operator
+pub record IsOpenShift (o : Office) (name : List ℕ) (s : Shift) : Type 0 where
+  pub stands : Contains o.shifts s
+  pub operator : s.operator ≡ name
+  pub still_open : IsNone s.closed
+
+-- a sale that the operator made under the ref
+pub record IsUnderRef (o : Office) (name text : List ℕ) (s : Sale) : Type 0 where
+  pub stands : Contains o.sales s
+  pub operator : s.operator ≡ name
+  pub order_ref : s.order_ref ≡ text
+
+-- the sales of which P holds, by number
+pub record AreByNumber (o : Office) (P : Sale → Type 0) (sales : List Sale) : Type 0 where
+  pub in_order : AllPairs (λ a b. a.number < b.number) sales
+  pub members : (s : Sale) → Contains sales s ↔ (Contains o.sales s × P s)
+
+-- the sales above a number, by number, up to a limit
+abbrev pub sales_above : Office → ℕ → ℕ → List Sale
+sales_above o number limit = take limit (filter (λ s. nat_lt number s.number) o.sales)
+
+-- a new shift: it has the next number, and its operator has none that is open
+pub record MeetsNewShift (o : Office) (s : Shift) : Type 0 where
+  pub values : IsShiftRow s
+  pub starts_open : IsNone s.closed
+  pub number : s.number ≡ length o.shifts + 1
+  pub room : length o.shifts < greatest_count
+  pub none_open : open_shift o s.operator ≡ None
+
+-- a closing: one shift has the number, and it is its operator's open one
+pub record MeetsClosing (o : Office) (number secs : ℕ) : Type 0 where
+  pub moment : IsMoment secs
+  pub shift : Shift
+  pub stands : Contains o.shifts shift
+  pub numbered : shift.number ≡ number
+  pub only : (t : Shift) → Contains o.shifts t → t.number ≡ number → t ≡ shift
+  pub still_open : IsNone shift.closed
+  pub is_open : open_shift o shift.operator ≡ Some shift
+
+-- a new sale: it has the next number, it is made in its operator's open shift and to a meter that is
+-- there, its ref is new, and its identifier is above those used of its meter under its base
+pub record MeetsNewSale (o : Office) (s : Sale) : Type 0 where
+  pub values : IsSaleRow o s
+  pub some : 1 ≤ s.tenths
+  pub number : s.number ≡ length o.sales + 1
+  pub room : length o.sales < greatest_count
+  pub shift : Shift
+  pub shift_is : open_shift o s.operator ≡ Some shift
+  pub in_shift : s.shift ≡ shift.number
+  pub meter : Meter
+  pub meter_is : o.meters s.meter ≡ Some meter
+  pub under : s.base ≡ meter.base
+  pub new_ref : sale_of_ref o s.operator s.order_ref ≡ None
+  pub above_used : All (λ tid. tid < s.tid) (used o s.meter s.base)
+  pub after : (a : Sale) → Contains o.sales a → IsBefore a s
+
+-- a tariff or a meter that is added: its name or number is free, and a meter's tariff is there
+abbrev pub MeetsRow : Row → Office → Type 0
+MeetsRow (kinds.Tariff name steps) o = IsName name × IsSteps steps × (o.tariffs name ≡ None)
+MeetsRow (kinds.Meter number m) o =
+    IsMeter number m × (o.meters number ≡ None) × IsSome (o.tariffs m.tariff)
+
+-- rows that are added: each meets the office with the rows before it
+abbrev pub MeetRows : List Row → Office → Type 0
+MeetRows [] o = Unit {0}
+MeetRows (row ∷ rest) o = MeetsRow row o × MeetRows rest (with_row row o)
+
+-- a meter that is given a tariff: both are there, and the meter had another one
+pub record MeetsSetting (o : Office) (number name : List ℕ) : Type 0 where
+  pub meter : Meter
+  pub meter_is : o.meters number ≡ Some meter
+  pub other : meter.tariff ≢ name
+  pub tariff : IsSome (o.tariffs name)
+
+-- what an edit meets in the office that decided it
+abbrev pub Meets : Edit → Office → Type 0
+Meets (AddTariff name steps) o = MeetsRow (kinds.Tariff name steps) o
+Meets (AddMeter number m) o = MeetsRow (kinds.Meter number m) o
+Meets (AddRows rows) o = (1 ≤ length rows) × MeetRows rows o
+Meets (SetTariff number name) o = MeetsSetting o number name
+Meets (OpenShift s) o = MeetsNewShift o s
+Meets (CloseShift number moment) o = MeetsClosing o number moment
+Meets (AddSale s) o = MeetsNewSale o s
