@@ -105,6 +105,8 @@ impl<T: BlockTransform> Lists<T> {
 }
 
 #[cfg(test)]
+mod imports;
+#[cfg(test)]
 mod lives;
 #[cfg(test)]
 mod tests;

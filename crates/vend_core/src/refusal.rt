@@ -123,3 +123,6 @@ impl From<AllocError> for Refusal {
         Refusal::Memory
     }
 }
+
+#[cfg(test)]
+mod tests;

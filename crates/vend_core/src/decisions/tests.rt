@@ -1,19 +1,21 @@
-//! An office that is nearly full.
+//! An office that is nearly full, and a long report.
 use crate::answer::Answer;
 use crate::buyer::Buyer;
 use crate::decisions::decide;
 use crate::facts::Facts;
+use crate::look_up::sales_of_shift;
 use crate::meter::Meter;
 use crate::meter_no::MeterNo;
 use crate::operator::Operator;
 use crate::order_ref::Ref;
 use crate::refusal::Refusal;
 use crate::request::{Order, Request, Stamped};
+use crate::sale::Sale;
 use crate::shift::Shift;
 use crate::tariff_name::TariffName;
 use std::alloc::Global;
 use std::test::Fail;
-use sts_fields::{Base, Moment};
+use sts_fields::{Amount, Base, Moment};
 use sts_token::Plain;
 use tariff::{Step, Steps, Tender};
 
@@ -77,5 +79,60 @@ fn the_last_sale(rt: HostRuntime) -> Result<(), Fail> {
         next_sale(rt.alloc(), 1_000_000_000)?,
         Err(Refusal::OfficeFull)
     );
+    Ok(())
+}
+
+// A sale of this number in the first shift or in the second.
+fn sale(number: u32, shift: u32) -> Result<Sale, Fail> {
+    Ok(Sale {
+        number,
+        moment: Moment::of_secs(1_388_534_430).ok_or("no moment")?,
+        shift,
+        operator: Operator::read(b"ann").ok_or("no operator")?,
+        order_ref: Ref::read(b"A-1").ok_or("no ref")?,
+        meter: MeterNo::read(b"12345678903").ok_or("no meter's number")?,
+        base: Base::Y2014,
+        tid: number,
+        rnd: 0,
+        tenths: Amount::of_tenths(1).ok_or("no amount")?,
+        price: 10,
+        tender: Tender::read(10).ok_or("no tender")?,
+        digits: [b'0'; 20],
+    })
+}
+
+#[test]
+fn a_long_report(rt: HostRuntime) -> Result<(), Fail> {
+    let alloc = rt.alloc();
+    let mut sales = Vec::new(alloc);
+    let mut first = Vec::new(alloc);
+    for number in 1..=2_003_u32 {
+        sales.push(sale(number, 1)?)?;
+        first.push(sale(number, 1)?)?;
+        sales.push(sale(number, 2)?)?;
+    }
+    let shift = Shift {
+        number: 1,
+        operator: Operator::read(b"ann").ok_or("no operator")?,
+        opened: Moment::of_secs(1_388_534_430).ok_or("no moment")?,
+        closed: None,
+    };
+    let facts = Facts {
+        report: Some((shift, sales_of_shift(alloc, &sales, 1)?)),
+        ..Facts::none()
+    };
+    let at = Stamped {
+        moment: shift.opened,
+        nibble: 0,
+        request: Request::ShiftReport(1),
+    };
+    let decided = decide(alloc, &Plain, &facts, &at)?;
+    match &decided.answer {
+        Answer::Report(given, reported) => {
+            assert_eq!(rt; *given, shift);
+            assert!(rt; reported.as_slice() == first.as_slice());
+        }
+        _ => assert!(rt; false, "no report"),
+    }
     Ok(())
 }

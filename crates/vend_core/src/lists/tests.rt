@@ -24,10 +24,10 @@ pub(super) const FIRST_DAY: i64 = 1_388_534_430;
 
 pub(super) const METER: &[u8] = b"12345678903";
 
-const OTHER_METER: &[u8] = b"10000000009";
+pub(super) const OTHER_METER: &[u8] = b"10000000009";
 
 // No office has it.
-const NO_METER: &[u8] = b"00000000000";
+pub(super) const NO_METER: &[u8] = b"00000000000";
 
 // The transform that turns over each bit of a block.
 #[derive(Clone, Copy, Debug)]
@@ -55,15 +55,15 @@ impl BlockTransform for Turned {
     ghost forward_undoes = { λ t key block k b. Prim.omega arith };
 }
 
-fn name(text: &[u8]) -> Result<TariffName, Fail> {
+pub(super) fn name(text: &[u8]) -> Result<TariffName, Fail> {
     Ok(TariffName::read(text).ok_or("no tariff's name")?)
 }
 
-fn number(text: &[u8]) -> Result<MeterNo, Fail> {
+pub(super) fn number(text: &[u8]) -> Result<MeterNo, Fail> {
     Ok(MeterNo::read(text).ok_or("no meter's number")?)
 }
 
-fn operator(text: &[u8]) -> Result<Operator, Fail> {
+pub(super) fn operator(text: &[u8]) -> Result<Operator, Fail> {
     Ok(Operator::read(text).ok_or("no operator")?)
 }
 
@@ -72,7 +72,7 @@ pub(super) fn flat(alloc: Global, price: u32) -> Result<Steps, Fail> {
     Ok(Steps::read(alloc, &[Step { ends: None, price }])?)
 }
 
-fn meter(base: Base, tariff: &[u8]) -> Result<Meter, Fail> {
+pub(super) fn meter(base: Base, tariff: &[u8]) -> Result<Meter, Fail> {
     Ok(Meter {
         base,
         tariff: name(tariff)?,
@@ -159,7 +159,7 @@ pub(super) fn are(sales: &[Sale], expected: &[&Sale]) -> bool {
 }
 
 // The office refuses the request on its first day, and shows as before.
-fn refuses(
+pub(super) fn refuses(
     rt: &impl Abort,
     lists: &mut Lists<Plain>,
     request: Request,
