@@ -25,20 +25,20 @@ module _ (laws : LowerLaws) (P : Office → Type 0) (keeps : StepKeeps P) where
   after_keeps forward o [] office are range holds = holds
   after_keeps forward o (at ∷ ats) office are range holds =
       after_keeps forward (step forward o at) ats
-          (step_keeps_office laws forward o at office (All-head IsStamped at ats are) range)
-          (All-tail IsStamped at ats are) range
+      (step_keeps_office laws forward o at office (All-head IsStamped at ats are) range)
+      (All-tail IsStamped at ats are) range
       (keeps forward o at office range holds)
 
   left_keeps : (life : Life) → IsLife life → IsOffice life.opening → P life.opening → (o : Office)
       → MayLeave life o → P o
   left_keeps life is office holds o (inl e) =
       subst P (sym e) (after_keeps life.forward life.opening (acknowledged life) office
-          (acknowledged_stamped laws life is) is.range holds)
+      (acknowledged_stamped laws life is) is.range holds)
   left_keeps life is office holds o (inr (at, there, e)) =
       subst P (sym e) (keeps life.forward (present life) at
-          (present_office laws life is office) is.range
+      (present_office laws life is office) is.range
       (after_keeps life.forward life.opening (acknowledged life) office
-          (acknowledged_stamped laws life is) is.range holds))
+      (acknowledged_stamped laws life is) is.range holds))
 
   led_keeps : (start : Office) (lives : List Life) (o : Office) → IsOffice start
       → LeadTo start lives o → P start → P o
@@ -46,7 +46,7 @@ module _ (laws : LowerLaws) (P : Office → Type 0) (keeps : StepKeeps P) where
   led_keeps start (life ∷ lives) o office (is, opens, (left, may, leads)) holds =
       let opening = subst IsOffice (sym opens) office in
       led_keeps left lives o (left_office laws life is opening left may) leads
-          (left_keeps life is opening (subst P (sym opens) holds) left may)
+      (left_keeps life is opening (subst P (sym opens) holds) left may)
 
   pub lives_keep : (lives : List Life) (o : Office) → AreLives lives o → P empty_office → P o
   lives_keep lives o are holds = led_keeps empty_office lives o empty_is_office are holds

@@ -1,16 +1,13 @@
 -- A life with one exchange more: what it keeps, and what it may leave.
-use Rattle.std.proofs.Common.{◌≡◌, ◌≢◌, ℕ, ◌⊎◌, ◌↔◌, inl, inr, Bool, true, false, cond, List, [], ◌∷◌, ◌++◌, Result, Ok, Err, length, min, take, refl, sym, ◌∙◌, ap, subst, arith}
+use Rattle.std.proofs.Common.{◌≡◌, ◌≢◌, ℕ, ◌⊎◌, ◌↔◌, inl, inr, Bool, true, false, cond, List, [], ◌∷◌, ◌++◌, Result, Ok, Err, refl, sym, ◌∙◌, ap, subst, arith}
 use Rattle.std.specs.Prelude.{All, Contains, filter, map}
-use Rattle.std.proofs.Math.Seq.{take-length}
-use Rattle.std.proofs.lemmas.List.{append-nil, append_assoc, map-append, take-append-le, take_min}
-use Rattle.std.proofs.lemmas.List.Elements.{All-append, All-cons, All-head, All-nil, All-push, All-tail, Contains-append_left, Contains-push, filter-append}
+use Rattle.std.proofs.lemmas.List.{append-nil, map-append}
+use Rattle.std.proofs.lemmas.List.Elements.{All-append, All-cons, All-head, All-nil, All-push, All-tail, filter-append}
 use Rattle.sts_token.specs.Token.{KeepsRange}
 use Rattle.vend_core.specs.Fold.{after, replies_to, reply, step}
-use Rattle.vend_core.specs.Growth.{HasGrown}
-use Rattle.vend_core.specs.Handed.{sales_of}
-use Rattle.vend_core.specs.Life.{AreLives, Exchange, HandsOut, IsLife, LeadTo, Life, MayLeave, StopsAtDoubt, acknowledged, acknowledges, doubts, in_doubt, present, replies_acknowledged}
-use Rattle.vend_core.specs.LifeLaws.{GoesOn, IsRunning, OnlyReads, exchanges_of, extended, extended_along, extended_by, opened}
-use Rattle.vend_core.specs.Office.{IsOffice, Office, empty_office}
+use Rattle.vend_core.specs.Life.{Exchange, IsLife, Life, MayLeave, StopsAtDoubt, acknowledged, acknowledges, doubts, in_doubt, present, replies_acknowledged}
+use Rattle.vend_core.specs.LifeLaws.{GoesOn, IsRunning, OnlyReads, extended, extended_by, opened}
+use Rattle.vend_core.specs.Office.{Office}
 use Rattle.vend_core.specs.Request.{IsStamped}
 use Rattle.vend_core.specs.declared.answer.Answer.{Answer}
 use Rattle.vend_core.specs.declared.refusal.Refusal.{Refusal}
@@ -18,12 +15,10 @@ use Rattle.vend_core.specs.declared.refusal.Refusal.TheVariants.{Memory, Store, 
 use Rattle.vend_core.specs.declared.request.Request.{Request}
 use Rattle.vend_core.specs.declared.request.Request.TheVariants.{Reprint, ShiftReport}
 use Rattle.vend_core.specs.declared.request.Stamped.{Stamped}
-use Rattle.vend_core.specs.declared.sale.Sale.{Sale}
 use Rattle.vend_core.proofs.LawLemmas.{reports_stay, reprints_stay}
-use Rattle.vend_core.proofs.LifeLemmas.{after-append, handed_left, left_office, opening_grown}
-use Rattle.vend_core.proofs.NewSaleLemmas.{LowerLaws}
+use Rattle.vend_core.proofs.LifeLemmas.{after-append}
 use Rattle.vend_core.proofs.RefusalLemmas.{own_reply}
-use Rattle.vend_core.proofs.RowLemmas.{contains_cases, contains_first, contains_map}
+use Rattle.vend_core.proofs.RowLemmas.{contains_cases, contains_first}
 
 abbrev pub Reply : Type 0
 Reply = Result Answer Refusal
@@ -78,7 +73,7 @@ module _ (life : Life) (more : List Exchange) where
   -- they are a life's where the rules answered what they acknowledge, from the present office on
   life_more : IsLife life → All (λ e. IsStamped e.request) more
       → map reply_in (filter passes more)
-          ≡ replies_to life.forward (present life) (map request_of (filter passes more))
+      ≡ replies_to life.forward (present life) (map request_of (filter passes more))
       → StopsAtDoubt (map reply_in (life.exchanges ++ more)) → IsLife (extended life more)
   life_more is stamped answered stops = record {
     range = is.range;
@@ -89,7 +84,7 @@ module _ (life : Life) (more : List Exchange) where
         ∙ ap (λ rs. rs ++ map reply_in (filter passes more)) is.replies
         ∙ ap (λ rs. replies_to life.forward life.opening (acknowledged life) ++ rs) answered
         ∙ sym (replies-append life.forward life.opening (acknowledged life)
-            (map request_of (filter passes more)))
+        (map request_of (filter passes more)))
         ∙ ap (λ ats. replies_to life.forward life.opening ats) (sym acknowledged_more);
     stops = stops;
   }
@@ -111,7 +106,7 @@ stops_later [] more sound stops = stops
 stops_later (e ∷ es) more sound stops =
     let is = All-head IsSound e es sound in
     stops_first e.reply (map reply_in (es ++ more)) is.0 is.1
-        (stops_later es more (All-tail IsSound e es sound) stops)
+    (stops_later es more (All-tail IsSound e es sound) stops)
 
 -- and it has no request in doubt
 no_doubt : (r : Reply) → r ≢ Err Store → doubts r ≡ false
@@ -123,7 +118,7 @@ no_doubts : (es : List Exchange) → All IsSound es → filter is_doubted es ≡
 no_doubts [] sound = refl
 no_doubts (e ∷ es) sound =
     ap (λ b. cond b (e ∷ filter is_doubted es) (filter is_doubted es))
-        (no_doubt e.reply (All-head IsSound e es sound).0)
+    (no_doubt e.reply (All-head IsSound e es sound).0)
     ∙ no_doubts es (All-tail IsSound e es sound)
 
 undoubted : (life : Life) → GoesOn life → in_doubt life ≡ []
@@ -144,8 +139,13 @@ pub opens_running : (forward : ℕ → ℕ → ℕ) (o : Office) → KeepsRange 
     → IsRunning (opened forward o) o
 unfolding after replies_to
 opens_running forward o range = record {
-  is_life = record { range = range; stamped =
-      All-nil (λ (e : Exchange). IsStamped e.request); replies = refl; stops = tt };
+  is_life = record {
+    range = range;
+    stamped =
+        All-nil (λ (e : Exchange). IsStamped e.request);
+    replies = refl;
+    stops = tt;
+  };
   goes_on = All-nil IsSound;
   present = refl;
 }
@@ -189,7 +189,7 @@ module _ (life : Life) (o : Office) (at : Stamped) (is : IsRunning life o)
   present_stays r none =
       present_more life (exchange at r ∷ [])
       ∙ ap (λ es. after life.forward (present life) (map request_of es))
-          (pass_none (exchange at r) none) ∙ is.present
+      (pass_none (exchange at r) none) ∙ is.present
 
   is_life_unacknowledged : (r : Reply) → acknowledges r ≡ false → StopsAtDoubt (r ∷ [])
       → IsLife (extended_by life at r)
@@ -197,8 +197,8 @@ module _ (life : Life) (o : Office) (at : Stamped) (is : IsRunning life o)
   is_life_unacknowledged r none stops =
       life_more life (exchange at r ∷ []) is.is_life (one_stamped r)
       (ap (λ es. map reply_in es) (pass_none (exchange at r) none)
-          ∙ ap (λ es. replies_to life.forward (present life) (map request_of es))
-          (sym (pass_none (exchange at r) none)))
+      ∙ ap (λ es. replies_to life.forward (present life) (map request_of es))
+      (sym (pass_none (exchange at r) none)))
       (stops_later life.exchanges (exchange at r ∷ []) is.goes_on stops)
 
   pub runs_on_without_memory : IsRunning (extended_by life at (Err Memory)) o
@@ -223,15 +223,18 @@ module _ (life : Life) (o : Office) (at : Stamped) (is : IsRunning life o)
       | inl same ↦ inl (same ∙ present_stays (Err Store) refl)
       | inr (doubt, there, e) ↦
           let only : doubt ≡ at =
-              sole doubt at (subst (λ ats. Contains ats doubt) doubted_alone there) in
+          sole doubt at (subst (λ ats. Contains ats doubt) doubted_alone there) in
           inr (e ∙ ap (λ q. step life.forward q doubt) (present_stays (Err Store) refl)
-              ∙ ap (λ d. step life.forward o d) only)
+          ∙ ap (λ d. step life.forward o d) only)
     ],
     λ may. elim may [
       | inl same ↦ inl (same ∙ sym (present_stays (Err Store) refl))
-      | inr stepped ↦ inr (at,
-          subst (λ ats. Contains ats at) (sym doubted_alone) (contains_first at []), stepped
-          ∙ ap (λ q. step life.forward q at) (sym (present_stays (Err Store) refl)))
+      | inr stepped ↦ inr (
+        at,
+        subst (λ ats. Contains ats at) (sym doubted_alone) (contains_first at []),
+        stepped
+            ∙ ap (λ q. step life.forward q at) (sym (present_stays (Err Store) refl)),
+      )
     ],
   )
 
@@ -255,10 +258,10 @@ module _ (life : Life) (o : Office) (at : Stamped) (is : IsRunning life o)
       record {
         is_life = life_more life (exchange at r ∷ []) is.is_life (one_stamped r)
             (ap (λ es. map reply_in es) one
-                ∙ ap (λ q. reply life.forward q at ∷ []) (sym is.present)
-                ∙ ap (λ es. replies_to life.forward (present life) (map request_of es)) (sym one))
+            ∙ ap (λ q. reply life.forward q at ∷ []) (sym is.present)
+            ∙ ap (λ es. replies_to life.forward (present life) (map request_of es)) (sym one))
             (stops_later life.exchanges (exchange at r ∷ []) is.goes_on
-                (stops_first r [] sound.0 sound.1 tt));
+            (stops_first r [] sound.0 sound.1 tt));
         goes_on = All-push IsSound life.exchanges (exchange at r) is.goes_on sound;
         present =
             present_more life (exchange at r ∷ [])
@@ -292,11 +295,11 @@ module _ (life : Life) (at : Stamped) where
   unfolding replies_to
   stopped_is_life is stamped =
       life_more life (exchange at (Err Stopped) ∷ []) is
-          (All-cons (λ (e : Exchange). IsStamped e.request) _ [] stamped
-          (All-nil (λ (e : Exchange). IsStamped e.request))) refl
+      (All-cons (λ (e : Exchange). IsStamped e.request) _ [] stamped
+      (All-nil (λ (e : Exchange). IsStamped e.request))) refl
       (subst StopsAtDoubt (sym
-          (map-append reply_in life.exchanges (exchange at (Err Stopped) ∷ [])))
-          (stops_still (map reply_in life.exchanges) is.stops))
+      (map-append reply_in life.exchanges (exchange at (Err Stopped) ∷ [])))
+      (stops_still (map reply_in life.exchanges) is.stops))
 
   pub stopped_stays : (p : Office)
       → MayLeave (extended_by life at (Err Stopped)) p ↔ MayLeave life p
@@ -304,14 +307,20 @@ module _ (life : Life) (at : Stamped) where
       let next = extended_by life at (Err Stopped) in (
         λ may. elim may [
           | inl same ↦ inl (same ∙ stopped_present)
-          | inr (doubt, there, e) ↦ inr
-              (doubt, subst (λ ats. Contains ats doubt) stopped_doubts there, e
-              ∙ ap (λ q. step life.forward q doubt) stopped_present)
+          | inr (doubt, there, e) ↦ inr (
+            doubt,
+            subst (λ ats. Contains ats doubt) stopped_doubts there,
+            e
+                ∙ ap (λ q. step life.forward q doubt) stopped_present,
+          )
         ],
         λ may. elim may [
           | inl same ↦ inl (same ∙ sym stopped_present)
-          | inr (doubt, there, e) ↦ inr
-              (doubt, subst (λ ats. Contains ats doubt) (sym stopped_doubts) there, e
-              ∙ ap (λ q. step life.forward q doubt) (sym stopped_present))
+          | inr (doubt, there, e) ↦ inr (
+            doubt,
+            subst (λ ats. Contains ats doubt) (sym stopped_doubts) there,
+            e
+                ∙ ap (λ q. step life.forward q doubt) (sym stopped_present),
+          )
         ],
       )

@@ -1,29 +1,21 @@
 -- Lives with many exchanges more, what they hand out and leave, and how lives go on.
-use Rattle.std.proofs.Common.{◌≡◌, ◌≢◌, ℕ, ◌⊎◌, ◌↔◌, inl, inr, Bool, true, false, cond, List, [], ◌∷◌, ◌++◌, Result, Ok, Err, length, min, take, refl, sym, ◌∙◌, ap, subst, arith}
+use Rattle.std.proofs.Common.{◌≡◌, ℕ, inl, inr, List, [], ◌∷◌, ◌++◌, length, min, take, refl, sym, ◌∙◌, ap, subst, arith}
 use Rattle.std.specs.Prelude.{All, Contains, filter, map}
 use Rattle.std.proofs.Math.Seq.{take-length}
 use Rattle.std.proofs.lemmas.List.{append-nil, append_assoc, map-append, take-append-le, take_min}
-use Rattle.std.proofs.lemmas.List.Elements.{All-append, All-cons, All-head, All-nil, All-push, All-tail, Contains-append_left, Contains-push, filter-append}
-use Rattle.sts_token.specs.Token.{KeepsRange}
+use Rattle.std.proofs.lemmas.List.Elements.{All-head, All-tail, Contains-append_left, Contains-push}
 use Rattle.vend_core.specs.Fold.{after, replies_to, reply, step}
 use Rattle.vend_core.specs.Growth.{HasGrown}
 use Rattle.vend_core.specs.Handed.{sales_of}
-use Rattle.vend_core.specs.Life.{AreLives, Exchange, HandsOut, IsLife, LeadTo, Life, MayLeave, StopsAtDoubt, acknowledged, acknowledges, doubts, in_doubt, present, replies_acknowledged}
-use Rattle.vend_core.specs.LifeLaws.{GoesOn, IsRunning, OnlyReads, exchanges_of, extended, extended_along, extended_by, opened}
+use Rattle.vend_core.specs.Life.{AreLives, Exchange, HandsOut, IsLife, LeadTo, Life, MayLeave, acknowledged}
+use Rattle.vend_core.specs.LifeLaws.{IsRunning, exchanges_of, extended, extended_along, extended_by, opened}
 use Rattle.vend_core.specs.Office.{IsOffice, Office, empty_office}
 use Rattle.vend_core.specs.Request.{IsStamped}
-use Rattle.vend_core.specs.declared.answer.Answer.{Answer}
-use Rattle.vend_core.specs.declared.refusal.Refusal.{Refusal}
-use Rattle.vend_core.specs.declared.refusal.Refusal.TheVariants.{Memory, Store, Stopped}
-use Rattle.vend_core.specs.declared.request.Request.{Request}
-use Rattle.vend_core.specs.declared.request.Request.TheVariants.{Reprint, ShiftReport}
 use Rattle.vend_core.specs.declared.request.Stamped.{Stamped}
 use Rattle.vend_core.specs.declared.sale.Sale.{Sale}
-use Rattle.vend_core.proofs.LawLemmas.{reports_stay, reprints_stay}
-use Rattle.vend_core.proofs.LifeLemmas.{after-append, handed_left, left_office, opening_grown}
+use Rattle.vend_core.proofs.LifeLemmas.{handed_left, left_office, opening_grown}
 use Rattle.vend_core.proofs.NewSaleLemmas.{LowerLaws}
-use Rattle.vend_core.proofs.RefusalLemmas.{own_reply}
-use Rattle.vend_core.proofs.RowLemmas.{contains_cases, contains_first, contains_map}
+use Rattle.vend_core.proofs.RowLemmas.{contains_map}
 use Rattle.vend_core.proofs.ExtendLemmas.{Reply, acknowledged_more, exchange, passes, reply_in, request_of, runs_on}
 
 -- many exchanges are one after another
@@ -69,25 +61,32 @@ runs_along life o (at ∷ ats) is stamped =
     let forward = life.forward in
     let r = reply forward o at in
     subst (λ l. IsRunning l (after forward (step forward o at) ats))
-        (along_first life at ats r (replies_to forward (step forward o at) ats))
+    (along_first life at ats r (replies_to forward (step forward o at) ats))
     (runs_along (extended_by life at r) (step forward o at) ats
-        (runs_on life o at is (All-head IsStamped at ats stamped))
-        (All-tail IsStamped at ats stamped))
+    (runs_on life o at is (All-head IsStamped at ats stamped))
+    (All-tail IsStamped at ats stamped))
 
 -- what a life hands out
 pub hands_out_reply : (life : Life) (at : Stamped) (r : Reply) (s : Sale) → Contains (sales_of r) s
     → HandsOut (extended_by life at r) s
 hands_out_reply life at r s holds =
-    inl (r, contains_map reply_in (life.exchanges ++ exchange at r ∷ []) (exchange at r)
-    (Contains-push life.exchanges (exchange at r)), holds)
+    inl (
+      r,
+      contains_map reply_in (life.exchanges ++ exchange at r ∷ []) (exchange at r)
+          (Contains-push life.exchanges (exchange at r)),
+      holds,
+    )
 
 pub hands_out_present : (life : Life) (o : Office) (s : Sale) → IsRunning life o
     → Contains o.sales s → HandsOut life s
 hands_out_present life o s is there =
     let ats = acknowledged life in
-    inr (length ats, subst (λ (q : Office). Contains q.sales s)
-        (sym is.present ∙ ap (λ begun. after life.forward life.opening begun)
-        (sym (take-length ats))) there)
+    inr (
+      length ats,
+      subst (λ (q : Office). Contains q.sales s)
+          (sym is.present ∙ ap (λ begun. after life.forward life.opening begun)
+          (sym (take-length ats))) there,
+    )
 
 -- a beginning of a list is one of the longer list
 begins_longer : (ats more : List Stamped) (n : ℕ)
@@ -98,16 +97,22 @@ begins_longer ats more n = take-append-le (min n (length ats)) ats more (omega a
 pub hands_out_still : (life : Life) (at : Stamped) (r : Reply) (s : Sale) → HandsOut life s
     → HandsOut (extended_by life at r) s
 hands_out_still life at r s (inl (q, there, holds)) =
-    inl (q, subst (λ rs. Contains rs q)
-        (sym (map-append reply_in life.exchanges (exchange at r ∷ [])))
-        (Contains-append_left (map reply_in life.exchanges) (r ∷ []) q there), holds)
+    inl (
+      q,
+      subst (λ rs. Contains rs q)
+          (sym (map-append reply_in life.exchanges (exchange at r ∷ [])))
+          (Contains-append_left (map reply_in life.exchanges) (r ∷ []) q there),
+      holds,
+    )
 hands_out_still life at r s (inr (n, there)) =
     let ats = acknowledged life in
     let more = exchange at r ∷ [] in
     let same = ap (λ all. take (min n (length ats)) all) (acknowledged_more life more)
-        ∙ begins_longer ats (map request_of (filter passes more)) n in
-    inr (min n (length ats),
-        subst (λ begun. Contains (after life.forward life.opening begun).sales s) (sym same) there)
+    ∙ begins_longer ats (map request_of (filter passes more)) n in
+    inr (
+      min n (length ats),
+      subst (λ begun. Contains (after life.forward life.opening begun).sales s) (sym same) there,
+    )
 
 -- what a life leaves, and lives that go on
 pub left_is : LowerLaws → (life : Life) (o : Office) → IsLife life → IsOffice life.opening

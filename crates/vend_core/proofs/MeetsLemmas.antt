@@ -61,8 +61,13 @@ if_set : (o : Office) (number name : List ℕ) (m : Meter) (b : Bool) → bytes_
     (edits.SetTariff number name) answers.Done)
 if_set o number name m true is meter_is there = if_unchanged o
 if_set o number name m false is meter_is there =
-    if_changed o _ (record { meter = m; meter_is = meter_is; other =
-        λ same. false≢true (sym is ∙ (bytes_eq-Decides m.tariff name).1 same); tariff = there })
+    if_changed o _ (record {
+      meter = m;
+      meter_is = meter_is;
+      other =
+          λ same. false≢true (sym is ∙ (bytes_eq-Decides m.tariff name).1 same);
+      tariff = there;
+    })
 
 -- a tariff or a meter that is added
 tariff_meets : (o : Office) (name : List ℕ) (steps : List Step) (there : Option (List Step))
@@ -124,19 +129,20 @@ new_rows_meet o number (row ∷ rest) new are e =
     let t = takes o number row rest new e in
     subst (λ (rows : List Row). MeetRows rows o) (sym t.new_is)
     (first_meets t.change t.more t.granted t.grants
-        (new_rows_meet (office_after o (Ok t.change)) (number + 1) rest t.more
-        (All-tail IsRow row rest are) t.further))
+    (new_rows_meet (office_after o (Ok t.change)) (number + 1) rest t.more
+    (All-tail IsRow row rest are) t.further))
   where
     first_meets : (change : Change) (more : List Row) → row_decision o row ≡ Ok change
         → Grants o row change → MeetRows more (office_after o (Ok change))
         → MeetRows (if is_some change.edit then row ∷ more else more) o
     first_meets change more granted (inl (none, same)) meet =
         subst (λ (b : Bool). MeetRows (if b then row ∷ more else more) o) (sym none)
-            (subst (MeetRows more) same meet)
+        (subst (MeetRows more) same meet)
     first_meets change more granted (inr (some, put, fits)) meet =
-        subst (λ (b : Bool). MeetRows (if b then row ∷ more else more) o) (sym some)
-        (new_row_meets o row change (All-head IsRow row rest are) granted some,
-            subst (MeetRows more) put meet)
+        subst (λ (b : Bool). MeetRows (if b then row ∷ more else more) o) (sym some) (
+          new_row_meets o row change (All-head IsRow row rest are) granted some,
+          subst (MeetRows more) put meet,
+        )
 
 rows_meet : (o : Office) (new : List Row) → MeetRows new o → EditMeets o (add_rows new)
 rows_meet o [] meet = if_unchanged o
@@ -163,9 +169,15 @@ module _ (o : Office) (office : IsOffice o) where
   if_open_shift moment operator None at named e =
       after_test (EditMeets o) (next_number (length o.shifts)) _ (λ refusal. tt) (λ number next.
       let n = next_number_ok (length o.shifts) number next in
-      if_changed o _ (record { values =
-          record { operator = named; opened = at; closed = λ secs none. cc }; starts_open =
-          refl; number = n.1; room = n.0; none_open = e }))
+      if_changed o _ (record {
+        values =
+            record { operator = named; opened = at; closed = λ secs none. cc };
+        starts_open =
+            refl;
+        number = n.1;
+        room = n.0;
+        none_open = e;
+      }))
 
   if_close_shift : (moment : ℕ) (operator : List ℕ) (shift : Option Shift) → IsMoment moment
       → open_shift o operator ≡ shift → EditMeets o (close_shift moment shift)
@@ -210,7 +222,7 @@ module _ (o : Office) (office : IsOffice o) where
         ∙ ap (λ order_ref. sale_of_ref o order.operator order_ref) new.order_ref ∙ alone;
     above_used = subst (λ number. All (λ tid. tid < s.tid) (used o number s.base)) (sym new.meter)
         (subst (λ base. All (λ tid. tid < s.tid) (used o order.meter base))
-            (sym new.base) new.tid.0.may_sell.above_used);
+        (sym new.base) new.tid.0.may_sell.above_used);
     after = λ a there. after_sales o office forward at order s a alone new there;
   }
 
@@ -225,7 +237,7 @@ module _ (o : Office) (office : IsOffice o) where
         let granted = granted_sale laws forward o at order change range office e in
         subst (λ (c : Change). EditMeets o (Ok c)) (sym granted.change_is)
         (if_changed o _ (new_sale_meets forward at order granted.sale moment ordered alone
-            granted.room granted.new))
+        granted.room granted.new))
 
     if_sell : (order : Order) (first : Option Sale) → IsOrder order
         → sale_of_ref o order.operator order.order_ref ≡ first
@@ -257,7 +269,7 @@ pub decided_meets : LowerLaws
     → change.edit ≡ Some edit → Meets edit o
 decided_meets laws forward o at change edit office is range e edits =
     subst (EditMeets o) e
-        (if_decided o office laws forward range at is.moment at.request is.request) edit edits
+    (if_decided o office laws forward range at is.moment at.request is.request) edit edits
 
 -- a closing is of the operator's open shift
 closes_at : (o : Office) (moment : ℕ) (name : List ℕ) (shift : Option Shift) (change : Change)
@@ -274,4 +286,4 @@ pub closes_the_open : (forward : ℕ → ℕ → ℕ) (o : Office) (at : Stamped
     × (change.edit ≡ Some (edits.CloseShift s.number at.moment))
 closes_the_open forward o at name change asks e =
     closes_at o at.moment name (open_shift o name) change refl
-        (ap (λ request. decision_of forward o at.moment at.nibble request) (sym asks) ∙ e)
+    (ap (λ request. decision_of forward o at.moment at.nibble request) (sym asks) ∙ e)

@@ -63,9 +63,9 @@ module _ {X : Type 0} (number : X → ℕ) where
       absurd (omega (arith, (to x (contains_first x xs)).1))
   same_rising (x ∷ xs) (y ∷ ys) x_rise y_rise to from =
       let same = same_first x y xs ys x_rise y_rise (to x (contains_first x xs))
-          (from y (contains_first y ys)) in
+      (from y (contains_first y ys)) in
       let rest = same_rising xs ys (later_rise x xs x_rise) (later_rise y ys y_rise)
-          (beside_first x y xs ys x_rise same to) (beside_first y x ys xs y_rise (sym same) from) in
+      (beside_first x y xs ys x_rise same to) (beside_first y x ys xs y_rise (sym same) from) in
       cc
 
   -- numbered rows rise, and so do those further on
@@ -87,23 +87,25 @@ module _ {X : Type 0} (number : X → ℕ) where
   rows_above xs n numbered =
       let rise = numbered_rise xs numbered in
       same_rising (filter (λ x. nat_lt n (number x)) xs) (drop n xs)
-          (AllPairs-filter (λ a b. number a < number b) (λ x. nat_lt n (number x)) xs rise)
-          (drop_rises n xs rise)
+      (AllPairs-filter (λ a b. number a < number b) (λ x. nat_lt n (number x)) xs rise)
+      (drop_rises n xs rise)
       (λ z there.
       let from = kept_from (λ x. nat_lt n (number x)) xs z there in
       let place = numbered from.0.0 z
-          (slice_get-get_or xs from.0.0 z from.0.1 ∙ ap Some from.0.2) in
+      (slice_get-get_or xs from.0.0 z from.0.1 ∙ ap Some from.0.2) in
       let above : n < number z = grind (arith, nat_tests, from.1) in
-      let i : n + (from.0.0 - n) ≡ from.0.0 = omega (arith, place) in
-      (from.0.0 - n, omega (arith, length-drop n xs, from.0.1, place),
-          get_or-drop n xs (from.0.0 - n) z ∙ ap (λ k. get_or xs k z) i ∙ from.0.2))
+      let i : n + (from.0.0 - n) ≡ from.0.0 = omega (arith, place) in (
+        from.0.0 - n,
+        omega (arith, length-drop n xs, from.0.1, place),
+        get_or-drop n xs (from.0.0 - n) z ∙ ap (λ k. get_or xs k z) i ∙ from.0.2,
+      ))
       (λ z there.
       let within : n + there.0 < length xs = omega (arith, length-drop n xs, there.1) in
       let is : get_or xs (n + there.0) z ≡ z = sym (get_or-drop n xs there.0 z) ∙ there.2 in
       let place = numbered (n + there.0) z
-          (slice_get-get_or xs (n + there.0) z within ∙ ap Some is) in
+      (slice_get-get_or xs (n + there.0) z within ∙ ap Some is) in
       kept (λ x. nat_lt n (number x)) xs z (n + there.0, within, is)
-          (let above : n < number z = omega (arith, place) in grind (arith, nat_tests)))
+      (let above : n < number z = omega (arith, place) in grind (arith, nat_tests)))
 
 abbrev number_of : Sale → ℕ
 number_of s = s.number
@@ -113,7 +115,7 @@ pub sales_of_shift_are : (o : Office) (number : ℕ) (sales : List Sale) → IsO
 sales_of_shift_are o number sales office =
     let test = λ (s : Sale). s.shift == number in
     let rise = AllPairs-filter (λ (a : Sale) (b : Sale). a.number < b.number) test o.sales
-        (numbered_rise number_of o.sales office.sale_numbers) in
+    (numbered_rise number_of o.sales office.sale_numbers) in
     let them : AreByNumber o (λ s. s.shift ≡ number) (sales_of_shift o number) = record {
       in_order = rise;
       members = λ s. (

@@ -30,8 +30,8 @@ module _ (laws : LowerLaws) where
         | inl same ↦ subst (λ sales. AllPairs Rises sales) (sym same) rise
         | inr (s, (order, asks, new), pushed, answered) ↦
             subst (λ sales. AllPairs Rises sales) (sym pushed)
-                (pairs_push Rises o.sales s rise
-                (λ a there. new_rises o office forward at order s a new there))
+            (pairs_push Rises o.sales s rise
+            (λ a there. new_rises o office forward at order s a new there))
       ]
 
   pub after_rises : (forward : ℕ → ℕ → ℕ) (o : Office) (ats : List Stamped) → IsOffice o
@@ -53,8 +53,8 @@ module _ (laws : LowerLaws) where
         | inr (s, (order, asks, new), pushed, answered) ↦
             let some = new.bought_is.some in
             subst (λ sales. All (λ (s : Sale). 1 ≤ s.tenths) sales) (sym pushed)
-                (All-push (λ (s : Sale). 1 ≤ s.tenths) o.sales s have
-                (omega (arith, some, new.tenths)))
+            (All-push (λ (s : Sale). 1 ≤ s.tenths) o.sales s have
+            (omega (arith, some, new.tenths)))
       ]
 
   pub after_sells_some : (forward : ℕ → ℕ → ℕ) (o : Office) (ats : List Stamped) → IsOffice o

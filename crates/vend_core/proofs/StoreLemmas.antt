@@ -81,15 +81,17 @@ pub no_last_sale_is : (o : Office) (number : List ℕ) (base : Base)
     → greatest_of (used o number base) ≡ None
 no_last_sale_is o number base none =
     ap greatest_of (empty_if_none (used o number base)
-        (λ u there. let from = used_from o number base u there in none from.0 from.1 from.2 from.3))
+    (λ u there. let from = used_from o number base u there in none from.0 from.1 from.2 from.3))
 
 -- a look-up finds a row exactly where the row stands and passes, if no two rows do; it finds none
 -- where none does
 module _ {X : Type 0} (p : X → Bool) (xs : List X) where
   finds_one : ((x y : X) → Contains xs x → Contains xs y → p x ≡ true → p y ≡ true → x ≡ y)
       → (x : X) → (find p xs ≡ Some x) ↔ (Contains xs x × (p x ≡ true))
-  finds_one one x = (λ e. found p xs x e,
-      λ is. finds p xs x is.0 is.1 (λ y there passes. one y x there is.0 passes is.1))
+  finds_one one x = (
+    λ e. found p xs x e,
+    λ is. finds p xs x is.0 is.1 (λ y there passes. one y x there is.0 passes is.1),
+  )
 
   none_at : (o : Option X) → find p xs ≡ o → ((x : X) → Contains xs x → p x ≡ true → ⊥) → o ≡ None
   none_at None e none = refl
@@ -139,8 +141,8 @@ pub open_shift_is : (o : Office) (name : List ℕ) (s : Shift) → IsOffice o
     → (open_shift o name ≡ Some s) ↔ IsOpenShift o name s
 open_shift_is o name s office =
     let finds = finds_one (is_open_of name) o.shifts
-        (λ x y x_there y_there x_passes y_passes. one_open_shift o name x y office x_there y_there
-        x_passes y_passes) s in (
+    (λ x y x_there y_there x_passes y_passes. one_open_shift o name x y office x_there y_there
+    x_passes y_passes) s in (
       λ e. let is = finds.0 e in let passes = open_shift_passes name s is.1 in
           record { stands = is.0; operator = passes.0; still_open = passes.1 },
       λ is. finds.1 (is.stands, passes_open_shift name s is.operator is.still_open),
@@ -162,8 +164,8 @@ module _ {X : Type 0} (number : X → ℕ) (xs : List X) where
   numbered_is numbered n x =
       let finds = finds_one (λ y. number y == n) xs (λ a b a_there b_there a_passes b_passes.
       same_number number xs a b numbered a_there b_there
-          ((Decides-eqb (number a) n).0 a_passes ∙ sym ((Decides-eqb (number b) n).0 b_passes)))
-          x in (
+      ((Decides-eqb (number a) n).0 a_passes ∙ sym ((Decides-eqb (number b) n).0 b_passes)))
+      x in (
         λ e. let is = finds.0 e in (is.0, (Decides-eqb (number x) n).0 is.1),
         λ is. finds.1 (is.0, (Decides-eqb (number x) n).1 is.1),
       )
@@ -180,13 +182,14 @@ module _ {X : Type 0} (number : X → ℕ) (xs : List X) where
       → 1 ≤ n → find (λ y. number y == n) xs ≡ row
   row_at_place numbered n (Some x) at from_one =
       let is = numbered (n - 1) x at in
-      (numbered_is numbered n x).1
-          ((n - 1, slice_get_within xs (n - 1) x at, get_or_from_slice_get xs (n - 1) x x at),
-          omega (arith, is))
+      (numbered_is numbered n x).1 (
+        (n - 1, slice_get_within xs (n - 1) x at, get_or_from_slice_get xs (n - 1) x x at),
+        omega (arith, is),
+      )
   row_at_place numbered n None at from_one =
       (no_number_is n).1 (λ x there is.
       let here : slice_get xs there.0 ≡ Some x = slice_get-get_or xs there.0 x there.1
-          ∙ ap Some there.2 in
+      ∙ ap Some there.2 in
       let place : there.0 ≡ n - 1 = omega (arith, numbered there.0 x here) in
       let both = sym at ∙ ap (λ i. slice_get xs i) (sym place) ∙ here in cc)
 
@@ -212,7 +215,7 @@ pub sale_of_ref_is : (o : Office) (name order_ref : List ℕ) (s : Sale) → IsO
     → (sale_of_ref o name order_ref ≡ Some s) ↔ IsUnderRef o name order_ref s
 sale_of_ref_is o name order_ref s office =
     let finds = finds_one (is_under_ref name order_ref) o.sales
-        (λ a b a_there b_there a_passes b_passes.
+    (λ a b a_there b_there a_passes b_passes.
     let a_is = under_ref_passes name order_ref a a_passes in
     let b_is = under_ref_passes name order_ref b b_passes in
     one_of_ref o a b office a_there b_there (a_is.0 ∙ sym b_is.0) (a_is.1 ∙ sym b_is.1)) s in (

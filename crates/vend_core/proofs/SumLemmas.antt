@@ -30,7 +30,7 @@ used_more : (o : Office) (s : Sale) (number : List ℕ) (base : Base)
 used_more o s number base =
     ap (λ sales. map tid_of sales) (filter-append (is_to number base) o.sales (s ∷ []))
     ∙ map-append tid_of (filter (is_to number base) o.sales)
-        (cond (is_to number base s) (s ∷ []) [])
+    (cond (is_to number base s) (s ∷ []) [])
 
 greatest_at : (ns : List ℕ) (s : Sale) (b : Bool)
     → greatest_of (ns ++ map tid_of (cond b (s ∷ []) []))
@@ -61,8 +61,8 @@ last_rises_to o s above =
     last_grows_by o s s.meter s.base
     ∙ ap (λ b. if b then Some (max (unwrap_or before 0) s.tid) else before) own
     ∙ ap (λ (k : ℕ). let r : Option ℕ = Some k in r)
-        (above_last (used o s.meter s.base) before s.tid
-        (greatest_is_last (used o s.meter s.base)) above)
+    (above_last (used o s.meter s.base) before s.tid
+    (greatest_is_last (used o s.meter s.base)) above)
 
 -- the tenths of a month, with one sale more
 abbrev is_in : List ℕ → ℕ → Sale → Bool
@@ -82,7 +82,7 @@ pub prior_grows_by : (o : Office) (s : Sale) (number : List ℕ) (month : ℕ)
 prior_grows_by o s number month =
     ap (λ sales. sum_by tenths_of sales) (filter-append (is_in number month) o.sales (s ∷ []))
     ∙ sum_by-append tenths_of (filter (is_in number month) o.sales)
-        (cond (is_in number month s) (s ∷ []) [])
+    (cond (is_in number month s) (s ∷ []) [])
     ∙ ap (λ n. prior o number month + n) (sum_if s (is_in number month s))
 
 pub used_in_range : (o : Office) (number : List ℕ) (base : Base) → IsOffice o
@@ -90,7 +90,7 @@ pub used_in_range : (o : Office) (number : List ℕ) (base : Base) → IsOffice 
 used_in_range o number base office =
     All-map (λ (tid : ℕ). tid ≤ last_tid) tid_of _
     (All-filter (is_to number base) (λ (s : Sale). s.tid ≤ last_tid) o.sales
-        (All-weaker (IsSaleRow o) (λ s. s.tid ≤ last_tid) (λ s row. row.tid) o.sales office.sales))
+    (All-weaker (IsSaleRow o) (λ s. s.tid ≤ last_tid) (λ s row. row.tid) o.sales office.sales))
 
 fewer : {X : Type 0} (p : X → Bool) (xs : List X) → length (filter p xs) ≤ length xs
 fewer p [] = omega arith
@@ -107,10 +107,10 @@ prior_in_range greatest o number month office =
     let rows = filter (is_in number month) o.sales in
     let within : All (λ (s : Sale). s.tenths ≤ 18201624) rows =
     All-filter (is_in number month) (λ (s : Sale). s.tenths ≤ 18201624) o.sales
-        (All-weaker (IsSaleRow o) (λ s. s.tenths ≤ 18201624)
-        (λ s row. greatest s.tenths row.tenths) o.sales office.sales) in
+    (All-weaker (IsSaleRow o) (λ s. s.tenths ≤ 18201624)
+    (λ s row. greatest s.tenths row.tenths) o.sales office.sales) in
     let sum : sum_by tenths_of rows ≤ length rows * 18201624 =
-        sum_by-le tenths_of 18201624 rows within in
+    sum_by-le tenths_of 18201624 rows within in
     let count : length rows ≤ length o.sales = fewer (is_in number month) o.sales in
     let room = office.sale_count in
     omega arith

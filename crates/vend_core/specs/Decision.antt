@@ -66,32 +66,36 @@ next_number count = if nat_lt count greatest_count then Ok (count + 1) else Err 
 -- AddTariff, where there are these steps under the name
 abbrev pub add_tariff : List ℕ → List Step → Option (List Step) → Result Change Refusal
 add_tariff name steps None = changed (edits.AddTariff name steps) answers.Done
-add_tariff name steps (Some there) = if steps_eq there steps then unchanged answers.Done else Err refusals.Differs
+add_tariff name steps (Some there) =
+    if steps_eq there steps then unchanged answers.Done else Err refusals.Differs
 
 -- AddMeter, where there is this meter under the number, and a tariff of its tariff's name or none
 abbrev pub add_meter : List ℕ → Meter → Option Meter → Bool → Result Change Refusal
-add_meter number m (Some there) has_tariff = if meter_eq there m then unchanged answers.Done else Err refusals.Differs
+add_meter number m (Some there) has_tariff =
+    if meter_eq there m then unchanged answers.Done else Err refusals.Differs
 add_meter number m None true = changed (edits.AddMeter number m) answers.Done
 add_meter number m None false = Err refusals.NoTariff
 
 -- a row of an import in an office: AddTariff or AddMeter
 abbrev pub row_decision : Office → Row → Result Change Refusal
 row_decision o (kinds.Tariff name steps) = add_tariff name steps (o.tariffs name)
-row_decision o (kinds.Meter number m) = add_meter number m (o.meters number) (is_some (o.tariffs m.tariff))
+row_decision o (kinds.Meter number m) =
+    add_meter number m (o.meters number) (is_some (o.tariffs m.tariff))
 
 -- whether a granted request changes something, or why it is refused
 abbrev pub is_new : Result Change Refusal → Result Bool Refusal
 is_new (Ok change) = Ok (is_some change.edit)
 is_new (Err refusal) = Err refusal
 
--- a row's refusal is that of the import, with the row's number and the cause; a row is refused for no other one
+-- a row's refusal is that of the import, with the row's number and the cause; a row has no other
 abbrev pub at_row : ℕ → Result Change Refusal → Result Change Refusal
 at_row number (Ok change) = Ok change
 at_row number (Err refusals.Differs) = Err (refusals.ImportRow number causes.Differs)
 at_row number (Err refusals.NoTariff) = Err (refusals.ImportRow number causes.NoTariff)
 at_row number (Err refusal) = Err refusal
 
--- the new ones of some rows, of which the first has this number, or why one is refused: each sees the rows before it
+-- the new ones of some rows, of which the first has this number, or why one is refused:
+-- each row sees the rows before it
 abbrev pub new_rows : Office → ℕ → List Row → Result (List Row) Refusal
 new_rows o number [] = Ok []
 new_rows o number (row ∷ rest) = do
@@ -102,7 +106,8 @@ new_rows o number (row ∷ rest) = do
 -- Import, with these new rows: all are added, or there is none and nothing changes
 abbrev pub add_rows : List Row → Result Change Refusal
 add_rows [] = unchanged (answers.Imported 0)
-add_rows (row ∷ rest) = changed (edits.AddRows (row ∷ rest)) (answers.Imported (length (row ∷ rest)))
+add_rows (row ∷ rest) =
+    changed (edits.AddRows (row ∷ rest)) (answers.Imported (length (row ∷ rest)))
 
 -- Import: the first row that is refused refuses them all
 abbrev pub import : Office → List Row → Result Change Refusal
@@ -110,19 +115,26 @@ import o rows = do
   new ← new_rows o 1 rows
   add_rows new
 
--- SetTariff, where there is this meter, and a tariff of the name or none; a meter that has it is left alone
+-- SetTariff, where there is this meter, and a tariff of the name or none;
+-- a meter that has it is left alone
 abbrev pub set_tariff : List ℕ → List ℕ → Option Meter → Bool → Result Change Refusal
 set_tariff number name None has_tariff = Err refusals.NoMeter
 set_tariff number name (Some m) false = Err refusals.NoTariff
 set_tariff number name (Some m) true =
-    if bytes_eq m.tariff name then unchanged answers.Done else changed (edits.SetTariff number name) answers.Done
+    if bytes_eq m.tariff name then unchanged answers.Done
+    else changed (edits.SetTariff number name) answers.Done
 
 -- OpenShift, where the operator has this open shift and there are so many shifts
 abbrev pub open_a_shift : ℕ → List ℕ → Option Shift → ℕ → Result Change Refusal
 open_a_shift moment operator (Some there) count = Err refusals.ShiftOpen
 open_a_shift moment operator None count = do
   number ← next_number count
-  changed (edits.OpenShift (record { number = number; operator = operator; opened = moment; closed = None })) (answers.Opened number)
+  let shift : Shift = record {
+    number = number;
+    operator = operator;
+    opened = moment;
+    closed = None;
+  } in changed (edits.OpenShift shift) (answers.Opened number)
 
 -- CloseShift
 abbrev pub close_shift : ℕ → Option Shift → Result Change Refusal
@@ -133,18 +145,22 @@ close_shift moment shift = do
 -- Sell, where this sale was made under the operator's ref: the same order gets it again
 abbrev pub sell_again : Order → Sale → Result Change Refusal
 sell_again order first =
-    if bytes_eq first.meter order.meter && (first.tender == order.tender) then unchanged (answers.Sold first)
+    if bytes_eq first.meter order.meter && (first.tender == order.tender)
+    then unchanged (answers.Sold first)
     else Err refusals.RefReused
 
--- what a sale looks at of its meter: the meter, the steps of its tariff, the last identifier under its base, the month's tenths
+-- what a sale looks at of its meter: the meter, the steps of its tariff, the last identifier
+-- under its base, the month's tenths
 pub record Buyer : Type 0 where
   pub meter : Meter
   pub steps : List Step
   pub last : Option ℕ
   pub prior : ℕ
 
--- a new sale: the operator's open shift, the meter, its minute, the fresh identifier, the purchase, and room for one more
-abbrev pub sell : (ℕ → ℕ → ℕ) → ℕ → ℕ → Order → Option Shift → Option Buyer → ℕ → Result Change Refusal
+-- a new sale: the operator's open shift, the meter, its minute, the fresh identifier,
+-- the purchase, and room for one more
+abbrev pub sell : (ℕ → ℕ → ℕ) → ℕ → ℕ → Order → Option Shift → Option Buyer → ℕ
+    → Result Change Refusal
 sell forward moment nibble order shift meter count = do
   s ← ok_or shift refusals.NoShift
   m ← ok_or meter refusals.NoMeter
@@ -169,9 +185,11 @@ sell forward moment nibble order shift meter count = do
   } in changed (edits.AddSale sale) (answers.Sold sale)
 
 -- Sell, where the operator made this sale under the ref
-abbrev pub sell_once : (ℕ → ℕ → ℕ) → ℕ → ℕ → Order → Option Sale → Option Shift → Option Buyer → ℕ → Result Change Refusal
+abbrev pub sell_once : (ℕ → ℕ → ℕ) → ℕ → ℕ → Order → Option Sale → Option Shift → Option Buyer → ℕ
+    → Result Change Refusal
 sell_once forward moment nibble order (Some first) shift meter count = sell_again order first
-sell_once forward moment nibble order None shift meter count = sell forward moment nibble order shift meter count
+sell_once forward moment nibble order None shift meter count =
+    sell forward moment nibble order shift meter count
 
 -- Reprint: the sale as it was stored
 abbrev pub reprint : Option Sale → Result Change Refusal
@@ -197,17 +215,23 @@ buyer_of o number moment =
 
 -- how an office decides a request
 abbrev pub decision_of : (ℕ → ℕ → ℕ) → Office → ℕ → ℕ → Request → Result Change Refusal
-decision_of forward o moment nibble (requests.AddTariff name steps) = add_tariff name steps (o.tariffs name)
-decision_of forward o moment nibble (requests.AddMeter number m) = add_meter number m (o.meters number) (is_some (o.tariffs m.tariff))
+decision_of forward o moment nibble (requests.AddTariff name steps) =
+    add_tariff name steps (o.tariffs name)
+decision_of forward o moment nibble (requests.AddMeter number m) =
+    add_meter number m (o.meters number) (is_some (o.tariffs m.tariff))
 decision_of forward o moment nibble (requests.Import rows) = import o rows
-decision_of forward o moment nibble (requests.SetTariff number name) = set_tariff number name (o.meters number) (is_some (o.tariffs name))
-decision_of forward o moment nibble (requests.OpenShift operator) = open_a_shift moment operator (open_shift o operator) (length o.shifts)
-decision_of forward o moment nibble (requests.CloseShift operator) = close_shift moment (open_shift o operator)
+decision_of forward o moment nibble (requests.SetTariff number name) =
+    set_tariff number name (o.meters number) (is_some (o.tariffs name))
+decision_of forward o moment nibble (requests.OpenShift operator) =
+    open_a_shift moment operator (open_shift o operator) (length o.shifts)
+decision_of forward o moment nibble (requests.CloseShift operator) =
+    close_shift moment (open_shift o operator)
 decision_of forward o moment nibble (requests.Sell order) =
-    sell_once forward moment nibble order (sale_of_ref o order.operator order.order_ref) (open_shift o order.operator)
-    (buyer_of o order.meter moment) (length o.sales)
+    sell_once forward moment nibble order (sale_of_ref o order.operator order.order_ref)
+    (open_shift o order.operator) (buyer_of o order.meter moment) (length o.sales)
 decision_of forward o moment nibble (requests.Reprint number) = reprint (sale_numbered o number)
-decision_of forward o moment nibble (requests.ShiftReport number) = report (shift_numbered o number) (sales_of_shift o number)
+decision_of forward o moment nibble (requests.ShiftReport number) =
+    report (shift_numbered o number) (sales_of_shift o number)
 
 abbrev pub decision : (ℕ → ℕ → ℕ) → Office → Stamped → Result Change Refusal
 decision forward o at = decision_of forward o at.moment at.nibble at.request

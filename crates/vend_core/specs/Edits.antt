@@ -20,21 +20,27 @@ closed_at moment s = record s { closed = Some moment }
 
 -- the office with a row under its name or number
 abbrev pub with_row : Row → Office → Office
-with_row (kinds.Tariff name steps) o = record o { tariffs = λ q. if bytes_eq q name then Some steps else o.tariffs q }
-with_row (kinds.Meter number m) o = record o { meters = λ q. if bytes_eq q number then Some m else o.meters q }
+with_row (kinds.Tariff name steps) o =
+    record o { tariffs = λ q. if bytes_eq q name then Some steps else o.tariffs q }
+with_row (kinds.Meter number m) o =
+    record o { meters = λ q. if bytes_eq q number then Some m else o.meters q }
 
 -- the office with rows, one after another
 abbrev pub with_rows : List Row → Office → Office
 with_rows [] o = o
 with_rows (row ∷ rows) o = with_rows rows (with_row row o)
 
--- the office after an edit: rows are put under their names and numbers, or one is set, added at the end, or closed
+-- the office after an edit: rows are put under their names and numbers, or one is set,
+-- added at the end, or closed
 abbrev pub applied : Edit → Office → Office
 applied (AddTariff name steps) o = with_row (kinds.Tariff name steps) o
 applied (AddMeter number m) o = with_row (kinds.Meter number m) o
 applied (AddRows rows) o = with_rows rows o
 applied (SetTariff number name) o =
-    record o { meters = λ q. if bytes_eq q number then option_map (with_tariff name) (o.meters q) else o.meters q }
+    record o {
+      meters = λ q.
+          if bytes_eq q number then option_map (with_tariff name) (o.meters q) else o.meters q;
+    }
 applied (OpenShift s) o = record o { shifts = o.shifts ++ s ∷ [] }
 applied (CloseShift number moment) o =
     record o { shifts = map (λ s. if s.number == number then closed_at moment s else s) o.shifts }

@@ -36,7 +36,8 @@ no_facts = record {
   report = None;
 }
 
--- a meter, and where there is none whether its tariff is there: AddMeter looks at no tariff where the meter stands
+-- a meter, and where there is none whether its tariff is there:
+-- AddMeter looks at no tariff where the meter stands
 pub record AreMeterFacts (o : Office) (number : List ℕ) (m : Meter) (f : Facts) : Type 0 where
   pub meter : f.meter ≡ o.meters number
   pub has_tariff : IsNone f.meter → f.has_tariff ≡ is_some (o.tariffs m.tariff)
@@ -51,7 +52,8 @@ pub record AreOpeningFacts (o : Office) (operator : List ℕ) (f : Facts) : Type
   pub open_shift : f.open_shift ≡ open_shift o operator
   pub shift_count : IsNone f.open_shift → f.shift_count ≡ length o.shifts
 
--- a new sale looks at its meter only where there is an open shift, and at the count only where there is a meter too
+-- a new sale looks at its meter only where there is an open shift, and at the count only where
+-- there is a meter too
 pub record AreNewSaleFacts (o : Office) (moment : ℕ) (order : Order) (f : Facts) : Type 0 where
   pub open_shift : f.open_shift ≡ open_shift o order.operator
   pub buyer : IsSome f.open_shift → f.buyer ≡ buyer_of o order.meter moment
@@ -62,7 +64,7 @@ pub record AreSaleFacts (o : Office) (moment : ℕ) (order : Order) (f : Facts) 
   pub first_sale : f.first_sale ≡ sale_of_ref o order.operator order.order_ref
   pub new_sale : IsNone f.first_sale → AreNewSaleFacts o moment order f
 
--- what an office has of a row's names: a meter's tariff is looked at only where the meter is not there
+-- what an office has of a row's names: a meter's tariff is looked at only where there is no meter
 abbrev pub meter_found : Option Meter → Bool → RowFacts
 meter_found (Some there) has_tariff = found.Meter there
 meter_found None has_tariff = found.NoMeter has_tariff
@@ -71,12 +73,13 @@ abbrev pub row_facts : Office → Row → RowFacts
 row_facts o (kinds.Tariff name steps) = found.Tariff (o.tariffs name)
 row_facts o (kinds.Meter number m) = meter_found (o.meters number) (is_some (o.tariffs m.tariff))
 
--- what the office, without the rows of the import, has of each row's names, up to the first row that differs from it:
--- whatever rows came before, that row is refused
+-- what the office, without the rows of the import, has of each row's names, up to the first row
+-- that differs from it: whatever rows came before, that row is refused
 abbrev pub AreRowsFacts : Office → List Row → List RowFacts → Type 0
 AreRowsFacts o [] fs = Unit {0}
 AreRowsFacts o (row ∷ rest) [] = ⊥
-AreRowsFacts o (row ∷ rest) (f ∷ fs) = (f ≡ row_facts o row) × ((row_decision o row ≡ Err Differs) ⊎ AreRowsFacts o rest fs)
+AreRowsFacts o (row ∷ rest) (f ∷ fs) =
+    (f ≡ row_facts o row) × ((row_decision o row ≡ Err Differs) ⊎ AreRowsFacts o rest fs)
 
 -- the shift of a number with its sales
 abbrev pub report_of : Office → ℕ → Option (Shift × List Sale)
@@ -86,7 +89,8 @@ report_of o number = option_map (λ s. (s, sales_of_shift o number)) (shift_numb
 abbrev pub AreFactsOf : Office → ℕ → Request → Facts → Type 0
 AreFactsOf o moment (AddTariff name steps) f = f.tariff ≡ o.tariffs name
 AreFactsOf o moment (AddMeter number m) f = AreMeterFacts o number m f
-AreFactsOf o moment (Import rows) f = (fs : List RowFacts) × (f.rows ≡ Some fs) × AreRowsFacts o rows fs
+AreFactsOf o moment (Import rows) f =
+    (fs : List RowFacts) × (f.rows ≡ Some fs) × AreRowsFacts o rows fs
 AreFactsOf o moment (SetTariff number name) f = AreSettingFacts o number name f
 AreFactsOf o moment (OpenShift operator) f = AreOpeningFacts o operator f
 AreFactsOf o moment (CloseShift operator) f = f.open_shift ≡ open_shift o operator

@@ -19,9 +19,12 @@ pub record IsSameShift (earlier later : Shift) : Type 0 where
 -- an office and the same one later: its sales stand unchanged, and its shifts but for their closing
 pub record HasGrown (earlier later : Office) : Type 0 where
   pub sales : BeginsWith later.sales earlier.sales
-  pub shifts : (i : ℕ) (s : Shift) → slice_get earlier.shifts i ≡ Some s → (t : Shift) × (slice_get later.shifts i ≡ Some t) × IsSameShift s t
+  pub shifts : (i : ℕ) (s : Shift) → slice_get earlier.shifts i ≡ Some s
+      → (t : Shift) × (slice_get later.shifts i ≡ Some t) × IsSameShift s t
 
 -- an office and the same one later: its tariffs and meters stand unchanged
 pub record HaveStayed (earlier later : Office) : Type 0 where
-  pub tariffs : (name : List ℕ) (steps : List Step) → earlier.tariffs name ≡ Some steps → later.tariffs name ≡ Some steps
-  pub meters : (number : List ℕ) (m : Meter) → earlier.meters number ≡ Some m → later.meters number ≡ Some m
+  pub tariffs : (name : List ℕ) (steps : List Step)
+      → earlier.tariffs name ≡ Some steps → later.tariffs name ≡ Some steps
+  pub meters : (number : List ℕ) (m : Meter)
+      → earlier.meters number ≡ Some m → later.meters number ≡ Some m

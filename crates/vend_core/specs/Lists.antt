@@ -24,9 +24,11 @@ recorded r = office_of_rows r.tariffs.items r.meters.items r.shifts.items r.sale
 abbrev pub RowsFit : List Row → Office → Type 0
 RowsFit [] o = Unit {0}
 RowsFit (kinds.Tariff name steps ∷ rest) o = RowsFit rest (with_row (kinds.Tariff name steps) o)
-RowsFit (kinds.Meter number m ∷ rest) o = IsSome (o.tariffs m.tariff) × RowsFit rest (with_row (kinds.Meter number m) o)
+RowsFit (kinds.Meter number m ∷ rest) o =
+    IsSome (o.tariffs m.tariff) × RowsFit rest (with_row (kinds.Meter number m) o)
 
--- an edit that leaves each meter with a tariff of the office, each identifier within its range, and room for the count
+-- an edit that leaves each meter with a tariff of the office, each identifier within its range,
+-- and room for the count
 abbrev pub Fits : Edit → Office → Type 0
 Fits (AddTariff name steps) o = Unit {0}
 Fits (AddMeter number m) o = IsSome (o.tariffs m.tariff)
@@ -44,11 +46,13 @@ sets_only edit = false
 
 -- one request is served with the step's reply and office
 abbrev pub IsStep : (ℕ → ℕ → ℕ) → Office → Stamped → Result Answer Refusal → Office → Type 0
-IsStep forward before at result now = (result ≡ reply forward before at) × (now ≡ step forward before at)
+IsStep forward before at result now =
+    (result ≡ reply forward before at) × (now ≡ step forward before at)
 
 -- it is served so, or, for want of memory, with no change
 abbrev pub IsServed : (ℕ → ℕ → ℕ) → Office → Stamped → Result Answer Refusal → Office → Type 0
-IsServed forward before at result now = IsStep forward before at result now ⊎ ((result ≡ Err Memory) × (now ≡ before))
+IsServed forward before at result now =
+    IsStep forward before at result now ⊎ ((result ≡ Err Memory) × (now ≡ before))
 
 -- the office that lists keep, and the transform that their tokens are written with
 abbrev pub office_of : {T : Type 0} → Lists T → Office

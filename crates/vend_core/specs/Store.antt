@@ -61,8 +61,8 @@ pub record MeetsClosing (o : Office) (number secs : ℕ) : Type 0 where
   pub still_open : IsNone shift.closed
   pub is_open : open_shift o shift.operator ≡ Some shift
 
--- a new sale: it has the next number, it is made in its operator's open shift and to a meter that is
--- there, its ref is new, and its identifier is above those used of its meter under its base
+-- a new sale: it has the next number, it is made in its operator's open shift and to a meter that
+-- is there, its ref is new, and its identifier is above those used of its meter under its base
 pub record MeetsNewSale (o : Office) (s : Sale) : Type 0 where
   pub values : IsSaleRow o s
   pub some : 1 ≤ s.tenths

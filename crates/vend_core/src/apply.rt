@@ -43,7 +43,8 @@ pub(crate) fn apply(alloc: Global, records: &mut Records, edit: Edit) -> Result<
 }
 
 fn add_tariff(records: &mut Records, name: TariffName, steps: Steps) -> Result<(), AllocError>
-    ensures ok { OnOk result (recorded records.new ≡ applied (Edit.AddTariff name steps) (recorded records.old)) }
+    ensures ok { OnOk result
+        (recorded records.new ≡ applied (Edit.AddTariff name steps) (recorded records.old)) }
     ensures err { OnErr result (recorded records.new ≡ recorded records.old) }
 {
     records.tariffs.insert(0, (name, steps))?;
@@ -52,7 +53,8 @@ fn add_tariff(records: &mut Records, name: TariffName, steps: Steps) -> Result<(
 
 fn add_meter(records: &mut Records, number: MeterNo, meter: Meter) -> Result<(), AllocError>
     requires { IsSome ((recorded records.old).tariffs meter.tariff) }
-    ensures ok { OnOk result (recorded records.new ≡ applied (Edit.AddMeter number meter) (recorded records.old)) }
+    ensures ok { OnOk result
+        (recorded records.new ≡ applied (Edit.AddMeter number meter) (recorded records.old)) }
     ensures err { OnErr result (recorded records.new ≡ recorded records.old) }
 {
     records.meters.insert(0, (number, meter))?;
@@ -62,7 +64,8 @@ fn add_meter(records: &mut Records, number: MeterNo, meter: Meter) -> Result<(),
 // Room is made first, so that all the rows are added or none.
 fn add_rows(alloc: Global, records: &mut Records, rows: Rows) -> Result<(), AllocError>
     requires { RowsFit rows (recorded records.old) }
-    ensures ok { OnOk result (recorded records.new ≡ applied (Edit.AddRows rows) (recorded records.old)) }
+    ensures ok { OnOk result
+        (recorded records.new ≡ applied (Edit.AddRows rows) (recorded records.old)) }
     ensures err { OnErr result (recorded records.new ≡ recorded records.old) }
 {
     let (mut tariffs, mut meters) = last_first(alloc, rows)?;
@@ -79,7 +82,8 @@ type TariffsAndMeters = (Vec<(TariffName, Steps)>, Vec<(MeterNo, Meter)>);
 
 // The tariffs and the meters among rows, the last one in front.
 fn last_first(alloc: Global, rows: Rows) -> Result<TariffsAndMeters, AllocError>
-    ensures { IfOk result (λ both. (both.0.items ≡ tariffs_of rows) × (both.1.items ≡ meters_of rows)) }
+    ensures { IfOk result
+        (λ both. (both.0.items ≡ tariffs_of rows) × (both.1.items ≡ meters_of rows)) }
 {
     let mut rest = rows.into_vec();
     let mut tariffs = Vec::new(alloc);
@@ -131,7 +135,8 @@ fn row_with_tariff(row: &(MeterNo, Meter), number: MeterNo, name: TariffName) ->
 }
 
 fn open_shift(records: &mut Records, shift: Shift) -> Result<(), AllocError>
-    ensures ok { OnOk result (recorded records.new ≡ applied (Edit.OpenShift shift) (recorded records.old)) }
+    ensures ok { OnOk result
+        (recorded records.new ≡ applied (Edit.OpenShift shift) (recorded records.old)) }
     ensures err { OnErr result (recorded records.new ≡ recorded records.old) }
 {
     records.shifts.extend_from_slice(&[shift])
@@ -168,7 +173,8 @@ fn closed_if(shift: &Shift, number: u32, moment: Moment) -> Shift
 fn add_sale(records: &mut Records, sale: Sale) -> Result<(), AllocError>
     requires tid { sale.tid ≤ last_tid }
     requires room { length (recorded records.old).sales < greatest_count }
-    ensures ok { OnOk result (recorded records.new ≡ applied (Edit.AddSale sale) (recorded records.old)) }
+    ensures ok { OnOk result
+        (recorded records.new ≡ applied (Edit.AddSale sale) (recorded records.old)) }
     ensures err { OnErr result (recorded records.new ≡ recorded records.old) }
 {
     records.sales.push(sale)?;

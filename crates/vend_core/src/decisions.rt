@@ -124,7 +124,8 @@ pub(crate) fn same_meter(there: &Meter, meter: &Meter) -> bool
 
 // Whether a tariff is new where these steps are under its name, or why it is refused.
 pub(crate) fn is_new_tariff(steps: &Steps, there: Option<&Steps>) -> Result<bool, Refusal>
-    ensures value { (name : List ℕ) → result ≡ is_new (add_tariff name steps.now (option_copied there.entry)) }
+    ensures value { (name : List ℕ)
+        → result ≡ is_new (add_tariff name steps.now (option_copied there.entry)) }
     ensures cause { IfErr result (λ refusal. refusal ≡ Refusal.Differs) }
 {
     match there {
@@ -140,8 +141,10 @@ pub(crate) fn is_new_meter(
     there: Option<Meter>,
     has_tariff: bool,
 ) -> Result<bool, Refusal>
-    ensures value { (number : List ℕ) → result ≡ is_new (add_meter number meter.now there has_tariff) }
-    ensures causes { IfErr result (λ refusal. (refusal ≡ Refusal.Differs) ⊎ (refusal ≡ Refusal.NoTariff)) }
+    ensures value { (number : List ℕ)
+        → result ≡ is_new (add_meter number meter.now there has_tariff) }
+    ensures causes { IfErr result
+        (λ refusal. (refusal ≡ Refusal.Differs) ⊎ (refusal ≡ Refusal.NoTariff)) }
 {
     match there {
         Some(there) if same_meter(&there, meter) => Ok(false),

@@ -93,7 +93,8 @@ impl<'a> Taken<'a> {
     fn is_new(&self, row: &'a Row, found: Option<&'a RowFacts>) -> Result<bool, Refusal>
         ensures value { (o : Office) → option_copied found.entry ≡ Some (row_facts o row.now)
             → result ≡ is_new (row_decision (with_rows self.now.rows.items o) row.now) }
-        ensures causes { IfErr result (λ refusal. (refusal ≡ Refusal.Differs) ⊎ (refusal ≡ Refusal.NoTariff)) }
+        ensures causes { IfErr result
+            (λ refusal. (refusal ≡ Refusal.Differs) ⊎ (refusal ≡ Refusal.NoTariff)) }
     {
         match row {
             Row::Tariff(name, steps) => {
@@ -117,9 +118,11 @@ impl<'a> Taken<'a> {
         ensures ok { (o : Office) → option_copied found.entry ≡ Some (row_facts o row.now)
             → OnOk result ((change : Change)
             × (row_decision (with_rows self.old.rows.items o) row.now ≡ Ok change)
-            × (self.new.rows.items ≡ self.old.rows.items ++ (if is_some change.edit then row.now ∷ [] else []))) }
+            × (self.new.rows.items
+            ≡ self.old.rows.items ++ (if is_some change.edit then row.now ∷ [] else []))) }
         ensures err { (o : Office) → option_copied found.entry ≡ Some (row_facts o row.now)
-            → IfErr result (λ refusal. (at_row number (row_decision (with_rows self.old.rows.items o) row.now) ≡ Err refusal)
+            → IfErr result (λ refusal.
+            (at_row number (row_decision (with_rows self.old.rows.items o) row.now) ≡ Err refusal)
             ⊎ (refusal ≡ Refusal.Memory)) }
         ensures one { OnOk result (length self.new.rows.items ≤ length self.old.rows.items + 1) }
         ensures no_store { (result ≢ Err Refusal.Store) × (result ≢ Err Refusal.Stopped) }
@@ -232,7 +235,8 @@ fn new_rows<'a>(alloc: Global, rows: &'a [Row], found: &'a [RowFacts]) -> Result
     ensures ok { (o : Office) → AreRowsFacts o rows.now found.now
         → IfOk result (λ new. new_rows o 1 rows.now ≡ Ok new.items) }
     ensures err { (o : Office) → AreRowsFacts o rows.now found.now
-        → IfErr result (λ refusal. (new_rows o 1 rows.now ≡ Err refusal) ⊎ (refusal ≡ Refusal.Memory)) }
+        → IfErr result (λ refusal.
+        (new_rows o 1 rows.now ≡ Err refusal) ⊎ (refusal ≡ Refusal.Memory)) }
     ensures few { IfOk result (λ new. length new.items ≤ length rows.now) }
     ensures no_store { (result ≢ Err Refusal.Store) × (result ≢ Err Refusal.Stopped) }
 {

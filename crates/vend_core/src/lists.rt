@@ -79,8 +79,11 @@ impl<T: BlockTransform> Lists<T> {
     /// `Refusal::Memory` comes, where a vector found no memory, and never to a SetTariff, a
     /// CloseShift or a Reprint: they add no row and hand out no list.
     pub fn serve(&mut self, at: &Stamped) -> Reply
-        ensures served { IsServed (T.forwards (transform_of self.old)) (office_of self.old) at.now result (office_of self.new) }
-        ensures exact { keeps_lists at.now.request ≡ true → IsStep (T.forwards (transform_of self.old)) (office_of self.old) at.now result (office_of self.new) }
+        ensures served { IsServed (T.forwards (transform_of self.old))
+            (office_of self.old) at.now result (office_of self.new) }
+        ensures exact { keeps_lists at.now.request ≡ true
+            → IsStep (T.forwards (transform_of self.old))
+            (office_of self.old) at.now result (office_of self.new) }
         ensures office { IsOffice (office_of self.old) → IsOffice (office_of self.new) }
         ensures transform { transform_of self.new ≡ transform_of self.old }
     {
@@ -91,8 +94,11 @@ impl<T: BlockTransform> Lists<T> {
 
     // Serves a request, whatever the office that the lists keep.
     fn served(&mut self, at: &Stamped) -> Reply
-        ensures served { IsServed (T.forwards (transform_of self.old)) (office_of self.old) at.now result (office_of self.new) }
-        ensures exact { keeps_lists at.now.request ≡ true → IsStep (T.forwards (transform_of self.old)) (office_of self.old) at.now result (office_of self.new) }
+        ensures served { IsServed (T.forwards (transform_of self.old))
+            (office_of self.old) at.now result (office_of self.new) }
+        ensures exact { keeps_lists at.now.request ≡ true
+            → IsStep (T.forwards (transform_of self.old))
+            (office_of self.old) at.now result (office_of self.new) }
         ensures transform { transform_of self.new ≡ transform_of self.old }
     {
         let facts = facts(self.alloc, &self.records, at)?;
