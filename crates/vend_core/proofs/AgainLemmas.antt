@@ -172,7 +172,7 @@ granted_import : (o : Office) (rows : List Row) (r : Result (List Row) Refusal) 
 granted_import o rows (Err refusal) new e granted = cc
 granted_import o rows (Ok added) new e granted = subst (λ (p : Office). All (Stands p) rows) (sym (after_add o added)) (new_rows_stand o 1 rows added e)
 
-all_stand_still : (o p : Office) (rows : List Row) → HaveStayed o p → All (Stands o) rows → All (Stands p) rows
+pub all_stand_still : (o p : Office) (rows : List Row) → HaveStayed o p → All (Stands o) rows → All (Stands p) rows
 all_stand_still o p rows stayed stand = All-weaker (Stands o) (Stands p) (λ row stands. stands_still o p row stayed stands) rows stand
 
 pub imports_nothing : (forward : ℕ → ℕ → ℕ) (o : Office) (at : Stamped) (rows : List Row) → at.request ≡ requests.Import rows → All (Stands o) rows → ImportsNothing forward o at

@@ -1,4 +1,5 @@
 pub mod AgainLemmas
+pub mod AgainLifeLemmas
 pub mod AlongLemmas
 pub mod AnswerLemmas
 pub mod CashLemmas

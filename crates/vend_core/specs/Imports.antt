@@ -1,6 +1,7 @@
 -- An import that comes again.
 use Rattle.std.specs.Prelude.{◌≡◌, ℕ, Ok}
 use Rattle.vend_core.specs.Fold.{reply, step}
+use Rattle.vend_core.specs.Life.{Exchange}
 use Rattle.vend_core.specs.Office.{Office}
 use Rattle.vend_core.specs.declared.answer.Answer.TheVariants.{Imported}
 use Rattle.vend_core.specs.declared.request.Request.{Request}
@@ -14,6 +15,10 @@ IsNoSetTariff request = Unit {0}
 
 abbrev pub SetsNoTariff : Stamped → Type 0
 SetsNoTariff at = IsNoSetTariff at.request
+
+-- an exchange whose request is another
+abbrev pub AsksNoSetTariff : Exchange → Type 0
+AsksNoSetTariff e = SetsNoTariff e.request
 
 -- a request is answered that no row was new, and changes nothing
 abbrev pub ImportsNothing : (ℕ → ℕ → ℕ) → Office → Stamped → Type 0

@@ -1,15 +1,18 @@
-ghost use Rattle.std.specs.Prelude.{◌≡◌, ◌-◌, ◌<◌, ◌≤◌, ◌^◌, ◌↔◌, ◌++◌, ◌∷◌, [], ℕ, List, Option, Some, All, AllPairs, Contains, map, sum_by};
+ghost use Rattle.std.specs.Prelude.{◌≡◌, ◌-◌, ◌<◌, ◌≤◌, ◌^◌, ◌↔◌, ◌++◌, ◌∷◌, [], ℕ, List, Option, Ok, Some, All, AllPairs, Contains, map, sum_by};
 ghost use Rattle.sts_fields.specs.Tid.{IsReserved};
 ghost use Rattle.sts_token.specs.Meter.{Accepts, WasAccepted, credit_of};
 ghost use Rattle.sts_token.specs.Token.{KeepsRange};
 ghost use Rattle.vend_core.specs.Cash.{AskForReports, cash_of, cash_of_reports};
-ghost use Rattle.vend_core.specs.Life.{Answered, AreLives, IsHanded, IsLife, Life, MayLeave};
+ghost use Rattle.vend_core.specs.Imports.{AsksNoSetTariff, ImportsNothing};
+ghost use Rattle.vend_core.specs.Life.{Answered, AreLives, Exchange, IsHanded, IsLife, Life, MayLeave};
 ghost use Rattle.vend_core.specs.NewSale.{fields_of};
 ghost use Rattle.vend_core.specs.Office.{IsOffice, Office, Rises};
 ghost use Rattle.vend_core.specs.Request.{IsStamped};
 ghost use Rattle.vend_core.specs.SoldTokens.{AreSalesTo, SimMeter, WasWritten, accepted_of, digits_of, later_sales_come, reads_by, tokens_of};
 ghost use Rattle.vend_core.specs.declared.answer.Answer.{Answer};
+ghost use Rattle.vend_core.specs.declared.request.Request.{Request};
 ghost use Rattle.vend_core.specs.declared.request.Stamped.{Stamped};
+ghost use Rattle.vend_core.specs.declared.row.Row.{Row};
 ghost use Rattle.vend_core.specs.declared.sale.Sale.{Sale};
 
 use sts_fields::fresh_law;
@@ -48,6 +51,16 @@ pub fn history_law()
     // Each sale has a tenth at least.
     ensures some_tenths { (lives : List Life) (o : Office)
         → AreLives lives o → All (λ s. 1 ≤ s.tenths) o.sales }
+
+    // An import that a life granted and that comes again, later in it or in a later one, with no
+    // SetTariff in between, changes nothing and has no new row, whatever transform is there then.
+    ensures imported_again { (earlier later : List Life) (life : Life) (o : Office)
+        (before between : List Exchange) (e : Exchange) (rows : List Row) (new : ℕ)
+        (forward : ℕ → ℕ → ℕ) (again : Stamped)
+        → AreLives (earlier ++ life ∷ later) o → life.exchanges ≡ before ++ e ∷ between
+        → e.request.request ≡ Request.Import rows → e.reply ≡ Ok (Answer.Imported new)
+        → All AsksNoSetTariff between → All (λ l. All AsksNoSetTariff l.exchanges) later
+        → again.request ≡ Request.Import rows → ImportsNothing forward o again }
 
     // A reprint is the first token, whatever transforms the lives have.
     ensures reprint { (lives : List Life) (o : Office) (first again : Sale)

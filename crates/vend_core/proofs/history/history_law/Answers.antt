@@ -1,3 +1,4 @@
+use Rattle.vend_core.proofs.AgainLifeLemmas.{imported_again_in_lives}
 use Rattle.vend_core.proofs.CashLemmas.{cash_adds_up}
 use Rattle.vend_core.proofs.ExtendManyLemmas.{lives_go_on}
 use Rattle.vend_core.proofs.HistoryLemmas.{one_handed_number, one_handed_ref, one_handed_tid, same_digits}
@@ -78,3 +79,6 @@ returns-clause-below_bound c = λ lives o m sales are to. bound_above (lower c) 
 
 pub returns-clause-goes_on : goal.returns-clause-goes_on
 returns-clause-goes_on c = lives_go_on
+
+pub returns-clause-imported_again : goal.returns-clause-imported_again
+returns-clause-imported_again c = imported_again_in_lives
