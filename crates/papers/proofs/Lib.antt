@@ -1,0 +1,3 @@
+mod OutputLemmas
+mod TextLemmas
+mod ExportLemmas
