@@ -1,3 +1,6 @@
 mod OutputLemmas
 mod TextLemmas
 mod ExportLemmas
+mod FieldLemmas
+mod ImportLemmas
+mod RecordLemmas

@@ -1,4 +1,6 @@
 pub mod Export
+pub mod File
+pub mod Import
 pub mod Output
 pub mod Receipt
 pub mod Report

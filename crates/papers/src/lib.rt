@@ -5,12 +5,20 @@
 
 pub use exports::sales_csv;
 pub use fault::TextFault;
+pub use file_kind::FileKind;
+pub use imports::{read_meters, read_tariffs};
 pub use receipts::{receipt, receipt_text};
 pub use reports::{shift_report, shift_text};
+pub use row_fault::RowFault;
 
 mod exports;
 mod fault;
+mod file_kind;
+mod imports;
 mod lines;
 mod output;
+mod read_row;
 mod receipts;
+mod record;
 mod reports;
+mod row_fault;
