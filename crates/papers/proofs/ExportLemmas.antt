@@ -1,11 +1,12 @@
 -- The records of an export, one behind the other.
-use Rattle.std.proofs.Common.{◌≡◌, ◌∙◌, ◌+◌, ◌<◌, ℕ, [], ◌∷◌, ◌++◌, Bool, List, length, get_or, take, ap, append_assoc, sym, refl, arith, pos, ◌≤ℤ◌, w64, to_z, of_z, Option, Some, Result, Ok, Err, IfOk, MatchResult, Vec, Global}
+use Rattle.std.proofs.Common.{◌≡◌, ◌∙◌, ◌+◌, ◌<◌, ℕ, [], ◌∷◌, ◌++◌, Bool, false, List, length, get_or, take, ap, append_assoc, sym, arith, pos, ◌≤ℤ◌, w64, to_z, of_z, Some, Result, Ok, Err, IfOk, MatchResult, Vec, Global}
 use Rattle.std.specs.Result.{IsErrAnd}
 use Rattle.std.proofs.lemmas.List.{flat_map_more, take_more}
+use Rattle.std.proofs.lemmas.List.Concat.{flat_map-append}
 use Rattle.std.proofs.lemmas.Int.{ints, to_z-of_z}
 use Rattle.std.specs.Fmt.{decimal}
 use Rattle.std.specs.List.{flat_map}
-use Rattle.papers.specs.Export.{export_fields, export_header, export_of, header_text, sale_record}
+use Rattle.papers.specs.Export.{export_fields, export_of, header_text, sale_record}
 use Rattle.papers.specs.Text.{change_of}
 use Rattle.sts_fields.specs.Base.{year_of}
 use Rattle.vend_core.specs.declared.sale.Sale.{Sale}
@@ -38,3 +39,10 @@ items_given Q (Err e) (Err f) held bytes same keeps failed = tt
 -- a moment, read from the bits of a number of 64 bits with a sign
 pub moment_of_bits : (moment : ℕ) → pos moment ≤ℤ pos 4102444799 → to_z w64 (of_z w64 (pos moment)) ≡ pos moment
 moment_of_bits moment last = to_z-of_z w64 (pos moment) (omega (arith, ints))
+
+-- the sales of one list and then those of another
+pub export_of-append : (header : Bool) (front back : List Sale) → export_of header (front ++ back) ≡ export_of header front ++ export_of false back
+unfolding export_of
+export_of-append header front back =
+    ap (λ records. header_text header ++ records) (flat_map-append sale_record front back)
+    ∙ sym (append_assoc (header_text header) (flat_map sale_record front) (flat_map sale_record back))

@@ -1,7 +1,7 @@
 -- Files that are read so far, and their first faults.
-use Rattle.std.proofs.Common.{◌≡◌, ◌≢◌, ◌∙◌, ◌+◌, ◌-◌, ◌<◌, ◌≤◌, ℕ, zero, suc, [], ◌∷◌, ◌++◌, List, length, get_or, slice_get, Some, Result, Ok, Err, true, ap, refl, subst, arith, sym, length-append}
+use Rattle.std.proofs.Common.{◌≡◌, ◌≢◌, ◌∙◌, ◌+◌, ◌-◌, ◌<◌, ◌≤◌, ℕ, zero, suc, [], ◌∷◌, ◌++◌, List, length, slice_get, Some, Result, Ok, Err, true, ap, refl, subst, arith, sym, length-append}
 use Rattle.std.specs.Result.{OnOk, is_ok}
-use Rattle.papers.specs.File.{Fields, KeepsRuleAt, Says, SaysMeter, SaysTariff, base_text, header_of}
+use Rattle.papers.specs.File.{Fields, KeepsRuleAt, Says, base_text, header_of}
 use Rattle.papers.specs.Import.{AreRows, AreSaid, HasCause, HasFault, IsFault, IsFirstFault, IsNoRow, IsReadSoFar, IsRow, IsRowFault}
 use Rattle.papers.specs.declared.row_fault.RowFault.{RowFault}
 use Rattle.papers.specs.declared.row_fault.RowFault.TheVariants.{At, Memory}
@@ -57,7 +57,7 @@ AreSaid-more kind (f ∷ records) [] fields row said says = absurd said
 AreSaid-more kind (f ∷ records) (r ∷ rows) fields row said says = (said.0, AreSaid-more kind records rows fields row said.1 says)
 
 -- as many records as rows
-said-count : (kind : FileKind) (records : List Fields) (rows : List Row) → AreSaid kind records rows → length records ≡ length rows
+pub said-count : (kind : FileKind) (records : List Fields) (rows : List Row) → AreSaid kind records rows → length records ≡ length rows
 unfolding AreSaid
 said-count kind [] [] said = refl
 said-count kind [] (r ∷ rows) said = absurd said
@@ -82,7 +82,7 @@ says-none kind body more rows (suc i) other said within h =
     no-cause kind h.0 row.0 other row.1 h.2
 
 -- rows that were read have no fault
-no-fault-within : (kind : FileKind) (body more : List Fields) (rows : List Row) (earlier : ℕ) (other : RowCause) → AreSaid kind body rows
+pub no-fault-within : (kind : FileKind) (body more : List Fields) (rows : List Row) (earlier : ℕ) (other : RowCause) → AreSaid kind body rows
     → length rows ≤ greatest_rows → earlier < length body + 1 → ¬ HasFault kind (header_of kind ∷ (body ++ more)) earlier other
 no-fault-within kind body more rows earlier Header said few within h = h.1 refl
 no-fault-within kind body more rows earlier Columns said few within h = says-none kind body more rows earlier Columns said within h

@@ -4,3 +4,5 @@ mod ExportLemmas
 mod FieldLemmas
 mod ImportLemmas
 mod RecordLemmas
+mod ReportLemmas
+mod LawLemmas

@@ -1,5 +1,5 @@
 -- Every text has records: what `csv` reads ends, and one list follows another.
-use Rattle.std.proofs.Common.{◌≡◌, ◌∙◌, ◌+◌, ◌<◌, ◌⊎◌, ℕ, zero, suc, [], ◌∷◌, ◌++◌, List, Bool, true, false, length, Option, Some, None, inl, inr, cond, refl, arith, sym}
+use Rattle.std.proofs.Common.{◌≡◌, ◌+◌, ◌<◌, ◌⊎◌, ℕ, zero, suc, [], ◌∷◌, ◌++◌, List, Bool, true, false, length, Option, Some, None, inl, inr, cond, refl, arith}
 use Rattle.csv.specs.Machine.{Read, ends_at_end, field_after, fields_after, is_end, next_record, step}
 use Rattle.csv.specs.Reading.{AreRecords, Reached, default_config}
 use Rattle.csv.specs.declared.parser.Config.{Config}

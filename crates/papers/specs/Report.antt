@@ -33,11 +33,12 @@ shift_head shift =
     ++ line (codes "OPENED") (time_text shift.opened)
     ++ line (codes "CLOSED") (closed_text shift.closed)
 
--- the shift and its times, a line for each sale, and then how many sales there are, their tenths and their prices
+-- the last lines: how many sales there are, their tenths and their prices
+abbrev pub totals_text : ℕ → ℕ → ℕ → List ℕ
+totals_text count tenths cash =
+    line (codes "SALES") (decimal count) ++ line (codes "TENTHS") (decimal tenths) ++ line (codes "CASH") (decimal cash)
+
+-- the shift and its times, a line for each sale, and the totals over all of them
 unfoldable pub report_of : Shift → List Sale → List ℕ
 report_of shift sales =
-    shift_head shift
-    ++ flat_map sale_line sales
-    ++ line (codes "SALES") (decimal (length sales))
-    ++ line (codes "TENTHS") (decimal (tenths_of sales))
-    ++ line (codes "CASH") (decimal (cash_of sales))
+    shift_head shift ++ flat_map sale_line sales ++ totals_text (length sales) (tenths_of sales) (cash_of sales)

@@ -7,14 +7,16 @@ pub use exports::sales_csv;
 pub use fault::TextFault;
 pub use file_kind::FileKind;
 pub use imports::{read_meters, read_tariffs};
+pub use laws::{export_law, import_law};
 pub use receipts::{receipt, receipt_text};
-pub use reports::{shift_report, shift_text};
+pub use reports::{report_law, shift_report, shift_text};
 pub use row_fault::RowFault;
 
 mod exports;
 mod fault;
 mod file_kind;
 mod imports;
+mod laws;
 mod lines;
 mod output;
 mod read_row;
@@ -22,3 +24,5 @@ mod receipts;
 mod record;
 mod reports;
 mod row_fault;
+#[cfg(test)]
+mod tests;

@@ -1,6 +1,8 @@
-ghost use Rattle.std.specs.Prelude.{◌≡◌, ◌++◌, IfOk, OnOk, string_bytes};
+ghost use Rattle.std.specs.Prelude.{◌≡◌, ◌+◌, ◌++◌, ◌∷◌, ℕ, List, length, IfOk, OnOk, string_bytes};
+ghost use Rattle.vend_core.specs.declared.sale.Sale.{Sale};
+ghost use Rattle.vend_core.specs.declared.shift.Shift.{Shift};
 ghost use Rattle.papers.specs.Output.{IsWritten};
-ghost use Rattle.papers.specs.Report.{closed_text, report_of, sale_line, shift_head, tenths_of};
+ghost use Rattle.papers.specs.Report.{closed_text, report_of, sale_line, shift_head, tenths_of, totals_text};
 ghost use Rattle.vend_core.specs.Cash.{cash_of};
 
 use crate::fault::TextFault;
@@ -37,6 +39,16 @@ pub fn shift_text<W: Write>(
     let text = shift_report(alloc, shift, sales)?;
     write_whole(&text, out)
 }
+
+/// What a report says of its sales: a line for each of them, and at its end how many they all are, their tenths and their prices.
+pub fn report_law()
+    ensures totals { (shift : Shift) (sales : List Sale) → (front : List ℕ)
+        × (report_of shift sales ≡ front ++ totals_text (length sales) (tenths_of sales) (cash_of sales)) }
+    ensures each_sale { (shift : Shift) (before after : List Sale) (s : Sale) → (front back : List ℕ)
+        × (report_of shift (before ++ s ∷ after) ≡ front ++ sale_line s ++ back) }
+    ensures parts { (a b : List Sale) → (length (a ++ b) ≡ length a + length b)
+        × (tenths_of (a ++ b) ≡ tenths_of a + tenths_of b) × (cash_of (a ++ b) ≡ cash_of a + cash_of b) }
+{}
 
 // Adds the lines of a shift and its times.
 fn put_shift(alloc: Global, text: &mut Vec<u8>, shift: &Shift) -> Result<(), AllocError>

@@ -1,5 +1,4 @@
-use Rattle.std.proofs.Common.{[], ◌++◌, take, cond}
-use Rattle.std.specs.List.{flat_map}
+use Rattle.std.proofs.Common.{take}
 use Rattle.papers.specs.Export.{HasRecords, export_of}
 use Rattle.papers.proofs.exports.export.Given as goal
 

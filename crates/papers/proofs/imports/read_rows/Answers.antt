@@ -1,4 +1,4 @@
-use Rattle.std.proofs.Common.{Bor, List, ℕ, ◌≡◌, ◌∙◌, ◌+◌, ◌≤◌, length, arith, sym, refl, inl, inr, Some, ◌∷◌, [], ◌++◌, length-append, append_assoc}
+use Rattle.std.proofs.Common.{Bor, List, ℕ, ◌∙◌, arith, sym, refl, inl, inr, Some, ◌∷◌, [], ◌++◌, length-append, append_assoc}
 use Rattle.csv.specs.Reading.{Reached, default_config, strip_bom}
 use Rattle.csv.specs.Records.{fields_of}
 use Rattle.csv.specs.declared.parser.State.TheVariants as st

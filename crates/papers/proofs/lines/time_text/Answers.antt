@@ -1,4 +1,3 @@
-use Rattle.std.proofs.Common.{◌≡◌, ◌∙◌, sym}
 use Rattle.papers.proofs.TextLemmas.{same-value, styled-zeros, time-parts}
 use Rattle.papers.proofs.lines.time_text.Goals as goal
 

@@ -1,5 +1,4 @@
-use Rattle.std.proofs.Common.{◌≡◌, ◌+◌, ◌≤◌, ◌∙◌, length, drop, take, arith, ap, sym, subst}
-use Rattle.std.specs.Io.KnownBytes.{Appends}
+use Rattle.std.proofs.Common.{◌≡◌, ◌+◌, ◌≤◌, ◌∙◌, length, drop, arith, ap}
 use Rattle.std.proofs.lemmas.List.{drop-drop, length-drop, take_all, take_rest}
 use Rattle.papers.proofs.OutputLemmas.{Appends-part}
 use Rattle.papers.proofs.output.write_whole.Goals as goal

@@ -1,4 +1,4 @@
-use Rattle.std.proofs.Common.{◌≡◌, ◌≢◌, ◌∙◌, [], length, get_or, map, sym, refl, arith}
+use Rattle.std.proofs.Common.{◌≡◌, ◌∙◌, [], length, map, sym, refl, arith}
 use Rattle.std.proofs.lemmas.List.{ext_get_or, length-map}
 use Rattle.csv.specs.Records.{fields_of}
 use Rattle.papers.proofs.FieldLemmas.{fields-differ, fields-more, told-alike, told-apart}
