@@ -12,14 +12,16 @@ use Rattle.vend_core.specs.declared.sale.Sale.{Sale}
 -- the names of the fields
 abbrev pub export_header : List (List ℕ)
 export_header =
-    codes "number" ∷ codes "moment" ∷ codes "shift" ∷ codes "operator" ∷ codes "ref" ∷ codes "meter" ∷ codes "base"
-    ∷ codes "tid" ∷ codes "tenths" ∷ codes "price" ∷ codes "tender" ∷ codes "change" ∷ codes "token" ∷ []
+    codes "number" ∷ codes "moment" ∷ codes "shift" ∷ codes "operator" ∷ codes "ref"
+    ∷ codes "meter" ∷ codes "base" ∷ codes "tid" ∷ codes "tenths" ∷ codes "price"
+    ∷ codes "tender" ∷ codes "change" ∷ codes "token" ∷ []
 
 -- the fields of a sale
 abbrev pub export_fields : Sale → List (List ℕ)
 export_fields s =
-    decimal s.number ∷ decimal s.moment ∷ decimal s.shift ∷ s.operator ∷ s.order_ref ∷ s.meter ∷ decimal (year_of s.base)
-    ∷ decimal s.tid ∷ decimal s.tenths ∷ decimal s.price ∷ decimal s.tender ∷ decimal (change_of s) ∷ s.digits ∷ []
+    decimal s.number ∷ decimal s.moment ∷ decimal s.shift ∷ s.operator ∷ s.order_ref
+    ∷ s.meter ∷ decimal (year_of s.base) ∷ decimal s.tid ∷ decimal s.tenths ∷ decimal s.price
+    ∷ decimal s.tender ∷ decimal (change_of s) ∷ s.digits ∷ []
 
 -- a record of CSV, ended by a line feed
 unfoldable pub record_text : List (List ℕ) → List ℕ

@@ -11,6 +11,7 @@ use Rattle.tariff.specs.Steps.{IsSteps}
 use Rattle.tariff.specs.StepsText.{IsStepsText}
 use Rattle.tariff.specs.declared.step.Step.{Step}
 use Rattle.vend_core.specs.Names.{IsMeterNo, IsName}
+use Rattle.vend_core.specs.declared.meter.Meter as declared
 use Rattle.vend_core.specs.declared.row.Row.{Row}
 use Rattle.vend_core.specs.declared.row.Row.TheVariants.{Tariff, Meter}
 
@@ -18,7 +19,7 @@ use Rattle.vend_core.specs.declared.row.Row.TheVariants.{Tariff, Meter}
 abbrev pub Fields : Type 0
 Fields = List (List ℕ)
 
--- the records of a file: those that CSV has in its bytes, a byte order mark at the beginning taken off
+-- the records of a file: those that CSV has in its bytes, without a byte order mark in front
 abbrev pub AreFileRecords : List ℕ → List Fields → Type 0
 AreFileRecords bytes records = AreRecords default_config StartRecord (strip_bom bytes) records
 
@@ -61,12 +62,12 @@ pub record IsFirstOutside (kind : FileKind) (fields : Fields) (number : ℕ) : T
   pub before : (place : ℕ) → place < number - 1 → KeepsRuleAt kind fields place
 
 -- a record says a meter: its number, the year of its base date, the name of its tariff and its key
-pub record SaysMeter (fields : Fields) (number : List ℕ) (base : Base) (tariff : List ℕ) (key : ℕ) : Type 0 where
+pub record SaysMeter (fields : Fields) (number : List ℕ) (m : declared.Meter) : Type 0 where
   pub key_text : List ℕ
-  pub four : fields ≡ number ∷ base_text base ∷ tariff ∷ key_text ∷ []
+  pub four : fields ≡ number ∷ base_text m.base ∷ m.tariff ∷ key_text ∷ []
   pub numbered : IsMeterNo number
-  pub named : IsName tariff
-  pub keyed : IsKeyText key key_text
+  pub named : IsName m.tariff
+  pub keyed : IsKeyText m.key key_text
 
 -- a record says a tariff: its name and the text of its steps
 pub record SaysTariff (fields : Fields) (name : List ℕ) (steps : List Step) : Type 0 where
@@ -78,7 +79,7 @@ pub record SaysTariff (fields : Fields) (name : List ℕ) (steps : List Step) : 
 
 -- a record of a file says this row
 abbrev pub Says : FileKind → Fields → Row → Type 0
-Says Meters fields (Meter number m) = SaysMeter fields number m.base m.tariff m.key
+Says Meters fields (Meter number m) = SaysMeter fields number m
 Says Meters fields (Tariff name steps) = ⊥
 Says Tariffs fields (Meter number m) = ⊥
 Says Tariffs fields (Tariff name steps) = SaysTariff fields name steps

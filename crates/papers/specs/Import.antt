@@ -16,24 +16,26 @@ AreSaid kind [] (row ∷ rows) = ⊥
 AreSaid kind (fields ∷ records) [] = ⊥
 AreSaid kind (fields ∷ records) (row ∷ rows) = Says kind fields row × AreSaid kind records rows
 
--- the rows of a file: its records are the header and then one that says each row, at most 10000 of them
+-- the rows of a file, at most 10000: its records are the header, and then one that says each row
 pub record AreRows (kind : FileKind) (records : List Fields) (rows : List Row) : Type 0 where
   pub body : List Fields
   pub headed : records ≡ header_of kind ∷ body
   pub said : AreSaid kind body rows
   pub few : length rows ≤ greatest_rows
 
--- the number is one of a row, and the record at its place has these fields; rows count from 1, behind the header
+-- the row of a number has these fields; rows count from 1 on, behind the header
 pub record IsRow (records : List Fields) (number : ℕ) (fields : Fields) : Type 0 where
   pub from_one : 1 ≤ number
   pub few : number ≤ greatest_rows
   pub there : slice_get records number ≡ Some fields
 
--- why a record says no row: it has another number of fields than the header, or else the first field outside its rule
+-- why a record says no row: it has another number of fields than the header, or else a first field
+-- outside its rule
 abbrev pub HasCause : FileKind → Fields → RowCause → Type 0
 HasCause kind fields Header = ⊥
 HasCause kind fields Columns = length fields ≢ length (header_of kind)
-HasCause kind fields (Field k) = (length fields ≡ length (header_of kind)) × IsFirstOutside kind fields k
+HasCause kind fields (Field k) =
+    (length fields ≡ length (header_of kind)) × IsFirstOutside kind fields k
 HasCause kind fields TooManyRows = ⊥
 HasCause kind fields Differs = ⊥
 HasCause kind fields NoTariff = ⊥
@@ -45,10 +47,11 @@ IsRowFault kind fields number Memory = ⊤
 
 -- the record of a row says none, for this cause
 abbrev pub IsNoRow : FileKind → List Fields → ℕ → RowCause → Type 0
-IsNoRow kind records number cause = (fields : Fields) × IsRow records number fields × HasCause kind fields cause
+IsNoRow kind records number cause =
+    (fields : Fields) × IsRow records number fields × HasCause kind fields cause
 
--- the fault that a file has at a number: at 0 it has not the header, from 1 to 10000 a record that says no row,
--- and at 10001 a record too many, whatever it holds
+-- the fault that a file has at a number: at 0 it has not the header, from 1 to 10000 a record that
+-- says no row, and at 10001 a record too many, whatever it holds
 abbrev pub HasFault : FileKind → List Fields → ℕ → RowCause → Type 0
 HasFault kind records number Header = (number ≡ 0) × (slice_get records 0 ≢ Some (header_of kind))
 HasFault kind records number Columns = IsNoRow kind records number Columns
@@ -58,9 +61,11 @@ HasFault kind records number Differs = ⊥
 HasFault kind records number NoTariff = ⊥
 
 -- the file has the fault there, and none before it
-pub record IsFirstFault (kind : FileKind) (records : List Fields) (number : ℕ) (cause : RowCause) : Type 0 where
+pub record IsFirstFault (kind : FileKind) (records : List Fields) (number : ℕ) (cause : RowCause)
+    : Type 0 where
   pub here : HasFault kind records number cause
-  pub before : (earlier : ℕ) (other : RowCause) → earlier < number → ¬ HasFault kind records earlier other
+  pub before : (earlier : ℕ) (other : RowCause) → earlier < number
+      → ¬ HasFault kind records earlier other
 
 -- the fault that a reader answers for these records; want of memory tells nothing of them
 abbrev pub IsFault : FileKind → List Fields → RowFault → Type 0

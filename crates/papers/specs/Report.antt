@@ -11,7 +11,8 @@ abbrev pub closed_text : Option ℕ → List ℕ
 closed_text None = codes "-"
 closed_text (Some moment) = time_text moment
 
--- the line of a sale: its number, meter, tenths, price, tender and change, each number at the right of its places
+-- the line of a sale: its number, meter, tenths, price, tender and change, a space between two, and
+-- each number at the right of its places
 unfoldable pub sale_line : Sale → List ℕ
 sale_line s = join_with_byte space (
     right 10 (decimal s.number)
@@ -36,9 +37,13 @@ shift_head shift =
 -- the last lines: how many sales there are, their tenths and their prices
 abbrev pub totals_text : ℕ → ℕ → ℕ → List ℕ
 totals_text count tenths cash =
-    line (codes "SALES") (decimal count) ++ line (codes "TENTHS") (decimal tenths) ++ line (codes "CASH") (decimal cash)
+    line (codes "SALES") (decimal count)
+    ++ line (codes "TENTHS") (decimal tenths)
+    ++ line (codes "CASH") (decimal cash)
 
 -- the shift and its times, a line for each sale, and the totals over all of them
 unfoldable pub report_of : Shift → List Sale → List ℕ
 report_of shift sales =
-    shift_head shift ++ flat_map sale_line sales ++ totals_text (length sales) (tenths_of sales) (cash_of sales)
+    shift_head shift
+    ++ flat_map sale_line sales
+    ++ totals_text (length sales) (tenths_of sales) (cash_of sales)

@@ -37,11 +37,15 @@ digits_at_least places n = replicate (places - length (decimal n)) zero_digit ++
 
 -- a date, as 2014-01-01
 abbrev pub date_text : Civil → List ℕ
-date_text c = join_with_byte hyphen (digits_at_least 4 c.year ∷ digits_at_least 2 c.month ∷ digits_at_least 2 c.day ∷ [])
+date_text c =
+    join_with_byte hyphen
+    (digits_at_least 4 c.year ∷ digits_at_least 2 c.month ∷ digits_at_least 2 c.day ∷ [])
 
 -- a time of day, as 00:00:30
 abbrev pub clock_text : Civil → List ℕ
-clock_text c = join_with_byte colon (digits_at_least 2 c.hour ∷ digits_at_least 2 c.minute ∷ digits_at_least 2 c.second ∷ [])
+clock_text c =
+    join_with_byte colon
+    (digits_at_least 2 c.hour ∷ digits_at_least 2 c.minute ∷ digits_at_least 2 c.second ∷ [])
 
 -- both, in UTC, as 2014-01-01T00:00:30Z
 abbrev pub civil_text : Civil → List ℕ
@@ -57,7 +61,9 @@ kwh_text tenths = decimal (tenths / 10) ++ point ∷ decimal (tenths % 10)
 
 -- so many groups of four digits, a space between them
 abbrev pub groups : List ℕ → ℕ → List ℕ
-groups digits count = join_with_byte space (map (λ group. slice_range digits (4 * group) (4 * group + 4)) (range_with_len 0 count))
+groups digits count =
+    join_with_byte space
+    (map (λ group. slice_range digits (4 * group) (4 * group + 4)) (range_with_len 0 count))
 
 -- the digits of a token in five groups of four
 unfoldable pub grouped : List ℕ → List ℕ

@@ -27,14 +27,15 @@ const HEADER: [&[u8]; 13] = [
     b"token",
 ];
 
-/// Writes sales as CSV (`docs/TEXTS.md`, "Sales export"), with the header in front where it is asked for.
+/// Writes sales as CSV (`docs/TEXTS.md`, "Sales export"), behind the header where it is asked for.
 pub fn sales_csv<W: Write>(
     alloc: Global,
     sales: &[Sale],
     header: bool,
     out: &mut W,
 ) -> Result<(), TextFault>
-    ensures { IsWritten (W.contents out.old) (W.contents out.new) (export_of header sales.now) result }
+    ensures { IsWritten (W.contents out.old) (W.contents out.new)
+        (export_of header sales.now) result }
 {
     let text = export(alloc, sales, header)?;
     write_whole(&text, out)

@@ -16,21 +16,24 @@ const LAST_ROW: u32 = 10_000;
 
 /// The meters that a file has, or its first fault (`docs/TEXTS.md`, "Meters").
 pub fn read_meters(alloc: Global, bytes: &[u8]) -> Result<Rows, RowFault>
-    ensures { (records : List Fields) × AreFileRecords bytes.now records × IsReading FileKind.Meters records result }
+    ensures { (records : List Fields) × AreFileRecords bytes.now records
+        × IsReading FileKind.Meters records result }
 {
     read_rows(alloc, FileKind::Meters, bytes)
 }
 
 /// The tariffs that a file has, or its first fault (`docs/TEXTS.md`, "Tariffs").
 pub fn read_tariffs(alloc: Global, bytes: &[u8]) -> Result<Rows, RowFault>
-    ensures { (records : List Fields) × AreFileRecords bytes.now records × IsReading FileKind.Tariffs records result }
+    ensures { (records : List Fields) × AreFileRecords bytes.now records
+        × IsReading FileKind.Tariffs records result }
 {
     read_rows(alloc, FileKind::Tariffs, bytes)
 }
 
 // The rows of a file, or its first fault.
 fn read_rows(alloc: Global, kind: FileKind, bytes: &[u8]) -> Result<Rows, RowFault>
-    ensures { (records : List Fields) × AreFileRecords bytes.now records × IsReading kind records result }
+    ensures { (records : List Fields) × AreFileRecords bytes.now records
+        × IsReading kind records result }
 {
     let reader = ReaderBuilder::new()
         .has_headers(false)
@@ -53,7 +56,7 @@ fn read_rows(alloc: Global, kind: FileKind, bytes: &[u8]) -> Result<Rows, RowFau
     Rows::of(rows).map_err(|_| RowFault::Memory)
 }
 
-// Takes the record of this number: the header where it is 0, and else a row, which is added to the rows.
+// Takes the record of this number: the header where it is 0, and else a row, which is added.
 fn take_record(
     alloc: Global,
     kind: FileKind,
@@ -61,9 +64,11 @@ fn take_record(
     raw: &ByteRecord,
     rows: &mut Vec<Row>,
 ) -> Result<(), RowFault>
-    ensures taken { (before : List Fields) → IsReadSoFar kind before rows.old.items → number ≡ length before
+    ensures taken { (before : List Fields)
+        → IsReadSoFar kind before rows.old.items → number ≡ length before
         → OnOk result (IsReadSoFar kind (before ++ fields_of raw.now ∷ []) rows.new.items) }
-    ensures fault { (before after : List Fields) → IsReadSoFar kind before rows.old.items → number ≡ length before
+    ensures fault { (before after : List Fields)
+        → IsReadSoFar kind before rows.old.items → number ≡ length before
         → IfErr result (IsFault kind (before ++ fields_of raw.now ∷ after)) }
 {
     if number == 0 {

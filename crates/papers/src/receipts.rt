@@ -10,7 +10,7 @@ use std::alloc::{AllocError, Global};
 use std::io::Write;
 use vend_core::Sale;
 
-/// The receipt of a sale (`docs/TEXTS.md`, "Receipt"), or an error for want of memory.
+/// The receipt of a sale (`docs/TEXTS.md`, "Receipt"), or want of memory.
 pub fn receipt(alloc: Global, sale: &Sale) -> Result<Vec<u8>, AllocError>
     ensures { IfOk result (λ text. text.items ≡ receipt_of sale.now) }
 {

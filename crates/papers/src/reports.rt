@@ -12,7 +12,7 @@ use std::alloc::{AllocError, Global};
 use std::io::Write;
 use vend_core::{Moment, Sale, Shift};
 
-/// The report of a shift with these sales (`docs/TEXTS.md`, "Shift report"), or an error for want of memory.
+/// The report of a shift with these sales (`docs/TEXTS.md`, "Shift report"), or want of memory.
 pub fn shift_report(alloc: Global, shift: &Shift, sales: &[Sale]) -> Result<Vec<u8>, AllocError>
     ensures { IfOk result (λ text. text.items ≡ report_of shift.now sales.now) }
 {
@@ -34,20 +34,23 @@ pub fn shift_text<W: Write>(
     sales: &[Sale],
     out: &mut W,
 ) -> Result<(), TextFault>
-    ensures { IsWritten (W.contents out.old) (W.contents out.new) (report_of shift.now sales.now) result }
+    ensures { IsWritten (W.contents out.old) (W.contents out.new)
+        (report_of shift.now sales.now) result }
 {
     let text = shift_report(alloc, shift, sales)?;
     write_whole(&text, out)
 }
 
-/// What a report says of its sales: a line for each of them, and at its end how many they all are, their tenths and their prices.
+/// What a report says of its sales: a line for each of them, and at its end how many they all are,
+/// their tenths and their prices, which are those of its parts together.
 pub fn report_law()
-    ensures totals { (shift : Shift) (sales : List Sale) → (front : List ℕ)
-        × (report_of shift sales ≡ front ++ totals_text (length sales) (tenths_of sales) (cash_of sales)) }
-    ensures each_sale { (shift : Shift) (before after : List Sale) (s : Sale) → (front back : List ℕ)
-        × (report_of shift (before ++ s ∷ after) ≡ front ++ sale_line s ++ back) }
+    ensures totals { (shift : Shift) (sales : List Sale) → (front : List ℕ) × (report_of shift sales
+        ≡ front ++ totals_text (length sales) (tenths_of sales) (cash_of sales)) }
+    ensures each_sale { (shift : Shift) (before after : List Sale) (s : Sale)
+        → (front back : List ℕ) × (report_of shift (before ++ s ∷ after) ≡ front ++ sale_line s ++ back) }
     ensures parts { (a b : List Sale) → (length (a ++ b) ≡ length a + length b)
-        × (tenths_of (a ++ b) ≡ tenths_of a + tenths_of b) × (cash_of (a ++ b) ≡ cash_of a + cash_of b) }
+        × (tenths_of (a ++ b) ≡ tenths_of a + tenths_of b)
+        × (cash_of (a ++ b) ≡ cash_of a + cash_of b) }
 {}
 
 // Adds the lines of a shift and its times.

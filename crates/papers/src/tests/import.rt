@@ -27,8 +27,9 @@ fn fails(rt: &(impl Abort + AllocGlobal), file: &[u8], row: u32, cause: RowCause
 
 #[test]
 fn meters(rt: HostRuntime) -> Result<(), Fail> {
-    let file =
-        b"meter,base,tariff,key\n12345678903,2014,flat,0123456789abcdef\n10000000009,2035,b-2,0000000000000000\n";
+    let file = b"meter,base,tariff,key\n\
+        12345678903,2014,flat,0123456789abcdef\n\
+        10000000009,2035,b-2,0000000000000000\n";
     let rows = read_meters(rt.alloc(), file)?;
     let [Row::Meter(first, one), Row::Meter(second, other)] = rows.as_slice() else {
         return Err(Fail::new("no two meters"));
@@ -89,7 +90,9 @@ fn records(rt: HostRuntime) {
             1,
         ),
         (
-            b"\xef\xbb\xbfmeter,base,tariff,key\n12345678903,2014,flat,0000000000000000\n".as_slice(),
+            b"\xef\xbb\xbfmeter,base,tariff,key\n\
+              12345678903,2014,flat,0000000000000000\n"
+                .as_slice(),
             1,
         ),
         (
@@ -97,7 +100,9 @@ fn records(rt: HostRuntime) {
             1,
         ),
         (
-            b"\"meter\",base,\"tariff\",key\n12345678903,\"2014\",flat,\"0000000000000000\"\n".as_slice(),
+            b"\"meter\",base,\"tariff\",key\n\
+              12345678903,\"2014\",flat,\"0000000000000000\"\n"
+                .as_slice(),
             1,
         ),
         (

@@ -8,12 +8,30 @@ use vend_core::Sale;
 #[test]
 fn reports(rt: HostRuntime) -> Result<(), Fail> {
     let closed = first_shift(Moment::of_secs(1_388_592_000))?;
-    let none =
-        b"SHIFT 1 ann\nOPENED 2014-01-01T08:00:00Z\nCLOSED 2014-01-01T16:00:00Z\nSALES 0\nTENTHS 0\nCASH 0\n".as_slice();
-    let one =
-        b"SHIFT 1 ann\nOPENED 2014-01-01T08:00:00Z\nCLOSED -\n         1 12345678903        1        10        10         0\nSALES 1\nTENTHS 1\nCASH 10\n".as_slice();
-    let two =
-        b"SHIFT 1 ann\nOPENED 2014-01-01T08:00:00Z\nCLOSED -\n         1 12345678903        1        10        10         0\n1000000000 12345678903    16384    163840    163880        40\nSALES 2\nTENTHS 16385\nCASH 163850\n".as_slice();
+    let none = b"SHIFT 1 ann\n\
+        OPENED 2014-01-01T08:00:00Z\n\
+        CLOSED 2014-01-01T16:00:00Z\n\
+        SALES 0\n\
+        TENTHS 0\n\
+        CASH 0\n"
+        .as_slice();
+    let one = b"SHIFT 1 ann\n\
+        OPENED 2014-01-01T08:00:00Z\n\
+        CLOSED -\n\
+        \x20        1 12345678903        1        10        10         0\n\
+        SALES 1\n\
+        TENTHS 1\n\
+        CASH 10\n"
+        .as_slice();
+    let two = b"SHIFT 1 ann\n\
+        OPENED 2014-01-01T08:00:00Z\n\
+        CLOSED -\n\
+        \x20        1 12345678903        1        10        10         0\n\
+        1000000000 12345678903    16384    163840    163880        40\n\
+        SALES 2\n\
+        TENTHS 16385\n\
+        CASH 163850\n"
+        .as_slice();
     let open = first_shift(None)?;
     let sales = [first_sale()?, large_sale()?];
     for (shift, sales, text) in [
@@ -29,7 +47,7 @@ fn reports(rt: HostRuntime) -> Result<(), Fail> {
     Ok(())
 }
 
-// A thousand and three sales of a tenth for ten cents: the head of 49 bytes, a line of 62 bytes each, and the totals.
+// A thousand and three sales of a tenth for ten cents each: a head of 49 bytes, lines of 62, and totals.
 #[test]
 fn a_long_report(rt: HostRuntime) -> Result<(), Fail> {
     let sales: Vec<Sale> = vec![in rt.alloc(); first_sale()?; 1003]?;
