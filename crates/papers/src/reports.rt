@@ -47,7 +47,8 @@ pub fn report_law()
     ensures totals { (shift : Shift) (sales : List Sale) → (front : List ℕ) × (report_of shift sales
         ≡ front ++ totals_text (length sales) (tenths_of sales) (cash_of sales)) }
     ensures each_sale { (shift : Shift) (before after : List Sale) (s : Sale)
-        → (front back : List ℕ) × (report_of shift (before ++ s ∷ after) ≡ front ++ sale_line s ++ back) }
+        → (front back : List ℕ)
+        × (report_of shift (before ++ s ∷ after) ≡ front ++ sale_line s ++ back) }
     ensures parts { (a b : List Sale) → (length (a ++ b) ≡ length a + length b)
         × (tenths_of (a ++ b) ≡ tenths_of a + tenths_of b)
         × (cash_of (a ++ b) ≡ cash_of a + cash_of b) }

@@ -47,7 +47,7 @@ fn reports(rt: HostRuntime) -> Result<(), Fail> {
     Ok(())
 }
 
-// A thousand and three sales of a tenth for ten cents each: a head of 49 bytes, lines of 62, and totals.
+// A thousand and three sales of a tenth for ten cents each: 49 bytes, 62 for each, and 34.
 #[test]
 fn a_long_report(rt: HostRuntime) -> Result<(), Fail> {
     let sales: Vec<Sale> = vec![in rt.alloc(); first_sale()?; 1003]?;
