@@ -1,0 +1,85 @@
+-- Files of meters and of tariffs: their records, and what a record says.
+use Rattle.std.specs.Prelude.{◌≡◌, ℕ, zero, suc, ◌-◌, ◌<◌, ◌≤◌, List, [], ◌∷◌, length, slice_index_or, codes}
+use Rattle.csv.specs.Reading.{AreRecords, default_config, strip_bom}
+use Rattle.csv.specs.declared.parser.State.TheVariants.{StartRecord}
+use Rattle.papers.specs.declared.file_kind.FileKind.{FileKind}
+use Rattle.papers.specs.declared.file_kind.FileKind.TheVariants.{Meters, Tariffs}
+use Rattle.sts_fields.specs.declared.base.Base.{Base}
+use Rattle.sts_fields.specs.declared.base.Base.TheVariants.{Y1993, Y2014, Y2035}
+use Rattle.sts_token.specs.Key.{AreKeyDigits, IsKeyText}
+use Rattle.tariff.specs.Steps.{IsSteps}
+use Rattle.tariff.specs.StepsText.{IsStepsText}
+use Rattle.tariff.specs.declared.step.Step.{Step}
+use Rattle.vend_core.specs.Names.{IsMeterNo, IsName}
+use Rattle.vend_core.specs.declared.meter.Meter as declared
+use Rattle.vend_core.specs.declared.row.Row.{Row}
+use Rattle.vend_core.specs.declared.row.Row.TheVariants.{Tariff, Meter}
+
+-- a record: its fields in order
+abbrev pub Fields : Type 0
+Fields = List (List ℕ)
+
+-- the records of a file: those that CSV has in its bytes, without a byte order mark in front
+abbrev pub AreFileRecords : List ℕ → List Fields → Type 0
+AreFileRecords bytes records = AreRecords default_config StartRecord (strip_bom bytes) records
+
+-- the record that stands first, and names the fields
+abbrev pub header_of : FileKind → Fields
+header_of Meters = codes "meter" ∷ codes "base" ∷ codes "tariff" ∷ codes "key" ∷ []
+header_of Tariffs = codes "name" ∷ codes "steps" ∷ []
+
+-- the year of a base date, in its four digits
+abbrev pub base_text : Base → List ℕ
+base_text Y1993 = codes "1993"
+base_text Y2014 = codes "2014"
+base_text Y2035 = codes "2035"
+
+abbrev pub IsBaseText : List ℕ → Type 0
+IsBaseText text = (base : Base) × (text ≡ base_text base)
+
+-- the text of the steps of a tariff
+abbrev pub IsTariffText : List ℕ → Type 0
+IsTariffText text = (steps : List Step) × IsStepsText text steps × IsSteps steps
+
+-- the rule of a field, by its place from 0 on
+abbrev pub KeepsRule : FileKind → ℕ → List ℕ → Type 0
+KeepsRule Meters zero text = IsMeterNo text
+KeepsRule Meters (suc zero) text = IsBaseText text
+KeepsRule Meters (suc (suc zero)) text = IsName text
+KeepsRule Meters (suc (suc (suc _))) text = AreKeyDigits text
+KeepsRule Tariffs zero text = IsName text
+KeepsRule Tariffs (suc _) text = IsTariffText text
+
+-- the field at a place of a record keeps its rule
+abbrev pub KeepsRuleAt : FileKind → Fields → ℕ → Type 0
+KeepsRuleAt kind fields place = KeepsRule kind place (slice_index_or fields place [])
+
+-- the field of a number, from 1 on, is the first that does not keep its rule
+pub record IsFirstOutside (kind : FileKind) (fields : Fields) (number : ℕ) : Type 0 where
+  pub from_one : 1 ≤ number
+  pub within : number ≤ length fields
+  pub outside : ¬ KeepsRuleAt kind fields (number - 1)
+  pub before : (place : ℕ) → place < number - 1 → KeepsRuleAt kind fields place
+
+-- a record says a meter: its number, the year of its base date, the name of its tariff and its key
+pub record SaysMeter (fields : Fields) (number : List ℕ) (m : declared.Meter) : Type 0 where
+  pub key_text : List ℕ
+  pub four : fields ≡ number ∷ base_text m.base ∷ m.tariff ∷ key_text ∷ []
+  pub numbered : IsMeterNo number
+  pub named : IsName m.tariff
+  pub keyed : IsKeyText m.key key_text
+
+-- a record says a tariff: its name and the text of its steps
+pub record SaysTariff (fields : Fields) (name : List ℕ) (steps : List Step) : Type 0 where
+  pub steps_text : List ℕ
+  pub two : fields ≡ name ∷ steps_text ∷ []
+  pub named : IsName name
+  pub written : IsStepsText steps_text steps
+  pub priced : IsSteps steps
+
+-- a record of a file says this row
+abbrev pub Says : FileKind → Fields → Row → Type 0
+Says Meters fields (Meter number m) = SaysMeter fields number m
+Says Meters fields (Tariff name steps) = ⊥
+Says Tariffs fields (Meter number m) = ⊥
+Says Tariffs fields (Tariff name steps) = SaysTariff fields name steps

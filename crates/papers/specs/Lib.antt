@@ -1,0 +1,7 @@
+pub mod Export
+pub mod File
+pub mod Import
+pub mod Output
+pub mod Receipt
+pub mod Report
+pub mod Text

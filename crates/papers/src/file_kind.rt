@@ -1,0 +1,6 @@
+/// The files that an import comes as.
+#[derive(Clone, Copy, Debug, PartialEq, Eq, Hash)]
+pub enum FileKind {
+    Meters,
+    Tariffs,
+}

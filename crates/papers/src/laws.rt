@@ -1,0 +1,33 @@
+ghost use Rattle.std.specs.Prelude.{◌≡◌, ◌++◌, ℕ, List, Bool, false};
+ghost use Rattle.papers.specs.Export.{export_of};
+ghost use Rattle.papers.specs.File.{AreFileRecords, Fields};
+ghost use Rattle.papers.specs.Import.{AreRows, HasFault, IsFirstFault};
+ghost use Rattle.papers.specs.declared.file_kind.FileKind.{FileKind};
+ghost use Rattle.vend_core.specs.declared.row.Row.{Row};
+ghost use Rattle.vend_core.specs.declared.row_cause.RowCause.{RowCause};
+ghost use Rattle.vend_core.specs.declared.sale.Sale.{Sale};
+
+use tariff::steps_text_law;
+
+/// What a file of rows means: it has one list of records, and they have one list of rows or one
+/// first fault, and never both.
+pub fn import_law()
+    ensures one_list { (bytes : List ℕ) (a b : List Fields)
+        → AreFileRecords bytes a → AreFileRecords bytes b → a ≡ b }
+    ensures one_rows { (kind : FileKind) (records : List Fields) (a b : List Row)
+        → AreRows kind records a → AreRows kind records b → a ≡ b }
+    ensures one_fault { (kind : FileKind) (records : List Fields) (n m : ℕ) (c d : RowCause)
+        → IsFirstFault kind records n c → IsFirstFault kind records m d → (n ≡ m) × (c ≡ d) }
+    ensures never_both { (kind : FileKind) (records : List Fields) (rows : List Row)
+        (number : ℕ) (cause : RowCause)
+        → AreRows kind records rows → ¬ HasFault kind records number cause }
+{
+    steps_text_law();
+}
+
+/// What an export in pages means: the first one, with the header where it is asked for, and then
+/// the others without are the export of all sales.
+pub fn export_law()
+    ensures pages { (header : Bool) (front back : List Sale)
+        → export_of header (front ++ back) ≡ export_of header front ++ export_of false back }
+{}

@@ -1,0 +1,28 @@
+//! The papers of a vending office: receipts, shift reports, exports, and the files that it imports.
+//!
+//! `docs/TEXTS.md` has each text and file with an example, and `specs/` has them as definitions.
+#![tactic(auto)]
+
+pub use exports::sales_csv;
+pub use fault::TextFault;
+pub use file_kind::FileKind;
+pub use imports::{read_meters, read_tariffs};
+pub use laws::{export_law, import_law};
+pub use receipts::{receipt, receipt_text};
+pub use reports::{report_law, shift_report, shift_text};
+pub use row_fault::RowFault;
+
+mod exports;
+mod fault;
+mod file_kind;
+mod imports;
+mod laws;
+mod lines;
+mod output;
+mod read_row;
+mod receipts;
+mod record;
+mod reports;
+mod row_fault;
+#[cfg(test)]
+mod tests;

@@ -1,0 +1,53 @@
+ghost use Rattle.std.specs.Prelude.{◌≡◌, ◌++◌, IfOk, OnOk, decimal, string_bytes};
+ghost use Rattle.papers.specs.Text.{change_of, line, time_text};
+
+use std::alloc::{AllocError, Global};
+use sts_fields::{Moment, civil};
+use vend_core::Sale;
+
+// Adds a line to a text: a word, a space and its value.
+pub(crate) fn put_line(text: &mut Vec<u8>, word: &str, value: &[u8]) -> Result<(), AllocError>
+    ensures { OnOk result (text.new.items ≡ text.old.items ++ line word.now value.now) }
+{
+    text.extend_from_slice(word.as_bytes())?;
+    text.extend_from_slice(b" ")?;
+    text.extend_from_slice(value)?;
+    text.extend_from_slice(b"\n")
+}
+
+// Adds the line of a word and a number.
+pub(crate) fn put_number(
+    alloc: Global,
+    text: &mut Vec<u8>,
+    word: &str,
+    number: u128,
+) -> Result<(), AllocError>
+    ensures { OnOk result (text.new.items ≡ text.old.items ++ line word.now (decimal number)) }
+{
+    let digits = decimal(alloc, number)?;
+    put_line(text, word, digits.as_bytes())
+}
+
+// A number in decimal digits.
+pub(crate) fn decimal(alloc: Global, number: u128) -> Result<String, AllocError>
+    ensures { IfOk result (λ text. string_bytes text ≡ decimal number) }
+{
+    format!(in alloc; "{number}")
+}
+
+// The date and the time of day at a moment, in UTC.
+pub(crate) fn time_text(alloc: Global, moment: Moment) -> Result<String, AllocError>
+    ensures { IfOk result (λ text. string_bytes text ≡ time_text moment) }
+{
+    let shown = civil(moment).map_err(|_| AllocError)?;
+    let date = format!(in alloc; "{:04}-{:02}-{:02}", shown.year, shown.month, shown.day)?;
+    let time = format!(in alloc; "{:02}:{:02}:{:02}", shown.hour, shown.minute, shown.second)?;
+    format!(in alloc; "{date}T{time}Z")
+}
+
+// What a customer gets back of the tender; a price is at most its tender, so nothing is cut off.
+pub(crate) fn change(sale: &Sale) -> u32
+    ensures { result ≡ change_of sale.now }
+{
+    sale.tender.cents().saturating_sub(sale.price)
+}

@@ -1,0 +1,20 @@
+ghost use Rattle.papers.specs.Output.{IsWritten};
+ghost use Rattle.std.specs.Prelude.{◌≢◌, Err};
+
+use crate::fault::TextFault;
+use std::io::Write;
+
+// Hands a whole text to a writer, by as many writes as it takes.
+pub(crate) fn write_whole<W: Write>(text: &[u8], out: &mut W) -> Result<(), TextFault>
+    ensures written { IsWritten (W.contents out.old) (W.contents out.new) text.now result }
+    ensures never_memory { result ≢ Err TextFault.Memory }
+{
+    let mut rest = text;
+    while !rest.is_empty() {
+        match out.write(rest) {
+            Ok(taken) if taken > 0 => rest = &rest[taken..],
+            _ => return Err(TextFault::Write),
+        }
+    }
+    Ok(())
+}
