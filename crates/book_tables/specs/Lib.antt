@@ -1,0 +1,4 @@
+pub mod Rows
+pub mod Stands
+pub mod Tables
+pub mod Texts

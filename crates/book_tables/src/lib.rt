@@ -1,0 +1,4 @@
+//! The tables of an office in one SQLite file: one function for each fixed statement.
+//!
+//! `docs/OFFICE.md` has the tables in words. `specs/` says which rows stand for which office.
+#![tactic(auto)]
