@@ -1,2 +1,4 @@
+pub mod KeyTextLemmas
 pub mod MemberLemmas
+pub mod PartLemmas
 pub mod RowLemmas

@@ -1,4 +1,7 @@
+pub mod Parts
+pub mod ReadBack
 pub mod Rows
 pub mod Stands
 pub mod Tables
 pub mod Texts
+pub mod Values

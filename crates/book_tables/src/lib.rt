@@ -2,3 +2,6 @@
 //!
 //! `docs/OFFICE.md` has the tables in words. `specs/` says which rows stand for which office.
 #![tactic(auto)]
+
+mod cells;
+mod records;
