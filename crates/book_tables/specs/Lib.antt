@@ -1,3 +1,4 @@
+pub mod Edited
 pub mod Parts
 pub mod ReadBack
 pub mod Rows
