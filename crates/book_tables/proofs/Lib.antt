@@ -1,4 +1,5 @@
 pub mod EditLemmas
+pub mod FoundLemmas
 pub mod KeyTextLemmas
 pub mod ListLemmas
 pub mod MemberLemmas

@@ -1,6 +1,7 @@
 -- Lists of rows that differ in pairs: what stands in them, and what passes a test.
-use Rattle.std.proofs.Common.{◌≡◌, ℕ, suc, ◌+◌, ◌-◌, ◌<◌, ◌≤◌, ◌⊎◌, inl, inr, Bool, true, false, cond, List, [], ◌∷◌, ◌++◌, length, get_or, refl, sym, ◌∙◌, ap, subst, arith}
-use Rattle.std.specs.Prelude.{All, AllPairs, Contains, filter, map}
+use Rattle.std.proofs.Common.{◌≡◌, ℕ, suc, ◌+◌, ◌-◌, ◌<◌, ◌≤◌, ◌⊎◌, inl, inr, Bool, true, false, cond, List, [], ◌∷◌, ◌++◌, length, get_or, Some, refl, sym, ◌∙◌, ap, subst, arith}
+use Rattle.std.specs.Prelude.{AllPairs, Contains, filter, find, map}
+use Rattle.std.specs.Option.{option_to_list}
 use Rattle.std.proofs.lemmas.Bool.{cases_lt, false≢true}
 use Rattle.std.proofs.lemmas.List.{get_or-map, get_or_append_left, get_or-append_right, length-append, length-map}
 use Rattle.std.proofs.lemmas.List.Elements.{All-contains, All-head, All-tail, Contains-append_cases, Contains-append_left, Contains-append_right, Contains-get_or, Contains-push, Contains-push_cases}
@@ -131,6 +132,16 @@ pub one_passes : {X : Type 0} (p : X → Bool) (xs : List X) (x : X) → AllPair
 one_passes p [] x pairs there passes = absurd (contains_none x there)
 one_passes p (y ∷ ys) x pairs there passes =
     passes_one p y ys x (p y) refl pairs there passes (λ further. one_passes p ys x (pairs_rest (NotBothPass p) y ys pairs) further passes)
+
+first_here : {X : Type 0} (p : X → Bool) (x : X) (xs : List X) (b : Bool) → p x ≡ b → AllPairs (NotBothPass p) (x ∷ xs) → filter p xs ≡ option_to_list (find p xs) → cond b (x ∷ filter p xs) (filter p xs) ≡ option_to_list (cond b (Some x) (find p xs))
+first_here p x xs true is pairs rest =
+    ap (λ ys. x ∷ ys) (none_pass p xs (λ y there. fails_by (p y) (λ passes. pairs_first (NotBothPass p) x y xs pairs there is passes)))
+first_here p x xs false is pairs rest = rest
+
+-- where at most one row passes, all that pass are the first that does
+pub first_is_all : {X : Type 0} (p : X → Bool) (xs : List X) → AllPairs (NotBothPass p) xs → filter p xs ≡ option_to_list (find p xs)
+first_is_all p [] pairs = refl
+first_is_all p (x ∷ xs) pairs = first_here p x xs (p x) refl pairs (first_is_all p xs (pairs_rest (NotBothPass p) x xs pairs))
 
 pub pairs_weaker : {X : Type 0} (R S : X → X → Type 0) (xs : List X) → ((a b : X) → R a b → S a b) → AllPairs R xs → AllPairs S xs
 pairs_weaker R S xs weaker pairs i j d before within = weaker (get_or xs i d) (get_or xs j d) (pairs i j d before within)

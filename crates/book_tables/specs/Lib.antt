@@ -1,4 +1,5 @@
 pub mod Edited
+pub mod Found
 pub mod Parts
 pub mod ReadBack
 pub mod Rows

@@ -3,5 +3,9 @@
 //! `docs/OFFICE.md` has the tables in words. `specs/` says which rows stand for which office.
 #![tactic(auto)]
 
+pub use error::TableError;
+
 mod cells;
+mod error;
 mod records;
+mod values;
