@@ -5,3 +5,4 @@ pub mod ListLemmas
 pub mod MemberLemmas
 pub mod PartLemmas
 pub mod RowLemmas
+pub mod TextLemmas

@@ -1,11 +1,16 @@
--- What is stored of a row tells the row.
+-- What is stored of a record tells the record.
 use Rattle.std.proofs.Common.{◌≡◌, ℕ, List, [], ◌∷◌, Option, Some, None, map, refl, arith}
 use Rattle.sts_fields.specs.Base.{year_of}
 use Rattle.sts_fields.specs.declared.base.Base.{Base}
 use Rattle.sts_fields.specs.declared.base.Base.TheVariants.{Y1993, Y2014, Y2035}
+use Rattle.tariff.specs.declared.step.Step.{Step}
+use Rattle.vend_core.specs.declared.meter.Meter.{Meter}
 use Rattle.vend_core.specs.declared.sale.Sale.{Sale}
 use Rattle.vend_core.specs.declared.shift.Shift.{Shift}
-use Rattle.book_tables.specs.Rows.{StepRow, optional, sale_row, shift_row, step_columns, tariff_columns}
+use Rattle.book_tables.specs.ReadBack.{ReadsBack}
+use Rattle.book_tables.specs.Rows.{StepRow, meter_columns, optional, sale_row, secret_of, shift_row, shown_meter, shown_number, shown_sale, shown_shift, shown_step, step_columns, tariff_columns}
+use Rattle.book_tables.specs.Values.{AreMeterValues, IsKey}
+use Rattle.book_tables.proofs.KeyTextLemmas.{one_key}
 
 pub one_optional : (a b : Option ℕ) → optional a ≡ optional b → a ≡ b
 one_optional None None e = refl
@@ -24,27 +29,40 @@ one_base Y2035 Y1993 e = absurd (omega (arith, e))
 one_base Y2035 Y2014 e = absurd (omega (arith, e))
 one_base Y2035 Y2035 e = refl
 
-pub one_tariff : (a b : List ℕ) → tariff_columns a ≡ tariff_columns b → a ≡ b
-one_tariff a b e = cc
+-- ---- what a SELECT shows
 
-pub one_step : (a b : StepRow) → step_columns a ≡ step_columns b → a ≡ b
-one_step a b e =
-    let ends : a.step.ends ≡ b.step.ends = one_optional a.step.ends b.step.ends (cc) in
-    let A : StepRow = record { tariff = a.tariff; place = a.place; step = record { ends = a.step.ends; price = a.step.price } } in
-    let B : StepRow = record { tariff = b.tariff; place = b.place; step = record { ends = b.step.ends; price = b.step.price } } in
+pub one_number : (m n : ℕ) → shown_number m ≡ shown_number n → m ≡ n
+one_number m n e = cc
+
+pub one_shown_step : (a b : Step) → shown_step a ≡ shown_step b → a ≡ b
+one_shown_step a b e =
+    let ends : a.ends ≡ b.ends = one_optional a.ends b.ends (cc) in
+    let A : Step = record { ends = a.ends; price = a.price } in
+    let B : Step = record { ends = b.ends; price = b.price } in
     let same : A ≡ B = cc in
     same
 
-pub one_shift : (a b : Shift) → shift_row a ≡ shift_row b → a ≡ b
-one_shift a b e =
+pub one_shown_meter : (a b : Meter) → IsKey a.key → IsKey b.key → shown_meter a ≡ shown_meter b → a ≡ b
+one_shown_meter a b small_a small_b e =
+    let base : a.base ≡ b.base = one_base a.base b.base (cc) in
+    let text : secret_of a.key ≡ secret_of b.key = cc in
+    let key : a.key ≡ b.key = one_key a.key b.key small_a small_b text in
+    let tariff : a.tariff ≡ b.tariff = cc in
+    let A : Meter = record { base = a.base; tariff = a.tariff; key = a.key } in
+    let B : Meter = record { base = b.base; tariff = b.tariff; key = b.key } in
+    let same : A ≡ B = cc in
+    same
+
+pub one_shown_shift : (a b : Shift) → shown_shift a ≡ shown_shift b → a ≡ b
+one_shown_shift a b e =
     let closed : a.closed ≡ b.closed = one_optional a.closed b.closed (cc) in
     let A : Shift = record { number = a.number; operator = a.operator; opened = a.opened; closed = a.closed } in
     let B : Shift = record { number = b.number; operator = b.operator; opened = b.opened; closed = b.closed } in
     let same : A ≡ B = cc in
     same
 
-pub one_sale : (a b : Sale) → sale_row a ≡ sale_row b → a ≡ b
-one_sale a b e =
+pub one_shown_sale : (a b : Sale) → shown_sale a ≡ shown_sale b → a ≡ b
+one_shown_sale a b e =
     let base : a.base ≡ b.base = one_base a.base b.base (cc) in
     let A : Sale = record {
       number = a.number;
@@ -78,6 +96,40 @@ one_sale a b e =
     } in
     let same : A ≡ B = cc in
     same
+
+-- ---- what is stored of a row
+
+pub one_tariff : (a b : List ℕ) → tariff_columns a ≡ tariff_columns b → a ≡ b
+one_tariff a b e = cc
+
+pub one_step : (a b : StepRow) → step_columns a ≡ step_columns b → a ≡ b
+one_step a b e =
+    let step : a.step ≡ b.step = one_shown_step a.step b.step (cc) in
+    let A : StepRow = record { tariff = a.tariff; place = a.place; step = a.step } in
+    let B : StepRow = record { tariff = b.tariff; place = b.place; step = b.step } in
+    let same : A ≡ B = cc in
+    same
+
+pub one_meter : (a b : List ℕ × Meter) → IsKey a.1.key → IsKey b.1.key → meter_columns a ≡ meter_columns b → a ≡ b
+one_meter a b small_a small_b e =
+    let m : a.1 ≡ b.1 = one_shown_meter a.1 b.1 small_a small_b (cc) in
+    let same : (a.0, a.1) ≡ (b.0, b.1) = cc in
+    same
+
+pub one_shift : (a b : Shift) → shift_row a ≡ shift_row b → a ≡ b
+one_shift a b e = one_shown_shift a b (cc)
+
+pub one_sale : (a b : Sale) → sale_row a ≡ sale_row b → a ≡ b
+one_sale a b e = one_shown_sale a b (cc)
+
+-- ---- what is read of it
+
+pub reads_itself : {A T : Type 0} (stored : A → T) (rule : A → Type 0) (x : A) (read : Option A) → ((y : A) → rule y → stored y ≡ stored x → y ≡ x) → rule x → ReadsBack stored rule (stored x) read → read ≡ Some x
+reads_itself stored rule x None one ok none = absurd (none x ok refl)
+reads_itself {A} stored rule x (Some y) one ok is = some_same (one y is.1 is.0)
+  where
+    some_same : {A : Type 0} {x y : A} → x ≡ y → Some x ≡ Some y
+    some_same e = cc
 
 -- of rows whose values tell them, the list of values tells the list
 pub one_list : {X Y : Type 0} (f : X → Y) → ((a b : X) → f a ≡ f b → a ≡ b) → (xs ys : List X) → map f xs ≡ map f ys → xs ≡ ys
