@@ -1,1 +1,3 @@
 pub mod Place
+pub mod Making
+pub mod Standing
