@@ -1,1 +1,5 @@
 pub mod CreationLemmas
+pub mod GrowthLemmas
+pub mod NewTableLemmas
+pub mod ReferenceLemmas
+pub mod MakingLemmas

@@ -1,3 +1,4 @@
 pub mod Place
 pub mod Making
 pub mod Standing
+pub mod Referring
