@@ -1,5 +1,5 @@
 -- What the text of a CREATE TABLE means in any schema, and what running it makes.
-use Rattle.std.proofs.Common.{◌≡◌, ℕ, Bool, true, false, not, ◌&&◌, ◌==◌, cond, if◌then◌else◌, List, [], ◌∷◌, ◌++◌, length, ◌-◌, take, drop, slice_range, is_some, Option, None, Some, Result, Ok, Err, refl, sym, ap, subst, subst₂, ◌∙◌, inl, inr, arith}
+use Rattle.std.proofs.Common.{◌≡◌, ℕ, Bool, true, false, not, ◌&&◌, ◌==◌, cond, List, [], ◌∷◌, ◌++◌, length, ◌-◌, slice_range, is_some, Option, None, Result, Ok, Err, refl, sym, ap, subst, ◌∙◌, inl, inr, arith}
 use Rattle.std.proofs.lemmas.Bool.{cases_Bool, and_parts, eqb-true}
 use Rattle.std.proofs.Math.Seq.{take-length}
 use Rattle.sqlite_ast.specs.declared.Statement.{Statement}
@@ -10,7 +10,6 @@ use Rattle.sqlite_schema.specs.declared.command.Command.{Command}
 use Rattle.sqlite_schema.specs.declared.command.Command.TheVariants.{CreateTable, Nothing}
 use Rattle.std.specs.Option.{option_or}
 use Rattle.sqlite_schema.specs.Names.{table_named, view_named, index_named}
-use Rattle.sqlite_schema.specs.declared.command.Returning.{Returning}
 use Rattle.sqlite_schema.specs.declared.schema.Schema.{Schema}
 use Rattle.sqlite_schema.specs.declared.schema.Table.{Table}
 use Rattle.sqlite_resolve.specs.declared.compiled.Compiled.{Compiled}
@@ -31,10 +30,10 @@ use Rattle.sqlite_rules.proofs.ListLemmas.{all_has, all_from, has_left, has_righ
 use Rattle.sqlite_catalog.specs.Calls.{CreatesTable}
 use Rattle.sqlite.specs.Clock.{timed as timed_at}
 use Rattle.sqlite.proofs.Callers.{through}
-use Rattle.sqlite_catalog.specs.Change.{created, is_used, next_tree, KeepsRows}
+use Rattle.sqlite_catalog.specs.Change.{created, is_used, KeepsRows}
 use Rattle.sqlite_tied.specs.Compute.{everything}
 use Rattle.sqlite_value.specs.Order.{Row}
-use Rattle.one_table.specs.Making.{is_creation, is_creation_as, is_plain_create, counters, with_counters, made, MakesTable}
+use Rattle.one_table.specs.Making.{is_creation, is_creation_as, counters, with_counters, MakesTable}
 
 -- what went on had a value to go on with
 pub went : {A B : Type 0} (r : Checked A) (f : A → Checked B) (b : B) → and_then r f ≡ Ok b → (a : A) × (r ≡ Ok a) × (f a ≡ Ok b)

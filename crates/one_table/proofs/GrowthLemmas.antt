@@ -1,22 +1,21 @@
 -- A schema that grows at its end: what stood stands, and what is new is found.
-use Rattle.std.proofs.Common.{◌≡◌, ◌⊎◌, ℕ, zero, suc, ◌+◌, ◌^◌, ◌<◌, ◌≤◌, ◌==◌, max, nat_le, Bool, true, false, not, ◌&&◌, ◌||◌, cond, List, [], ◌∷◌, ◌++◌, length, map, filter, find, fold, slice_get, option_map, unwrap_or, Option, None, Some, refl, sym, ap, subst, subst₂, ◌∙◌, inl, inr, arith, append-nil, append_assoc}
-use Rattle.std.proofs.lemmas.Bool.{cases_Bool, and_parts, and_from, eqb-true, eq-eqb, lt-leb}
-use Rattle.std.proofs.lemmas.List.{map-append}
+use Rattle.std.proofs.Common.{◌≡◌, ℕ, zero, suc, ◌+◌, ◌<◌, ◌≤◌, ◌==◌, Bool, true, false, not, List, [], ◌∷◌, ◌++◌, length, map, filter, find, slice_get, option_map, unwrap_or, None, Some, refl, sym, ap, subst, subst₂, ◌∙◌, inl, inr, arith, append-nil, append_assoc}
+use Rattle.std.proofs.lemmas.Bool.{cases_Bool, eqb-true}
 use Rattle.std.proofs.lemmas.List.Elements.{filter-append}
-use Rattle.std.proofs.lemmas.List.Folds.{find-append, list_all-append}
-use Rattle.std.specs.List.{position_from, list_all, AllByRecursion}
+use Rattle.std.proofs.lemmas.List.Folds.{find-append}
+use Rattle.std.specs.List.{position_from}
 use Rattle.sqlite_rules.specs.Lists.{Has as Member}
-use Rattle.sqlite_rules.proofs.ListLemmas.{all_has, all_from, has_left, has_right, has_either, has_got}
+use Rattle.sqlite_rules.proofs.ListLemmas.{has_left, has_either, has_got}
 use Rattle.sqlite_schema.specs.declared.schema.Index.{Index}
 use Rattle.sqlite_schema.specs.declared.schema.Schema.{Schema}
 use Rattle.sqlite_schema.specs.declared.schema.Table.{Table}
 use Rattle.sqlite_schema.specs.declared.schema.View.{View}
 use Rattle.sqlite_schema.specs.Names.{same_name, table_named}
-use Rattle.sqlite_catalog.specs.Change.{past_views, next_tree}
+use Rattle.sqlite_catalog.specs.Change.{next_tree}
 use Rattle.sqlite_catalog.proofs.ListFacts.{most_below}
-use Rattle.sqlite_catalog.proofs.StepLemmas.{table_below, index_below, view_below, same_itself}
+use Rattle.sqlite_catalog.proofs.StepLemmas.{table_below, index_below, view_below}
 use Rattle.one_table.specs.Place.{Has}
-use Rattle.one_table.specs.Standing.{place_in, tree_in, Key, key_of, keys_on, own_keys, Stands}
+use Rattle.one_table.specs.Standing.{place_in, tree_in, key_of, keys_on, own_keys, Stands}
 
 -- ---- lists that grow at the end
 
@@ -131,6 +130,7 @@ stands_by s at tree t h keys =
 pub still_stands : (a b : Schema) (t : Table) → Grows a b → Stands a t → Stands b t × (tree_in b t.name ≡ tree_in a t.name)
 still_stands a b t g h =
     let has = still_has a b (place_in a t.name) (record t { tree = tree_in a t.name }) g h.has in
-    let low : tree_in a t.name < next_tree a = table_below a (record t { tree = tree_in a t.name }) (has_got a.tables (place_in a t.name) _ h.has.listed) in
-    (stands_by b (place_in a t.name) (tree_in a t.name) t has (still_keys a b (tree_in a t.name) g low ∙ h.keys),
-     tree_of_has b (place_in a t.name) (record t { tree = tree_in a t.name }) t.name has.named has.listed)
+    let low : tree_in a t.name < next_tree a = table_below a (record t { tree = tree_in a t.name }) (has_got a.tables (place_in a t.name) _ h.has.listed) in (
+      stands_by b (place_in a t.name) (tree_in a t.name) t has (still_keys a b (tree_in a t.name) g low ∙ h.keys),
+      tree_of_has b (place_in a t.name) (record t { tree = tree_in a t.name }) t.name has.named has.listed,
+    )

@@ -3,3 +3,4 @@ pub mod GrowthLemmas
 pub mod NewTableLemmas
 pub mod ReferenceLemmas
 pub mod MakingLemmas
+pub mod TurnLemmas

@@ -1,23 +1,20 @@
 -- Tables that are made in turn.
-use Rattle.std.proofs.Common.{◌≡◌, ◌⊎◌, ℕ, ◌+◌, ◌<◌, Bool, true, false, ◌||◌, List, [], ◌∷◌, ◌++◌, fold, is_some, Option, None, Some, refl, sym, ap, subst, ◌∙◌, inl, inr, arith}
+use Rattle.std.proofs.Common.{◌≡◌, ℕ, ◌+◌, Bool, true, false, List, [], ◌∷◌, ◌++◌, fold, None, refl, sym, ap, subst, ◌∙◌, inl, inr, arith}
 use Rattle.std.proofs.lemmas.List.Sums.{fold-append}
 use Rattle.std.proofs.lemmas.Bool.{cases_Bool}
 use Rattle.std.specs.List.{position_from, AllByRecursion, list_all}
 use Rattle.sqlite_rules.specs.Lists.{Has as Member}
-use Rattle.sqlite_rules.proofs.ListLemmas.{all_has, all_from, has_left, has_right, has_either, has_got}
-use Rattle.sqlite_schema.specs.declared.schema.Index.{Index}
+use Rattle.sqlite_rules.proofs.ListLemmas.{all_has, all_from, has_left, has_got}
 use Rattle.sqlite_schema.specs.declared.schema.Schema.{Schema}
 use Rattle.sqlite_schema.specs.declared.schema.Table.{Table}
-use Rattle.sqlite_schema.specs.declared.schema.View.{View}
 use Rattle.sqlite_schema.specs.Names.{same_name, table_named, index_named, view_named}
 use Rattle.sqlite_trees.specs.Tree.{Trees}
-use Rattle.sqlite_catalog.specs.Change.{is_used, next_tree, KeepsRows}
+use Rattle.sqlite_catalog.specs.Change.{is_used, KeepsRows}
 use Rattle.sqlite_catalog.proofs.StepLemmas.{no_table, no_index, no_view, table_below}
 use Rattle.sqlite.specs.Effect.{Database, IsDatabase}
-use Rattle.one_table.specs.Place.{Has}
 use Rattle.one_table.specs.Standing.{place_in, tree_in, Stands}
-use Rattle.one_table.specs.Referring.{is_among, is_idle, is_left_alone}
-use Rattle.one_table.specs.Making.{made, MakesTable, MakesTables, IsNew, AreAmong, AreIdle}
+use Rattle.one_table.specs.Referring.{is_idle, is_left_alone}
+use Rattle.one_table.specs.Making.{made, MakesTable, MakesTables, IsNew}
 use Rattle.one_table.proofs.GrowthLemmas.{Grows, grows_then, grows_none, next_rises, still_has, still_stands}
 use Rattle.one_table.proofs.NewTableLemmas.{made_grows, made_stands}
 use Rattle.one_table.proofs.ReferenceLemmas.{Added, made_adds, still_unreferred, still_harmless, still_left_alone, new_left_alone}

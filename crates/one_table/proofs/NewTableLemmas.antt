@@ -1,10 +1,9 @@
 -- What CREATE TABLE adds to a sound database: a table that is found by its name and by its tree, with its own keys.
-use Rattle.std.proofs.Common.{◌≡◌, ℕ, ◌+◌, ◌^◌, ◌<◌, ◌≤◌, ◌==◌, nat_le, Bool, true, false, cond, List, [], ◌∷◌, ◌++◌, length, map, filter, slice_index_or, None, Some, refl, sym, ap, subst, ◌∙◌, inl, inr, arith, append-nil}
+use Rattle.std.proofs.Common.{◌≡◌, ℕ, ◌+◌, ◌^◌, ◌<◌, ◌==◌, Bool, true, false, List, [], ◌∷◌, ◌++◌, length, map, filter, slice_index_or, Some, refl, sym, ap, subst, ◌∙◌, inl, inr, arith}
 use Rattle.std.proofs.lemmas.Bool.{cases_Bool, eq-eqb, lt-leb}
-use Rattle.std.proofs.lemmas.List.{map-append}
 use Rattle.std.proofs.lemmas.List.Elements.{filter-append}
 use Rattle.sqlite_rules.specs.Lists.{Has as Member}
-use Rattle.sqlite_rules.proofs.ListLemmas.{all_has, has_left, has_right, has_either, has_got}
+use Rattle.sqlite_rules.proofs.ListLemmas.{has_left, has_right}
 use Rattle.sqlite_schema.specs.declared.schema.Index.{Index}
 use Rattle.sqlite_schema.specs.declared.schema.Schema.{Schema}
 use Rattle.sqlite_schema.specs.declared.schema.Table.{Table}
@@ -18,7 +17,7 @@ use Rattle.sqlite_value.specs.Keys.{plain}
 use Rattle.sqlite.specs.Does.{lacks_sequence}
 use Rattle.sqlite.specs.Effect.{Database, IsDatabase}
 use Rattle.one_table.specs.Place.{Has}
-use Rattle.one_table.specs.Standing.{Key, key_of, keys_from, keys_on, own_keys, Stands, tree_in}
+use Rattle.one_table.specs.Standing.{key_of, keys_from, keys_on, own_keys, Stands, tree_in}
 use Rattle.one_table.specs.Making.{counters, made, with_counters, MakesTable}
 use Rattle.one_table.proofs.GrowthLemmas.{position_next, got_next, found_next, none_kept, below_differs, Grows, grows_then, grows_none, stands_by, still_stands, tree_of_has}
 
@@ -87,9 +86,10 @@ new_has s t free low = record {
 
 new_stands : (db : Database) (t : Table) → IsDatabase db → is_used db.schema t.name ≡ false → next_tree db.schema < 65536 → Stands (created db.schema t) t × (tree_in (created db.schema t) t.name ≡ next_tree db.schema)
 new_stands db t sound free low =
-    let has = new_has db.schema t free low in
-    (stands_by (created db.schema t) (length db.schema.tables) (next_tree db.schema) t has (new_keys db t sound),
-     tree_of_has (created db.schema t) (length db.schema.tables) (record t { tree = next_tree db.schema }) t.name has.named has.listed)
+    let has = new_has db.schema t free low in (
+      stands_by (created db.schema t) (length db.schema.tables) (next_tree db.schema) t has (new_keys db t sound),
+      tree_of_has (created db.schema t) (length db.schema.tables) (record t { tree = next_tree db.schema }) t.name has.named has.listed,
+    )
 
 -- the table that was made stands in the next tree, and is empty
 pub made_stands : (t : Table) (a b : Database) → IsDatabase a → MakesTable t a b → Stands b.schema t × (tree_in b.schema t.name ≡ next_tree a.schema) × (b.trees (tree_in b.schema t.name) ≡ [])

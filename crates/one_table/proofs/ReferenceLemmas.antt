@@ -1,20 +1,20 @@
 -- References, as a schema grows by one table.
-use Rattle.std.proofs.Common.{◌≡◌, ◌⊎◌, ℕ, ◌+◌, ◌<◌, ◌≤◌, ◌==◌, Bool, true, false, not, ◌&&◌, ◌||◌, cond, List, [], ◌∷◌, ◌++◌, find, option_map, unwrap_or, Option, None, Some, refl, sym, ap, subst, ◌∙◌, inl, inr, arith, append_assoc}
+use Rattle.std.proofs.Common.{◌≡◌, ◌⊎◌, ℕ, ◌<◌, ◌==◌, Bool, true, false, not, ◌||◌, List, [], ◌∷◌, ◌++◌, find, option_map, unwrap_or, Option, None, Some, refl, sym, ap, subst, ◌∙◌, inl, inr, arith, append_assoc}
 use Rattle.std.proofs.lemmas.Bool.{cases_Bool, not-true, or_cases, or_left, or_right}
 use Rattle.std.proofs.lemmas.List.Folds.{find-append}
 use Rattle.std.specs.Option.{option_or}
-use Rattle.std.specs.List.{list_all, list_any}
+use Rattle.std.specs.List.{list_all}
 use Rattle.sqlite_rules.specs.Lists.{Has as Member}
-use Rattle.sqlite_rules.proofs.ListLemmas.{has_left, has_right, has_either, has_found, test_has, test_from, some_has, some_from}
+use Rattle.sqlite_rules.proofs.ListLemmas.{has_either, has_found, test_has, test_from, some_has, some_from}
 use Rattle.sqlite_schema.specs.declared.schema.Reference.{Reference}
 use Rattle.sqlite_schema.specs.declared.schema.Schema.{Schema}
 use Rattle.sqlite_schema.specs.declared.schema.Table.{Table}
 use Rattle.sqlite_schema.specs.Names.{same_name}
 use Rattle.sqlite_catalog.specs.Change.{created, next_tree}
 use Rattle.sqlite_catalog.proofs.SoundLemmas.{lowered}
-use Rattle.sqlite_catalog.proofs.StepLemmas.{table_below, same_itself}
+use Rattle.sqlite_catalog.proofs.StepLemmas.{table_below}
 use Rattle.sqlite.specs.Does.{lacks_sequence}
-use Rattle.one_table.specs.Making.{counters, made, with_counters}
+use Rattle.one_table.specs.Making.{counters, made}
 use Rattle.one_table.specs.Referring.{is_among, is_apart, is_unreferred, is_idle, is_harmless, points_to, is_left_alone}
 use Rattle.one_table.proofs.GrowthLemmas.{below_differs, above_differs}
 use Rattle.one_table.proofs.NewTableLemmas.{next_after}
@@ -31,11 +31,11 @@ made_adds s t =
     let new : Table = record t { tree = next_tree s } in
     elim (cases_Bool (lacks_sequence (created s t))) [
       | inl lacks ↦ rw lacks (record {
-          tail = record counters { tree = next_tree (created s t) } ∷ [];
-          tables = append_assoc s.tables (new ∷ []) (record counters { tree = next_tree (created s t) } ∷ []);
-          bare = λ u h. elim h [ inl e ↦ ap (λ (v : Table). v.references) e | inr none ↦ absurd none ];
-          above = λ u h. elim h [ inl e ↦ omega (arith, ap (λ (v : Table). v.tree) e, next_after s t) | inr none ↦ absurd none ];
-        })
+        tail = record counters { tree = next_tree (created s t) } ∷ [];
+        tables = append_assoc s.tables (new ∷ []) (record counters { tree = next_tree (created s t) } ∷ []);
+        bare = λ u h. elim h [ inl e ↦ ap (λ (v : Table). v.references) e | inr none ↦ absurd none ];
+        above = λ u h. elim h [ inl e ↦ omega (arith, ap (λ (v : Table). v.tree) e, next_after s t) | inr none ↦ absurd none ];
+      })
       | inr not ↦ rw not (record { tail = []; tables = refl; bare = λ u h. absurd h; above = λ u h. absurd h })
     ]
 
@@ -120,11 +120,11 @@ module _ (s : Schema) (t : Table) (b : Schema) (added : Added s t b) where
       let new : Table = record t { tree = next_tree s } in
       ap (λ l. points_among (find named l) (next_tree s)) added.tables ∙ ap (λ o. points_among o (next_tree s)) (find-append named s.tables (new ∷ added.tail))
       ∙ first_or_later (find named s.tables) (find named (new ∷ added.tail)) (next_tree s)
-        (unpointed (find named s.tables) (next_tree s) (λ u is. below_differs u.tree (next_tree s) (table_below s u (has_found named s.tables u is).0)))
-        (λ u is. let there = has_found named (new ∷ added.tail) u is in elim there.0 [
-          | inl same ↦ absurd (let e = among_by names t.name r.parent (ap (λ (v : Table). same_name v.name r.parent) (sym same) ∙ there.1) ours in cc)
-          | inr tail ↦ above_differs u.tree (next_tree s) (added.above u tail)
-        ])
+      (unpointed (find named s.tables) (next_tree s) (λ u is. below_differs u.tree (next_tree s) (table_below s u (has_found named s.tables u is).0)))
+      (λ u is. let there = has_found named (new ∷ added.tail) u is in elim there.0 [
+        | inl same ↦ absurd (let e = among_by names t.name r.parent (ap (λ (v : Table). same_name v.name r.parent) (sym same) ∙ there.1) ours in cc)
+        | inr tail ↦ above_differs u.tree (next_tree s) (added.above u tail)
+      ])
 
   pub new_left_alone : (names : List (List ℕ)) → is_among names t.name ≡ true → list_all is_idle t.references ≡ true → is_harmless names s ≡ true → is_left_alone b (next_tree s) ≡ true
   new_left_alone names ours idle old = each_reference (λ r. is_idle r || not (points_to b (next_tree s) r))

@@ -4,4 +4,4 @@
 //! tables cites for each of its texts.
 #![tactic(auto)]
 
-mod make;
+pub mod make;
