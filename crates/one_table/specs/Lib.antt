@@ -2,3 +2,4 @@ pub mod Place
 pub mod Making
 pub mod Standing
 pub mod Referring
+pub mod Comparing

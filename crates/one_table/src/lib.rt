@@ -4,4 +4,5 @@
 //! tables cites for each of its texts.
 #![tactic(auto)]
 
+mod compare;
 pub mod make;
