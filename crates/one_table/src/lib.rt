@@ -5,4 +5,5 @@
 #![tactic(auto)]
 
 mod compare;
+pub mod inspect;
 pub mod make;

@@ -1,0 +1,82 @@
+//! Tests of a schema that was found in a file: which names are free, which tables stand in it exactly
+//! so, and which references there are.
+ghost use Rattle.std.specs.Prelude.{◌≡◌, ◌↔◌, ◌==◌, ◌<◌, not, Option, None, Some, find, map, filter, slice_get, slice_index_or, length, IsTrue, OnSome};
+ghost use Rattle.std.specs.List.{list_all};
+ghost use Rattle.std.specs.Option.{option_copied};
+ghost use Rattle.sqlite_value.specs.Keys.{plain};
+ghost use Rattle.sqlite_catalog.specs.Change.{is_used};
+ghost use Rattle.one_table.specs.Comparing.{IsPlainTable};
+ghost use Rattle.one_table.specs.Referring.{is_among, is_apart, is_unreferred, is_no_action, is_idle, points_to, is_left_alone};
+ghost use Rattle.one_table.specs.Standing.{Key, key_of, own_keys, keys_on, place_in, tree_in, Stands};
+
+use crate::compare::is_table;
+use sqlite_schema::names::same_name;
+use sqlite_schema::schema::{Action, Index, Reference, Schema, Table};
+
+fn is_used(schema: &Schema, name: &str) -> bool
+    ensures { result ≡ is_used schema.now name.now }
+{
+    let name = name.as_bytes();
+    schema.table_named(name).is_some()
+        || schema.index_named(name).is_some()
+        || schema.view_named(name).is_some()
+}
+
+/// Whether no table, index or view has one of these names.
+pub fn are_free(schema: &Schema, names: &[&str]) -> bool
+    ensures { result ≡ list_all (λ name. not (is_used schema.now name.now)) names.now }
+{
+    names.iter().all(|name| !is_used(schema, name))
+}
+
+fn is_among(names: &[&str], name: &[u8]) -> bool
+    ensures { result ≡ is_among (map (λ n. n.now) names.now) name.now }
+{
+    for one in names {
+        if same_name(name, one.as_bytes()) {
+            return true;
+        }
+    }
+    false
+}
+
+fn refer_elsewhere(names: &[&str], references: &[Reference]) -> bool
+    ensures { result ≡ list_all (λ r. not (is_among (map (λ n. n.now) names.now) r.parent)) references.now }
+{
+    for reference in references {
+        if is_among(names, reference.parent.as_slice()) {
+            return false;
+        }
+    }
+    true
+}
+
+fn is_apart(names: &[&str], table: &Table) -> bool
+    ensures { result ≡ is_apart (map (λ n. n.now) names.now) table.now }
+{
+    is_among(names, table.name.as_slice()) || refer_elsewhere(names, table.references.as_slice())
+}
+
+/// Whether no table of another name refers to one of these names, be there such a table or not.
+pub fn is_unreferred(schema: &Schema, names: &[&str]) -> bool
+    ensures { result ≡ is_unreferred (map (λ n. n.now) names.now) schema.now }
+{
+    for table in schema.tables.as_slice() {
+        if !is_apart(names, table) {
+            return false;
+        }
+    }
+    true
+}
+
+fn is_no_action(action: Action) -> bool
+    ensures { result ≡ is_no_action action }
+{
+    matches!(action, Action::NoAction)
+}
+
+fn is_idle(reference: &Reference) -> bool
+    ensures { result ≡ is_idle reference.now }
+{
+    is_no_action(reference.on_delete) && is_no_action(reference.on_update)
+}
