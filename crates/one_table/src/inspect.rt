@@ -1,6 +1,6 @@
 //! Tests of a schema that was found in a file: which names are free, which tables stand in it exactly
 //! so, and which references there are.
-ghost use Rattle.std.specs.Prelude.{◌≡◌, ◌↔◌, ◌==◌, ◌<◌, not, Option, None, Some, find, map, filter, slice_get, slice_index_or, length, IsTrue, OnSome};
+ghost use Rattle.std.specs.Prelude.{◌≡◌, ◌↔◌, ◌==◌, ◌||◌, ◌<◌, not, Option, None, Some, find, map, filter, slice_get, slice_index_or, length, IsTrue, OnSome};
 ghost use Rattle.std.specs.List.{list_all};
 ghost use Rattle.std.specs.Option.{option_copied};
 ghost use Rattle.sqlite_value.specs.Keys.{plain};
@@ -79,4 +79,54 @@ fn is_idle(reference: &Reference) -> bool
     ensures { result ≡ is_idle reference.now }
 {
     is_no_action(reference.on_delete) && is_no_action(reference.on_update)
+}
+
+fn points_to(schema: &Schema, tree: u32, reference: &Reference) -> bool
+    ensures { result ≡ points_to schema.now tree reference.now }
+{
+    let parent = reference.parent.as_slice();
+    match schema.tables.as_slice().iter().find(|t| t.is_named(parent)) {
+        Some(table) => table.tree == tree,
+        None => false,
+    }
+}
+
+fn leave_alone(schema: &Schema, tree: u32, references: &[Reference]) -> bool
+    ensures { result ≡ list_all (λ r. is_idle r || not (points_to schema.now tree r)) references.now }
+{
+    for reference in references {
+        if !is_idle(reference) && points_to(schema, tree, reference) {
+            return false;
+        }
+    }
+    true
+}
+
+fn is_left_alone(schema: &Schema, tree: u32) -> bool
+    ensures { result ≡ is_left_alone schema.now tree }
+{
+    for table in schema.tables.as_slice() {
+        if !leave_alone(schema, tree, table.references.as_slice()) {
+            return false;
+        }
+    }
+    true
+}
+
+fn tree_in(schema: &Schema, name: &str) -> u32
+    ensures { result ≡ tree_in schema.now name.now }
+{
+    let at = schema.table_named(name.as_bytes()).unwrap_or(0);
+    match schema.tables.get(at) {
+        Some(table) => table.tree,
+        None => 0,
+    }
+}
+
+/// Whether no reference to the table of this name takes an action, as CASCADE, where a row that it
+/// points to is changed or deleted.
+pub fn is_table_left_alone(schema: &Schema, name: &str) -> bool
+    ensures { result ≡ is_left_alone schema.now (tree_in schema.now name.now) }
+{
+    is_left_alone(schema, tree_in(schema, name))
 }
