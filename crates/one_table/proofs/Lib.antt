@@ -4,3 +4,4 @@ pub mod NewTableLemmas
 pub mod ReferenceLemmas
 pub mod MakingLemmas
 pub mod TurnLemmas
+pub mod KeyLemmas

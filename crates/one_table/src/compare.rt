@@ -27,7 +27,7 @@ fn same_bytes(a: &Bytes, b: &Bytes) -> bool
     a.as_slice() == b.as_slice()
 }
 
-fn same_places(a: &Items<usize>, b: &Items<usize>) -> bool
+pub(crate) fn same_places(a: &Items<usize>, b: &Items<usize>) -> bool
     ensures { IsTrue result ↔ (a.now ≡ b.now) }
 {
     a.as_slice() == b.as_slice()

@@ -1,6 +1,6 @@
 //! Tests of a schema that was found in a file: which names are free, which tables stand in it exactly
 //! so, and which references there are.
-ghost use Rattle.std.specs.Prelude.{◌≡◌, ◌↔◌, ◌==◌, ◌||◌, ◌<◌, not, Option, None, Some, find, map, filter, slice_get, slice_index_or, length, IsTrue, OnSome};
+ghost use Rattle.std.specs.Prelude.{◌≡◌, ◌↔◌, ◌==◌, ◌||◌, ◌<◌, true, not, Option, None, Some, find, map, filter, slice_get, slice_index_or, length, IsTrue, OnSome};
 ghost use Rattle.std.specs.List.{list_all};
 ghost use Rattle.std.specs.Option.{option_copied};
 ghost use Rattle.sqlite_value.specs.Keys.{plain};
@@ -9,9 +9,11 @@ ghost use Rattle.one_table.specs.Comparing.{IsPlainTable};
 ghost use Rattle.one_table.specs.Referring.{is_among, is_apart, is_unreferred, is_no_action, is_idle, points_to, is_left_alone};
 ghost use Rattle.one_table.specs.Standing.{Key, key_of, own_keys, keys_on, place_in, tree_in, Stands};
 
-use crate::compare::is_table;
+use crate::compare::{is_table, same_places};
+use sqlite_items::Items;
 use sqlite_schema::names::same_name;
 use sqlite_schema::schema::{Action, Index, Reference, Schema, Table};
+use sqlite_value::keys::Order;
 
 fn is_used(schema: &Schema, name: &str) -> bool
     ensures { result ≡ is_used schema.now name.now }
@@ -129,4 +131,44 @@ pub fn is_table_left_alone(schema: &Schema, name: &str) -> bool
     ensures { result ≡ is_left_alone schema.now (tree_in schema.now name.now) }
 {
     is_left_alone(schema, tree_in(schema, name))
+}
+
+fn is_key(index: &Index, columns: &Items<usize>, order: Order) -> bool
+    ensures { IsTrue result ↔ (key_of index.now ≡ (true, columns.now, order)) }
+{
+    index.is_unique && same_places(&index.columns, columns) && index.order == order
+}
+
+fn order_of_key(table: &Table, number: usize) -> Order
+    ensures { result ≡ slice_index_or table.now.orders number plain }
+{
+    match table.orders.get(number) {
+        Some(order) => *order,
+        None => Order { digits: 0 },
+    }
+}
+
+// The index is the one that the table's UNIQUE of this number makes.
+fn is_own_key(index: &Index, table: &Table, number: usize) -> bool
+    ensures { IsTrue result ↔ (slice_get (own_keys table.now) number ≡ Some (key_of index.now)) }
+{
+    match table.uniques.get(number) {
+        Some(columns) => is_key(index, columns, order_of_key(table, number)),
+        None => false,
+    }
+}
+
+fn has_own_keys(schema: &Schema, tree: u32, table: &Table) -> bool
+    ensures { IsTrue result ↔ (keys_on schema.now tree ≡ own_keys table.now) }
+{
+    let mut next = 0;
+    for index in schema.indexes.as_slice() {
+        if index.table == tree {
+            if !is_own_key(index, table, next) {
+                return false;
+            }
+            next += 1;
+        }
+    }
+    next == table.uniques.len()
 }
