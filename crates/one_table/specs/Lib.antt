@@ -1,1 +1,5 @@
 pub mod Place
+pub mod Making
+pub mod Standing
+pub mod Referring
+pub mod Comparing

@@ -3,3 +3,7 @@
 //! The crate knows no table of the office. `specs/` has the definitions, `proofs/` the theorems that a crate of
 //! tables cites for each of its texts.
 #![tactic(auto)]
+
+mod compare;
+pub mod inspect;
+pub mod make;

@@ -1,0 +1,44 @@
+-- Which tables can be told from one another when the program runs.
+use Rattle.std.specs.Prelude.{◌≡◌, Bool, true, false, ◌&&◌, List, [], ◌∷◌}
+use Rattle.std.specs.List.{list_all}
+use Rattle.sqlite_value.specs.declared.value.Value.{Value}
+use Rattle.sqlite_value.specs.declared.value.Value.TheVariants.{Null}
+use Rattle.sqlite_schema.specs.declared.schema.Column.{Column}
+use Rattle.sqlite_schema.specs.declared.schema.Table.{Table}
+
+abbrev pub is_null : Value → Bool
+is_null Null = true
+is_null _ = false
+
+abbrev pub has_no_default : Column → Bool
+has_no_default c = is_null c.default
+
+-- Columns have no default but NULL, and the table has no CHECK and no default that reads the time.
+pub record IsPlainTable (t : Table) : Type 0 where
+  pub defaults : list_all has_no_default t.columns ≡ true
+  pub checks : t.checks ≡ []
+  pub stamps : t.stamps.terms ≡ []
+
+-- the tables are equal but for their trees
+abbrev pub IsAlike : Table → Table → Type 0
+IsAlike found wanted = found ≡ record wanted { tree = found.tree }
+
+-- the tables have the same rows: names, columns, row id and what is computed
+pub record HasSameRows (a b : Table) : Type 0 where
+  pub name : a.name ≡ b.name
+  pub columns : a.columns ≡ b.columns
+  pub key : a.key ≡ b.key
+  pub computed : a.computed ≡ b.computed
+  pub stamps : a.stamps ≡ b.stamps
+  pub counted : a.is_counted ≡ b.is_counted
+  pub defaults : list_all has_no_default b.columns ≡ true
+  pub untimed : b.stamps.terms ≡ []
+
+-- the tables have the same rules on their rows
+pub record HasSameRules (a b : Table) : Type 0 where
+  pub primary : a.primary ≡ b.primary
+  pub uniques : a.uniques ≡ b.uniques
+  pub orders : a.orders ≡ b.orders
+  pub checks : a.checks ≡ b.checks
+  pub references : a.references ≡ b.references
+  pub unchecked : b.checks ≡ []
