@@ -1,5 +1,5 @@
 -- A table's own keys, one at a time.
-use Rattle.std.proofs.Common.{◌≡◌, ℕ, zero, suc, ◌+◌, ◌<◌, ◌≤◌, ◌==◌, ◌↔◌, Bool, true, false, List, [], ◌∷◌, length, map, filter, drop, drop-cons, get_or, ◌≢◌, subst, slice_get, slice_index_or, option_map, Option, None, Some, refl, sym, ap, inl, inr, ◌∙◌, arith, length-drop}
+use Rattle.std.proofs.Common.{◌≡◌, ℕ, zero, suc, ◌+◌, ◌<◌, ◌≤◌, ◌==◌, ◌↔◌, Bool, true, false, List, [], ◌∷◌, length, map, filter, drop, drop-cons, get_or, ◌≢◌, subst, slice_get, slice_index_or, option_map, None, Some, refl, sym, ap, inl, inr, ◌∙◌, arith, length-drop}
 use Rattle.std.proofs.lemmas.Bool.{cases_Bool, eq-eqb, eqb-true}
 use Rattle.sqlite_value.specs.declared.keys.Order.{Order}
 use Rattle.sqlite_value.specs.Keys.{plain}

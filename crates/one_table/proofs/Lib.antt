@@ -5,3 +5,4 @@ pub mod ReferenceLemmas
 pub mod MakingLemmas
 pub mod TurnLemmas
 pub mod KeyLemmas
+pub mod StandingLemmas

@@ -1,10 +1,12 @@
 -- Which tables can be told from one another when the program runs.
-use Rattle.std.specs.Prelude.{◌≡◌, Bool, true, false, ◌&&◌, List, [], ◌∷◌}
+use Rattle.std.specs.Prelude.{◌≡◌, ℕ, ◌<◌, ◌^◌, ◌==◌, Bool, true, false, [], find, Some}
 use Rattle.std.specs.List.{list_all}
 use Rattle.sqlite_value.specs.declared.value.Value.{Value}
 use Rattle.sqlite_value.specs.declared.value.Value.TheVariants.{Null}
 use Rattle.sqlite_schema.specs.declared.schema.Column.{Column}
+use Rattle.sqlite_schema.specs.declared.schema.Schema.{Schema}
 use Rattle.sqlite_schema.specs.declared.schema.Table.{Table}
+use Rattle.one_table.specs.Standing.{keys_on, own_keys}
 
 abbrev pub is_null : Value → Bool
 is_null Null = true
@@ -42,3 +44,15 @@ pub record HasSameRules (a b : Table) : Type 0 where
   pub checks : a.checks ≡ b.checks
   pub references : a.references ≡ b.references
   pub unchecked : b.checks ≡ []
+
+-- the first table of a tree is this one, and plain
+pub record IsOwnTree (s : Schema) (tree : ℕ) (t : Table) : Type 0 where
+  pub first : find (λ u. u.tree == tree) s.tables ≡ Some (record t { tree = tree })
+  pub low : tree < 2 ^ 31
+  pub plain : IsPlainTable t
+
+-- a found table is this one, with its own tree and keys
+pub record StandsAt (s : Schema) (found t : Table) : Type 0 where
+  pub alike : IsAlike found t
+  pub own_tree : IsOwnTree s found.tree t
+  pub keys : keys_on s found.tree ≡ own_keys t

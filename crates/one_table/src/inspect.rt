@@ -5,7 +5,7 @@ ghost use Rattle.std.specs.List.{list_all};
 ghost use Rattle.std.specs.Option.{option_copied};
 ghost use Rattle.sqlite_value.specs.Keys.{plain};
 ghost use Rattle.sqlite_catalog.specs.Change.{is_used};
-ghost use Rattle.one_table.specs.Comparing.{IsPlainTable};
+ghost use Rattle.one_table.specs.Comparing.{IsPlainTable, IsOwnTree, StandsAt};
 ghost use Rattle.one_table.specs.Referring.{is_among, is_apart, is_unreferred, is_no_action, is_idle, points_to, is_left_alone};
 ghost use Rattle.one_table.specs.Standing.{Key, key_of, own_keys, keys_on, place_in, tree_in, Stands};
 
@@ -171,4 +171,47 @@ fn has_own_keys(schema: &Schema, tree: u32, table: &Table) -> bool
         }
     }
     next == table.uniques.len()
+}
+
+// The trees that the store numbers are below this.
+const TREES: u32 = 0x8000_0000;
+
+fn first_of_tree(tables: &[Table], tree: u32) -> Option<&Table>
+    ensures { option_copied result ≡ find (λ t. t.tree == tree) tables.now }
+{
+    tables.iter().find(|t| t.tree == tree)
+}
+
+fn is_own_tree(schema: &Schema, tree: u32, table: &Table) -> bool
+    ensures { IsTrue result ↔ IsOwnTree schema.now tree table.now }
+{
+    match first_of_tree(schema.tables.as_slice(), tree) {
+        Some(first) => tree < TREES && is_table(first, table),
+        None => false,
+    }
+}
+
+fn stands_at(schema: &Schema, found: &Table, table: &Table) -> bool
+    ensures { IsTrue result ↔ StandsAt schema.now found.now table.now }
+{
+    if !is_table(found, table) {
+        return false;
+    }
+    is_own_tree(schema, found.tree, table) && has_own_keys(schema, found.tree, table)
+}
+
+/// Whether the table stands in the database exactly as it was defined, but for its tree: it is the
+/// first of its name and of its tree, and has no index but those of its own UNIQUE.
+///
+/// A wanted table that has a default, a CHECK or a column that reads the time stands in none.
+pub fn stands(schema: &Schema, table: &Table) -> bool
+    ensures { IsTrue result ↔ (Stands schema.now table.now × IsPlainTable table.now) }
+{
+    let Some(at) = schema.table_named(table.name.as_slice()) else {
+        return false;
+    };
+    match schema.tables.get(at) {
+        Some(found) => stands_at(schema, found, table),
+        None => false,
+    }
 }

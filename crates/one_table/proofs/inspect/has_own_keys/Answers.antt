@@ -1,7 +1,6 @@
-use Rattle.std.proofs.Common.{rules, arith, ◌≡◌, ◌↔◌, ℕ, ◌+◌, ◌<◌, ◌≤◌, IsTrue, Some, drop, drop-cons, get_or, length, map, filter, slice_get, sym, ap, subst, ◌∙◌}
+use Rattle.std.proofs.Common.{rules, arith, ◌≡◌, Some, length, slice_get, sym, ◌∙◌}
 use Rattle.std.proofs.lemmas.Option.{slice_get_within}
-use Rattle.sqlite_schema.specs.declared.schema.Index.{Index}
-use Rattle.one_table.specs.Standing.{Key, key_of, keys_on, own_keys}
+use Rattle.one_table.specs.Standing.{key_of, keys_on, own_keys}
 use Rattle.one_table.proofs.KeyLemmas.{left_met, left_passed, left_missed, left_ended, length-own_keys}
 use Rattle.one_table.proofs.inspect.has_own_keys.Goals as goal
 use Rattle.one_table.proofs.inspect.has_own_keys.Goals.{then-index-tree+else-not-is_own_key, else-index-tree}
@@ -20,17 +19,17 @@ loop-index-preserved c =
     let items = c.as_slice-index-items.result.now in
     elim c.if-index-tree.branch [
       | then-index-tree+else-not-is_own_key w ↦
-        let met : slice_get ks c.loop-index.next ≡ Some (key_of c.index-item.result) = w.is_own_key.ensures.0 (let e = w.if-not-is_own_key.false in search rules) in
-        rw w.next-is (record {
-          left = left_met c.args.tree ks whole c.loop-index.next items c.loop-index.index-index c.index-item.result c.loop-index-test.true c.index-item.is c.loop-index.invariant.left w.if-index-tree.true met;
-          low = omega arith;
-          within = omega (arith, slice_get_within ks c.loop-index.next (key_of c.index-item.result) met);
-        })
+          let met : slice_get ks c.loop-index.next ≡ Some (key_of c.index-item.result) = w.is_own_key.ensures.0 (let e = w.if-not-is_own_key.false in search rules) in
+          rw w.next-is (record {
+            left = left_met c.args.tree ks whole c.loop-index.next items c.loop-index.index-index c.index-item.result c.loop-index-test.true c.index-item.is c.loop-index.invariant.left w.if-index-tree.true met;
+            low = omega arith;
+            within = omega (arith, slice_get_within ks c.loop-index.next (key_of c.index-item.result) met);
+          })
       | else-index-tree w ↦ rw w.next-is (record {
-          left = left_passed c.args.tree ks whole c.loop-index.next items c.loop-index.index-index c.index-item.result c.loop-index-test.true c.index-item.is c.loop-index.invariant.left w.if-index-tree.false;
-          low = omega arith;
-          within = c.loop-index.invariant.within;
-        })
+        left = left_passed c.args.tree ks whole c.loop-index.next items c.loop-index.index-index c.index-item.result c.loop-index-test.true c.index-item.is c.loop-index.invariant.left w.if-index-tree.false;
+        low = omega arith;
+        within = c.loop-index.invariant.within;
+      })
     ]
 
 pub returns : goal.returns

@@ -1,5 +1,5 @@
-use Rattle.std.proofs.Common.{rules, ◌≡◌, true, Some, None, slice_get, sym, ap, ◌∙◌, IsTrue}
-use Rattle.one_table.specs.Standing.{Key, key_of, own_keys}
+use Rattle.std.proofs.Common.{◌≡◌, true, Some, sym, ap, ◌∙◌}
+use Rattle.one_table.specs.Standing.{Key, key_of}
 use Rattle.one_table.proofs.KeyLemmas.{own_key_at, no_own_key}
 use Rattle.one_table.proofs.inspect.is_own_key.Goals as goal
 

@@ -1,4 +1,4 @@
-use Rattle.std.proofs.Common.{rules, ◌≡◌, sym}
+use Rattle.std.proofs.Common.{sym}
 use Rattle.one_table.proofs.KeyLemmas.{past_orders}
 use Rattle.one_table.proofs.inspect.order_of_key.Goals as goal
 
