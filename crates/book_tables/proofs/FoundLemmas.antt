@@ -1,13 +1,13 @@
 -- What is found in the rows is what the office has.
-use Rattle.std.proofs.Common.{eq-eqb, ◌≡◌, ◌≢◌, ℕ, suc, ◌+◌, ◌<◌, ◌≤◌, Bool, true, false, cond, List, [], ◌∷◌, length, get_or, Option, Some, None, IsSome, refl, sym, ◌∙◌, ap, subst, arith}
-use Rattle.std.specs.Prelude.{◌&&◌, ◌==◌, AllPairs, Contains, bytes_eq, filter, find, is_none, is_some, option_and_then, option_map, slice_get}
+use Rattle.std.proofs.Common.{eq-eqb, ◌≡◌, ◌≢◌, ℕ, ◌<◌, ◌≤◌, Bool, true, false, List, [], ◌∷◌, length, get_or, Option, Some, None, IsSome, refl, sym, ◌∙◌, ap, subst, arith}
+use Rattle.std.specs.Prelude.{◌&&◌, ◌==◌, AllPairs, bytes_eq, filter, find, is_none, is_some, map, option_and_then, option_map, slice_get}
 use Rattle.std.specs.Option.{option_to_list}
 use Rattle.std.proofs.lemmas.Bool.{false≢true}
 use Rattle.std.proofs.lemmas.Bool.Decides.{nat_tests}
-use Rattle.std.proofs.lemmas.Option.{same_Some, slice_get-get_or, slice_get_past, slice_get_within}
+use Rattle.std.proofs.lemmas.Option.{slice_get-get_or, slice_get_within}
 use Rattle.std.proofs.lemmas.Slice.Eq.{bytes_eq-Decides}
 use Rattle.tariff.specs.declared.step.Step.{Step}
-use Rattle.vend_core.specs.Lookup.{open_shift, sale_numbered, sale_of_ref, shift_numbered}
+use Rattle.vend_core.specs.Lookup.{open_shift, sale_of_ref}
 use Rattle.vend_core.specs.Office.{AreNumbered, IsBefore, IsOffice, NotBothOpen, Office}
 use Rattle.vend_core.specs.declared.meter.Meter.{Meter}
 use Rattle.vend_core.specs.declared.sale.Sale.{Sale}
@@ -52,7 +52,7 @@ module _ (rows : Rows) (o : Office) (are : AreMembersOf rows o) (number : List �
   unfolding has_number
   meter_cases None e =
       none_pass has_number rows.meters (λ r there. fails (has_number r) (λ passes.
-          none_some (o.meters number) r.1 e (sym (ap o.meters (same_bytes r.0 number passes)) ∙ (are.meters r.0 r.1).1 there)))
+      none_some (o.meters number) r.1 e (sym (ap o.meters (same_bytes r.0 number passes)) ∙ (are.meters r.0 r.1).1 there)))
   meter_cases (Some m) e =
       one_passes has_number rows.meters (number, m)
       (pairs_weaker (λ a b. a.0 ≢ b.0) (NotBothPass has_number) rows.meters (λ a b apart p q. apart (same_bytes a.0 number p ∙ sym (same_bytes b.0 number q))) are.meters_once)
@@ -72,9 +72,9 @@ module _ (rows : Rows) (o : Office) (are : AreMembersOf rows o) (name : List ℕ
   unfolding has_name
   tariff_cases None e =
       none_pass has_name rows.tariffs (λ r there. fails (has_name r) (λ passes.
-          let some : IsSome (o.tariffs r) = (are.tariffs r).1 there in
-          let none : IsSome {T = List Step} None = subst (λ (v : Option (List Step)). IsSome v) (ap o.tariffs (same_bytes r name passes) ∙ e) some in
-          false≢true none))
+      let some : IsSome (o.tariffs r) = (are.tariffs r).1 there in
+      let none : IsSome {T = List Step} None = subst (λ (v : Option (List Step)). IsSome v) (ap o.tariffs (same_bytes r name passes) ∙ e) some in
+      false≢true none))
   tariff_cases (Some steps) e =
       one_passes has_name rows.tariffs name
       (pairs_weaker (λ a b. a ≢ b) (NotBothPass has_name) rows.tariffs (λ a b apart p q. apart (same_bytes a name p ∙ sym (same_bytes b name q))) are.tariffs_once)
@@ -109,11 +109,11 @@ module _ (rows : Rows) (o : Office) (are : AreMembersOf rows o) (name : List ℕ
   unfolding is_there
   step_cases None e =
       none_pass is_there rows.steps (λ r there. fails (is_there r) (λ passes.
-          let name_is = name_of r passes in
-          let place_is = place_of r passes in
-          let has = has_step o r ((are.steps r).1 there) in
-          let moved : step_at o r.tariff r.place ≡ step_at o name place = cc in
-          none_some (step_at o name place) r.step e (sym moved ∙ has)))
+      let name_is = name_of r passes in
+      let place_is = place_of r passes in
+      let has = has_step o r ((are.steps r).1 there) in
+      let moved : step_at o r.tariff r.place ≡ step_at o name place = cc in
+      none_some (step_at o name place) r.step e (sym moved ∙ has)))
   step_cases (Some s) e =
       let r : StepRow = record { tariff = name; place = place; step = s } in
       one_passes is_there rows.steps r
@@ -124,6 +124,32 @@ module _ (rows : Rows) (o : Office) (are : AreMembersOf rows o) (name : List ℕ
   pub found_step : steps_at rows name place ≡ option_to_list (option_map (λ s. record { tariff = name; place = place; step = s }) (step_at o name place))
   unfolding is_there
   found_step = step_cases (step_at o name place) refl
+
+second_of : {A B : Type 0} (a : A) (o : Option B) → map (λ (r : A × B). r.1) (option_to_list (option_map (λ b. (a, b)) o)) ≡ option_to_list o
+second_of a None = refl
+second_of a (Some b) = refl
+
+pub meter_found : (rows : Rows) (o : Office) (number : List ℕ) → AreMembersOf rows o → map (λ r. r.1) (meters_numbered rows number) ≡ option_to_list (o.meters number)
+meter_found rows o number are = ap (map (λ (r : List ℕ × Meter). r.1)) (found_meter rows o are number) ∙ second_of number (o.meters number)
+
+step_of : (name : List ℕ) (place : ℕ) (o : Option Step) → map (λ (r : StepRow). r.step) (option_to_list (option_map (λ s. record { tariff = name; place = place; step = s }) o)) ≡ option_to_list o
+step_of name place None = refl
+step_of name place (Some s) = refl
+
+pub step_found : (rows : Rows) (o : Office) (name : List ℕ) (place : ℕ) → AreMembersOf rows o → map (λ r. r.step) (steps_at rows name place) ≡ option_to_list (step_at o name place)
+step_found rows o name place are = ap (map (λ (r : StepRow). r.step)) (found_step rows o are name place) ∙ step_of name place (step_at o name place)
+
+pub no_steps : (o : Office) (name : List ℕ) → IsOffice o → step_at o name 0 ≡ None → o.tariffs name ≡ None
+no_steps o name office none = by_cases (o.tariffs name) refl
+  where
+    no_first : (steps : List Step) → 1 ≤ length steps → slice_get steps 0 ≡ None → ⊥
+    no_first [] some none = omega arith
+    no_first (s ∷ steps) some none = cc
+
+    by_cases : (there : Option (List Step)) → o.tariffs name ≡ there → there ≡ None
+    by_cases None e = refl
+    by_cases (Some steps) e =
+        absurd (no_first steps (office.tariffs name steps e).priced.count.0 (sym (ap (option_and_then (λ (xs : List Step). slice_get xs 0)) e) ∙ none))
 
 -- the steps that are found at the places, one after another, are the tariff's
 pub all_steps : (o : Office) (name : List ℕ) (steps : List Step) → IsOffice o → 1 ≤ length steps → length steps ≤ 8 → ((place : ℕ) → place < 8 → step_at o name place ≡ slice_get steps place) → o.tariffs name ≡ Some steps
@@ -169,16 +195,16 @@ found_open o operator office =
     let test : Shift → Bool = λ s. bytes_eq s.operator operator && is_none s.closed in
     first_is_all test o.shifts
     (pairs_weaker NotBothOpen (NotBothPass test) o.shifts (λ a b apart p q.
-        let in_a = parts (bytes_eq a.operator operator) (is_none a.closed) p in
-        let in_b = parts (bytes_eq b.operator operator) (is_none b.closed) q in
-        apart (is_open a.closed in_a.1) (is_open b.closed in_b.1) (same_bytes a.operator operator in_a.0 ∙ sym (same_bytes b.operator operator in_b.0))) office.one_open)
+    let in_a = parts (bytes_eq a.operator operator) (is_none a.closed) p in
+    let in_b = parts (bytes_eq b.operator operator) (is_none b.closed) q in
+    apart (is_open a.closed in_a.1) (is_open b.closed in_b.1) (same_bytes a.operator operator in_a.0 ∙ sym (same_bytes b.operator operator in_b.0))) office.one_open)
 
 pub found_ref : (o : Office) (operator order_ref : List ℕ) → IsOffice o → filter (λ s. bytes_eq s.operator operator && bytes_eq s.order_ref order_ref) o.sales ≡ option_to_list (sale_of_ref o operator order_ref)
 found_ref o operator order_ref office =
     let test : Sale → Bool = λ s. bytes_eq s.operator operator && bytes_eq s.order_ref order_ref in
     first_is_all test o.sales
     (pairs_weaker IsBefore (NotBothPass test) o.sales (λ a b before p q.
-        let in_a = parts (bytes_eq a.operator operator) (bytes_eq a.order_ref order_ref) p in
-        let in_b = parts (bytes_eq b.operator operator) (bytes_eq b.order_ref order_ref) q in
-        before.order_ref (same_bytes a.operator operator in_a.0 ∙ sym (same_bytes b.operator operator in_b.0))
-        (same_bytes a.order_ref order_ref in_a.1 ∙ sym (same_bytes b.order_ref order_ref in_b.1))) office.before)
+    let in_a = parts (bytes_eq a.operator operator) (bytes_eq a.order_ref order_ref) p in
+    let in_b = parts (bytes_eq b.operator operator) (bytes_eq b.order_ref order_ref) q in
+    before.order_ref (same_bytes a.operator operator in_a.0 ∙ sym (same_bytes b.operator operator in_b.0))
+    (same_bytes a.order_ref order_ref in_a.1 ∙ sym (same_bytes b.order_ref order_ref in_b.1))) office.before)

@@ -1,8 +1,10 @@
 pub mod EditLemmas
 pub mod FoundLemmas
+pub mod HoldsLemmas
 pub mod KeyTextLemmas
 pub mod ListLemmas
 pub mod MemberLemmas
 pub mod PartLemmas
 pub mod RowLemmas
 pub mod TextLemmas
+pub mod ValueLemmas

@@ -9,7 +9,7 @@ use Rattle.vend_core.specs.declared.sale.Sale.{Sale}
 use Rattle.vend_core.specs.declared.shift.Shift.{Shift}
 use Rattle.book_tables.specs.ReadBack.{ReadsBack}
 use Rattle.book_tables.specs.Rows.{StepRow, meter_columns, optional, sale_row, secret_of, shift_row, shown_meter, shown_number, shown_sale, shown_shift, shown_step, step_columns, tariff_columns}
-use Rattle.book_tables.specs.Values.{AreMeterValues, IsKey}
+use Rattle.book_tables.specs.Values.{IsKey}
 use Rattle.book_tables.proofs.KeyTextLemmas.{one_key}
 
 pub one_optional : (a b : Option ℕ) → optional a ≡ optional b → a ≡ b

@@ -7,7 +7,6 @@ use Rattle.vend_core.specs.Office.{Office}
 use Rattle.vend_core.specs.PlainRows.{row_with_tariff}
 use Rattle.vend_core.specs.declared.change.Edit.{Edit}
 use Rattle.vend_core.specs.declared.change.Edit.TheVariants.{AddTariff, AddMeter, SetTariff, OpenShift, CloseShift, AddSale}
-use Rattle.vend_core.specs.declared.meter.Meter.{Meter}
 use Rattle.vend_core.specs.declared.shift.Shift.{Shift}
 use Rattle.book_tables.specs.Rows.{Rows, StepRow}
 

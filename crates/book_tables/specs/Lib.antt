@@ -1,5 +1,6 @@
 pub mod Edited
 pub mod Found
+pub mod Holds
 pub mod Parts
 pub mod ReadBack
 pub mod Rows

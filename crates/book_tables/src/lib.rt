@@ -4,8 +4,10 @@
 #![tactic(auto)]
 
 pub use error::TableError;
+pub use laws::{members_law, stands_law};
 
 mod cells;
 mod error;
+mod laws;
 mod records;
 mod values;
