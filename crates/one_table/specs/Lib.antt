@@ -1,1 +1,3 @@
 pub mod Place
+pub mod ReadFaults
+pub mod Answer

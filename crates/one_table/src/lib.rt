@@ -3,3 +3,11 @@
 //! The crate knows no table of the office. `specs/` has the definitions, `proofs/` the theorems that a crate of
 //! tables cites for each of its texts.
 #![tactic(auto)]
+
+pub use from_row::{FromRow, column};
+pub use read_fault::ReadFault;
+pub use readers::{read_row, read_rows};
+
+mod from_row;
+mod read_fault;
+mod readers;
