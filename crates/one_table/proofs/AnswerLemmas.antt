@@ -10,9 +10,9 @@ use Rattle.sqlite.specs.Clock.{timed}
 use Rattle.sqlite.specs.Effect.{Database, RefusesToRead}
 use Rattle.sqlite.specs.Listing.{understood, reads_listing, IsSourceOf}
 use Rattle.sqlite.specs.Given.{IsPlain}
-use Rattle.sqlite.specs.State.{State, HasCleanDisk, IsStatement, IsNoStatement, IsNotRun, IsUnchanged, IsRolledBack, HasCause, Fails, Survives, CommitsShowing, Shown, ShowsRows, FailsToShow, FailsToQuery}
+use Rattle.sqlite.specs.State.{State, HasCleanDisk, IsStatement, IsNoStatement, IsNotRun, IsUnchanged, IsRolledBack, HasCause, Fails, Survives, CommitsShowing, Shown, Begins, ShowsRows, FailsToShow, FailsToQuery}
 use Rattle.sqlite.proofs.StateLemmas.{survives_then}
-use Rattle.sqlite.proofs.Callers.{unchanged_then, never_commits}
+use Rattle.sqlite.proofs.Callers.{unchanged_then, never_commits, shown_begins}
 use Rattle.one_table.specs.declared.read_fault.ReadFault.{ReadFault}
 use Rattle.one_table.specs.declared.read_fault.ReadFault.TheVariants.{Database as Failed, Row as Bad, TooMuch}
 use Rattle.one_table.specs.ReadFaults.{OnlyWhere}
@@ -148,10 +148,24 @@ has_asked items sql text params old mid new (Err e) asks is same kept none h =
 
 -- a row of the answer was refused, or there was no memory
 pub stops_at : (IsReadable : Row → Type 0) (sql : List ℕ) (params : Row) (old new : State) (rows : List Row) (i : ℕ) (row : Row) → i < length rows → row ≡ get_or rows i row
+    → Begins sql params new rows → IsUnchanged old new → (why : ReadFault) → OnlyWhere (¬ IsReadable row) why → FailsToRead IsReadable sql params old new why
+stops_at IsReadable sql params old new rows i row low is begins same (Failed e) (inl none) = inr (none, same)
+stops_at IsReadable sql params old new rows i row low is begins same Bad (inl none) = cc
+stops_at IsReadable sql params old new rows i row low is begins same TooMuch (inl none) = cc
+stops_at IsReadable sql params old new rows i row low is begins same (Failed e) (inr bad) = absurd (let no = bad.0 in cc)
+stops_at IsReadable sql params old new rows i row low is begins same Bad (inr bad) = (record { rows = rows; begins = begins; bad = (i, row, low, sym is, bad.1) }, same)
+stops_at IsReadable sql params old new rows i row low is begins same TooMuch (inr bad) = absurd (let no = bad.0 in cc)
+
+-- the same of an answer that was taken whole
+pub stops_in : (IsReadable : Row → Type 0) (sql : List ℕ) (params : Row) (old new : State) → OnlyAsks old sql → (rows : List Row) (i : ℕ) (row : Row) → i < length rows → row ≡ get_or rows i row
     → Shown sql params old new rows → IsUnchanged old new → (why : ReadFault) → OnlyWhere (¬ IsReadable row) why → FailsToRead IsReadable sql params old new why
-stops_at IsReadable sql params old new rows i row low is shown same (Failed e) (inl none) = inr (none, same)
-stops_at IsReadable sql params old new rows i row low is shown same Bad (inl none) = cc
-stops_at IsReadable sql params old new rows i row low is shown same TooMuch (inl none) = cc
-stops_at IsReadable sql params old new rows i row low is shown same (Failed e) (inr bad) = absurd (let no = bad.0 in cc)
-stops_at IsReadable sql params old new rows i row low is shown same Bad (inr bad) = (record { rows = rows; shown = shown; bad = (i, row, low, sym is, bad.1) }, same)
-stops_at IsReadable sql params old new rows i row low is shown same TooMuch (inr bad) = absurd (let no = bad.0 in cc)
+stops_in IsReadable sql params old new asks rows i row low is shown same =
+    stops_at IsReadable sql params old new rows i row low is (shown_begins sql params old new rows (asks same.0.was_open) shown) same
+
+-- a query that failed right after its text was compiled
+pub fails_asked : (sql text : List ℕ) (params : Row) (old mid new : State) (e : Error) → OnlyAsks old sql → (text ≡ sql) × IsUnchanged old mid → Survives old mid (λ _. ⊥) → FailsToQuery text params mid new e
+    → IsLeft old new × FailsToQuery sql params old new e
+fails_asked sql text params old mid new e asks made kept h =
+    let plain = asks made.1.0.was_open in
+    let fails = fails_before sql params old mid new made.1 plain e kept.counts kept.limit (rw made.0 at h) in
+    (fails_left sql params old new plain e fails, fails)

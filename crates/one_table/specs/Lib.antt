@@ -1,3 +1,4 @@
 pub mod Place
 pub mod ReadFaults
 pub mod Answer
+pub mod Taken

@@ -4,10 +4,14 @@
 //! tables cites for each of its texts.
 #![tactic(auto)]
 
+pub use folding::fold_rows;
 pub use from_row::{FromRow, column};
+pub use gathering::Gather;
 pub use read_fault::ReadFault;
 pub use readers::{read_row, read_rows};
 
+mod folding;
 mod from_row;
+mod gathering;
 mod read_fault;
 mod readers;
