@@ -64,11 +64,11 @@ module _ (s : Schema) (at : ℕ) (t : Table) (listed : slice_get s.tables at ≡
 
   -- ---- columns
 
-  found_here : (c : Name) (k : ℕ) → column_named t c ≡ Some k → find here None c ≡ Ok (Column 1 at k)
+  pub found_here : (c : Name) (k : ℕ) → column_named t c ≡ Some k → find here None c ≡ Ok (Column 1 at k)
   unfolding find in_level only hit is_among column_in
   found_here c k h = rw (listed, h)
 
-  found_there : (c : Name) (k : ℕ) → column_named t c ≡ Some k → find there None c ≡ Ok (Column 1 0 k)
+  pub found_there : (c : Name) (k : ℕ) → column_named t c ≡ Some k → find there None c ≡ Ok (Column 1 0 k)
   unfolding find in_level only hit is_among column_in
   found_there c k h = rw h
 
@@ -167,7 +167,7 @@ module _ (s : Schema) (at : ℕ) (t : Table) (listed : slice_get s.tables at ≡
     unfolding opened
     opened_same e h = layer_same (out-Expr e) h
 
-    around : Expr → Lowering Term → Lowering Term
+    pub around : Expr → Lowering Term → Lowering Term
     around e part = do
       spend 1
       outer ← begin

@@ -1,1 +1,4 @@
 pub mod ExprLemmas
+pub mod BodyLemmas
+pub mod SelectLemmas
+pub mod UnderstandLemmas
