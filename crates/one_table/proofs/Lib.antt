@@ -2,3 +2,5 @@ pub mod ExprLemmas
 pub mod BodyLemmas
 pub mod SelectLemmas
 pub mod UnderstandLemmas
+pub mod Try
+pub mod UpdateTextLemmas

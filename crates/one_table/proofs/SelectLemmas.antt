@@ -1,5 +1,5 @@
 -- A SELECT over one table means in any schema what it means where the table stands alone.
-use Rattle.std.proofs.Common.{◌≡◌, ℕ, ◌+◌, zero, suc, Bool, true, false, arith, not, ◌&&◌, ◌||◌, ◌==◌, if◌then◌else◌, List, [], ◌∷◌, ◌++◌, length, map, Option, Some, None, is_some, unwrap_or, slice_get, bytes_eq, Ok, Err, refl, sym, ap, ap₂, ◌∙◌, true≢false}
+use Rattle.std.proofs.Common.{◌≡◌, ℕ, Bool, true, false, arith, not, ◌&&◌, ◌==◌, List, [], ◌∷◌, length, map, Option, Some, None, is_some, slice_get, Ok, Err, refl, sym, ap, ap₂, ◌∙◌, true≢false}
 use Rattle.std.specs.List.{list_all}
 use Rattle.std.proofs.Math.Path.{fun_ext}
 use Rattle.std.proofs.lemmas.Bool.{and_parts}
@@ -7,10 +7,9 @@ use Rattle.std.proofs.lemmas.Slice.Eq.{bytes_eq-Decides}
 use Rattle.sqlite_value.specs.declared.keys.Collation.{Collation}
 use Rattle.sqlite_value.specs.declared.keys.Key.{Key}
 use Rattle.sqlite_ast.specs.declared.Core.{Core, out-Core}
-use Rattle.sqlite_ast.specs.declared.Expr.{Expr, out-Expr}
 use Rattle.sqlite_ast.specs.declared.Origin.{Origin}
 use Rattle.sqlite_ast.specs.declared.Origin.TheVariants as origin
-use Rattle.sqlite_ast.specs.declared.Select.{Select, out-Select}
+use Rattle.sqlite_ast.specs.declared.Select.{Select}
 use Rattle.sqlite_ast.specs.declared.Sort.{Sort}
 use Rattle.sqlite_ast.specs.declared.Source.{Source, out-Source}
 use Rattle.sqlite_sql.specs.Term.{Term}
@@ -24,14 +23,14 @@ use Rattle.sqlite_resolve.specs.declared.scope.Level.{Level}
 use Rattle.sqlite_resolve.specs.declared.scope.Output.{Output}
 use Rattle.sqlite_resolve.specs.declared.select.Clauses.{Clauses}
 use Rattle.sqlite_resolve.specs.declared.state.State.{State}
-use Rattle.sqlite_resolve.specs.Lowering.{Checked, and_then, Lowering, ◌>>=◌, ◌>>◌, ◌<$>◌, pure, get, fresh, max_budget, take_slot}
-use Rattle.sqlite_resolve.specs.Scope.{Context, Name}
-use Rattle.sqlite_resolve.specs.Body.{bounds, bound, table_in, table_at, shared, join, inner_join, joins, tests, result, outputs, matching, body}
+use Rattle.sqlite_resolve.specs.Lowering.{Checked, and_then, Lowering, ◌>>=◌, pure, get, fresh, max_budget, take_slot}
+use Rattle.sqlite_resolve.specs.Scope.{Name}
+use Rattle.sqlite_resolve.specs.Body.{bounds, bound, table_in, shared, join, inner_join, joins, tests, result, outputs, matching, body}
 use Rattle.sqlite_resolve.specs.Order.{keys, sorts}
 use Rattle.sqlite_resolve.specs.Expr.{lower}
-use Rattle.sqlite_resolve.specs.Select.{outermost, inside, having, parts, assembled, named}
+use Rattle.sqlite_resolve.specs.Select.{inside, having, parts, assembled, named}
 use Rattle.one_table.specs.Place.{Has}
-use Rattle.one_table.specs.Simple.{one, depth, is_simple, is_simple_or_absent, is_simple_output, is_simple_sort, names_it, is_source, is_from, is_simple_core, bound_at, reading}
+use Rattle.one_table.specs.Simple.{one, is_simple_or_absent, is_simple_output, is_simple_sort, names_it, is_source, is_from, is_simple_core, bound_at, reading}
 use Rattle.one_table.proofs.BodyLemmas.{outputs_same, tests_same, sorts_same}
 
 none_is : {A : Type 0} (o : Option A) → not (is_some o) ≡ true → o ≡ None

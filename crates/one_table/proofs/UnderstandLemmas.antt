@@ -1,7 +1,6 @@
 -- A text over one table is understood in any schema that has the table.
-use Rattle.std.proofs.Common.{◌≡◌, ℕ, ◌^◌, Bool, true, false, not, ◌&&◌, ◌||◌, ◌==◌, if◌then◌else◌, List, [], ◌∷◌, length, find, map, nat_le, Option, Some, None, is_some, slice_get, Ok, Err, Result, refl, sym, ap, ap₂, subst, ◌∙◌, true≢false}
+use Rattle.std.proofs.Common.{◌≡◌, ℕ, Bool, true, false, ◌&&◌, ◌==◌, if◌then◌else◌, List, [], length, map, Option, Some, None, Ok, Err, refl, sym, ap, ◌∙◌, true≢false}
 use Rattle.std.specs.List.{list_all}
-use Rattle.std.proofs.Math.Path.{fun_ext}
 use Rattle.std.proofs.lemmas.Bool.{and_parts}
 use Rattle.std.proofs.lemmas.Map.Text.{is_eq-slice_cmp}
 use Rattle.std.proofs.lemmas.Slice.Eq.{bytes_eq-Decides}
@@ -10,7 +9,6 @@ use Rattle.sqlite_value.specs.declared.keys.Collation.{Collation}
 use Rattle.sqlite_value.specs.Order.{Row}
 use Rattle.sqlite_ast.specs.declared.Expr.{Expr, out-Expr}
 use Rattle.sqlite_ast.specs.declared.Expr.TheOpen.{Expr-F}
-use Rattle.sqlite_ast.specs.declared.Core.{Core, out-Core}
 use Rattle.sqlite_ast.specs.declared.Select.{Select, out-Select}
 use Rattle.sqlite_ast.specs.declared.Statement.{Statement}
 use Rattle.sqlite_ast.specs.declared.Statement.TheVariants as written
@@ -26,20 +24,17 @@ use Rattle.sqlite_schema.specs.declared.command.Command.TheVariants.{Select as R
 use Rattle.sqlite_draft.specs.declared.query.Draft.{Draft}
 use Rattle.sqlite_draft.specs.Query.{query_of}
 use Rattle.sqlite_typing.specs.Types.{accepts_program}
-use Rattle.sqlite_resolve.specs.declared.error.CompileError.{CompileError}
 use Rattle.sqlite_resolve.specs.declared.error.CompileError.TheVariants.{Mismatch, Misuse, Unsupported}
-use Rattle.sqlite_resolve.specs.declared.state.State.{State}
-use Rattle.sqlite_resolve.specs.Lowering.{Checked, and_then, or_else, Lowering, ◌>>=◌, ◌>>◌, pure, spend, begin, finish}
+use Rattle.sqlite_resolve.specs.Lowering.{Checked, and_then, or_else, Lowering}
 use Rattle.sqlite_resolve.specs.Scope.{Context, Name}
-use Rattle.sqlite_resolve.specs.Expr.{node_at, opened, node, lower_to, lower, passes}
+use Rattle.sqlite_resolve.specs.Expr.{node_at, opened, node, lower_to}
 use Rattle.sqlite_resolve.specs.Select.{outermost, stepless, constant, constant_or, paging, named}
 use Rattle.sqlite_resolve.specs.Program.{query_to, query, level, with, whole, alone, single, sources, source, viewing, program}
 use Rattle.sqlite_resolve.specs.Compile.{first, read, returning, command, timed, meaning, planned, compiled, with_command}
-use Rattle.sqlite.specs.Listing.{understood, reads_listing, misses_table}
+use Rattle.sqlite.specs.Listing.{understood, misses_table}
 use Rattle.one_table.specs.Place.{Has}
-use Rattle.one_table.specs.Simple.{one, is_count_at, is_count_or_absent, is_simple_select, is_simple_core, is_simple_sort, is_from}
-use Rattle.one_table.specs.Reading.{Means, IsSelect, select_of, is_typed, if_typed, select_meant, text_meant, meant}
-use Rattle.one_table.proofs.ExprLemmas.{around}
+use Rattle.one_table.specs.Simple.{one, is_count_at, is_count_or_absent, is_simple_select, is_simple_core, is_simple_sort}
+use Rattle.one_table.specs.Reading.{select_as, Means, IsSelect, select_of, is_typed, if_typed, select_meant, text_meant, meant}
 use Rattle.one_table.proofs.SelectLemmas.{IsPlainCore, plain_core, named_same, nil_is}
 
 -- ---- LIMIT and OFFSET
@@ -71,7 +66,7 @@ named_alone t = rw (same_name_itself t.name)
 pub typed_alike : (s : Schema) (at : ℕ) (t : Table) → Has s at t → (q : Query) → q.from ≡ inner t.tree end → (params : Row) → accepts_program s [] q params ≡ is_typed t q params
 typed_alike s at t has q from params = rw (from, has.low, has.by_tree)
 
-program_is : (s : Schema) (at : ℕ) (t : Table) → Has s at t → (d : Draft) → d.from ≡ inner t.tree end → is_typed t (query_of d) [] ≡ true → program s [] d ≡ Ok (record { lets = []; body = query_of d })
+pub program_is : (s : Schema) (at : ℕ) (t : Table) → Has s at t → (d : Draft) → d.from ≡ inner t.tree end → is_typed t (query_of d) [] ≡ true → program s [] d ≡ Ok (record { lets = []; body = query_of d })
 unfolding program
 program_is s at t has d from typed = rw (typed_alike s at t has (query_of d) from [], typed)
 
@@ -130,9 +125,6 @@ module _ (s : Schema) (at : ℕ) (t : Table) (has : Has s at t) where
         named_same t y.first y.order h.core h.sorted s at has (named_alone t) page,
         meant,
       )
-
-  abbrev select_as : Query → List Name → Command
-  select_as q names = Read (record { lets = []; body = q }) names
 
   abbrev if_so : Bool → Query × List Name → Checked (Query × List Name)
   if_so typed r = if typed then Ok r else Err Mismatch

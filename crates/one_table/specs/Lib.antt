@@ -1,3 +1,4 @@
 pub mod Place
 pub mod Simple
 pub mod Reading
+pub mod Changing

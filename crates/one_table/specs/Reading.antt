@@ -1,5 +1,5 @@
 -- What a SELECT over one table means, and that a statement means a command.
-use Rattle.std.specs.Prelude.{◌≡◌, ℕ, Bool, true, false, ◌&&◌, ◌==◌, if◌then◌else◌, List, [], ◌∷◌, length, Option, Some, None, Result, Ok, Err}
+use Rattle.std.specs.Prelude.{◌≡◌, ℕ, Bool, false, ◌&&◌, ◌==◌, if◌then◌else◌, List, [], ◌∷◌, length, Option, Some, None, Ok, Err}
 use Rattle.sqlite_value.specs.Order.{Row}
 use Rattle.sqlite_ast.specs.declared.Select.{Select, out-Select}
 use Rattle.sqlite_ast.specs.declared.Statement.{Statement}
@@ -51,6 +51,9 @@ text_meant t p = and_then (or_else (select_of p.statement) Misuse) (λ s. if (le
 -- the same of a text
 unfoldable pub meant : Table → List ℕ → Checked (Query × List Name)
 meant t sql = and_then (first sql) (text_meant t)
+
+abbrev pub select_as : Query → List Name → Command
+select_as q names = command.Select (record { lets = []; body = q }) names
 
 -- The text is a SELECT of simple expressions over the table: this query, whose columns have these names.
 pub record IsSelect (t : Table) (q : Query) (names : List Name) (sql : List ℕ) : Type 0 where
