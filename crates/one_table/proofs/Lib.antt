@@ -4,3 +4,4 @@ pub mod SelectLemmas
 pub mod UnderstandLemmas
 pub mod Try
 pub mod UpdateTextLemmas
+pub mod ListedLemmas

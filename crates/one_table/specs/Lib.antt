@@ -2,3 +2,4 @@ pub mod Place
 pub mod Simple
 pub mod Reading
 pub mod Changing
+pub mod Listed
