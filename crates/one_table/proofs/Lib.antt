@@ -1,2 +1,9 @@
 pub mod AnswerLemmas
 pub mod TakenLemmas
+pub mod ExprLemmas
+pub mod BodyLemmas
+pub mod SelectLemmas
+pub mod UnderstandLemmas
+pub mod Try
+pub mod UpdateTextLemmas
+pub mod ListedLemmas
