@@ -6,4 +6,7 @@ pub mod SelectLemmas
 pub mod UnderstandLemmas
 pub mod Try
 pub mod UpdateTextLemmas
+pub mod InsertTextLemmas
+pub mod ChangeLemmas
+pub mod InsertLemmas
 pub mod ListedLemmas

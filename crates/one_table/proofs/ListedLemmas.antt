@@ -1,11 +1,10 @@
 -- The answer of a SELECT over one table, as a function of what the table holds.
-use Rattle.std.proofs.Common.{◌≡◌, ℕ, ◌-◌, ◌^◌, nat_le, Bool, true, false, if◌then◌else◌, cond, List, [], ◌∷◌, ◌++◌, map, filter, flat_map, take, drop, length, reverse, Option, Some, None, Ok, option_map, slice_get, unwrap_or, refl, sym, ap, ap₂, subst, ◌∙◌, IsPermutation, Ordering, Less, arith, ◌≤◌, pos, ℤ, int_cmp}
+use Rattle.std.proofs.Common.{◌≡◌, ℕ, ◌-◌, ◌^◌, nat_le, Bool, true, false, if◌then◌else◌, cond, List, [], ◌∷◌, map, filter, flat_map, length, reverse, None, slice_get, unwrap_or, refl, sym, ap, ap₂, subst, ◌∙◌, IsPermutation, Less, arith, ◌≤◌, ℤ, int_cmp}
 use Rattle.std.specs.List.{list_all, AllByRecursion}
 use Rattle.std.proofs.Math.Path.{fun_ext}
 use Rattle.std.proofs.lemmas.List.{length-map, reverse-append}
 use Rattle.std.proofs.lemmas.List.Sorted.{IsPermutation-map, IsPermutation-sym, length_permutation, IsPermutation-trans, IsPermutation-reverse}
 use Rattle.sqlite_value.specs.declared.keys.Key.{Key}
-use Rattle.sqlite_value.specs.declared.value.Value.{Value}
 use Rattle.sqlite_value.specs.declared.value.Value.TheVariants.{Null, Int}
 use Rattle.sqlite_value.specs.Order.{Row, column, value_cmp}
 use Rattle.sqlite_value.proofs.OrderLemmas.{value_cmp-Int, then-Equal}
@@ -15,14 +14,13 @@ use Rattle.sqlite_sql.specs.Query.{Query, end, inner, matches, Output, output, o
 use Rattle.sqlite_sql.specs.Program.{overlay}
 use Rattle.sqlite_sql.proofs.QueryLemmas.{output_cmp_total}
 use Rattle.sqlite_keyed.specs.Keyed.{IsKeyedBy}
-use Rattle.sqlite_keyed.proofs.ListLemmas.{all_weaker, all-append, ascending-append, map-map, flat_map-map, filter-map, filter_as_flat_map, filter_same, map_same, flat_map_same_on, ascending-map, ascending-filter, ascending_weaker}
+use Rattle.sqlite_keyed.proofs.ListLemmas.{all_weaker, all-append, ascending-append, map-map, flat_map-map, filter-map, filter_as_flat_map, filter_same, map_same, ascending-map, ascending_weaker}
 use Rattle.sqlite_keyed.proofs.KeyedLemmas.{Less-from_lt}
 use Rattle.sqlite_keyed.proofs.SortLemmas.{sorted_unique}
 use Rattle.sqlite_schema.specs.declared.schema.Schema.{Schema}
 use Rattle.sqlite_schema.specs.declared.command.Command.{Command}
 use Rattle.sqlite_resolve.specs.Scope.{Name}
 use Rattle.sqlite.specs.State.{State, Shown}
-use Rattle.sqlite.specs.Effect.{Reads}
 use Rattle.sqlite.specs.Given.{IsPlain}
 use Rattle.sqlite.specs.Listing.{understood}
 use Rattle.sqlite.proofs.Callers.{command_of, reads_as, one_permutation}

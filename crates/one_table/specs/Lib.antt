@@ -5,4 +5,6 @@ pub mod Taken
 pub mod Simple
 pub mod Reading
 pub mod Changing
+pub mod Inserting
+pub mod InTransaction
 pub mod Listed
