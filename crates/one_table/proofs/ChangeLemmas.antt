@@ -1,5 +1,6 @@
 -- From what a statement inside a transaction does to a table to what it leaves.
-use Rattle.std.proofs.Common.{◌≡◌, ◌≢◌, ◌⊎◌, ℕ, true, List, slice_get, IsTrue, None, Some, Result, Ok, Err, refl, sym, ap, subst, inl, inr, ◌∙◌}
+use Rattle.std.proofs.Common.{◌≡◌, ◌≢◌, OnOk, false, ◌⊎◌, ℕ, true, List, slice_get, IsTrue, None, Some, Result, Ok, Err, refl, sym, ap, subst, inl, inr, ◌∙◌}
+use Rattle.std.proofs.lemmas.Bool.{cases_Bool}
 use Rattle.std.specs.List.{AllByRecursion}
 use Rattle.sqlite_value.specs.Order.{Row}
 use Rattle.sqlite_schema.specs.declared.schema.Keys.TheVariants.{Enforced}
@@ -7,12 +8,16 @@ use Rattle.sqlite_schema.specs.declared.schema.Schema.{Schema}
 use Rattle.sqlite_schema.specs.declared.schema.Table.{Table}
 use Rattle.sqlite_schema.specs.declared.command.Command.{Command}
 use Rattle.sqlite_rules.specs.Edit.{Edit, edited, IsNoIndex, Applies}
+use Rattle.sqlite.specs.declared.error.Error.{Error}
 use Rattle.sqlite.specs.Effect.{Database}
 use Rattle.sqlite.specs.Listing.{understood}
 use Rattle.sqlite.specs.Rows.{Written, Task}
 use Rattle.sqlite.specs.Does.{Tally, AtPlace, OnRows, WritesRows}
 use Rattle.sqlite.specs.State.{State, mode_of, Shows, Writes, Runs, ExecutesInside}
 use Rattle.sqlite.proofs.Callers.{IsPlain, command_of, statement_of, runs_as}
+use Rattle.sqlite_trees.specs.declared.store.Store.{Ghosts}
+use Rattle.sqlite.specs.Held.{Held, state}
+use Rattle.one_table.specs.Answer.{IsLeft}
 use Rattle.one_table.specs.Reading.{Means}
 use Rattle.one_table.specs.InTransaction.{HasChanged}
 
@@ -72,3 +77,15 @@ module _ (sql : List ℕ) (params : Row) (old new : State) (command : Command) (
   ran_inside count h =
       let m = means h.1.was_open in
       (m, runs_as sql params old new old.now.schema refl command (command_if_means m) (plain_if_means m) count h.0, h.1)
+
+-- a text that is refused leaves the transaction as it was, or undone, or was not run at all
+pub refused_by : {S : Type 0} (g : Ghosts S) (sql : List ℕ) (params : Row) (old new : Held S) (e : Error) → (old.in_transaction ≡ false → new ≡ old)
+    → (IsTrue old.in_transaction → ExecutesInside 0 sql params (state g old) (state g new) (Err e)) → IsLeft (state g old) (state g new) ⊎ (new ≡ old)
+refused_by g sql params old new e ended runs = elim (cases_Bool old.in_transaction) [
+  | inl inside ↦ elim (runs inside) [ inl failed ↦ inl failed.1 | inr ends ↦ inl (inl ends.2) ]
+  | inr outside ↦ inr (ended outside)
+]
+
+pub on_ok : {A E P Q : Type 0} (r : Result A E) → (P → Q) → OnOk r P → OnOk r Q
+on_ok (Ok a) f p = f p
+on_ok (Err e) f p = tt

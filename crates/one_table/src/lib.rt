@@ -9,9 +9,11 @@ pub use from_row::{FromRow, column};
 pub use gathering::Gather;
 pub use read_fault::ReadFault;
 pub use readers::{read_row, read_rows};
+pub use writing::insert;
 
 mod folding;
 mod from_row;
 mod gathering;
 mod read_fault;
 mod readers;
+mod writing;
