@@ -9,4 +9,5 @@ pub mod UpdateTextLemmas
 pub mod InsertTextLemmas
 pub mod ChangeLemmas
 pub mod InsertLemmas
+pub mod AppendLemmas
 pub mod ListedLemmas
