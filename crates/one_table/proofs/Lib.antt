@@ -5,3 +5,4 @@ pub mod UnderstandLemmas
 pub mod Try
 pub mod UpdateTextLemmas
 pub mod ListedLemmas
+pub mod LookUpLemmas

@@ -10,6 +10,7 @@ use Rattle.sqlite_value.specs.declared.value.Value.TheVariants.{Null, Int}
 use Rattle.sqlite_value.specs.Order.{Row, column, value_cmp}
 use Rattle.sqlite_value.proofs.OrderLemmas.{value_cmp-Int, then-Equal}
 use Rattle.sqlite_trees.specs.Tree.{Trees, IsAscending}
+use Rattle.sqlite_trees.proofs.ListLemmas.{pull_back}
 use Rattle.sqlite_sql.specs.Term.{Term, Env, eval, eval_all, holds}
 use Rattle.sqlite_sql.specs.Query.{Query, end, inner, matches, Output, output, output_cmp, page, limited, as_count, IsAnswer}
 use Rattle.sqlite_sql.specs.Program.{overlay}
@@ -108,6 +109,10 @@ module _ (db : Trees) (tree : ℕ) (tests shown : List Term) (params : Row) {X :
   -- with no ORDER BY and no LIMIT: each row that passes once, in any order
   pub all_rows : (rows : List Row) → IsAnswer (query_on tree tests shown [] no_limit) db params rows → IsPermutation (map show (filter p xs)) rows
   all_rows rows answer = subst (IsPermutation (map show (filter p xs))) (sym answer.shown) (in_some_order [] no_limit rows answer)
+
+  -- the same as a list, whose order is not known
+  pub all_listed : (rows : List Row) → IsAnswer (query_on tree tests shown [] no_limit) db params rows → (ys : List X) × IsPermutation (filter p xs) ys × (rows ≡ map show ys)
+  all_listed rows answer = pull_back show (map show (filter p xs)) rows (all_rows rows answer) (filter p xs) refl
 
   -- where at most one row passes
   pub one_row : (rows : List Row) → IsAnswer (query_on tree tests shown [] no_limit) db params rows → length (filter p xs) ≤ 1 → rows ≡ map show (filter p xs)

@@ -3,3 +3,4 @@ pub mod Simple
 pub mod Reading
 pub mod Changing
 pub mod Listed
+pub mod Numbered
