@@ -2,7 +2,8 @@ pub mod ExprLemmas
 pub mod BodyLemmas
 pub mod SelectLemmas
 pub mod UnderstandLemmas
-pub mod Try
+mod Example
 pub mod UpdateTextLemmas
 pub mod ListedLemmas
 pub mod LookUpLemmas
+pub mod TestsLemmas

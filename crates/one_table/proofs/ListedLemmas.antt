@@ -1,34 +1,35 @@
 -- The answer of a SELECT over one table, as a function of what the table holds.
-use Rattle.std.proofs.Common.{◌≡◌, ℕ, ◌-◌, ◌^◌, nat_le, Bool, true, false, if◌then◌else◌, cond, List, [], ◌∷◌, ◌++◌, map, filter, flat_map, take, drop, length, reverse, Option, Some, None, Ok, option_map, slice_get, unwrap_or, refl, sym, ap, ap₂, subst, ◌∙◌, IsPermutation, Ordering, Less, arith, ◌≤◌, pos, ℤ, int_cmp}
+use Rattle.std.proofs.Common.{◌≡◌, ℕ, ◌-◌, ◌^◌, nat_le, Bool, true, false, if◌then◌else◌, cond, List, [], ◌∷◌, map, filter, flat_map, length, reverse, None, slice_get, unwrap_or, refl, sym, ap, ap₂, subst, ◌∙◌, IsPermutation, Less, arith, ◌≤◌, ◌<ℤ◌, ℤ, int_cmp}
 use Rattle.std.specs.List.{list_all, AllByRecursion}
 use Rattle.std.proofs.Math.Path.{fun_ext}
 use Rattle.std.proofs.lemmas.List.{length-map, reverse-append}
-use Rattle.std.proofs.lemmas.List.Sorted.{IsPermutation-map, IsPermutation-sym, length_permutation, IsPermutation-trans, IsPermutation-reverse}
+use Rattle.std.proofs.lemmas.List.Sorted.{IsPermutation-map, IsPermutation-refl, IsPermutation-sym, length_permutation, IsPermutation-trans, IsPermutation-reverse}
 use Rattle.sqlite_value.specs.declared.keys.Key.{Key}
-use Rattle.sqlite_value.specs.declared.value.Value.{Value}
 use Rattle.sqlite_value.specs.declared.value.Value.TheVariants.{Null, Int}
 use Rattle.sqlite_value.specs.Order.{Row, column, value_cmp}
 use Rattle.sqlite_value.proofs.OrderLemmas.{value_cmp-Int, then-Equal}
 use Rattle.sqlite_trees.specs.Tree.{Trees, IsAscending}
 use Rattle.sqlite_trees.proofs.ListLemmas.{pull_back}
-use Rattle.sqlite_sql.specs.Term.{Term, Env, eval, eval_all, holds}
+use Rattle.sqlite_sql.specs.Term.{Term, Env, eval, holds}
 use Rattle.sqlite_sql.specs.Query.{Query, end, inner, matches, Output, output, output_cmp, page, limited, as_count, IsAnswer}
 use Rattle.sqlite_sql.specs.Program.{overlay}
 use Rattle.sqlite_sql.proofs.QueryLemmas.{output_cmp_total}
 use Rattle.sqlite_keyed.specs.Keyed.{IsKeyedBy}
-use Rattle.sqlite_keyed.proofs.ListLemmas.{all_weaker, all-append, ascending-append, map-map, flat_map-map, filter-map, filter_as_flat_map, filter_same, map_same, flat_map_same_on, ascending-map, ascending-filter, ascending_weaker}
+use Rattle.sqlite_keyed.proofs.ListLemmas.{all_weaker, all-append, ascending-append, map-map, flat_map-map, filter-map, filter_as_flat_map, filter_same, map_same, ascending-map, ascending-filter, ascending_weaker}
 use Rattle.sqlite_keyed.proofs.KeyedLemmas.{Less-from_lt}
 use Rattle.sqlite_keyed.proofs.SortLemmas.{sorted_unique}
 use Rattle.sqlite_schema.specs.declared.schema.Schema.{Schema}
+use Rattle.sqlite_schema.specs.declared.schema.Table.{Table}
 use Rattle.sqlite_schema.specs.declared.command.Command.{Command}
 use Rattle.sqlite_resolve.specs.Scope.{Name}
 use Rattle.sqlite.specs.State.{State, Shown}
-use Rattle.sqlite.specs.Effect.{Reads}
 use Rattle.sqlite.specs.Given.{IsPlain}
 use Rattle.sqlite.specs.Listing.{understood}
 use Rattle.sqlite.proofs.Callers.{command_of, reads_as, one_permutation}
-use Rattle.one_table.specs.Reading.{Means, select_as}
-use Rattle.one_table.specs.Listed.{query_on, no_limit, rising, falling}
+use Rattle.one_table.specs.Place.{Has}
+use Rattle.one_table.specs.Reading.{Means, IsSelect, select_as}
+use Rattle.one_table.proofs.UnderstandLemmas.{selects}
+use Rattle.one_table.specs.Listed.{IsListing, query_on, no_limit, rising, falling}
 
 -- ---- from what the connection shows to an answer
 
@@ -50,6 +51,11 @@ answers {s} {sql} q names means params old new has rows shown =
     let read = reads_as sql params old new s has (select_as q names) (command_is means) (is_plain means) means.unlisted rows shown in
     subst (λ db. IsAnswer q db params rows) (fun_ext (none_laid old.now.trees)) (read.answer Null)
 
+-- the rows that were shown of a SELECT over the table, wherever it stands
+pub answered : (s : Schema) (at : ℕ) (t : Table) → Has s at t → (q : Query) (names : List Name) (sql : List ℕ) → IsSelect t q names sql → (params : Row) (old new : State) → old.now.schema ≡ s
+    → (rows : List Row) → Shown sql params old new rows → IsAnswer q old.now.trees params rows
+answered s at t has q names sql is = answers q names (selects s at t has q names sql is)
+
 few_permuted : (xs ys : List Row) → length xs ≤ 1 → IsPermutation xs ys → ys ≡ xs
 few_permuted [] [] few same = refl
 few_permuted [] (y ∷ ys) few same = absurd (omega (arith, length_permutation [] (y ∷ ys) same))
@@ -68,15 +74,15 @@ falls-reverse {X} R (x ∷ xs) h =
 
 -- ---- what a table holds
 
-module _ (db : Trees) (tree : ℕ) (tests shown : List Term) (params : Row) {X : Type 0} (stored : X → Row) (xs : List X) (holds_them : db tree ≡ map stored xs)
-    (p : X → Bool) (passes : (x : X) → list_all (holds (params ∷ stored x ∷ [])) tests ≡ p x) (show : X → Row) (shows : (x : X) → eval_all shown (params ∷ stored x ∷ []) ≡ show x) where
+module _ {X : Type 0} {db : Trees} {tree : ℕ} {tests shown : List Term} {params : Row} {stored : X → Row} {xs : List X} {p : X → Bool} {show : X → Row}
+    (l : IsListing db tree tests shown params stored xs p show) where
   matches_are : matches db tests (inner tree end) (params ∷ []) ≡ map (λ x. params ∷ stored x ∷ []) (filter p xs)
   matches_are =
       let whole = λ (x : X). params ∷ stored x ∷ [] in
       let kept = λ (e : Env). cond (list_all (holds e) tests) (e ∷ []) [] in
-      ap (flat_map (λ (r : Row). kept (params ∷ r ∷ []))) holds_them ∙ flat_map-map (λ (r : Row). kept (params ∷ r ∷ [])) stored xs
+      ap (flat_map (λ (r : Row). kept (params ∷ r ∷ []))) l.holds_them ∙ flat_map-map (λ (r : Row). kept (params ∷ r ∷ [])) stored xs
       ∙ sym (filter_as_flat_map (λ e. list_all (holds e) tests) (map whole xs) ∙ flat_map-map kept whole xs)
-      ∙ filter-map (λ e. list_all (holds e) tests) whole xs ∙ ap (map whole) (filter_same (λ x. list_all (holds (whole x)) tests) p passes xs)
+      ∙ filter-map (λ e. list_all (holds e) tests) whole xs ∙ ap (map whole) (filter_same (λ x. list_all (holds (whole x)) tests) p l.passes xs)
 
   module _ (order : List (Term × Key)) (limit : Term) (rows : List Row) (answer : IsAnswer (query_on tree tests shown order limit) db params rows) where
     abbrev q : Query
@@ -90,7 +96,7 @@ module _ (db : Trees) (tree : ℕ) (tests shown : List Term) (params : Row) {X :
         (answer.distinct ∙ ap (map (output q)) (answer.grouped ∙ matches_are) ∙ map-map (output q) (λ x. params ∷ stored x ∷ []) (filter p xs)) answer.same
 
     shown_of : (ys : List X) → map (λ (o : Output). o.1) (map out ys) ≡ map show ys
-    shown_of ys = map-map (λ (o : Output). o.1) out ys ∙ map_same (λ x. (out x).1) show shows ys
+    shown_of ys = map-map (λ (o : Output). o.1) out ys ∙ map_same (λ x. (out x).1) show l.shows ys
 
     abbrev cut : List Row → List Row
     cut = page q params
@@ -131,3 +137,15 @@ module _ (db : Trees) (tree : ℕ) (tests shown : List Term) (params : Row) {X :
     pub falling_rows : IsAnswer (query_on tree tests shown (falling at) limit) db params rows → rows ≡ limited (as_count (eval limit (params ∷ []))) (map show (reverse ys))
     falling_rows answer = in_order (falling at) limit rows answer (reverse ys) (IsPermutation-trans (filter p xs) ys (reverse ys) same (IsPermutation-reverse ys))
         (ascending_weaker _ _ (λ a b h. then-Equal _ ∙ ap₂ value_cmp (keeps_key b) (keeps_key a) ∙ value_cmp-Int (key b) (key a) ∙ h) (reverse ys) (falls-reverse (λ a b. int_cmp (key a) (key b) ≡ Less) ys keys_rise))
+
+  module _ (at : ℕ) (key : X → ℤ) (keeps_key : (x : X) → column (stored x) at ≡ Int (key x)) (limit : Term) (rows : List Row) (keyed : IsKeyedBy key xs) where
+    found_keyed : IsKeyedBy key (filter p xs)
+    found_keyed = ascending-filter (λ a b. key a <ℤ key b) p xs keyed
+
+    -- ORDER BY the key of the table, up to LIMIT
+    pub first_by_key : IsAnswer (query_on tree tests shown (rising at) limit) db params rows → rows ≡ limited (as_count (eval limit (params ∷ []))) (map show (filter p xs))
+    first_by_key = rising_rows at key keeps_key limit rows (filter p xs) (IsPermutation-refl (filter p xs)) found_keyed
+
+    -- the same with DESC
+    pub last_by_key : IsAnswer (query_on tree tests shown (falling at) limit) db params rows → rows ≡ limited (as_count (eval limit (params ∷ []))) (map show (reverse (filter p xs)))
+    last_by_key = falling_rows at key keeps_key limit rows (filter p xs) (IsPermutation-refl (filter p xs)) found_keyed

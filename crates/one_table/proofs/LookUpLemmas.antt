@@ -1,14 +1,14 @@
 -- What follows for a caller: the one row of a look-up, the last row, the values that a reader gives, and rows with a hidden number.
-use Rattle.std.proofs.Common.{◌≡◌, ℕ, ℤ, ◌≤◌, ◌<ℤ◌, arith, Bool, true, false, cond, List, [], ◌∷◌, map, filter, find, take, drop, length, reverse, Option, Some, None, option_map, slice_get, refl, sym, ap, ap₂, subst, ◌∙◌, true≢false, IsPermutation, Ordering, Less, int_cmp}
-use Rattle.std.specs.List.{AllByRecursion, AllZip}
+use Rattle.std.proofs.Common.{◌≡◌, ℤ, ◌≤◌, ◌<ℤ◌, arith, Bool, true, false, List, [], ◌∷◌, map, filter, find, take, length, reverse, option_map, slice_get, refl, sym, ap, ap₂, ◌∙◌, true≢false}
+use Rattle.std.specs.List.{AllZip}
 use Rattle.std.proofs.lemmas.Int.{ints}
 use Rattle.std.proofs.lemmas.Option.{slice_get-map}
 use Rattle.sqlite_value.specs.declared.value.Value.{Value}
-use Rattle.sqlite_value.specs.Order.{Row, column}
+use Rattle.sqlite_value.specs.Order.{Row}
 use Rattle.sqlite_trees.specs.Tree.{IsAscending}
 use Rattle.sqlite_keyed.specs.Keyed.{IsKeyedBy}
 use Rattle.sqlite_keyed.specs.Rules.{AreApart}
-use Rattle.sqlite_keyed.proofs.ListLemmas.{map-map, map_same, filter-map, filter_none, all_weaker, slice_get-filter, first_taken}
+use Rattle.sqlite_keyed.proofs.ListLemmas.{map-map, filter-map, filter_none, all_weaker, slice_get-filter, first_taken}
 use Rattle.one_table.specs.Numbered.{AreHidden}
 
 -- ---- at most one row
