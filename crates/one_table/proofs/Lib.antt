@@ -7,3 +7,4 @@ pub mod UpdateTextLemmas
 pub mod ListedLemmas
 pub mod LookUpLemmas
 pub mod TestsLemmas
+pub mod UniqueLemmas

@@ -13,7 +13,7 @@ use Rattle.one_table.specs.Numbered.{AreHidden}
 
 -- ---- at most one row
 
-unless_true : (b : Bool) → (b ≡ true → ⊥) → b ≡ false
+pub unless_true : (b : Bool) → (b ≡ true → ⊥) → b ≡ false
 unless_true true h = absurd (h refl)
 unless_true false h = refl
 
