@@ -8,7 +8,7 @@ use Rattle.sqlite_sql.specs.Term.{Term, lit, col, op2}
 use Rattle.sqlite_sql.specs.declared.ops.BinaryOp.TheVariants.{Compare}
 use Rattle.sqlite_sql.specs.declared.ops.CompareOp.TheVariants.{Gt, Eq}
 use Rattle.sqlite_tied.specs.Compute.{everything}
-use Rattle.one_table.specs.Reading.{IsSelect, meant, select_meant, text_meant}
+use Rattle.one_table.specs.Reading.{FailsPlainly, is_whole, IsSelect, meant, select_meant, text_meant}
 use Rattle.one_table.specs.Changing.{IsUpdate, update_meant, update_in, sets_meant}
 use Rattle.std.proofs.lemmas.Slice.Eq.{bytes_eq-Decides}
 use Rattle.sqlite_value.specs.Order.{Row}
@@ -17,9 +17,12 @@ use Rattle.sqlite_keyed.specs.Rules.{AreApart}
 use Rattle.sqlite_typed.proofs.TestLemmas.{last_term}
 use Rattle.sqlite_schema.specs.declared.schema.Schema.{Schema}
 use Rattle.sqlite_resolve.specs.Scope.{Name}
-use Rattle.sqlite.specs.State.{State, Shown}
+use Rattle.sqlite.specs.State.{State, Shown, FailsToQuery}
 use Rattle.one_table.specs.Place.{Has}
 use Rattle.one_table.specs.Listed.{query_on, no_limit, rising, falling}
+use Rattle.one_table.proofs.FaultLemmas.{fails_plainly}
+use Rattle.one_table.proofs.UnderstandLemmas.{selects}
+use Rattle.sqlite.specs.declared.error.Error.{Error}
 use Rattle.one_table.proofs.ListedLemmas.{answered, one_row, first_by_key, last_by_key}
 use Rattle.one_table.proofs.LookUpLemmas.{few_apart, first_row, last_row}
 use Rattle.one_table.proofs.TestsLemmas.{number_is, number_above, text_is}
@@ -122,3 +125,9 @@ module _ (s : Schema) (at tree : ℕ) (has : Has s at (notes tree)) (old new : S
       last_row shown (filter (λ n. n.size == size) all) rows
       (last_by_key (record { holds_them = held; passes = λ n. last_term (number_is n.size size); shows = λ n. refl }) 0 (λ n. pos n.number) (λ n. refl) (lit (Int (pos 1))) rows keyed
       (answered s at (notes tree) has _ names last_text (last_means tree) (Int (pos size) ∷ []) old new schema_is rows it))
+
+  page_fails : (after most : ℕ) (e : Error) → FailsToQuery page_text (Int (pos after) ∷ Int (pos most) ∷ []) old new e → FailsPlainly old new e
+  unfolding everything is_whole
+  page_fails after most e h =
+      let means = selects s at (notes tree) has (query_on tree is_later columns (rising 0) (col 0 1)) names page_text (page_means tree) in
+      fails_plainly (query_on tree is_later columns (rising 0) (col 0 1)) names means at (notes tree) has refl refl (Int (pos after) ∷ Int (pos most) ∷ []) refl old new schema_is e refl h

@@ -8,3 +8,4 @@ pub mod ListedLemmas
 pub mod LookUpLemmas
 pub mod TestsLemmas
 pub mod UniqueLemmas
+pub mod FaultLemmas
