@@ -9,3 +9,4 @@ pub mod LookUpLemmas
 pub mod TestsLemmas
 pub mod UniqueLemmas
 pub mod FaultLemmas
+pub mod HiddenLemmas
