@@ -4,10 +4,15 @@ pub mod ExprLemmas
 pub mod BodyLemmas
 pub mod SelectLemmas
 pub mod UnderstandLemmas
-pub mod Try
+mod Example
 pub mod UpdateTextLemmas
 pub mod InsertTextLemmas
 pub mod ChangeLemmas
 pub mod InsertLemmas
 pub mod AppendLemmas
 pub mod ListedLemmas
+pub mod LookUpLemmas
+pub mod TestsLemmas
+pub mod UniqueLemmas
+pub mod FaultLemmas
+pub mod HiddenLemmas

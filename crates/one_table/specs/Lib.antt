@@ -8,3 +8,4 @@ pub mod Changing
 pub mod Inserting
 pub mod InTransaction
 pub mod Listed
+pub mod Numbered

@@ -1,5 +1,5 @@
 -- What a SELECT over one table means, and that a statement means a command.
-use Rattle.std.specs.Prelude.{◌≡◌, ℕ, Bool, false, ◌&&◌, ◌==◌, if◌then◌else◌, List, [], ◌∷◌, length, Option, Some, None, Ok, Err}
+use Rattle.std.specs.Prelude.{◌≡◌, ◌⊎◌, ℕ, Bool, false, ◌&&◌, ◌==◌, if◌then◌else◌, List, [], ◌∷◌, length, nat_le, IsSome, Option, Some, None, Ok, Err}
 use Rattle.sqlite_value.specs.Order.{Row}
 use Rattle.sqlite_ast.specs.declared.Select.{Select, out-Select}
 use Rattle.sqlite_ast.specs.declared.Statement.{Statement}
@@ -18,6 +18,10 @@ use Rattle.sqlite_resolve.specs.Lowering.{Checked, and_then, or_else}
 use Rattle.sqlite_resolve.specs.Scope.{Name}
 use Rattle.sqlite_resolve.specs.Select.{paging, named}
 use Rattle.sqlite_resolve.specs.Compile.{first}
+use Rattle.sqlite.specs.declared.error.ErrorCode.TheVariants as code
+use Rattle.sqlite.specs.declared.error.Error.{Error}
+use Rattle.sqlite.specs.declared.error.Error.TheVariants.{SqliteFailure}
+use Rattle.sqlite.specs.State.{State, Fails, IsUnchanged}
 use Rattle.sqlite.specs.Listing.{understood, reads_listing}
 use Rattle.one_table.specs.Simple.{one, is_simple_select}
 
@@ -59,3 +63,15 @@ select_as q names = command.Select (record { lets = []; body = q }) names
 pub record IsSelect (t : Table) (q : Query) (names : List Name) (sql : List ℕ) : Type 0 where
   pub means : meant t sql ≡ Ok (q, names)
   pub from : q.from ≡ inner t.tree end
+
+abbrev pub is_whole_in : List ℕ → ℕ → Checked Parsed → Bool
+is_whole_in sql count (Ok p) = (length p.names == count) && nat_le (length sql) p.tail
+is_whole_in sql count (Err e) = false
+
+-- the text is one statement, with so many parameters
+unfoldable pub is_whole : List ℕ → ℕ → Bool
+is_whole sql count = is_whole_in sql count (first sql)
+
+-- why a SELECT fails: want of memory or the disk, or the limit on steps, where one is set
+abbrev pub FailsPlainly : State → State → Error → Type 0
+FailsPlainly old new e = Fails old new ⊥ e ⊎ ((e ≡ SqliteFailure code.OperationInterrupted) × IsSome old.step_limit × IsUnchanged old new)
