@@ -6,3 +6,4 @@ pub mod MakingLemmas
 pub mod TurnLemmas
 pub mod KeyLemmas
 pub mod StandingLemmas
+pub mod RecogniseLemmas

@@ -7,3 +7,4 @@
 mod compare;
 pub mod inspect;
 pub mod make;
+pub mod recognise;
