@@ -16,3 +16,12 @@ pub mod TestsLemmas
 pub mod UniqueLemmas
 pub mod FaultLemmas
 pub mod HiddenLemmas
+pub mod CreationLemmas
+pub mod GrowthLemmas
+pub mod NewTableLemmas
+pub mod ReferenceLemmas
+pub mod MakingLemmas
+pub mod TurnLemmas
+pub mod KeyLemmas
+pub mod StandingLemmas
+pub mod RecogniseLemmas

@@ -9,3 +9,7 @@ pub mod Inserting
 pub mod InTransaction
 pub mod Listed
 pub mod Numbered
+pub mod Making
+pub mod Standing
+pub mod Referring
+pub mod Comparing

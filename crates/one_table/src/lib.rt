@@ -11,9 +11,13 @@ pub use read_fault::ReadFault;
 pub use readers::{read_row, read_rows};
 pub use writing::insert;
 
+mod compare;
 mod folding;
 mod from_row;
 mod gathering;
+pub mod inspect;
+pub mod make;
 mod read_fault;
 mod readers;
+pub mod recognise;
 mod writing;
