@@ -1,12 +1,13 @@
 -- Which tables can be told from one another when the program runs.
-use Rattle.std.specs.Prelude.{◌≡◌, ℕ, ◌<◌, ◌^◌, ◌==◌, Bool, true, false, [], find, Some}
+use Rattle.std.specs.Prelude.{◌≡◌, ℕ, ◌<◌, ◌^◌, ◌==◌, Bool, true, false, [], find, List, Some, Ok}
 use Rattle.std.specs.List.{list_all}
 use Rattle.sqlite_value.specs.declared.value.Value.{Value}
 use Rattle.sqlite_value.specs.declared.value.Value.TheVariants.{Null}
 use Rattle.sqlite_schema.specs.declared.schema.Column.{Column}
 use Rattle.sqlite_schema.specs.declared.schema.Schema.{Schema}
 use Rattle.sqlite_schema.specs.declared.schema.Table.{Table}
-use Rattle.one_table.specs.Standing.{keys_on, own_keys}
+use Rattle.sqlite_resolve.specs.Compile.{table_defined_by}
+use Rattle.one_table.specs.Standing.{keys_on, own_keys, Stands}
 
 abbrev pub is_null : Value → Bool
 is_null Null = true
@@ -56,3 +57,7 @@ pub record StandsAt (s : Schema) (found t : Table) : Type 0 where
   pub alike : IsAlike found t
   pub own_tree : IsOwnTree s found.tree t
   pub keys : keys_on s found.tree ≡ own_keys t
+
+-- the table that a text defines stands, and can be told from others
+abbrev pub StandsAs : Schema → List ℕ → Type 0
+StandsAs s text = (t : Table) → table_defined_by text ≡ Ok t → Stands s t × IsPlainTable t

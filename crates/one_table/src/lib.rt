@@ -4,6 +4,20 @@
 //! tables cites for each of its texts.
 #![tactic(auto)]
 
+pub use folding::fold_rows;
+pub use from_row::{FromRow, column};
+pub use gathering::Gather;
+pub use read_fault::ReadFault;
+pub use readers::{read_row, read_rows};
+pub use writing::insert;
+
 mod compare;
+mod folding;
+mod from_row;
+mod gathering;
 pub mod inspect;
 pub mod make;
+mod read_fault;
+mod readers;
+pub mod recognise;
+mod writing;
