@@ -1,6 +1,7 @@
 pub mod EditLemmas
 pub mod FoundLemmas
 pub mod HoldsLemmas
+pub mod KeptLemmas
 pub mod KeyTextLemmas
 pub mod ListLemmas
 pub mod MemberLemmas

@@ -5,7 +5,7 @@ use Rattle.sqlite.specs.Order.{Row, column}
 use Rattle.sqlite.specs.declared.types.Value.TheVariants.{Null}
 use Rattle.vend_core.specs.declared.request.Order.{Order}
 use Rattle.vend_core.specs.declared.sale.Sale.{Sale}
-use Rattle.book_tables.specs.Parts.{shown_entry, shown_order, shown_token}
+use Rattle.book_tables.specs.Parts.{entry_columns, order_columns, shown_entry, shown_order, shown_token, token_columns}
 use Rattle.book_tables.specs.Rows.{number, shown_sale}
 use Rattle.book_tables.specs.declared.records.Entry.{Entry}
 use Rattle.book_tables.specs.declared.records.Token.{Token}
@@ -52,16 +52,6 @@ order_in s = record { operator = s.operator; order_ref = s.order_ref; meter = s.
 
 abbrev pub token_in : Sale → Token
 token_in s = record { base = s.base; tid = s.tid; rnd = s.rnd; tenths = s.tenths; digits = s.digits }
-
--- the columns of each part
-abbrev pub entry_columns : Row → Row
-entry_columns r = column r 0 ∷ column r 1 ∷ column r 2 ∷ []
-
-abbrev pub order_columns : Row → Row
-order_columns r = column r 3 ∷ column r 4 ∷ column r 5 ∷ column r 11 ∷ []
-
-abbrev pub token_columns : Row → Row
-token_columns r = column r 6 ∷ column r 7 ∷ column r 8 ∷ column r 9 ∷ column r 12 ∷ []
 
 pub shows_sale : (r : Row) (entry : Entry) (order : Order) (token : Token) (price : ℕ) → length r ≡ 13 → shown_entry entry ≡ entry_columns r → shown_order order ≡ order_columns r → shown_token token ≡ token_columns r → number price ≡ column r 10 → shown_sale (sale_from entry order token price) ≡ r
 shows_sale r entry order token price count e o t p =

@@ -1,6 +1,6 @@
 -- The parts that a sale's row is read in.
 use Rattle.std.specs.Prelude.{◌<◌, ◌^◌, [], ◌∷◌}
-use Rattle.sqlite.specs.Order.{Row}
+use Rattle.sqlite.specs.Order.{Row, column}
 use Rattle.sqlite.specs.declared.types.Value.TheVariants.{Text}
 use Rattle.sts_fields.specs.Base.{year_of}
 use Rattle.sts_token.specs.Token.{AreTwentyDigits}
@@ -30,3 +30,13 @@ pub record AreTokenValues (t : Token) : Type 0 where
   pub rnd : t.rnd < 2 ^ 4
   pub tenths : IsSoldAmount t.tenths
   pub digits : AreTwentyDigits t.digits
+
+-- the columns of each part in the row of a sale
+abbrev pub entry_columns : Row → Row
+entry_columns r = column r 0 ∷ column r 1 ∷ column r 2 ∷ []
+
+abbrev pub order_columns : Row → Row
+order_columns r = column r 3 ∷ column r 4 ∷ column r 5 ∷ column r 11 ∷ []
+
+abbrev pub token_columns : Row → Row
+token_columns r = column r 6 ∷ column r 7 ∷ column r 8 ∷ column r 9 ∷ column r 12 ∷ []

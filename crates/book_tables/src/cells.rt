@@ -1,6 +1,7 @@
 //! The value in a column of a row, from 0 on, as each of the office's types.
 //!
-//! Each function gives `None` exactly where the column holds no value of its kind. None takes memory.
+//! Each function gives `None` exactly where the column holds no value of its kind. They take no
+//! memory.
 
 ghost use Rattle.std.specs.Prelude.{◌≡◌, ◌≤◌, ◌<◌, ◌^◌, ⊤, pos};
 ghost use Rattle.std.specs.Option.{option_copied};

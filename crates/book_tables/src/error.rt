@@ -18,7 +18,8 @@ pub enum TableError {
 impl TableError {
     /// Whether there was no memory.
     pub fn is_memory(self) -> bool
-        ensures { IsTrue result ↔ (self ≡ TableError.Database (Error.SqliteFailure ErrorCode.OutOfMemory)) }
+        ensures { IsTrue result
+            ↔ (self ≡ TableError.Database (Error.SqliteFailure ErrorCode.OutOfMemory)) }
     {
         matches!(
             self,

@@ -44,13 +44,16 @@ pub fn stands_law()
     ensures tid_back { (tid : ℕ) (read : Option ℕ)
         → IsTid tid → ReadsBack shown_number IsTid (shown_number tid) read → read ≡ Some tid }
     ensures amount_back { (tenths : ℕ) (read : Option ℕ)
-        → IsSoldAmount tenths → ReadsBack shown_number IsSoldAmount (shown_number tenths) read → read ≡ Some tenths }
+        → IsSoldAmount tenths → ReadsBack shown_number IsSoldAmount (shown_number tenths) read
+        → read ≡ Some tenths }
     ensures step_back { (s : Step) (read : Option Step)
         → AreStepValues s → ReadsBack shown_step AreStepValues (shown_step s) read → read ≡ Some s }
     ensures meter_back { (m : Meter) (read : Option Meter)
-        → AreMeterValues m → ReadsBack shown_meter AreMeterValues (shown_meter m) read → read ≡ Some m }
+        → AreMeterValues m → ReadsBack shown_meter AreMeterValues (shown_meter m) read
+        → read ≡ Some m }
     ensures shift_back { (s : Shift) (read : Option Shift)
-        → AreShiftValues s → ReadsBack shown_shift AreShiftValues (shown_shift s) read → read ≡ Some s }
+        → AreShiftValues s → ReadsBack shown_shift AreShiftValues (shown_shift s) read
+        → read ≡ Some s }
     ensures sale_back { (s : Sale) (read : Option Sale)
         → AreSaleValues s → ReadsBack shown_sale AreSaleValues (shown_sale s) read → read ≡ Some s }
 
@@ -84,7 +87,8 @@ pub fn members_law()
         → IsOffice o → 1 ≤ length steps → length steps ≤ 8
         → ((place : ℕ) → place < 8 → step_at o name place ≡ slice_get steps place)
         → o.tariffs name ≡ Some steps }
-    ensures no_steps { (o : Office) (name : List ℕ) → IsOffice o → step_at o name 0 ≡ None → o.tariffs name ≡ None }
+    ensures no_steps { (o : Office) (name : List ℕ)
+        → IsOffice o → step_at o name 0 ≡ None → o.tariffs name ≡ None }
 
     // At most one shift and one sale pass each test.
     ensures shift_numbered { (o : Office) (number : ℕ) → IsOffice o

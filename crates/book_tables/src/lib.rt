@@ -10,4 +10,6 @@ mod cells;
 mod error;
 mod laws;
 mod records;
+#[cfg(test)]
+mod tests;
 mod values;

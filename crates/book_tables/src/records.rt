@@ -1,13 +1,11 @@
 //! The records that the rows of an answer show.
 //!
-//! Each function takes a row of the columns that it names, in this order. It gives `None` exactly where they are the
-//! columns of no record whose values keep their rules: such a row is no office's.
+//! Each function takes a row of the columns that it names, in this order. It gives `None` exactly
+//! where they are those of no record whose values keep their rules: such a row is no office's.
 
-ghost use Rattle.std.specs.Prelude.{◌∷◌, [], ℕ};
-ghost use Rattle.sqlite_value.specs.Order.{column};
 ghost use Rattle.vend_core.specs.Request.{IsOrder};
 ghost use Rattle.book_tables.specs.ReadBack.{ReadsBack};
-ghost use Rattle.book_tables.specs.Parts.{AreEntryValues, AreTokenValues, shown_entry, shown_order, shown_token};
+ghost use Rattle.book_tables.specs.Parts.{AreEntryValues, AreTokenValues, entry_columns, order_columns, shown_entry, shown_order, shown_token, token_columns};
 ghost use Rattle.book_tables.specs.Rows.{shown_meter, shown_number, shown_sale, shown_shift, shown_step};
 ghost use Rattle.book_tables.specs.Values.{AreMeterValues, AreSaleValues, AreShiftValues, AreStepValues, IsNumber, IsSoldAmount, IsTid};
 
@@ -118,7 +116,7 @@ struct Entry {
 }
 
 fn entry_of(row: &Row) -> Option<Entry>
-    ensures { ReadsBack shown_entry AreEntryValues (column row.now 0 ∷ column row.now 1 ∷ column row.now 2 ∷ []) result }
+    ensures { ReadsBack shown_entry AreEntryValues (entry_columns row.now) result }
 {
     let Some(number) = cells::number_at(row, 0) else {
         return None;
@@ -137,7 +135,7 @@ fn entry_of(row: &Row) -> Option<Entry>
 }
 
 fn order_of(row: &Row) -> Option<Order>
-    ensures { ReadsBack shown_order IsOrder (column row.now 3 ∷ column row.now 4 ∷ column row.now 5 ∷ column row.now 11 ∷ []) result }
+    ensures { ReadsBack shown_order IsOrder (order_columns row.now) result }
 {
     let Some(operator) = cells::operator_at(row, 3) else {
         return None;
@@ -170,7 +168,7 @@ struct Token {
 }
 
 fn token_of(row: &Row) -> Option<Token>
-    ensures { ReadsBack shown_token AreTokenValues (column row.now 6 ∷ column row.now 7 ∷ column row.now 8 ∷ column row.now 9 ∷ column row.now 12 ∷ []) result }
+    ensures { ReadsBack shown_token AreTokenValues (token_columns row.now) result }
 {
     let Some(base) = cells::base_at(row, 6) else {
         return None;
@@ -196,7 +194,8 @@ fn token_of(row: &Row) -> Option<Token>
     })
 }
 
-/// A sale: number, moment, shift, operator, ref, meter, base, tid, rnd, tenths, price, tender, digits.
+/// A sale: number, moment, shift, operator, ref, meter, base, tid, rnd, tenths, price, tender,
+/// digits.
 pub(crate) fn sale_of(row: &Row) -> Option<Sale>
     ensures { ReadsBack shown_sale AreSaleValues row.now result }
 {

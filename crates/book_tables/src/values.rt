@@ -1,4 +1,4 @@
-//! The values of the columns of the tables' rows, in the order of each table, as a write binds them.
+//! The values of the columns of a row, in the order of its table, as a write binds them.
 
 ghost use Rattle.std.specs.Prelude.{◌≡◌};
 ghost use Rattle.sqlite.specs.Values.{bound};
@@ -32,7 +32,8 @@ pub(crate) fn tariff_values(name: &TariffName) -> [ValueRef<'_>; 1]
 
 /// A step of a tariff at its place, from 0.
 pub(crate) fn step_values(name: &TariffName, place: u32, step: Step) -> [ValueRef<'_>; 4]
-    ensures { bound result ≡ step_columns (record { tariff = name.now; place = place; step = step }) }
+    ensures { bound result
+        ≡ step_columns (record { tariff = name.now; place = place; step = step }) }
 {
     let ends = match step.ends {
         Some(ends) => whole(ends),
