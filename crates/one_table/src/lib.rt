@@ -8,3 +8,5 @@ mod compare;
 pub mod inspect;
 pub mod make;
 pub mod recognise;
+#[cfg(test)]
+mod table_tests;
