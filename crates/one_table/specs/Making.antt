@@ -15,6 +15,7 @@ use Rattle.sqlite_resolve.specs.Compile.{first, table_defined_by}
 use Rattle.sqlite_catalog.specs.Change.{created, is_used, next_tree, KeepsRows}
 use Rattle.sqlite.specs.Does.{lacks_sequence}
 use Rattle.sqlite.specs.Effect.{Database, IsDatabase}
+use Rattle.sqlite.specs.State.{State, Shows}
 use Rattle.one_table.specs.Place.{Has}
 use Rattle.one_table.specs.Standing.{Stands, tree_in}
 use Rattle.one_table.specs.Referring.{is_among, is_unreferred, is_idle, is_harmless, is_left_alone}
@@ -101,3 +102,7 @@ pub record MakesTables (ts : List Table) (a b : Database) : Type 0 where
   pub left_alone : (names : List (List ℕ)) → AreAmong names ts → AreIdle ts → is_harmless names a.schema ≡ true → AllByRecursion (λ t. is_left_alone b.schema (tree_in b.schema t.name) ≡ true) ts
   pub alone : (tree : ℕ) → tree < next_tree a.schema → AreIdle ts → is_left_alone a.schema tree ≡ true → is_left_alone b.schema tree ≡ true
   pub sound : IsDatabase b
+
+-- the connection is open and in its transaction, and nothing was committed
+abbrev pub StaysInside : State → State → Type 0
+StaysInside old new = Shows old new new.now old.committed true

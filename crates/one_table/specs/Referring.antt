@@ -1,6 +1,7 @@
 -- References between tables: which tables point onto others, and what an update would set off.
-use Rattle.std.specs.Prelude.{ℕ, Bool, true, false, not, ◌||◌, ◌&&◌, ◌==◌, List, find, option_map, unwrap_or}
+use Rattle.std.specs.Prelude.{◌≡◌, ℕ, Bool, true, false, not, ◌||◌, ◌&&◌, ◌==◌, List, find, option_map, unwrap_or}
 use Rattle.std.specs.List.{list_all, list_any}
+use Rattle.sqlite_catalog.specs.Change.{is_used}
 use Rattle.sqlite_schema.specs.Names.{same_name}
 use Rattle.sqlite_schema.specs.declared.schema.Action.{Action}
 use Rattle.sqlite_schema.specs.declared.schema.Action.TheVariants.{NoAction}
@@ -39,3 +40,8 @@ points_to s tree r = unwrap_or (option_map (λ t. t.tree == tree) (find (λ t. s
 -- no reference to the table of a tree takes an action
 abbrev pub is_left_alone : Schema → ℕ → Bool
 is_left_alone s tree = list_all (λ t. list_all (λ r. is_idle r || not (points_to s tree r)) t.references) s.tables
+
+-- no object has one of these names, and no table refers to one
+pub record AreUntaken (names : List (List ℕ)) (s : Schema) : Type 0 where
+  pub free : list_all (λ name. not (is_used s name)) names ≡ true
+  pub unreferred : is_unreferred names s ≡ true

@@ -6,7 +6,7 @@ ghost use Rattle.std.specs.Option.{option_copied};
 ghost use Rattle.sqlite_value.specs.Keys.{plain};
 ghost use Rattle.sqlite_catalog.specs.Change.{is_used};
 ghost use Rattle.one_table.specs.Comparing.{IsPlainTable, IsOwnTree, StandsAt};
-ghost use Rattle.one_table.specs.Referring.{is_among, is_apart, is_unreferred, is_no_action, is_idle, points_to, is_left_alone};
+ghost use Rattle.one_table.specs.Referring.{is_among, is_apart, is_unreferred, is_no_action, is_idle, points_to, is_harmless, is_left_alone, AreUntaken};
 ghost use Rattle.one_table.specs.Standing.{Key, key_of, own_keys, keys_on, place_in, tree_in, Stands};
 
 use crate::compare::{is_table, same_places};
@@ -26,9 +26,14 @@ fn is_used(schema: &Schema, name: &str) -> bool
 
 /// Whether no table, index or view has one of these names.
 pub fn are_free(schema: &Schema, names: &[&str]) -> bool
-    ensures { result ≡ list_all (λ name. not (is_used schema.now name.now)) names.now }
+    ensures { result ≡ list_all (λ name. not (is_used schema.now name)) (map (λ n. n.now) names.now) }
 {
-    names.iter().all(|name| !is_used(schema, name))
+    for name in names {
+        if is_used(schema, name) {
+            return false;
+        }
+    }
+    true
 }
 
 fn is_among(names: &[&str], name: &[u8]) -> bool
@@ -43,7 +48,8 @@ fn is_among(names: &[&str], name: &[u8]) -> bool
 }
 
 fn refer_elsewhere(names: &[&str], references: &[Reference]) -> bool
-    ensures { result ≡ list_all (λ r. not (is_among (map (λ n. n.now) names.now) r.parent)) references.now }
+    ensures { result ≡ list_all (λ r. not (is_among (map (λ n. n.now) names.now) r.parent))
+        references.now }
 {
     for reference in references {
         if is_among(names, reference.parent.as_slice()) {
@@ -71,6 +77,14 @@ pub fn is_unreferred(schema: &Schema, names: &[&str]) -> bool
     true
 }
 
+/// Whether tables of these names can be made with nobody else referring to them.
+pub fn are_untaken(schema: &Schema, names: &[&str]) -> bool
+    ensures told { IsTrue result ↔ AreUntaken (map (λ n. n.now) names.now) schema.now }
+    ensures harmless { IsTrue result → is_harmless (map (λ n. n.now) names.now) schema.now ≡ true }
+{
+    are_free(schema, names) && is_unreferred(schema, names)
+}
+
 fn is_no_action(action: Action) -> bool
     ensures { result ≡ is_no_action action }
 {
@@ -94,7 +108,8 @@ fn points_to(schema: &Schema, tree: u32, reference: &Reference) -> bool
 }
 
 fn leave_alone(schema: &Schema, tree: u32, references: &[Reference]) -> bool
-    ensures { result ≡ list_all (λ r. is_idle r || not (points_to schema.now tree r)) references.now }
+    ensures { result ≡ list_all (λ r. is_idle r || not (points_to schema.now tree r))
+        references.now }
 {
     for reference in references {
         if !is_idle(reference) && points_to(schema, tree, reference) {

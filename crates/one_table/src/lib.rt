@@ -20,4 +20,6 @@ pub mod make;
 mod read_fault;
 mod readers;
 pub mod recognise;
+#[cfg(test)]
+mod table_tests;
 mod writing;

@@ -6,7 +6,7 @@ ghost use Rattle.sqlite.specs.Held.{state};
 ghost use Rattle.sqlite.specs.State.{HasCleanDisk, IsRolledBack, IsUnchanged, KeepsCommit, Shows, Survives};
 ghost use Rattle.sqlite_resolve.specs.Compile.{table_defined_by};
 ghost use Rattle.sqlite_schema.specs.declared.schema.Table.{Table};
-ghost use Rattle.one_table.specs.Making.{is_creation, AreDefined, MakesTable, MakesTables};
+ghost use Rattle.one_table.specs.Making.{is_creation, AreDefined, MakesTable, MakesTables, StaysInside};
 
 use sqlite::{Alter, Error, Transaction};
 
@@ -14,11 +14,13 @@ use sqlite::{Alter, Error, Transaction};
 fn create_table<S: Alter>(tx: &mut Transaction<'_, S>, text: &str) -> Result<(), Error>
     requires { is_creation text.now ≡ true }
     ensures same_reference { tx.new.conn.ghost_name ≡ tx.old.conn.ghost_name }
-    ensures added { HasCleanDisk (state S.Store tx.new.conn.now) → (t : Table) → table_defined_by text.now ≡ Ok t
-        → OnOk result (MakesTable t (state S.Store tx.old.conn.now).now (state S.Store tx.new.conn.now).now) }
+    ensures added { HasCleanDisk (state S.Store tx.new.conn.now)
+        → (t : Table) → table_defined_by text.now ≡ Ok t → OnOk result (MakesTable t
+        (state S.Store tx.old.conn.now).now (state S.Store tx.new.conn.now).now) }
     ensures kept { HasCleanDisk (state S.Store tx.new.conn.now)
-        → OnOk result (Shows (state S.Store tx.old.conn.now) (state S.Store tx.new.conn.now) (state S.Store tx.new.conn.now).now (state S.Store tx.old.conn.now).committed true) }
-    ensures refused { HasCleanDisk (state S.Store tx.new.conn.now) → OnErr result (KeepsCommit (state S.Store tx.old.conn.now) (state S.Store tx.new.conn.now)) }
+        → OnOk result (StaysInside (state S.Store tx.old.conn.now) (state S.Store tx.new.conn.now)) }
+    ensures refused { HasCleanDisk (state S.Store tx.new.conn.now)
+        → OnErr result (KeepsCommit (state S.Store tx.old.conn.now) (state S.Store tx.new.conn.now)) }
     ensures survives { Survives (state S.Store tx.old.conn.now) (state S.Store tx.new.conn.now) (λ _. ⊥) }
 {
     tx.execute(text, &[])?;
@@ -37,12 +39,14 @@ pub fn create_tables<S: Alter>(tx: &mut Transaction<'_, S>, texts: &[&str]) -> R
     requires creations { list_all (λ t. is_creation t.now) texts.now ≡ true }
     ensures same_reference { tx.new.conn.ghost_name ≡ tx.old.conn.ghost_name }
     ensures added { HasCleanDisk (state S.Store tx.new.conn.now)
-        → (IsTrue (state S.Store tx.old.conn.now).is_open → IsDatabase (state S.Store tx.old.conn.now).now)
-        → (ts : List Table) → AreDefined (map (λ t. t.now) texts.now) ts
-        → OnOk result (MakesTables ts (state S.Store tx.old.conn.now).now (state S.Store tx.new.conn.now).now) }
+        → (IsTrue (state S.Store tx.old.conn.now).is_open
+        → IsDatabase (state S.Store tx.old.conn.now).now)
+        → (ts : List Table) → AreDefined (map (λ t. t.now) texts.now) ts → OnOk result (MakesTables
+        ts (state S.Store tx.old.conn.now).now (state S.Store tx.new.conn.now).now) }
     ensures kept { HasCleanDisk (state S.Store tx.new.conn.now)
-        → OnOk result (Shows (state S.Store tx.old.conn.now) (state S.Store tx.new.conn.now) (state S.Store tx.new.conn.now).now (state S.Store tx.old.conn.now).committed true) }
-    ensures refused { HasCleanDisk (state S.Store tx.new.conn.now) → OnErr result (KeepsCommit (state S.Store tx.old.conn.now) (state S.Store tx.new.conn.now)) }
+        → OnOk result (StaysInside (state S.Store tx.old.conn.now) (state S.Store tx.new.conn.now)) }
+    ensures refused { HasCleanDisk (state S.Store tx.new.conn.now)
+        → OnErr result (KeepsCommit (state S.Store tx.old.conn.now) (state S.Store tx.new.conn.now)) }
     ensures survives { Survives (state S.Store tx.old.conn.now) (state S.Store tx.new.conn.now) (λ _. ⊥) }
 {
     'texts: for text in texts {

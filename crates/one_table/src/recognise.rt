@@ -15,7 +15,8 @@ use std::alloc::Global;
 
 fn stands_as(alloc: Global, schema: &Schema, text: &str) -> Result<bool, CompileError>
     ensures told { IfOk result (λ all. IsTrue all ↔ StandsAs schema.now text.now) }
-    ensures failed { IfErr result (λ e. e ≢ CompileError.OutOfMemory → table_defined_by text.now ≡ Err e) }
+    ensures failed { IfErr result
+        (λ e. e ≢ CompileError.OutOfMemory → table_defined_by text.now ≡ Err e) }
 {
     let table = define_table(alloc, text.as_bytes())?;
     Ok(stands(schema, &table))
@@ -26,8 +27,10 @@ fn stands_as(alloc: Global, schema: &Schema, text: &str) -> Result<bool, Compile
 /// # Errors
 /// Want of memory, where each text defines a table.
 pub fn stand(alloc: Global, schema: &Schema, texts: &[&str]) -> Result<bool, CompileError>
-    ensures told { IfOk result (λ all. IsTrue all ↔ AllByRecursion (λ text. StandsAs schema.now text.now) texts.now) }
-    ensures failed { IfErr result (λ e. (ts : List Table) → AreDefined (map (λ t. t.now) texts.now) ts → ¬ (e ≢ CompileError.OutOfMemory)) }
+    ensures told { IfOk result
+        (λ all. IsTrue all ↔ AllByRecursion (λ text. StandsAs schema.now text.now) texts.now) }
+    ensures failed { IfErr result (λ e. (ts : List Table) → AreDefined (map (λ t. t.now) texts.now) ts
+        → ¬ (e ≢ CompileError.OutOfMemory)) }
 {
     for text in texts {
         if !stands_as(alloc, schema, text)? {
@@ -39,7 +42,8 @@ pub fn stand(alloc: Global, schema: &Schema, texts: &[&str]) -> Result<bool, Com
 
 /// Whether no reference to a table of one of these names takes an action.
 pub fn are_left_alone(schema: &Schema, names: &[&str]) -> bool
-    ensures { result ≡ list_all (λ name. is_left_alone schema.now (tree_in schema.now name.now)) names.now }
+    ensures { result ≡ list_all (λ name. is_left_alone schema.now (tree_in schema.now name.now))
+        names.now }
 {
     for name in names {
         if !is_table_left_alone(schema, name) {
