@@ -10,6 +10,7 @@ pub mod InsertTextLemmas
 pub mod ChangeLemmas
 pub mod InsertLemmas
 pub mod AppendLemmas
+pub mod UpdateLemmas
 pub mod ListedLemmas
 pub mod LookUpLemmas
 pub mod TestsLemmas

@@ -7,6 +7,7 @@ pub mod Reading
 pub mod Changing
 pub mod Inserting
 pub mod InTransaction
+pub mod Updating
 pub mod Listed
 pub mod Numbered
 pub mod Making

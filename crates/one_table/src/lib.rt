@@ -9,7 +9,7 @@ pub use from_row::{FromRow, column};
 pub use gathering::Gather;
 pub use read_fault::ReadFault;
 pub use readers::{read_row, read_rows};
-pub use writing::insert;
+pub use writing::{insert, update};
 
 mod compare;
 mod folding;
