@@ -4,6 +4,7 @@
 //! tables cites for each of its texts.
 #![tactic(auto)]
 
+pub use committing::{Change, CommitFault, change_once};
 pub use folding::fold_rows;
 pub use from_row::{FromRow, column};
 pub use gathering::Gather;
@@ -11,6 +12,7 @@ pub use read_fault::ReadFault;
 pub use readers::{read_row, read_rows};
 pub use writing::{insert, update};
 
+mod committing;
 mod compare;
 mod folding;
 mod from_row;
