@@ -8,6 +8,7 @@ mod Example
 pub mod UpdateTextLemmas
 pub mod InsertTextLemmas
 pub mod ChangeLemmas
+pub mod CastLemmas
 pub mod InsertLemmas
 pub mod AppendLemmas
 pub mod UpdateLemmas
@@ -17,6 +18,7 @@ pub mod TestsLemmas
 pub mod UniqueLemmas
 pub mod FaultLemmas
 pub mod HiddenLemmas
+pub mod HiddenSetLemmas
 pub mod CreationLemmas
 pub mod GrowthLemmas
 pub mod NewTableLemmas

@@ -2,7 +2,7 @@ use Rattle.sqlite.specs.Values.{bound}
 use Rattle.sqlite.specs.Held.{state}
 use Rattle.one_table.proofs.ChangeLemmas.{on_ok}
 use Rattle.one_table.proofs.UpdateLemmas.{sets_rows}
-use Rattle.one_table.proofs.writing.update.Goals as goal
+use Rattle.one_table.proofs.updating.update.Goals as goal
 
 pub returns-clause-changed : goal.returns-clause-changed
 returns-clause-changed g c clean t at q is has =
