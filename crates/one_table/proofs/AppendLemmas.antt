@@ -1,21 +1,20 @@
 -- A row with the next number stands last.
-use Rattle.std.proofs.Common.{◌≡◌, ℕ, ℤ, pos, ◌+ℤ◌, List, [], ◌∷◌, ◌++◌, map, drop, fold, length, IsTrue, true, false, refl, sym, ap, ◌∙◌, subst, true≢false}
+use Rattle.std.proofs.Common.{◌≡◌, ℤ, pos, ◌+ℤ◌, List, [], ◌∷◌, ◌++◌, map, drop, fold, IsTrue, true, refl, sym, ap, ◌∙◌, subst, true≢false}
 use Rattle.std.proofs.lemmas.List.{map-append}
 use Rattle.std.specs.List.{AllByRecursion}
-use Rattle.sqlite_value.specs.declared.value.Value.{Value}
 use Rattle.sqlite_value.specs.declared.value.Value.TheVariants.{Null, Int, Real, Text, Blob}
 use Rattle.sqlite_value.specs.Order.{Row}
 use Rattle.sqlite_value.proofs.OrderLemmas.{value_cmp-Int}
 use Rattle.sqlite_trees.specs.Tree.{rowid, IsTable, put_row}
 use Rattle.sqlite_trees.specs.View.{is_int}
 use Rattle.sqlite_sql.specs.Ops.{is_null}
-use Rattle.sqlite_keyed.specs.Keyed.{IsKeyedBy, next_key, insert_by}
+use Rattle.sqlite_keyed.specs.Keyed.{IsKeyedBy, next_key}
 use Rattle.sqlite_keyed.proofs.KeyedLemmas.{lt_from_Less, Less-from_lt, IsKeyedBy-insert_by}
 use Rattle.sqlite_keyed.proofs.ListLemmas.{ascending-map, ascending_weaker, ascending_from_map}
 use Rattle.sqlite_keyed.proofs.SliceLemmas.{insert_next}
 use Rattle.sqlite_typed.proofs.RowLemmas.{puts-map}
 use Rattle.sqlite_rules.specs.declared.error.Rowids.TheVariants.{Chosen}
-use Rattle.sqlite_rules.specs.Edit.{next_rowid, with_rowid, id_in}
+use Rattle.sqlite_rules.specs.Edit.{with_rowid, id_in}
 
 -- A table of number keys that holds a list gains the next value at the list's end.
 pub appends : {X : Type 0} (key : X → ℤ) (to_row : X → Row) → ((x : X) → rowid (to_row x) ≡ Int (key x)) → (xs : List X) (x : X) → IsKeyedBy key xs → key x ≡ next_key key xs

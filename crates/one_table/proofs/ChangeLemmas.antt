@@ -4,7 +4,6 @@ use Rattle.std.proofs.lemmas.Bool.{cases_Bool}
 use Rattle.std.specs.List.{AllByRecursion}
 use Rattle.sqlite_value.specs.Order.{Row}
 use Rattle.sqlite_schema.specs.declared.schema.Keys.TheVariants.{Enforced}
-use Rattle.sqlite_schema.specs.declared.schema.Schema.{Schema}
 use Rattle.sqlite_schema.specs.declared.schema.Table.{Table}
 use Rattle.sqlite_schema.specs.declared.command.Command.{Command}
 use Rattle.sqlite_rules.specs.Edit.{Edit, edited, IsNoIndex, Applies}
@@ -14,12 +13,13 @@ use Rattle.sqlite.specs.Listing.{understood}
 use Rattle.sqlite.specs.Rows.{Written, Task}
 use Rattle.sqlite.specs.Does.{Tally, AtPlace, OnRows, WritesRows}
 use Rattle.sqlite.specs.State.{State, mode_of, Shows, Writes, Runs, ExecutesInside}
-use Rattle.sqlite.proofs.Callers.{IsPlain, command_of, statement_of, runs_as}
+use Rattle.sqlite.proofs.Callers.{statement_of, runs_as}
 use Rattle.sqlite_trees.specs.declared.store.Store.{Ghosts}
 use Rattle.sqlite.specs.Held.{Held, state}
 use Rattle.one_table.specs.Answer.{IsLeft}
 use Rattle.one_table.specs.Reading.{Means}
 use Rattle.one_table.specs.InTransaction.{HasChanged}
+use Rattle.one_table.proofs.ListedLemmas.{command_is, is_plain}
 
 -- a part that gave a value did not stop on the way
 pub went : {B E R : Type 0} {b : B} {Stops : E → Type 0} → ((stop : E) × Stops stop × (Ok b ≡ Err stop)) ⊎ R → R
@@ -28,12 +28,6 @@ went (inr on) = on
 
 pub same_value : {B E : Type 0} {a b : B} → ◌≡◌ {A = Result B E} (Ok a) (Ok b) → a ≡ b
 same_value e = cc
-
-pub plain_if_means : {s : Schema} {sql : List ℕ} {c : Command} → Means s sql c → IsPlain (understood s sql)
-plain_if_means m = subst IsPlain (sym m.understands) (m.silent, m.timeless)
-
-pub command_if_means : {s : Schema} {sql : List ℕ} {c : Command} → Means s sql c → command_of (understood s sql) ≡ c
-command_if_means m = ap command_of m.understands ∙ m.command
 
 -- the rows of a table, in the schema of a state
 abbrev pub task_on : State → Row → Table → Task
@@ -76,7 +70,7 @@ module _ (sql : List ℕ) (params : Row) (old new : State) (command : Command) (
       → Means old.now.schema sql command × Runs old new None command (statement_of sql (understood old.now.schema sql)) params count × Shows old new new.now old.committed true
   ran_inside count h =
       let m = means h.1.was_open in
-      (m, runs_as sql params old new old.now.schema refl command (command_if_means m) (plain_if_means m) count h.0, h.1)
+      (m, runs_as sql params old new old.now.schema refl command (command_is m) (is_plain m) count h.0, h.1)
 
 -- a text that is refused leaves the transaction as it was, or undone, or was not run at all
 pub refused_by : {S : Type 0} (g : Ghosts S) (sql : List ℕ) (params : Row) (old new : Held S) (e : Error) → (old.in_transaction ≡ false → new ≡ old)

@@ -8,14 +8,17 @@ mod Example
 pub mod UpdateTextLemmas
 pub mod InsertTextLemmas
 pub mod ChangeLemmas
+pub mod CastLemmas
 pub mod InsertLemmas
 pub mod AppendLemmas
+pub mod UpdateLemmas
 pub mod ListedLemmas
 pub mod LookUpLemmas
 pub mod TestsLemmas
 pub mod UniqueLemmas
 pub mod FaultLemmas
 pub mod HiddenLemmas
+pub mod HiddenSetLemmas
 pub mod CreationLemmas
 pub mod GrowthLemmas
 pub mod NewTableLemmas

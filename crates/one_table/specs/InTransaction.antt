@@ -4,7 +4,10 @@ use Rattle.std.specs.List.{AllByRecursion}
 use Rattle.sqlite_value.specs.Order.{Row}
 use Rattle.sqlite_trees.specs.Tree.{put_row}
 use Rattle.sqlite_schema.specs.declared.schema.Table.{Table}
-use Rattle.sqlite_rules.specs.Edit.{is_taken, IsNoIndex}
+use Rattle.sqlite_sql.specs.Query.{Query, IsAnswer}
+use Rattle.sqlite_rules.specs.declared.error.Rowids.TheVariants.{Given}
+use Rattle.sqlite_rules.specs.Calls.{ids_of}
+use Rattle.sqlite_rules.specs.Edit.{edit_of, edited, is_taken, IsNoIndex}
 use Rattle.sqlite.specs.Effect.{IsDatabase, SparesFrozen}
 use Rattle.sqlite.specs.State.{State, Shows}
 
@@ -23,3 +26,9 @@ pub record HasChanged (t : Table) (rows : List Row) (old new : State) : Type 0 w
 pub record PutsRow (t : Table) (row : Row) (old new : State) : Type 0 where
   pub changed : HasChanged t (put_row row (old.now.trees t.tree)) old new
   pub fresh : is_taken (old.now.trees t.tree) row ≡ false
+
+-- the rows that the query finds, each an old rowid before the new row, stand in place of those that have their rowids
+pub record SetsRows (t : Table) (q : Query) (params : Row) (old new : State) : Type 0 where
+  pub found : List Row
+  pub answer : IsAnswer q old.now.trees params found
+  pub changed : HasChanged t (edited old.now.trees (edit_of old.now.trees t (ids_of found) Given 1 found)) old new

@@ -7,6 +7,8 @@ pub mod Reading
 pub mod Changing
 pub mod Inserting
 pub mod InTransaction
+pub mod Updating
+pub mod Committing
 pub mod Listed
 pub mod Numbered
 pub mod Making

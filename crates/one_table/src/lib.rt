@@ -4,17 +4,21 @@
 //! tables cites for each of its texts.
 #![tactic(auto)]
 
+pub use committing::{Change, CommitFault, change_once};
 pub use folding::fold_rows;
 pub use from_row::{FromRow, column};
 pub use gathering::Gather;
+pub use inserting::insert;
 pub use read_fault::ReadFault;
 pub use readers::{read_row, read_rows};
-pub use writing::insert;
+pub use updating::update;
 
+mod committing;
 mod compare;
 mod folding;
 mod from_row;
 mod gathering;
+mod inserting;
 pub mod inspect;
 pub mod make;
 mod read_fault;
@@ -22,4 +26,5 @@ mod readers;
 pub mod recognise;
 #[cfg(test)]
 mod table_tests;
+mod updating;
 mod writing;

@@ -2,7 +2,7 @@ use Rattle.sqlite.specs.Values.{bound}
 use Rattle.sqlite.specs.Held.{state}
 use Rattle.one_table.proofs.ChangeLemmas.{on_ok}
 use Rattle.one_table.proofs.InsertLemmas.{puts_row}
-use Rattle.one_table.proofs.writing.insert.Goals as goal
+use Rattle.one_table.proofs.inserting.insert.Goals as goal
 
 pub returns-clause-added : goal.returns-clause-added
 returns-clause-added g c clean t at terms is has =
