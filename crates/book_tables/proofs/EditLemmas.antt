@@ -7,13 +7,15 @@ use Rattle.std.proofs.lemmas.List.Elements.{Contains-append_cases, Contains-appe
 use Rattle.std.proofs.lemmas.Option.{same_Some}
 use Rattle.std.proofs.lemmas.Slice.Eq.{bytes_eq-Decides}
 use Rattle.tariff.specs.declared.step.Step.{Step}
-use Rattle.vend_core.specs.Fold.{applied, with_tariff}
+use Rattle.vend_core.specs.Edits.{applied, with_row, with_rows, with_tariff}
 use Rattle.vend_core.specs.Office.{Office, empty_office}
 use Rattle.vend_core.specs.PlainRows.{row_with_tariff}
 use Rattle.vend_core.specs.declared.change.Edit.{Edit}
 use Rattle.vend_core.specs.declared.change.Edit.TheVariants as edits
 use Rattle.vend_core.specs.declared.meter.Meter.{Meter}
-use Rattle.book_tables.specs.Edited.{IsNew, edited, no_rows, shift_closed, step_rows}
+use Rattle.vend_core.specs.declared.row.Row.{Row}
+use Rattle.vend_core.specs.declared.row.Row.TheVariants as kinds
+use Rattle.book_tables.specs.Edited.{AreNewRows, IsNew, IsNewRow, edited, no_rows, row_added, rows_added, shift_closed, step_rows}
 use Rattle.book_tables.specs.Rows.{Rows, StepRow}
 use Rattle.book_tables.specs.Stands.{AreApart, AreMembersOf, HasStep}
 use Rattle.book_tables.proofs.ListLemmas.{contains_cases, contains_first, contains_further, contains_map, contains_none, map_source, no_pairs, pairs_append, pairs_cons, pairs_map, pairs_push}
@@ -283,9 +285,19 @@ module _ (rows : Rows) (o : Office) (are : AreMembersOf rows o) (number name : L
 
 -- ---- every edit
 
+row_members : (rows : Rows) (o : Office) (row : Row) → AreMembersOf rows o → IsNewRow row o → AreMembersOf (row_added row rows) (with_row row o)
+row_members rows o (kinds.Tariff name steps) are free = tariff_added rows o are name steps free
+row_members rows o (kinds.Meter number m) are free = meter_added rows o are number m free
+
+rows_members : (new : List Row) (rows : Rows) (o : Office) → AreMembersOf rows o → AreNewRows new o → AreMembersOf (rows_added new rows) (with_rows new o)
+rows_members [] rows o are free = are
+rows_members (row ∷ new) rows o are free =
+    rows_members new (row_added row rows) (with_row row o) (row_members rows o row are free.0) free.1
+
 pub edited_members : (rows : Rows) (o : Office) (edit : Edit) → AreMembersOf rows o → IsNew edit o → AreMembersOf (edited edit rows) (applied edit o)
 edited_members rows o (edits.AddTariff name steps) are free = tariff_added rows o are name steps free
 edited_members rows o (edits.AddMeter number m) are free = meter_added rows o are number m free
+edited_members rows o (edits.AddRows new) are free = rows_members new rows o are free
 edited_members rows o (edits.SetTariff number name) are free = tariff_set rows o are number name
 edited_members rows o (edits.OpenShift s) are free = record {
   tariffs = are.tariffs;

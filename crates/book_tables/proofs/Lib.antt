@@ -5,6 +5,7 @@ pub mod KeptLemmas
 pub mod KeyTextLemmas
 pub mod ListLemmas
 pub mod MemberLemmas
+pub mod NewLemmas
 pub mod PartLemmas
 pub mod RowLemmas
 pub mod TextLemmas

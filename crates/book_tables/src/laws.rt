@@ -5,11 +5,14 @@ ghost use Rattle.std.specs.Option.{option_to_list};
 ghost use Rattle.sqlite.specs.Effect.{Database};
 ghost use Rattle.sqlite_resolve.specs.Compile.{table_defined_by};
 ghost use Rattle.tariff.specs.declared.step.Step.{Step};
-ghost use Rattle.vend_core.specs.Fold.{applied};
+ghost use Rattle.vend_core.specs.Decision.{decision};
+ghost use Rattle.vend_core.specs.Edits.{applied};
 ghost use Rattle.vend_core.specs.Lookup.{open_shift, sale_numbered, sale_of_ref, shift_numbered};
 ghost use Rattle.vend_core.specs.Office.{IsOffice, Office, empty_office};
+ghost use Rattle.vend_core.specs.declared.answer.Answer.{Answer};
 ghost use Rattle.vend_core.specs.declared.change.Edit.{Edit};
 ghost use Rattle.vend_core.specs.declared.meter.Meter.{Meter};
+ghost use Rattle.vend_core.specs.declared.request.Stamped.{Stamped};
 ghost use Rattle.vend_core.specs.declared.sale.Sale.{Sale};
 ghost use Rattle.vend_core.specs.declared.shift.Shift.{Shift};
 ghost use Rattle.book_tables.specs.Edited.{IsNew, edited, no_rows};
@@ -70,9 +73,12 @@ pub fn stands_law()
 
 /// What the rows have of the office whose members they are, and how both change by an edit.
 pub fn members_law()
+    // An edit leaves them its members, where what it adds is new, as it is in each decision.
     ensures empty { AreMembersOf no_rows empty_office }
     ensures edited { (rows : Rows) (o : Office) (edit : Edit)
         → AreMembersOf rows o → IsNew edit o → AreMembersOf (edited edit rows) (applied edit o) }
+    ensures decided { (forward : ℕ → ℕ → ℕ) (o : Office) (at : Stamped) (edit : Edit) (answer : Answer)
+        → decision forward o at ≡ Ok (record { edit = Some edit; answer = answer }) → IsNew edit o }
 
     // The rows that have what is looked up are what the office has under it.
     ensures tariff { (rows : Rows) (o : Office) (name : List ℕ) → AreMembersOf rows o

@@ -1,10 +1,11 @@
 -- The sales that are answered stand, and what a decision leaves as it was.
 use Rattle.std.proofs.Common.{◌≡◌, ℕ, ◌⊎◌, inl, inr, Bool, true, false, List, [], ◌∷◌, ◌++◌, length, Option, Some, None, Result, Ok, Err, refl, sym, subst}
-use Rattle.std.specs.Prelude.{◌==◌, All, Contains, if◌then◌else◌}
+use Rattle.std.specs.Prelude.{◌==◌, All, Contains, bytes_eq, if◌then◌else◌, is_some}
 use Rattle.std.proofs.lemmas.List.Elements.{All-contains_itself, All-cons, All-filter, All-nil, Contains-push}
 use Rattle.sts_token.specs.Token.{KeepsRange}
 use Rattle.tariff.specs.declared.step.Step.{Step}
-use Rattle.vend_core.specs.Decision.{MeterFacts, add_meter, add_tariff, close_shift, decision_of, meter_eq, meter_facts, next_number, open_a_shift, report, reprint, sell, sell_once, set_tariff, steps_eq, unchanged}
+use Rattle.vend_core.specs.Decision.{Buyer, add_meter, add_rows, add_tariff, changed, close_shift, decision_of, import, meter_eq, new_rows, buyer_of, next_number, open_a_shift, report, reprint, sell, sell_once, set_tariff, steps_eq, unchanged}
+use Rattle.vend_core.specs.Edits.{with_row, with_rows}
 use Rattle.vend_core.specs.Fold.{office_after, reply, reply_of, step}
 use Rattle.vend_core.specs.Handed.{sales_in, sales_of}
 use Rattle.vend_core.specs.Lookup.{open_shift, sale_numbered, sale_of_ref, sales_of_shift, shift_numbered}
@@ -14,12 +15,15 @@ use Rattle.vend_core.specs.OfficeLaws.{SellsOne}
 use Rattle.vend_core.specs.declared.answer.Answer.{Answer}
 use Rattle.vend_core.specs.declared.answer.Answer.TheVariants as answers
 use Rattle.vend_core.specs.declared.change.Change.{Change}
+use Rattle.vend_core.specs.declared.change.Edit.TheVariants as edits
 use Rattle.vend_core.specs.declared.meter.Meter.{Meter}
 use Rattle.vend_core.specs.declared.refusal.Refusal.{Refusal}
 use Rattle.vend_core.specs.declared.request.Order.{Order}
 use Rattle.vend_core.specs.declared.request.Request.{Request}
 use Rattle.vend_core.specs.declared.request.Request.TheVariants as requests
 use Rattle.vend_core.specs.declared.request.Stamped.{Stamped}
+use Rattle.vend_core.specs.declared.row.Row.{Row}
+use Rattle.vend_core.specs.declared.row.Row.TheVariants as kinds
 use Rattle.vend_core.specs.declared.sale.Sale.{Sale}
 use Rattle.vend_core.specs.declared.shift.Shift.{Shift}
 use Rattle.vend_core.proofs.DecisionLemmas.{after_test, sale_change, sell_ok}
@@ -54,15 +58,32 @@ module _ (o : Office) (New : Sale → Type 0) where
   stand_add_tariff name steps None = record { stand = nothing o; adds = inl refl }
   stand_add_tariff name steps (Some there) = stand_if (steps_eq there steps) _ _ (nothing o)
 
-  stand_add_meter : (number : List ℕ) (m : Meter) (there : Option Meter) (tariff : Option (List Step)) → IsHonest o New (add_meter number m there tariff)
-  stand_add_meter number m (Some there) tariff = stand_if (meter_eq there m) _ _ (nothing o)
-  stand_add_meter number m None (Some steps) = record { stand = nothing o; adds = inl refl }
-  stand_add_meter number m None None = record { stand = nothing o; adds = inl refl }
+  stand_add_meter : (number : List ℕ) (m : Meter) (there : Option Meter) (has : Bool) → IsHonest o New (add_meter number m there has)
+  stand_add_meter number m (Some there) has = stand_if (meter_eq there m) _ _ (nothing o)
+  stand_add_meter number m None true = record { stand = nothing o; adds = inl refl }
+  stand_add_meter number m None false = record { stand = nothing o; adds = inl refl }
 
-  stand_set_tariff : (number name : List ℕ) (there : Option Meter) (tariff : Option (List Step)) → IsHonest o New (set_tariff number name there tariff)
-  stand_set_tariff number name None tariff = record { stand = nothing o; adds = inl refl }
-  stand_set_tariff number name (Some m) None = record { stand = nothing o; adds = inl refl }
-  stand_set_tariff number name (Some m) (Some steps) = record { stand = nothing o; adds = inl refl }
+  stand_set : (b : Bool) (number name : List ℕ) → IsHonest o New (if b then unchanged answers.Done else changed (edits.SetTariff number name) answers.Done)
+  stand_set true number name = record { stand = nothing o; adds = inl refl }
+  stand_set false number name = record { stand = nothing o; adds = inl refl }
+
+  stand_set_tariff : (number name : List ℕ) (there : Option Meter) (has : Bool) → IsHonest o New (set_tariff number name there has)
+  stand_set_tariff number name None has = record { stand = nothing o; adds = inl refl }
+  stand_set_tariff number name (Some m) false = record { stand = nothing o; adds = inl refl }
+  stand_set_tariff number name (Some m) true = stand_set (bytes_eq m.tariff name) number name
+
+  -- rows add no sale
+  rows_add_none : (new : List Row) (p : Office) → (with_rows new p).sales ≡ p.sales
+  rows_add_none [] p = refl
+  rows_add_none (kinds.Tariff name steps ∷ rest) p = rows_add_none rest (with_row (kinds.Tariff name steps) p)
+  rows_add_none (kinds.Meter number m ∷ rest) p = rows_add_none rest (with_row (kinds.Meter number m) p)
+
+  stand_rows : (new : List Row) → IsHonest o New (add_rows new)
+  stand_rows [] = record { stand = nothing o; adds = inl refl }
+  stand_rows (row ∷ rest) = record { stand = nothing (with_rows (row ∷ rest) o); adds = inl (rows_add_none (row ∷ rest) o) }
+
+  stand_import : (rows : List Row) → IsHonest o New (import o rows)
+  stand_import rows = after_test (IsHonest o New) (new_rows o 1 rows) add_rows (λ refusal. record { stand = nothing o; adds = inl refl }) (λ new e. stand_rows new)
 
   stand_open_shift : (moment : ℕ) (operator : List ℕ) (there : Option Shift) (count : ℕ) → IsHonest o New (open_a_shift moment operator there count)
   stand_open_shift moment operator (Some there) count = record { stand = nothing o; adds = inl refl }
@@ -88,7 +109,7 @@ module _ (o : Office) (New : Sale → Type 0) where
       let sold = sells change refl in
       subst (λ (c : Change). IsHonest o New (Ok c)) (sym sold.2) (stand_added sold.0 sold.1)
 
-  stand_sell : (forward : ℕ → ℕ → ℕ) (moment nibble : ℕ) (order : Order) (first : Option Sale) (shift : Option Shift) (meter : Option MeterFacts) (count : ℕ) → sale_of_ref o order.operator order.order_ref ≡ first → SellsNew (sell forward moment nibble order shift meter count) → IsHonest o New (sell_once forward moment nibble order first shift meter count)
+  stand_sell : (forward : ℕ → ℕ → ℕ) (moment nibble : ℕ) (order : Order) (first : Option Sale) (shift : Option Shift) (meter : Option Buyer) (count : ℕ) → sale_of_ref o order.operator order.order_ref ≡ first → SellsNew (sell forward moment nibble order shift meter count) → IsHonest o New (sell_once forward moment nibble order first shift meter count)
   stand_sell forward moment nibble order None shift meter count e sells = stand_new_sale _ sells
   stand_sell forward moment nibble order (Some first) shift meter count e sells = stand_if _ (answers.Sold first) _ (one_standing first (found _ o.sales first e).0)
 
@@ -103,16 +124,17 @@ module _ (o : Office) (New : Sale → Type 0) where
   module _ (forward : ℕ → ℕ → ℕ) (moment nibble : ℕ) where
     -- the sale that an order makes where it was not served before
     abbrev pub sold_to : Order → Result Change Refusal
-    sold_to order = sell forward moment nibble order (open_shift o order.operator) (meter_facts o order.meter moment) (length o.sales)
+    sold_to order = sell forward moment nibble order (open_shift o order.operator) (buyer_of o order.meter moment) (length o.sales)
 
     pub honest : (request : Request) → ((order : Order) → request ≡ requests.Sell order → SellsNew (sold_to order)) → IsHonest o New (decision_of forward o moment nibble request)
     honest (requests.AddTariff name steps) sells = stand_add_tariff name steps (o.tariffs name)
-    honest (requests.AddMeter number m) sells = stand_add_meter number m (o.meters number) (o.tariffs m.tariff)
-    honest (requests.SetTariff number name) sells = stand_set_tariff number name (o.meters number) (o.tariffs name)
+    honest (requests.AddMeter number m) sells = stand_add_meter number m (o.meters number) (is_some (o.tariffs m.tariff))
+    honest (requests.Import rows) sells = stand_import rows
+    honest (requests.SetTariff number name) sells = stand_set_tariff number name (o.meters number) (is_some (o.tariffs name))
     honest (requests.OpenShift operator) sells = stand_open_shift moment operator (open_shift o operator) (length o.shifts)
     honest (requests.CloseShift operator) sells = stand_close_shift moment (open_shift o operator)
     honest (requests.Sell order) sells =
-        stand_sell forward moment nibble order (sale_of_ref o order.operator order.order_ref) (open_shift o order.operator) (meter_facts o order.meter moment) (length o.sales) refl (sells order refl)
+        stand_sell forward moment nibble order (sale_of_ref o order.operator order.order_ref) (open_shift o order.operator) (buyer_of o order.meter moment) (length o.sales) refl (sells order refl)
     honest (requests.Reprint number) sells = stand_reprint number (sale_numbered o number) refl
     honest (requests.ShiftReport number) sells = stand_report (shift_numbered o number) number
 
@@ -120,7 +142,7 @@ module _ (o : Office) (New : Sale → Type 0) where
 pub answered_stand : (forward : ℕ → ℕ → ℕ) (o : Office) (at : Stamped) → All (Contains (step forward o at).sales) (sales_of (reply forward o at))
 answered_stand forward o at =
     (honest o (λ s. Unit {0}) forward at.moment at.nibble at.request (λ order asks change e.
-    let s = sell_ok forward at.moment at.nibble order (open_shift o order.operator) (meter_facts o order.meter at.moment) (length o.sales) change e in
+    let s = sell_ok forward at.moment at.nibble order (open_shift o order.operator) (buyer_of o order.meter at.moment) (length o.sales) change e in
     (_, tt, s.change_is))).stand
 
 -- a step of an office leaves the sales, or adds the new one of an order

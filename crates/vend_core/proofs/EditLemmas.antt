@@ -40,11 +40,11 @@ sale_row_kept o p more kept s row = record {
 }
 
 -- what stands under a name where one row was put
-some_put : {A : Type 0} (b : Bool) (x : A) (there : Option A) → IsSome there → IsSome (if b then Some x else there)
+pub some_put : {A : Type 0} (b : Bool) (x : A) (there : Option A) → IsSome there → IsSome (if b then Some x else there)
 some_put true x there some = refl
 some_put false x there some = some
 
-put_cases : {A : Type 0} (b : Bool) (q name : List ℕ) (x y : A) (there : Option A) → bytes_eq q name ≡ b → (if b then Some x else there) ≡ Some y → ((q ≡ name) × (x ≡ y)) ⊎ (there ≡ Some y)
+pub put_cases : {A : Type 0} (b : Bool) (q name : List ℕ) (x y : A) (there : Option A) → bytes_eq q name ≡ b → (if b then Some x else there) ≡ Some y → ((q ≡ name) × (x ≡ y)) ⊎ (there ≡ Some y)
 put_cases true q name x y there is e = inl ((bytes_eq-Decides q name).0 is, same_Some x y e)
 put_cases false q name x y there is e = inr e
 

@@ -1,14 +1,15 @@
 -- The edit of a granted request fits the office: its meter's tariff is there, its identifier is in range, and there is room.
-use Rattle.std.proofs.Common.{◌≡◌, ℕ, ◌<◌, ◌≤◌, Bool, true, false, List, Option, Some, None, Result, Ok, Err, is_some, length, refl, sym, ap, subst, inl, inr, if◌then◌else◌, arith}
+use Rattle.std.proofs.Common.{◌≡◌, ℕ, ◌<◌, ◌≤◌, Bool, true, false, List, [], ◌∷◌, Option, Some, None, Result, Ok, Err, IsSome, bytes_eq, is_some, length, refl, sym, subst, inl, inr, if◌then◌else◌, arith}
+use Rattle.std.proofs.lemmas.Bool.{false≢true}
 use Rattle.std.proofs.lemmas.Bool.Decides.{nat_tests}
 use Rattle.std.proofs.lemmas.Option.{none-some, same_Some}
 use Rattle.std.specs.Option.{ok_or}
 use Rattle.sts_fields.specs.Tid.{fresh_after, last_tid, minute_of}
 use Rattle.tariff.specs.Purchase.{purchase_of}
 use Rattle.tariff.specs.declared.step.Step.{Step}
-use Rattle.vend_core.specs.Decision.{◌>>=◌, MeterFacts, add_meter, add_tariff, close_shift, decision, decision_of, meter_eq, meter_facts, next_number, open_a_shift, or_refusal, report, reprint, sell, sell_again, sell_once, set_tariff, steps_eq, unchanged}
-use Rattle.vend_core.specs.Facts.{IsUnlessMemory}
-use Rattle.vend_core.specs.Lists.{Fits}
+use Rattle.vend_core.specs.Decision.{◌>>=◌, Buyer, add_meter, add_rows, add_tariff, changed, close_shift, decision, decision_of, import, meter_eq, new_rows, buyer_of, next_number, open_a_shift, or_refusal, report, reprint, sell, sell_again, sell_once, set_tariff, steps_eq, unchanged}
+use Rattle.vend_core.specs.Facts.{IsUnlessMemory, keeps_lists}
+use Rattle.vend_core.specs.Lists.{Fits, RowsFit, sets_only}
 use Rattle.vend_core.specs.Lookup.{open_shift, sale_numbered, sale_of_ref, sales_of_shift, shift_numbered}
 use Rattle.vend_core.specs.Office.{Office, greatest_count}
 use Rattle.vend_core.specs.declared.answer.Answer.{Answer}
@@ -18,10 +19,14 @@ use Rattle.vend_core.specs.declared.meter.Meter.{Meter}
 use Rattle.vend_core.specs.declared.refusal.Refusal.{Refusal}
 use Rattle.vend_core.specs.declared.request.Order.{Order}
 use Rattle.vend_core.specs.declared.request.Request.{Request}
-use Rattle.vend_core.specs.declared.request.Request.TheVariants.{AddTariff, AddMeter, SetTariff, OpenShift, CloseShift, Sell, Reprint, ShiftReport}
+use Rattle.vend_core.specs.declared.request.Request.TheVariants.{AddTariff, AddMeter, Import, SetTariff, OpenShift, CloseShift, Sell, Reprint, ShiftReport}
 use Rattle.vend_core.specs.declared.request.Stamped.{Stamped}
+use Rattle.vend_core.specs.declared.answer.Answer.TheVariants as answers
+use Rattle.vend_core.specs.declared.change.Edit.TheVariants as edits
+use Rattle.vend_core.specs.declared.row.Row.{Row}
 use Rattle.vend_core.specs.declared.sale.Sale.{Sale}
 use Rattle.vend_core.specs.declared.shift.Shift.{Shift}
+use Rattle.vend_core.proofs.ImportLemmas.{new_rows_fit}
 
 -- the edit of a granted request, where there is one, fits
 abbrev pub EditFits : Office → Result Change Refusal → Type 0
@@ -47,17 +52,28 @@ if_add_tariff : (o : Office) (name : List ℕ) (steps : List Step) (there : Opti
 if_add_tariff o name steps None = if_changed o _ tt
 if_add_tariff o name steps (Some there) = if_tested o (steps_eq there steps) _ _
 
-if_add_meter : (o : Office) (number : List ℕ) (m : Meter) (there : Option Meter) (tariff : Option (List Step))
-    → tariff ≡ o.tariffs m.tariff → EditFits o (add_meter number m there tariff)
-if_add_meter o number m (Some there) tariff is = if_tested o (meter_eq there m) _ _
-if_add_meter o number m None (Some steps) is = if_changed o _ (sym (ap is_some is))
-if_add_meter o number m None None is = tt
+if_add_meter : (o : Office) (number : List ℕ) (m : Meter) (there : Option Meter) (has : Bool)
+    → is_some (o.tariffs m.tariff) ≡ has → EditFits o (add_meter number m there has)
+if_add_meter o number m (Some there) has is = if_tested o (meter_eq there m) _ _
+if_add_meter o number m None true is = if_changed o _ is
+if_add_meter o number m None false is = tt
 
-if_set_tariff : (o : Office) (number name : List ℕ) (meter : Option Meter) (tariff : Option (List Step))
-    → tariff ≡ o.tariffs name → EditFits o (set_tariff number name meter tariff)
-if_set_tariff o number name None tariff is = tt
-if_set_tariff o number name (Some m) None is = tt
-if_set_tariff o number name (Some m) (Some steps) is = if_changed o _ (sym (ap is_some is))
+if_rows : (o : Office) (new : List Row) → RowsFit new o → EditFits o (add_rows new)
+if_rows o [] fits = if_unchanged o
+if_rows o (row ∷ rest) fits = if_changed o _ fits
+
+if_import : (o : Office) (rows : List Row) → EditFits o (import o rows)
+if_import o rows = if_bound o (new_rows o 1 rows) add_rows (λ new is. if_rows o new (new_rows_fit o 1 rows new is))
+
+if_set : (o : Office) (number name : List ℕ) (b : Bool) → IsSome (o.tariffs name) → EditFits o (if b then unchanged answers.Done else changed (edits.SetTariff number name) answers.Done)
+if_set o number name true is = if_unchanged o
+if_set o number name false is = if_changed o _ is
+
+if_set_tariff : (o : Office) (number name : List ℕ) (meter : Option Meter) (has : Bool)
+    → is_some (o.tariffs name) ≡ has → EditFits o (set_tariff number name meter has)
+if_set_tariff o number name None has is = tt
+if_set_tariff o number name (Some m) false is = tt
+if_set_tariff o number name (Some m) true is = if_set o number name (bytes_eq m.tariff name) is
 
 if_open_shift : (o : Office) (moment : ℕ) (operator : List ℕ) (there : Option Shift) (count : ℕ) → EditFits o (open_a_shift moment operator there count)
 if_open_shift o moment operator (Some there) count = tt
@@ -85,7 +101,7 @@ has_room count number is = grind (arith, nat_tests)
 in_range : (now : ℕ) (last : Option ℕ) (tid : ℕ) → or_refusal (fresh_after now last) ≡ Ok tid → tid ≤ last_tid
 in_range now last tid is = grind (arith, nat_tests)
 
-if_sell : (o : Office) (forward : ℕ → ℕ → ℕ) (moment nibble : ℕ) (order : Order) (shift : Option Shift) (meter : Option MeterFacts)
+if_sell : (o : Office) (forward : ℕ → ℕ → ℕ) (moment nibble : ℕ) (order : Order) (shift : Option Shift) (meter : Option Buyer)
     → EditFits o (sell forward moment nibble order shift meter (length o.sales))
 if_sell o forward moment nibble order None meter = tt
 if_sell o forward moment nibble order (Some s) None = tt
@@ -96,19 +112,20 @@ if_sell o forward moment nibble order (Some s) (Some m) =
     if_bound o (next_number (length o.sales)) _ (λ number room.
     if_changed o _ (in_range now m.last tid fresh, has_room (length o.sales) number room)))))
 
-if_sell_once : (o : Office) (forward : ℕ → ℕ → ℕ) (moment nibble : ℕ) (order : Order) (first : Option Sale) (shift : Option Shift) (meter : Option MeterFacts)
+if_sell_once : (o : Office) (forward : ℕ → ℕ → ℕ) (moment nibble : ℕ) (order : Order) (first : Option Sale) (shift : Option Shift) (meter : Option Buyer)
     → EditFits o (sell_once forward moment nibble order first shift meter (length o.sales))
 if_sell_once o forward moment nibble order (Some first) shift meter = if_sell_again o order first
 if_sell_once o forward moment nibble order None shift meter = if_sell o forward moment nibble order shift meter
 
 pub decision_fits : (forward : ℕ → ℕ → ℕ) (o : Office) (moment nibble : ℕ) (request : Request) → EditFits o (decision_of forward o moment nibble request)
 decision_fits forward o moment nibble (AddTariff name steps) = if_add_tariff o name steps (o.tariffs name)
-decision_fits forward o moment nibble (AddMeter number m) = if_add_meter o number m (o.meters number) (o.tariffs m.tariff) refl
-decision_fits forward o moment nibble (SetTariff number name) = if_set_tariff o number name (o.meters number) (o.tariffs name) refl
+decision_fits forward o moment nibble (AddMeter number m) = if_add_meter o number m (o.meters number) (is_some (o.tariffs m.tariff)) refl
+decision_fits forward o moment nibble (Import rows) = if_import o rows
+decision_fits forward o moment nibble (SetTariff number name) = if_set_tariff o number name (o.meters number) (is_some (o.tariffs name)) refl
 decision_fits forward o moment nibble (OpenShift operator) = if_open_shift o moment operator (open_shift o operator) (length o.shifts)
 decision_fits forward o moment nibble (CloseShift operator) = if_close_shift o moment (open_shift o operator)
 decision_fits forward o moment nibble (Sell order) =
-    if_sell_once o forward moment nibble order (sale_of_ref o order.operator order.order_ref) (open_shift o order.operator) (meter_facts o order.meter moment)
+    if_sell_once o forward moment nibble order (sale_of_ref o order.operator order.order_ref) (open_shift o order.operator) (buyer_of o order.meter moment)
 decision_fits forward o moment nibble (Reprint number) = if_reprint o (sale_numbered o number)
 decision_fits forward o moment nibble (ShiftReport number) = if_report o (shift_numbered o number) (sales_of_shift o number)
 
@@ -118,3 +135,43 @@ pub fits_if_decided : (forward : ℕ → ℕ → ℕ) (o : Office) (at : Stamped
 fits_if_decided forward o at change edit (inl is) edits =
     subst (EditFits o) (sym is) (decision_fits forward o at.moment at.nibble at.request) edit edits
 fits_if_decided forward o at change edit (inr is) edits = cc
+
+-- SetTariff, CloseShift and Reprint add no row
+abbrev OnlySets : Result Change Refusal → Type 0
+OnlySets (Ok change) = (edit : Edit) → change.edit ≡ Some edit → sets_only edit ≡ true
+OnlySets (Err refusal) = Unit {0}
+
+none_sets : (edit : Edit) → ◌≡◌ {A = Option Edit} None (Some edit) → sets_only edit ≡ true
+none_sets edit is = absurd (none-some edit is)
+
+this_sets : (e : Edit) → sets_only e ≡ true → (edit : Edit) → Some e ≡ Some edit → sets_only edit ≡ true
+this_sets e sets edit is = subst (λ (k : Edit). sets_only k ≡ true) (same_Some e edit is) sets
+
+setting_sets : (number name : List ℕ) (b : Bool) → OnlySets (if b then unchanged answers.Done else changed (edits.SetTariff number name) answers.Done)
+setting_sets number name true = none_sets
+setting_sets number name false = this_sets (edits.SetTariff number name) refl
+
+set_tariff_sets : (number name : List ℕ) (there : Option Meter) (has : Bool) → OnlySets (set_tariff number name there has)
+set_tariff_sets number name None has = tt
+set_tariff_sets number name (Some m) false = tt
+set_tariff_sets number name (Some m) true = setting_sets number name (bytes_eq m.tariff name)
+
+close_shift_sets : (moment : ℕ) (shift : Option Shift) → OnlySets (close_shift moment shift)
+close_shift_sets moment None = tt
+close_shift_sets moment (Some s) = this_sets (edits.CloseShift s.number moment) refl
+
+reprint_sets : (sale : Option Sale) → OnlySets (reprint sale)
+reprint_sets None = tt
+reprint_sets (Some s) = none_sets
+
+decision_sets : (forward : ℕ → ℕ → ℕ) (o : Office) (moment nibble : ℕ) (request : Request) → keeps_lists request ≡ true → OnlySets (decision_of forward o moment nibble request)
+decision_sets forward o moment nibble (SetTariff number name) keeps = set_tariff_sets number name (o.meters number) (is_some (o.tariffs name))
+decision_sets forward o moment nibble (CloseShift operator) keeps = close_shift_sets moment (open_shift o operator)
+decision_sets forward o moment nibble (Reprint number) keeps = reprint_sets (sale_numbered o number)
+decision_sets forward o moment nibble request keeps = absurd (false≢true keeps)
+
+pub sets_if_decided : (forward : ℕ → ℕ → ℕ) (o : Office) (at : Stamped) (change : Change) (edit : Edit) → keeps_lists at.request ≡ true
+    → IsUnlessMemory (Ok change) (decision forward o at) → change.edit ≡ Some edit → sets_only edit ≡ true
+sets_if_decided forward o at change edit keeps (inl is) changes =
+    subst OnlySets (sym is) (decision_sets forward o at.moment at.nibble at.request keeps) edit changes
+sets_if_decided forward o at change edit keeps (inr is) changes = cc

@@ -1,6 +1,6 @@
 -- What holds along steps and along whole folds: an office stays one, and its rows only grow.
 use Rattle.std.proofs.Common.{◌≡◌, ℕ, Bool, true, false, List, [], ◌∷◌, ◌++◌, length, Option, Some, None, Result, Ok, Err, refl, sym, ◌∙◌, ap, subst, arith}
-use Rattle.std.specs.Prelude.{◌&&◌, ◌==◌, All, Contains, IsNone, is_none, is_some, if◌then◌else◌, option_map, slice_get}
+use Rattle.std.specs.Prelude.{◌&&◌, ◌==◌, All, Contains, IsNone, bytes_eq, is_none, is_some, if◌then◌else◌, option_map, slice_get}
 use Rattle.std.proofs.lemmas.Bool.{false≢true}
 use Rattle.std.proofs.lemmas.Bool.Decides.{nat_tests}
 use Rattle.std.proofs.lemmas.List.{append-nil, append_assoc, length-append, get_or_append_left}
@@ -8,13 +8,14 @@ use Rattle.std.proofs.lemmas.List.Elements.{All-head, All-tail, Contains-append_
 use Rattle.std.proofs.lemmas.Option.{get_or_from_slice_get, slice_get-get_or, slice_get-map, slice_get_within}
 use Rattle.sts_token.specs.Token.{KeepsRange}
 use Rattle.tariff.specs.declared.step.Step.{Step}
-use Rattle.vend_core.specs.Decision.{MeterFacts, add_meter, add_tariff, close_shift, decision_of, meter_eq, meter_facts, next_number, open_a_shift, report, reprint, sell, sell_once, set_tariff, steps_eq, unchanged}
+use Rattle.vend_core.specs.Decision.{Buyer, add_meter, add_tariff, changed, close_shift, decision_of, import, meter_eq, buyer_of, next_number, open_a_shift, report, reprint, row_decision, sell, sell_once, set_tariff, steps_eq, unchanged}
 use Rattle.vend_core.specs.Fold.{after, applied, closed_at, office_after, step}
 use Rattle.vend_core.specs.Growth.{HasGrown, IsSameShift}
 use Rattle.vend_core.specs.Lookup.{open_shift, sale_numbered, sale_of_ref, sales_of_shift, shift_numbered}
 use Rattle.vend_core.specs.Office.{IsOffice, Office}
 use Rattle.vend_core.specs.Request.{IsStamped}
 use Rattle.vend_core.specs.declared.answer.Answer.{Answer}
+use Rattle.vend_core.specs.declared.answer.Answer.TheVariants as answers
 use Rattle.vend_core.specs.declared.change.Change.{Change}
 use Rattle.vend_core.specs.declared.change.Edit.TheVariants as edits
 use Rattle.vend_core.specs.declared.refusal.Refusal.{Refusal}
@@ -23,10 +24,13 @@ use Rattle.vend_core.specs.declared.request.Order.{Order}
 use Rattle.vend_core.specs.declared.request.Request.{Request}
 use Rattle.vend_core.specs.declared.request.Request.TheVariants as requests
 use Rattle.vend_core.specs.declared.request.Stamped.{Stamped}
+use Rattle.vend_core.specs.declared.row.Row.{Row}
+use Rattle.vend_core.specs.declared.row.Row.TheVariants as kinds
 use Rattle.vend_core.specs.declared.sale.Sale.{Sale}
 use Rattle.vend_core.specs.declared.shift.Shift.{Shift}
 use Rattle.vend_core.proofs.DecisionLemmas.{after_test, sell_ok}
 use Rattle.vend_core.proofs.EditLemmas.{closing}
+use Rattle.vend_core.proofs.ImportLemmas.{import_keeps}
 use Rattle.vend_core.proofs.NewSaleLemmas.{LowerLaws}
 use Rattle.vend_core.proofs.OfficeLemmas.{step_keeps_office}
 use Rattle.vend_core.proofs.RowLemmas.{found, same_number}
@@ -95,7 +99,7 @@ open_is_open true (Some moment) e = cc
 open_is_open false None e = refl
 open_is_open false (Some moment) e = cc
 
-module _ (o : Office) (office : IsOffice o) where
+module _ (o : Office) where
   grown_if : (b : Bool) (answer : Answer) (refusal : Refusal) → HasGrown o (office_after o (if b then unchanged answer else Err refusal))
   grown_if true answer refusal = grown_none o
   grown_if false answer refusal = grown_none o
@@ -110,16 +114,29 @@ module _ (o : Office) (office : IsOffice o) where
   grown_by_tariff name steps None = kept_rows _ refl refl
   grown_by_tariff name steps (Some there) = grown_if (steps_eq there steps) _ _
 
-  grown_by_meter : (number : List ℕ) (m : Meter) (there : Option Meter) (tariff : Option (List Step)) → HasGrown o (office_after o (add_meter number m there tariff))
-  grown_by_meter number m (Some there) tariff = grown_if (meter_eq there m) _ _
-  grown_by_meter number m None (Some steps) = kept_rows _ refl refl
-  grown_by_meter number m None None = grown_none o
+  grown_by_meter : (number : List ℕ) (m : Meter) (there : Option Meter) (has : Bool) → HasGrown o (office_after o (add_meter number m there has))
+  grown_by_meter number m (Some there) has = grown_if (meter_eq there m) _ _
+  grown_by_meter number m None true = kept_rows _ refl refl
+  grown_by_meter number m None false = grown_none o
 
-  grown_by_set : (number name : List ℕ) (there : Option Meter) (tariff : Option (List Step)) → HasGrown o (office_after o (set_tariff number name there tariff))
-  grown_by_set number name None tariff = grown_none o
-  grown_by_set number name (Some m) None = grown_none o
-  grown_by_set number name (Some m) (Some steps) = kept_rows _ refl refl
+  grown_by_setting : (number name : List ℕ) (b : Bool) → HasGrown o (office_after o (if b then unchanged answers.Done else changed (edits.SetTariff number name) answers.Done))
+  grown_by_setting number name true = grown_none o
+  grown_by_setting number name false = kept_rows _ refl refl
 
+  grown_by_set : (number name : List ℕ) (there : Option Meter) (has : Bool) → HasGrown o (office_after o (set_tariff number name there has))
+  grown_by_set number name None has = grown_none o
+  grown_by_set number name (Some m) false = grown_none o
+  grown_by_set number name (Some m) true = grown_by_setting number name (bytes_eq m.tariff name)
+
+  grown_by_row : (row : Row) → HasGrown o (office_after o (row_decision o row))
+  grown_by_row (kinds.Tariff name steps) = grown_by_tariff name steps (o.tariffs name)
+  grown_by_row (kinds.Meter number m) = grown_by_meter number m (o.meters number) (is_some (o.tariffs m.tariff))
+
+grown_by_import : (o : Office) (rows : List Row) → HasGrown o (office_after o (import o rows))
+grown_by_import o rows =
+    import_keeps (HasGrown o) (λ row. Unit {0}) (λ p row any grown. grown_twice o p (office_after p (row_decision p row)) grown (grown_by_row p row)) o rows (λ i d within. tt) (grown_none o)
+
+module _ (o : Office) (office : IsOffice o) where
   grown_by_open : (moment : ℕ) (operator : List ℕ) (there : Option Shift) (count : ℕ) → HasGrown o (office_after o (open_a_shift moment operator there count))
   grown_by_open moment operator (Some there) count = grown_none o
   grown_by_open moment operator None count = after_test (λ r. HasGrown o (office_after o r)) (next_number count) _ (λ refusal. grown_none o) (λ number next. grown_shift o _)
@@ -130,15 +147,15 @@ module _ (o : Office) (office : IsOffice o) where
       let is = found _ o.shifts s e in
       grown_close o s moment office is.0 (open_is_open _ s.closed is.1)
 
-  grown_by_new : (forward : ℕ → ℕ → ℕ) (moment nibble : ℕ) (order : Order) (shift : Option Shift) (meter : Option MeterFacts) (count : ℕ) (r : Result Change Refusal) → sell forward moment nibble order shift meter count ≡ r → HasGrown o (office_after o r)
+  grown_by_new : (forward : ℕ → ℕ → ℕ) (moment nibble : ℕ) (order : Order) (shift : Option Shift) (meter : Option Buyer) (count : ℕ) (r : Result Change Refusal) → sell forward moment nibble order shift meter count ≡ r → HasGrown o (office_after o r)
   grown_by_new forward moment nibble order shift meter count (Err refusal) e = grown_none o
   grown_by_new forward moment nibble order shift meter count (Ok change) e =
       let is = (sell_ok forward moment nibble order shift meter count change e).change_is in
       subst (λ (c : Change). HasGrown o (office_after o (Ok c))) (sym is) (grown_sale o _)
 
-  grown_by_sell : (forward : ℕ → ℕ → ℕ) (moment nibble : ℕ) (order : Order) (first : Option Sale) (shift : Option Shift) (meter : Option MeterFacts) (count : ℕ) → HasGrown o (office_after o (sell_once forward moment nibble order first shift meter count))
+  grown_by_sell : (forward : ℕ → ℕ → ℕ) (moment nibble : ℕ) (order : Order) (first : Option Sale) (shift : Option Shift) (meter : Option Buyer) (count : ℕ) → HasGrown o (office_after o (sell_once forward moment nibble order first shift meter count))
   grown_by_sell forward moment nibble order None shift meter count = grown_by_new forward moment nibble order shift meter count _ refl
-  grown_by_sell forward moment nibble order (Some first) shift meter count = grown_if _ _ _
+  grown_by_sell forward moment nibble order (Some first) shift meter count = grown_if o _ _ _
 
   grown_by_reprint : (sale : Option Sale) → HasGrown o (office_after o (reprint sale))
   grown_by_reprint None = grown_none o
@@ -149,13 +166,14 @@ module _ (o : Office) (office : IsOffice o) where
   grown_by_report (Some s) sales = grown_none o
 
   grown_by : (forward : ℕ → ℕ → ℕ) (moment nibble : ℕ) (request : Request) → HasGrown o (office_after o (decision_of forward o moment nibble request))
-  grown_by forward moment nibble (requests.AddTariff name steps) = grown_by_tariff name steps (o.tariffs name)
-  grown_by forward moment nibble (requests.AddMeter number m) = grown_by_meter number m (o.meters number) (o.tariffs m.tariff)
-  grown_by forward moment nibble (requests.SetTariff number name) = grown_by_set number name (o.meters number) (o.tariffs name)
+  grown_by forward moment nibble (requests.AddTariff name steps) = grown_by_tariff o name steps (o.tariffs name)
+  grown_by forward moment nibble (requests.AddMeter number m) = grown_by_meter o number m (o.meters number) (is_some (o.tariffs m.tariff))
+  grown_by forward moment nibble (requests.Import rows) = grown_by_import o rows
+  grown_by forward moment nibble (requests.SetTariff number name) = grown_by_set o number name (o.meters number) (is_some (o.tariffs name))
   grown_by forward moment nibble (requests.OpenShift operator) = grown_by_open moment operator (open_shift o operator) (length o.shifts)
   grown_by forward moment nibble (requests.CloseShift operator) = grown_by_close moment operator (open_shift o operator) refl
   grown_by forward moment nibble (requests.Sell order) =
-      grown_by_sell forward moment nibble order (sale_of_ref o order.operator order.order_ref) (open_shift o order.operator) (meter_facts o order.meter moment) (length o.sales)
+      grown_by_sell forward moment nibble order (sale_of_ref o order.operator order.order_ref) (open_shift o order.operator) (buyer_of o order.meter moment) (length o.sales)
   grown_by forward moment nibble (requests.Reprint number) = grown_by_reprint (sale_numbered o number)
   grown_by forward moment nibble (requests.ShiftReport number) = grown_by_report (shift_numbered o number) (sales_of_shift o number)
 

@@ -1,3 +1,4 @@
+pub mod AgainLemmas
 pub mod AnswerLemmas
 pub mod CashLemmas
 pub mod DecisionLemmas
@@ -5,6 +6,8 @@ pub mod EditLemmas
 pub mod FitsLemmas
 pub mod FoldLemmas
 pub mod HistoryLemmas
+pub mod ImportLemmas
+pub mod ImportWalkLemmas
 pub mod LawLemmas
 pub mod LifeLemmas
 pub mod LookUpLemmas
@@ -20,3 +23,5 @@ pub mod RowLemmas
 pub mod SaleLemmas
 pub mod ServedLemmas
 pub mod ShortTextLemmas
+pub mod StayLemmas
+pub mod TakenLemmas

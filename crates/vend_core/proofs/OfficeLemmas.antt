@@ -1,6 +1,6 @@
 -- A step of an office leads to an office.
 use Rattle.std.proofs.Common.{◌≡◌, ℕ, ◌<◌, Bool, true, false, List, length, Option, Some, None, Result, Ok, Err, refl, sym, ◌∙◌, ap, subst, arith}
-use Rattle.std.specs.Prelude.{◌&&◌, Contains, IsSome, bytes_eq, filter, is_some, if◌then◌else◌}
+use Rattle.std.specs.Prelude.{◌&&◌, All, Contains, IsSome, bytes_eq, filter, is_some, if◌then◌else◌}
 use Rattle.std.proofs.lemmas.Bool.{false≢true}
 use Rattle.std.proofs.lemmas.List.Elements.{All-contains, All-nil}
 use Rattle.std.proofs.lemmas.Slice.Eq.{bytes_eq-Decides}
@@ -11,25 +11,30 @@ use Rattle.sts_token.specs.Token.{KeepsRange}
 use Rattle.tariff.specs.Steps.{IsSteps}
 use Rattle.tariff.specs.Tender.{IsTender}
 use Rattle.tariff.specs.declared.step.Step.{Step}
-use Rattle.vend_core.specs.Decision.{add_meter, add_tariff, close_shift, decision_of, meter_facts, meter_eq, next_number, open_a_shift, report, reprint, sell, sell_again, sell_once, set_tariff, steps_eq, unchanged}
+use Rattle.vend_core.specs.Decision.{add_meter, add_tariff, changed, close_shift, decision_of, import, buyer_of, meter_eq, next_number, open_a_shift, report, reprint, row_decision, sell, sell_again, sell_once, set_tariff, steps_eq, unchanged}
 use Rattle.vend_core.specs.Fold.{office_after, step}
 use Rattle.vend_core.specs.Lookup.{base_eq, open_shift, sale_numbered, sale_of_ref, sales_of_shift, shift_numbered, used}
 use Rattle.vend_core.specs.Names.{IsName, IsOperator}
 use Rattle.vend_core.specs.NewSale.{IsNewSale}
 use Rattle.vend_core.specs.Office.{IsBefore, IsMoment, IsOffice, IsSaleRow, IsShiftRow, Office, Rises, empty_office}
-use Rattle.vend_core.specs.Request.{IsMeter, IsOrder, IsRequest, IsStamped}
+use Rattle.vend_core.specs.Request.{IsMeter, IsOrder, IsRequest, IsRow, IsStamped}
 use Rattle.vend_core.specs.declared.answer.Answer.{Answer}
+use Rattle.vend_core.specs.declared.answer.Answer.TheVariants as answers
 use Rattle.vend_core.specs.declared.change.Change.{Change}
+use Rattle.vend_core.specs.declared.change.Edit.TheVariants as edits
 use Rattle.vend_core.specs.declared.meter.Meter.{Meter}
 use Rattle.vend_core.specs.declared.refusal.Refusal.{Refusal}
 use Rattle.vend_core.specs.declared.request.Order.{Order}
 use Rattle.vend_core.specs.declared.request.Request.{Request}
 use Rattle.vend_core.specs.declared.request.Request.TheVariants as requests
 use Rattle.vend_core.specs.declared.request.Stamped.{Stamped}
+use Rattle.vend_core.specs.declared.row.Row.{Row}
+use Rattle.vend_core.specs.declared.row.Row.TheVariants as kinds
 use Rattle.vend_core.specs.declared.sale.Sale.{Sale}
 use Rattle.vend_core.specs.declared.shift.Shift.{Shift}
 use Rattle.vend_core.proofs.DecisionLemmas.{after_test, next_number_ok}
 use Rattle.vend_core.proofs.EditLemmas.{keeps_add_meter, keeps_add_sale, keeps_add_tariff, keeps_close_shift, keeps_open_shift, keeps_set_tariff}
+use Rattle.vend_core.proofs.ImportLemmas.{import_keeps}
 use Rattle.vend_core.proofs.NewSaleLemmas.{LowerLaws, granted_sale}
 use Rattle.vend_core.proofs.RowLemmas.{both_true, contains_map, found, found_none, kept, number_within}
 
@@ -49,16 +54,29 @@ module _ (o : Office) (office : IsOffice o) where
   by_add_tariff name steps None named priced = keeps_add_tariff o name steps office named priced
   by_add_tariff name steps (Some there) named priced = kept_if o (steps_eq there steps) _ _ office
 
-  by_add_meter : (number : List ℕ) (m : Meter) (there : Option Meter) (tariff : Option (List Step)) → o.tariffs m.tariff ≡ tariff → IsMeter number m → IsOffice (office_after o (add_meter number m there tariff))
-  by_add_meter number m (Some there) tariff e is = kept_if o (meter_eq there m) _ _ office
-  by_add_meter number m None (Some steps) e is = keeps_add_meter o number m office is (ap is_some e)
-  by_add_meter number m None None e is = office
+  by_add_meter : (number : List ℕ) (m : Meter) (there : Option Meter) (has : Bool) → is_some (o.tariffs m.tariff) ≡ has → IsMeter number m → IsOffice (office_after o (add_meter number m there has))
+  by_add_meter number m (Some there) has e is = kept_if o (meter_eq there m) _ _ office
+  by_add_meter number m None true e is = keeps_add_meter o number m office is e
+  by_add_meter number m None false e is = office
 
-  by_set_tariff : (number name : List ℕ) (there : Option Meter) (tariff : Option (List Step)) → o.tariffs name ≡ tariff → IsOffice (office_after o (set_tariff number name there tariff))
-  by_set_tariff number name None tariff e = office
-  by_set_tariff number name (Some m) None e = office
-  by_set_tariff number name (Some m) (Some steps) e = keeps_set_tariff o number name office (ap is_some e)
+  by_set : (number name : List ℕ) (b : Bool) → IsSome (o.tariffs name) → IsOffice (office_after o (if b then unchanged answers.Done else changed (edits.SetTariff number name) answers.Done))
+  by_set number name true there = office
+  by_set number name false there = keeps_set_tariff o number name office there
 
+  by_set_tariff : (number name : List ℕ) (there : Option Meter) (has : Bool) → is_some (o.tariffs name) ≡ has → IsOffice (office_after o (set_tariff number name there has))
+  by_set_tariff number name None has e = office
+  by_set_tariff number name (Some m) false e = office
+  by_set_tariff number name (Some m) true e = by_set number name (bytes_eq m.tariff name) e
+
+  by_row : (row : Row) → IsRow row → IsOffice (office_after o (row_decision o row))
+  by_row (kinds.Tariff name steps) is = by_add_tariff name steps (o.tariffs name) is.0 is.1
+  by_row (kinds.Meter number m) is = by_add_meter number m (o.meters number) (is_some (o.tariffs m.tariff)) refl is
+
+-- an import leads to an office
+by_import : (o : Office) (rows : List Row) → IsOffice o → All IsRow rows → IsOffice (office_after o (import o rows))
+by_import o rows office are = import_keeps IsOffice IsRow (λ p row is kept. by_row p kept row is) o rows are office
+
+module _ (o : Office) (office : IsOffice o) where
   by_open_shift : (moment : ℕ) (operator : List ℕ) (there : Option Shift) → open_shift o operator ≡ there → IsMoment moment → IsOperator operator → IsOffice (office_after o (open_a_shift moment operator there (length o.shifts)))
   by_open_shift moment operator (Some there) e is named = office
   by_open_shift moment operator None e is named =
@@ -123,7 +141,7 @@ module _ (o : Office) (office : IsOffice o) where
       }
 
   module _ (laws : LowerLaws) (forward : ℕ → ℕ → ℕ) (range : KeepsRange forward) (at : Stamped) (moment : IsMoment at.moment) where
-    after_sell : (order : Order) → sale_of_ref o order.operator order.order_ref ≡ None → IsOrder order → (r : Result Change Refusal) → sell forward at.moment at.nibble order (open_shift o order.operator) (meter_facts o order.meter at.moment) (length o.sales) ≡ r → IsOffice (office_after o r)
+    after_sell : (order : Order) → sale_of_ref o order.operator order.order_ref ≡ None → IsOrder order → (r : Result Change Refusal) → sell forward at.moment at.nibble order (open_shift o order.operator) (buyer_of o order.meter at.moment) (length o.sales) ≡ r → IsOffice (office_after o r)
     after_sell order alone ordered (Err refusal) e = office
     after_sell order alone ordered (Ok change) e =
         let granted = granted_sale laws forward o at order change range office e in
@@ -131,10 +149,10 @@ module _ (o : Office) (office : IsOffice o) where
         (keeps_add_sale o granted.sale office (new_row forward at order granted.sale moment ordered granted.new) granted.new.number
         (λ a there. after_sales forward at order granted.sale a alone granted.new there) granted.room)
 
-    by_sell : (order : Order) (first : Option Sale) → sale_of_ref o order.operator order.order_ref ≡ first → IsOrder order → IsOffice (office_after o (sell_once forward at.moment at.nibble order first (open_shift o order.operator) (meter_facts o order.meter at.moment) (length o.sales)))
+    by_sell : (order : Order) (first : Option Sale) → sale_of_ref o order.operator order.order_ref ≡ first → IsOrder order → IsOffice (office_after o (sell_once forward at.moment at.nibble order first (open_shift o order.operator) (buyer_of o order.meter at.moment) (length o.sales)))
     by_sell order (Some first) e ordered = by_sell_again order first
     by_sell order None e ordered =
-        after_sell order e ordered (sell forward at.moment at.nibble order (open_shift o order.operator) (meter_facts o order.meter at.moment) (length o.sales)) refl
+        after_sell order e ordered (sell forward at.moment at.nibble order (open_shift o order.operator) (buyer_of o order.meter at.moment) (length o.sales)) refl
 
     by_reprint : (sale : Option Sale) → IsOffice (office_after o (reprint sale))
     by_reprint None = office
@@ -145,9 +163,10 @@ module _ (o : Office) (office : IsOffice o) where
     by_report (Some s) sales = office
 
     by_request : (request : Request) → IsRequest request → IsOffice (office_after o (decision_of forward o at.moment at.nibble request))
-    by_request (requests.AddTariff name steps) is = by_add_tariff name steps (o.tariffs name) is.0 is.1
-    by_request (requests.AddMeter number m) is = by_add_meter number m (o.meters number) (o.tariffs m.tariff) refl is
-    by_request (requests.SetTariff number name) is = by_set_tariff number name (o.meters number) (o.tariffs name) refl
+    by_request (requests.AddTariff name steps) is = by_add_tariff o office name steps (o.tariffs name) is.0 is.1
+    by_request (requests.AddMeter number m) is = by_add_meter o office number m (o.meters number) (is_some (o.tariffs m.tariff)) refl is
+    by_request (requests.Import rows) is = by_import o rows office is
+    by_request (requests.SetTariff number name) is = by_set_tariff o office number name (o.meters number) (is_some (o.tariffs name)) refl
     by_request (requests.OpenShift operator) is = by_open_shift at.moment operator (open_shift o operator) refl moment is
     by_request (requests.CloseShift operator) is = by_close_shift at.moment (open_shift o operator) moment
     by_request (requests.Sell order) is = by_sell order (sale_of_ref o order.operator order.order_ref) refl is

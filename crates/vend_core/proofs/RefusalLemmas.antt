@@ -1,6 +1,6 @@
 -- The rules refuse for reasons of the request's own: never for memory, for the store, or because the office stopped.
-use Rattle.std.proofs.Common.{◌≡◌, ◌≢◌, ℕ, ◌+◌, Bool, true, false, List, Option, Some, None, Result, Ok, Err, length, refl, sym, ◌∙◌, ap}
-use Rattle.std.specs.Prelude.{if◌then◌else◌, nat_lt}
+use Rattle.std.proofs.Common.{◌≡◌, ◌≢◌, ℕ, ◌+◌, Bool, true, false, List, [], ◌∷◌, Option, Some, None, Result, Ok, Err, length, refl, sym, ◌∙◌, ap}
+use Rattle.std.specs.Prelude.{bytes_eq, if◌then◌else◌, is_some, nat_lt}
 use Rattle.std.specs.Option.{ok_or}
 use Rattle.std.proofs.lemmas.Bool.{false≢true}
 use Rattle.sts_fields.specs.Tid.{fresh_after, minute_of}
@@ -8,13 +8,16 @@ use Rattle.sts_fields.specs.declared.fault.TidFault.{TidFault}
 use Rattle.sts_fields.specs.declared.fault.TidFault.TheVariants.{BeforeBase, PastEnd, IdentifiersSpent, IdentifierAhead}
 use Rattle.tariff.specs.Purchase.{purchase_of}
 use Rattle.tariff.specs.declared.step.Step.{Step}
-use Rattle.vend_core.specs.Decision.{◌>>=◌, MeterFacts, add_meter, add_tariff, decision_of, meter_eq, meter_facts, open_a_shift, or_refusal, sell_once, steps_eq, unchanged}
+use Rattle.vend_core.specs.Decision.{◌>>=◌, Buyer, add_meter, add_rows, add_tariff, at_row, changed, decision_of, import, meter_eq, new_rows, buyer_of, open_a_shift, or_refusal, row_decision, sell_once, set_tariff, steps_eq, unchanged}
 use Rattle.vend_core.specs.Fold.{reply, reply_of}
 use Rattle.vend_core.specs.Life.{acknowledges}
 use Rattle.vend_core.specs.Lookup.{open_shift, sale_numbered, sale_of_ref, shift_numbered}
 use Rattle.vend_core.specs.Office.{Office, greatest_count}
 use Rattle.vend_core.specs.declared.answer.Answer.{Answer}
+use Rattle.vend_core.specs.Edits.{office_after}
+use Rattle.vend_core.specs.declared.answer.Answer.TheVariants as answers
 use Rattle.vend_core.specs.declared.change.Change.{Change}
+use Rattle.vend_core.specs.declared.change.Edit.TheVariants as edits
 use Rattle.vend_core.specs.declared.meter.Meter.{Meter}
 use Rattle.vend_core.specs.declared.refusal.Refusal.{Refusal}
 use Rattle.vend_core.specs.declared.refusal.Refusal.TheVariants as refusals
@@ -22,6 +25,8 @@ use Rattle.vend_core.specs.declared.request.Order.{Order}
 use Rattle.vend_core.specs.declared.request.Request.{Request}
 use Rattle.vend_core.specs.declared.request.Request.TheVariants as requests
 use Rattle.vend_core.specs.declared.request.Stamped.{Stamped}
+use Rattle.vend_core.specs.declared.row.Row.{Row}
+use Rattle.vend_core.specs.declared.row.Row.TheVariants as kinds
 use Rattle.vend_core.specs.declared.sale.Sale.{Sale}
 use Rattle.vend_core.specs.declared.shift.Shift.{Shift}
 
@@ -53,16 +58,64 @@ own_tariff : (name : List ℕ) (steps : List Step) (there : Option (List Step)) 
 own_tariff name steps None = refl
 own_tariff name steps (Some there) = own_if (steps_eq there steps) _ refusals.Differs refl
 
-own_meter : (number : List ℕ) (m : Meter) (there : Option Meter) (tariff : Option (List Step)) → IsOwn (add_meter number m there tariff)
-own_meter number m (Some there) tariff = own_if (meter_eq there m) _ refusals.Differs refl
-own_meter number m None (Some steps) = refl
-own_meter number m None None = refl
+own_meter : (number : List ℕ) (m : Meter) (there : Option Meter) (has : Bool) → IsOwn (add_meter number m there has)
+own_meter number m (Some there) has = own_if (meter_eq there m) _ refusals.Differs refl
+own_meter number m None true = refl
+own_meter number m None false = refl
+
+own_setting : (number name : List ℕ) (b : Bool) → IsOwn (if b then unchanged answers.Done else changed (edits.SetTariff number name) answers.Done)
+own_setting number name true = refl
+own_setting number name false = refl
+
+own_set : (number name : List ℕ) (there : Option Meter) (has : Bool) → IsOwn (set_tariff number name there has)
+own_set number name None has = refl
+own_set number name (Some m) false = refl
+own_set number name (Some m) true = own_setting number name (bytes_eq m.tariff name)
+
+-- so are the rows of an import
+own_row : (o : Office) (row : Row) → IsOwn (row_decision o row)
+own_row o (kinds.Tariff name steps) = own_tariff name steps (o.tariffs name)
+own_row o (kinds.Meter number m) = own_meter number m (o.meters number) (is_some (o.tariffs m.tariff))
+
+own_at_row : (number : ℕ) (r : Result Change Refusal) → IsOwn r → IsOwn (at_row number r)
+own_at_row number (Ok change) own = refl
+own_at_row number (Err refusals.Differs) own = refl
+own_at_row number (Err refusals.NoTariff) own = refl
+own_at_row number (Err refusal) own = own
+
+-- a refusal, where there is one, is the request's own
+abbrev RefusesOwn : {A : Type 0} → Result A Refusal → Type 0
+RefusesOwn {A} r = (refusal : Refusal) → r ≡ Err refusal → IsOwn (Err refusal)
+
+own_after : {A B : Type 0} (r : Result A Refusal) (f : A → Result B Refusal) → RefusesOwn r → ((x : A) → RefusesOwn (f x)) → RefusesOwn (r >>= f)
+own_after (Ok x) f own rest = rest x
+own_after (Err e) f own rest = λ refusal is. own refusal cc
+
+own_refusal : (r : Result Change Refusal) → IsOwn r → RefusesOwn r
+own_refusal r own refusal is = ap (λ q. acknowledges (reply_of q)) (sym is) ∙ own
+
+own_new_rows : (o : Office) (number : ℕ) (rows : List Row) → RefusesOwn (new_rows o number rows)
+own_new_rows o number [] = λ refusal is. cc
+own_new_rows o number (row ∷ rest) =
+    own_after (at_row number (row_decision o row)) _ (own_refusal (at_row number (row_decision o row)) (own_at_row number (row_decision o row) (own_row o row)))
+    (λ change. own_after (new_rows (office_after o (Ok change)) (number + 1) rest) _ (own_new_rows (office_after o (Ok change)) (number + 1) rest) (λ new refusal is. cc))
+
+own_rows : (new : List Row) → IsOwn (add_rows new)
+own_rows [] = refl
+own_rows (row ∷ rest) = refl
+
+own_added : (r : Result (List Row) Refusal) → RefusesOwn r → IsOwn (r >>= add_rows)
+own_added (Ok new) own = own_rows new
+own_added (Err refusal) own = own refusal refl
+
+own_import : (o : Office) (rows : List Row) → IsOwn (import o rows)
+own_import o rows = own_added (new_rows o 1 rows) (own_new_rows o 1 rows)
 
 own_open : (moment : ℕ) (operator : List ℕ) (there : Option Shift) (count : ℕ) → IsOwn (open_a_shift moment operator there count)
 own_open moment operator (Some there) count = refl
 own_open moment operator None count = own_room count (nat_lt count greatest_count) _ (λ number. refl)
 
-own_sell : (forward : ℕ → ℕ → ℕ) (moment nibble : ℕ) (order : Order) (first : Option Sale) (shift : Option Shift) (meter : Option MeterFacts) (count : ℕ) → IsOwn (sell_once forward moment nibble order first shift meter count)
+own_sell : (forward : ℕ → ℕ → ℕ) (moment nibble : ℕ) (order : Order) (first : Option Sale) (shift : Option Shift) (meter : Option Buyer) (count : ℕ) → IsOwn (sell_once forward moment nibble order first shift meter count)
 own_sell forward moment nibble order (Some first) shift meter count = own_if _ _ refusals.RefReused refl
 own_sell forward moment nibble order None shift meter count =
     own_there shift refusals.NoShift _ refl (λ s. own_there meter refusals.NoMeter _ refl (λ m.
@@ -71,12 +124,13 @@ own_sell forward moment nibble order None shift meter count =
 
 own_decision : (forward : ℕ → ℕ → ℕ) (o : Office) (moment nibble : ℕ) (request : Request) → IsOwn (decision_of forward o moment nibble request)
 own_decision forward o moment nibble (requests.AddTariff name steps) = own_tariff name steps (o.tariffs name)
-own_decision forward o moment nibble (requests.AddMeter number m) = own_meter number m (o.meters number) (o.tariffs m.tariff)
-own_decision forward o moment nibble (requests.SetTariff number name) = own_there (o.meters number) refusals.NoMeter _ refl (λ m. own_there (o.tariffs name) refusals.NoTariff _ refl (λ steps. refl))
+own_decision forward o moment nibble (requests.AddMeter number m) = own_meter number m (o.meters number) (is_some (o.tariffs m.tariff))
+own_decision forward o moment nibble (requests.Import rows) = own_import o rows
+own_decision forward o moment nibble (requests.SetTariff number name) = own_set number name (o.meters number) (is_some (o.tariffs name))
 own_decision forward o moment nibble (requests.OpenShift operator) = own_open moment operator (open_shift o operator) (length o.shifts)
 own_decision forward o moment nibble (requests.CloseShift operator) = own_there (open_shift o operator) refusals.NoShift _ refl (λ s. refl)
 own_decision forward o moment nibble (requests.Sell order) =
-    own_sell forward moment nibble order (sale_of_ref o order.operator order.order_ref) (open_shift o order.operator) (meter_facts o order.meter moment) (length o.sales)
+    own_sell forward moment nibble order (sale_of_ref o order.operator order.order_ref) (open_shift o order.operator) (buyer_of o order.meter moment) (length o.sales)
 own_decision forward o moment nibble (requests.Reprint number) = own_there (sale_numbered o number) refusals.NoSale _ refl (λ s. refl)
 own_decision forward o moment nibble (requests.ShiftReport number) = own_there (shift_numbered o number) refusals.NoSuchShift _ refl (λ s. refl)
 

@@ -1,5 +1,5 @@
 -- How the office decides a request: the tests in their order, and what a granted request changes.
-use Rattle.std.specs.Prelude.{ℕ, ◌+◌, ◌&&◌, ◌==◌, Bool, List, length, nat_lt, if◌then◌else◌, Option, Some, None, Result, Ok, Err, option_map, bytes_eq}
+use Rattle.std.specs.Prelude.{ℕ, ◌+◌, ◌&&◌, ◌==◌, Bool, true, false, List, [], ◌∷◌, length, nat_lt, if◌then◌else◌, Option, Some, None, Result, Ok, Err, is_some, option_map, bytes_eq}
 use Rattle.std.specs.Option.{ok_or}
 use Rattle.sts_fields.specs.Calendar.{month_at}
 use Rattle.sts_fields.specs.Tid.{fresh_after, minute_of}
@@ -9,6 +9,7 @@ use Rattle.sts_token.specs.Token.{token_of}
 use Rattle.tariff.specs.Purchase.{purchase_of}
 pub use Rattle.tariff.specs.StepsEq.{step_eq, steps_eq}
 use Rattle.tariff.specs.declared.step.Step.{Step}
+use Rattle.vend_core.specs.Edits.{office_after}
 use Rattle.vend_core.specs.Lookup.{base_eq, greatest_of, open_shift, prior, sale_numbered, sale_of_ref, sales_of_shift, shift_numbered, steps_for, used}
 use Rattle.vend_core.specs.Office.{Office, greatest_count}
 use Rattle.vend_core.specs.declared.answer.Answer.{Answer}
@@ -23,6 +24,9 @@ use Rattle.vend_core.specs.declared.request.Order.{Order}
 use Rattle.vend_core.specs.declared.request.Request.{Request}
 use Rattle.vend_core.specs.declared.request.Request.TheVariants as requests
 use Rattle.vend_core.specs.declared.request.Stamped.{Stamped}
+use Rattle.vend_core.specs.declared.row.Row.{Row}
+use Rattle.vend_core.specs.declared.row.Row.TheVariants as kinds
+use Rattle.vend_core.specs.declared.row_cause.RowCause.TheVariants as causes
 use Rattle.vend_core.specs.declared.sale.Sale.{Sale}
 use Rattle.vend_core.specs.declared.shift.Shift.{Shift}
 
@@ -64,18 +68,54 @@ abbrev pub add_tariff : List ℕ → List Step → Option (List Step) → Result
 add_tariff name steps None = changed (edits.AddTariff name steps) answers.Done
 add_tariff name steps (Some there) = if steps_eq there steps then unchanged answers.Done else Err refusals.Differs
 
--- AddMeter, where there is this meter under the number, and these steps under its tariff's name
-abbrev pub add_meter : List ℕ → Meter → Option Meter → Option (List Step) → Result Change Refusal
-add_meter number m (Some there) tariff = if meter_eq there m then unchanged answers.Done else Err refusals.Differs
-add_meter number m None (Some steps) = changed (edits.AddMeter number m) answers.Done
-add_meter number m None None = Err refusals.NoTariff
+-- AddMeter, where there is this meter under the number, and a tariff of its tariff's name or none
+abbrev pub add_meter : List ℕ → Meter → Option Meter → Bool → Result Change Refusal
+add_meter number m (Some there) has_tariff = if meter_eq there m then unchanged answers.Done else Err refusals.Differs
+add_meter number m None true = changed (edits.AddMeter number m) answers.Done
+add_meter number m None false = Err refusals.NoTariff
 
--- SetTariff
-abbrev pub set_tariff : List ℕ → List ℕ → Option Meter → Option (List Step) → Result Change Refusal
-set_tariff number name meter tariff = do
-  m ← ok_or meter refusals.NoMeter
-  steps ← ok_or tariff refusals.NoTariff
-  changed (edits.SetTariff number name) answers.Done
+-- a row of an import in an office: AddTariff or AddMeter
+abbrev pub row_decision : Office → Row → Result Change Refusal
+row_decision o (kinds.Tariff name steps) = add_tariff name steps (o.tariffs name)
+row_decision o (kinds.Meter number m) = add_meter number m (o.meters number) (is_some (o.tariffs m.tariff))
+
+-- whether a granted request changes something, or why it is refused
+abbrev pub is_new : Result Change Refusal → Result Bool Refusal
+is_new (Ok change) = Ok (is_some change.edit)
+is_new (Err refusal) = Err refusal
+
+-- a row's refusal is that of the import, with the row's number and the cause; a row is refused for no other one
+abbrev pub at_row : ℕ → Result Change Refusal → Result Change Refusal
+at_row number (Ok change) = Ok change
+at_row number (Err refusals.Differs) = Err (refusals.ImportRow number causes.Differs)
+at_row number (Err refusals.NoTariff) = Err (refusals.ImportRow number causes.NoTariff)
+at_row number (Err refusal) = Err refusal
+
+-- the new ones of some rows, of which the first has this number, or why one is refused: each sees the rows before it
+abbrev pub new_rows : Office → ℕ → List Row → Result (List Row) Refusal
+new_rows o number [] = Ok []
+new_rows o number (row ∷ rest) = do
+  change ← at_row number (row_decision o row)
+  new ← new_rows (office_after o (Ok change)) (number + 1) rest
+  Ok (if is_some change.edit then row ∷ new else new)
+
+-- Import, with these new rows: all are added, or there is none and nothing changes
+abbrev pub add_rows : List Row → Result Change Refusal
+add_rows [] = unchanged (answers.Imported 0)
+add_rows (row ∷ rest) = changed (edits.AddRows (row ∷ rest)) (answers.Imported (length (row ∷ rest)))
+
+-- Import: the first row that is refused refuses them all
+abbrev pub import : Office → List Row → Result Change Refusal
+import o rows = do
+  new ← new_rows o 1 rows
+  add_rows new
+
+-- SetTariff, where there is this meter, and a tariff of the name or none; a meter that has it is left alone
+abbrev pub set_tariff : List ℕ → List ℕ → Option Meter → Bool → Result Change Refusal
+set_tariff number name None has_tariff = Err refusals.NoMeter
+set_tariff number name (Some m) false = Err refusals.NoTariff
+set_tariff number name (Some m) true =
+    if bytes_eq m.tariff name then unchanged answers.Done else changed (edits.SetTariff number name) answers.Done
 
 -- OpenShift, where the operator has this open shift and there are so many shifts
 abbrev pub open_a_shift : ℕ → List ℕ → Option Shift → ℕ → Result Change Refusal
@@ -97,14 +137,14 @@ sell_again order first =
     else Err refusals.RefReused
 
 -- what a sale looks at of its meter: the meter, the steps of its tariff, the last identifier under its base, the month's tenths
-pub record MeterFacts : Type 0 where
+pub record Buyer : Type 0 where
   pub meter : Meter
   pub steps : List Step
   pub last : Option ℕ
   pub prior : ℕ
 
 -- a new sale: the operator's open shift, the meter, its minute, the fresh identifier, the purchase, and room for one more
-abbrev pub sell : (ℕ → ℕ → ℕ) → ℕ → ℕ → Order → Option Shift → Option MeterFacts → ℕ → Result Change Refusal
+abbrev pub sell : (ℕ → ℕ → ℕ) → ℕ → ℕ → Order → Option Shift → Option Buyer → ℕ → Result Change Refusal
 sell forward moment nibble order shift meter count = do
   s ← ok_or shift refusals.NoShift
   m ← ok_or meter refusals.NoMeter
@@ -129,7 +169,7 @@ sell forward moment nibble order shift meter count = do
   } in changed (edits.AddSale sale) (answers.Sold sale)
 
 -- Sell, where the operator made this sale under the ref
-abbrev pub sell_once : (ℕ → ℕ → ℕ) → ℕ → ℕ → Order → Option Sale → Option Shift → Option MeterFacts → ℕ → Result Change Refusal
+abbrev pub sell_once : (ℕ → ℕ → ℕ) → ℕ → ℕ → Order → Option Sale → Option Shift → Option Buyer → ℕ → Result Change Refusal
 sell_once forward moment nibble order (Some first) shift meter count = sell_again order first
 sell_once forward moment nibble order None shift meter count = sell forward moment nibble order shift meter count
 
@@ -146,8 +186,8 @@ report shift sales = do
   unchanged (answers.Report s sales)
 
 -- what a sale at a moment looks at of the meter of this number
-abbrev pub meter_facts : Office → List ℕ → ℕ → Option MeterFacts
-meter_facts o number moment =
+abbrev pub buyer_of : Office → List ℕ → ℕ → Option Buyer
+buyer_of o number moment =
     option_map (λ m. record {
       meter = m;
       steps = steps_for o m;
@@ -158,13 +198,14 @@ meter_facts o number moment =
 -- how an office decides a request
 abbrev pub decision_of : (ℕ → ℕ → ℕ) → Office → ℕ → ℕ → Request → Result Change Refusal
 decision_of forward o moment nibble (requests.AddTariff name steps) = add_tariff name steps (o.tariffs name)
-decision_of forward o moment nibble (requests.AddMeter number m) = add_meter number m (o.meters number) (o.tariffs m.tariff)
-decision_of forward o moment nibble (requests.SetTariff number name) = set_tariff number name (o.meters number) (o.tariffs name)
+decision_of forward o moment nibble (requests.AddMeter number m) = add_meter number m (o.meters number) (is_some (o.tariffs m.tariff))
+decision_of forward o moment nibble (requests.Import rows) = import o rows
+decision_of forward o moment nibble (requests.SetTariff number name) = set_tariff number name (o.meters number) (is_some (o.tariffs name))
 decision_of forward o moment nibble (requests.OpenShift operator) = open_a_shift moment operator (open_shift o operator) (length o.shifts)
 decision_of forward o moment nibble (requests.CloseShift operator) = close_shift moment (open_shift o operator)
 decision_of forward o moment nibble (requests.Sell order) =
     sell_once forward moment nibble order (sale_of_ref o order.operator order.order_ref) (open_shift o order.operator)
-    (meter_facts o order.meter moment) (length o.sales)
+    (buyer_of o order.meter moment) (length o.sales)
 decision_of forward o moment nibble (requests.Reprint number) = reprint (sale_numbered o number)
 decision_of forward o moment nibble (requests.ShiftReport number) = report (shift_numbered o number) (sales_of_shift o number)
 

@@ -1,17 +1,22 @@
 -- What the tests of a request look at, and how an answer may fall short of the decision.
-use Rattle.std.specs.Prelude.{◌≡◌, ◌⊎◌, ℕ, List, Option, Some, None, Result, Err, length, option_map}
-use Rattle.vend_core.specs.Decision.{meter_facts, unchanged}
+use Rattle.std.specs.Prelude.{◌≡◌, ◌⊎◌, ℕ, Bool, true, false, List, [], ◌∷◌, Option, Some, None, IsNone, IsSome, Result, Err, is_some, length, option_map}
+use Rattle.vend_core.specs.Decision.{buyer_of, row_decision, unchanged}
 use Rattle.vend_core.specs.Lookup.{open_shift, sale_numbered, sale_of_ref, sales_of_shift, shift_numbered}
 use Rattle.vend_core.specs.Office.{Office}
 use Rattle.vend_core.specs.declared.answer.Answer.TheVariants.{Report}
 use Rattle.vend_core.specs.declared.change.Change.{Change}
 use Rattle.vend_core.specs.declared.facts.Facts.{Facts}
+use Rattle.vend_core.specs.declared.meter.Meter.{Meter}
 use Rattle.vend_core.specs.declared.refusal.Refusal.{Refusal}
-use Rattle.vend_core.specs.declared.refusal.Refusal.TheVariants.{Memory, NoSuchShift}
+use Rattle.vend_core.specs.declared.refusal.Refusal.TheVariants.{Differs, Memory, NoSuchShift}
 use Rattle.vend_core.specs.declared.request.Order.{Order}
 use Rattle.vend_core.specs.declared.request.Request.{Request}
-use Rattle.vend_core.specs.declared.request.Request.TheVariants.{AddTariff, AddMeter, SetTariff, OpenShift, CloseShift, Sell, Reprint, ShiftReport}
+use Rattle.vend_core.specs.declared.request.Request.TheVariants.{AddTariff, AddMeter, Import, SetTariff, OpenShift, CloseShift, Sell, Reprint, ShiftReport}
 use Rattle.vend_core.specs.declared.request.Stamped.{Stamped}
+use Rattle.vend_core.specs.declared.row.Row.{Row}
+use Rattle.vend_core.specs.declared.row.Row.TheVariants as kinds
+use Rattle.vend_core.specs.declared.row_facts.RowFacts.{RowFacts}
+use Rattle.vend_core.specs.declared.row_facts.RowFacts.TheVariants as found
 use Rattle.vend_core.specs.declared.sale.Sale.{Sale}
 use Rattle.vend_core.specs.declared.shift.Shift.{Shift}
 
@@ -20,6 +25,8 @@ abbrev pub no_facts : Facts
 no_facts = record {
   tariff = None;
   meter = None;
+  has_tariff = false;
+  rows = None;
   open_shift = None;
   shift_count = 0;
   first_sale = None;
@@ -29,16 +36,47 @@ no_facts = record {
   report = None;
 }
 
--- what a new sale looks at in an office
+-- a meter, and where there is none whether its tariff is there: AddMeter looks at no tariff where the meter stands
+pub record AreMeterFacts (o : Office) (number : List ℕ) (m : Meter) (f : Facts) : Type 0 where
+  pub meter : f.meter ≡ o.meters number
+  pub has_tariff : IsNone f.meter → f.has_tariff ≡ is_some (o.tariffs m.tariff)
+
+-- SetTariff looks at the tariff only where the meter stands
+pub record AreSettingFacts (o : Office) (number name : List ℕ) (f : Facts) : Type 0 where
+  pub meter : f.meter ≡ o.meters number
+  pub has_tariff : IsSome f.meter → f.has_tariff ≡ is_some (o.tariffs name)
+
+-- OpenShift counts the shifts only where the operator has no open one
+pub record AreOpeningFacts (o : Office) (operator : List ℕ) (f : Facts) : Type 0 where
+  pub open_shift : f.open_shift ≡ open_shift o operator
+  pub shift_count : IsNone f.open_shift → f.shift_count ≡ length o.shifts
+
+-- a new sale looks at its meter only where there is an open shift, and at the count only where there is a meter too
 pub record AreNewSaleFacts (o : Office) (moment : ℕ) (order : Order) (f : Facts) : Type 0 where
   pub open_shift : f.open_shift ≡ open_shift o order.operator
-  pub buyer : f.buyer ≡ meter_facts o order.meter moment
-  pub sale_count : f.sale_count ≡ length o.sales
+  pub buyer : IsSome f.open_shift → f.buyer ≡ buyer_of o order.meter moment
+  pub sale_count : IsSome f.open_shift → IsSome f.buyer → f.sale_count ≡ length o.sales
 
--- what an order looks at: the sale under its ref, and the rest only where there is none
+-- an order looks at the sale under its ref, and at the rest only where there is none
 pub record AreSaleFacts (o : Office) (moment : ℕ) (order : Order) (f : Facts) : Type 0 where
   pub first_sale : f.first_sale ≡ sale_of_ref o order.operator order.order_ref
-  pub new_sale : f.first_sale ≡ None → AreNewSaleFacts o moment order f
+  pub new_sale : IsNone f.first_sale → AreNewSaleFacts o moment order f
+
+-- what an office has of a row's names: a meter's tariff is looked at only where the meter is not there
+abbrev pub meter_found : Option Meter → Bool → RowFacts
+meter_found (Some there) has_tariff = found.Meter there
+meter_found None has_tariff = found.NoMeter has_tariff
+
+abbrev pub row_facts : Office → Row → RowFacts
+row_facts o (kinds.Tariff name steps) = found.Tariff (o.tariffs name)
+row_facts o (kinds.Meter number m) = meter_found (o.meters number) (is_some (o.tariffs m.tariff))
+
+-- what the office, without the rows of the import, has of each row's names, up to the first row that differs from it:
+-- whatever rows came before, that row is refused
+abbrev pub AreRowsFacts : Office → List Row → List RowFacts → Type 0
+AreRowsFacts o [] fs = Unit {0}
+AreRowsFacts o (row ∷ rest) [] = ⊥
+AreRowsFacts o (row ∷ rest) (f ∷ fs) = (f ≡ row_facts o row) × ((row_decision o row ≡ Err Differs) ⊎ AreRowsFacts o rest fs)
 
 -- the shift of a number with its sales
 abbrev pub report_of : Office → ℕ → Option (Shift × List Sale)
@@ -47,9 +85,10 @@ report_of o number = option_map (λ s. (s, sales_of_shift o number)) (shift_numb
 -- what a request looks at in an office; of the rest nothing is said
 abbrev pub AreFactsOf : Office → ℕ → Request → Facts → Type 0
 AreFactsOf o moment (AddTariff name steps) f = f.tariff ≡ o.tariffs name
-AreFactsOf o moment (AddMeter number m) f = (f.meter ≡ o.meters number) × (f.tariff ≡ o.tariffs m.tariff)
-AreFactsOf o moment (SetTariff number name) f = (f.meter ≡ o.meters number) × (f.tariff ≡ o.tariffs name)
-AreFactsOf o moment (OpenShift operator) f = (f.open_shift ≡ open_shift o operator) × (f.shift_count ≡ length o.shifts)
+AreFactsOf o moment (AddMeter number m) f = AreMeterFacts o number m f
+AreFactsOf o moment (Import rows) f = (fs : List RowFacts) × (f.rows ≡ Some fs) × AreRowsFacts o rows fs
+AreFactsOf o moment (SetTariff number name) f = AreSettingFacts o number name f
+AreFactsOf o moment (OpenShift operator) f = AreOpeningFacts o operator f
 AreFactsOf o moment (CloseShift operator) f = f.open_shift ≡ open_shift o operator
 AreFactsOf o moment (Sell order) f = AreSaleFacts o moment order f
 AreFactsOf o moment (Reprint number) f = f.sale ≡ sale_numbered o number
@@ -57,6 +96,20 @@ AreFactsOf o moment (ShiftReport number) f = f.report ≡ report_of o number
 
 abbrev pub AreFacts : Office → Stamped → Facts → Type 0
 AreFacts o at f = AreFactsOf o at.moment at.request f
+
+-- the requests that take memory to be decided: they add steps, or hand out a list
+abbrev pub takes_memory : Request → Bool
+takes_memory (AddTariff name steps) = true
+takes_memory (Import rows) = true
+takes_memory (ShiftReport number) = true
+takes_memory request = false
+
+-- the requests that add no row and hand out no list: over plain lists they take no memory at all
+abbrev pub keeps_lists : Request → Bool
+keeps_lists (SetTariff number name) = true
+keeps_lists (CloseShift operator) = true
+keeps_lists (Reprint number) = true
+keeps_lists request = false
 
 -- the result is the decision, or want of memory
 abbrev pub IsUnlessMemory : Result Change Refusal → Result Change Refusal → Type 0

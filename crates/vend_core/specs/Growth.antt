@@ -1,6 +1,8 @@
 -- How an office grows: rows come at the end, and none goes.
 use Rattle.std.specs.Prelude.{◌≡◌, ℕ, ◌++◌, List, Some, IsSome, slice_get}
+use Rattle.tariff.specs.declared.step.Step.{Step}
 use Rattle.vend_core.specs.Office.{Office}
+use Rattle.vend_core.specs.declared.meter.Meter.{Meter}
 use Rattle.vend_core.specs.declared.shift.Shift.{Shift}
 
 -- the later list begins with the earlier one
@@ -18,3 +20,8 @@ pub record IsSameShift (earlier later : Shift) : Type 0 where
 pub record HasGrown (earlier later : Office) : Type 0 where
   pub sales : BeginsWith later.sales earlier.sales
   pub shifts : (i : ℕ) (s : Shift) → slice_get earlier.shifts i ≡ Some s → (t : Shift) × (slice_get later.shifts i ≡ Some t) × IsSameShift s t
+
+-- an office and the same one later: its tariffs and meters stand unchanged
+pub record HaveStayed (earlier later : Office) : Type 0 where
+  pub tariffs : (name : List ℕ) (steps : List Step) → earlier.tariffs name ≡ Some steps → later.tariffs name ≡ Some steps
+  pub meters : (number : List ℕ) (m : Meter) → earlier.meters number ≡ Some m → later.meters number ≡ Some m

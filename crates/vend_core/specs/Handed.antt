@@ -1,13 +1,14 @@
 -- The sales that an office hands out with its answers.
 use Rattle.std.specs.Prelude.{List, [], ◌∷◌, Result, Ok, Err}
 use Rattle.vend_core.specs.declared.answer.Answer.{Answer}
-use Rattle.vend_core.specs.declared.answer.Answer.TheVariants.{Done, Opened, Closed, Sold, Reprinted, Report}
+use Rattle.vend_core.specs.declared.answer.Answer.TheVariants.{Done, Imported, Opened, Closed, Sold, Reprinted, Report}
 use Rattle.vend_core.specs.declared.refusal.Refusal.{Refusal}
 use Rattle.vend_core.specs.declared.sale.Sale.{Sale}
 
 -- the sales in an answer, and in a reply
 abbrev pub sales_in : Answer → List Sale
 sales_in Done = []
+sales_in (Imported new) = []
 sales_in (Opened number) = []
 sales_in (Closed number) = []
 sales_in (Sold s) = s ∷ []

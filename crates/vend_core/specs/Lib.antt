@@ -1,9 +1,11 @@
 pub mod Cash
 pub mod Decision
+pub mod Edits
 pub mod Facts
 pub mod Fold
 pub mod Growth
 pub mod Handed
+pub mod Imports
 pub mod Life
 pub mod Lists
 pub mod Lookup
@@ -14,5 +16,8 @@ pub mod OfficeLaws
 pub mod PlainRows
 pub mod Refusal
 pub mod Request
+pub mod RowCause
+pub mod Rows
 pub mod ShortText
 pub mod SoldTokens
+pub mod Taken

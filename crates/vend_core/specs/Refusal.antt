@@ -1,9 +1,9 @@
 -- Why the office refuses a request: the numbers and names of the refusals.
 use Rattle.std.specs.Prelude.{ℕ, List, codes}
 use Rattle.vend_core.specs.declared.refusal.Refusal.{Refusal}
-use Rattle.vend_core.specs.declared.refusal.Refusal.TheVariants.{RefReused, NoShift, ShiftOpen, NoMeter, NoTariff, Differs, BeforeBase, IdentifiersSpent, IdentifierAhead, TooLittle, OfficeFull, NoSale, NoSuchShift, Memory, Store, Stopped}
+use Rattle.vend_core.specs.declared.refusal.Refusal.TheVariants.{RefReused, NoShift, ShiftOpen, NoMeter, NoTariff, Differs, BeforeBase, IdentifiersSpent, IdentifierAhead, TooLittle, OfficeFull, NoSale, NoSuchShift, ImportRow, Memory, Store, Stopped}
 
--- the number that a user meets; 14 is kept for the row of an import
+-- the number that a user meets
 abbrev pub refusal_number : Refusal → ℕ
 refusal_number RefReused = 1
 refusal_number NoShift = 2
@@ -18,6 +18,7 @@ refusal_number TooLittle = 10
 refusal_number OfficeFull = 11
 refusal_number NoSale = 12
 refusal_number NoSuchShift = 13
+refusal_number (ImportRow row cause) = 14
 refusal_number Memory = 15
 refusal_number Store = 16
 refusal_number Stopped = 17
@@ -37,6 +38,7 @@ refusal_name TooLittle = codes "TooLittle"
 refusal_name OfficeFull = codes "OfficeFull"
 refusal_name NoSale = codes "NoSale"
 refusal_name NoSuchShift = codes "NoSuchShift"
+refusal_name (ImportRow row cause) = codes "ImportRow"
 refusal_name Memory = codes "Memory"
 refusal_name Store = codes "Store"
 refusal_name Stopped = codes "Stopped"

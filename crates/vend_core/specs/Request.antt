@@ -1,5 +1,5 @@
 -- What the values of a request keep.
-use Rattle.std.specs.Prelude.{ℕ, ◌<◌, ◌^◌, List}
+use Rattle.std.specs.Prelude.{ℕ, ◌<◌, ◌^◌, List, All}
 use Rattle.tariff.specs.Steps.{IsSteps}
 use Rattle.tariff.specs.Tender.{IsTender}
 use Rattle.vend_core.specs.Names.{IsMeterNo, IsName, IsOperator}
@@ -7,14 +7,21 @@ use Rattle.vend_core.specs.Office.{IsMoment}
 use Rattle.vend_core.specs.declared.meter.Meter.{Meter}
 use Rattle.vend_core.specs.declared.request.Order.{Order}
 use Rattle.vend_core.specs.declared.request.Request.{Request}
-use Rattle.vend_core.specs.declared.request.Request.TheVariants.{AddTariff, AddMeter, SetTariff, OpenShift, CloseShift, Sell, Reprint, ShiftReport}
+use Rattle.vend_core.specs.declared.request.Request.TheVariants.{AddTariff, AddMeter, Import, SetTariff, OpenShift, CloseShift, Sell, Reprint, ShiftReport}
 use Rattle.vend_core.specs.declared.request.Stamped.{Stamped}
+use Rattle.vend_core.specs.declared.row.Row.{Row}
+use Rattle.vend_core.specs.declared.row.Row.TheVariants as kinds
 
 -- a meter that may be stored
 pub record IsMeter (number : List ℕ) (m : Meter) : Type 0 where
   pub number_rule : IsMeterNo number
   pub tariff : IsName m.tariff
   pub key : m.key < 2 ^ 64
+
+-- a row of an import that may be stored
+abbrev pub IsRow : Row → Type 0
+IsRow (kinds.Tariff name steps) = IsName name × IsSteps steps
+IsRow (kinds.Meter number m) = IsMeter number m
 
 -- an order
 pub record IsOrder (order : Order) : Type 0 where
@@ -26,6 +33,7 @@ pub record IsOrder (order : Order) : Type 0 where
 abbrev pub IsRequest : Request → Type 0
 IsRequest (AddTariff name steps) = IsName name × IsSteps steps
 IsRequest (AddMeter number m) = IsMeter number m
+IsRequest (Import rows) = All IsRow rows
 IsRequest (SetTariff number name) = IsMeterNo number × IsName name
 IsRequest (OpenShift operator) = IsOperator operator
 IsRequest (CloseShift operator) = IsOperator operator

@@ -7,6 +7,8 @@ use crate::shift::Shift;
 #[derive(Debug, Drop)]
 pub enum Answer {
     Done,
+    /// How many rows of an import were new.
+    Imported(u32),
     /// The number of the shift that was opened.
     Opened(u32),
     /// The number of the shift that was closed.

@@ -1,30 +1,34 @@
-ghost use Rattle.std.specs.Prelude.{◌≡◌, ◌==◌, ◌≤◌, ◌<◌, OnOk, OnErr, IsSome, if◌then◌else◌, length, map, [], ◌∷◌, ◌++◌};
+ghost use Rattle.std.specs.Prelude.{◌≡◌, ◌==◌, ◌≤◌, ◌<◌, IfOk, IsOk, OnOk, OnErr, IsSome, true, if◌then◌else◌, length, map, [], ◌∷◌, ◌++◌};
 ghost use Rattle.sts_fields.specs.Tid.{last_tid};
 ghost use Rattle.vend_core.specs.Fold.{applied, closed_at};
-ghost use Rattle.vend_core.specs.Lists.{Fits, recorded};
+ghost use Rattle.vend_core.specs.Lists.{Fits, RowsFit, recorded, sets_only};
 ghost use Rattle.vend_core.specs.Office.{greatest_count};
-ghost use Rattle.vend_core.specs.PlainRows.{row_with_tariff};
+ghost use Rattle.vend_core.specs.PlainRows.{meters_of, row_with_tariff, tariffs_of};
 
 use crate::change::Edit;
 use crate::meter::Meter;
 use crate::meter_no::MeterNo;
 use crate::records::Records;
+use crate::row::Row;
+use crate::rows::Rows;
 use crate::sale::Sale;
 use crate::shift::Shift;
 use crate::tariff_name::TariffName;
-use std::alloc::AllocError;
+use std::alloc::{AllocError, Global};
 use sts_fields::Moment;
 use tariff::Steps;
 
 /// Makes an edit. Want of memory leaves the records as they were.
-pub(crate) fn apply(records: &mut Records, edit: Edit) -> Result<(), AllocError>
+pub(crate) fn apply(alloc: Global, records: &mut Records, edit: Edit) -> Result<(), AllocError>
     requires { Fits edit (recorded records.old) }
+    ensures exact { sets_only edit ≡ true → IsOk result }
     ensures ok { OnOk result (recorded records.new ≡ applied edit (recorded records.old)) }
     ensures err { OnErr result (recorded records.new ≡ recorded records.old) }
 {
     match edit {
         Edit::AddTariff(name, steps) => add_tariff(records, name, steps),
         Edit::AddMeter(number, meter) => add_meter(records, number, meter),
+        Edit::AddRows(rows) => add_rows(alloc, records, rows),
         Edit::SetTariff(number, name) => {
             set_tariff(records, number, name);
             Ok(())
@@ -53,6 +57,40 @@ fn add_meter(records: &mut Records, number: MeterNo, meter: Meter) -> Result<(),
 {
     records.meters.insert(0, (number, meter))?;
     Ok(())
+}
+
+// Room is made first, so that all the rows are added or none.
+fn add_rows(alloc: Global, records: &mut Records, rows: Rows) -> Result<(), AllocError>
+    requires { RowsFit rows (recorded records.old) }
+    ensures ok { OnOk result (recorded records.new ≡ applied (Edit.AddRows rows) (recorded records.old)) }
+    ensures err { OnErr result (recorded records.new ≡ recorded records.old) }
+{
+    let (mut tariffs, mut meters) = last_first(alloc, rows)?;
+    tariffs.reserve(records.tariffs.len())?;
+    meters.reserve(records.meters.len())?;
+    tariffs.append(&mut records.tariffs)?;
+    meters.append(&mut records.meters)?;
+    records.tariffs = tariffs;
+    records.meters = meters;
+    Ok(())
+}
+
+type TariffsAndMeters = (Vec<(TariffName, Steps)>, Vec<(MeterNo, Meter)>);
+
+// The tariffs and the meters among rows, the last one in front.
+fn last_first(alloc: Global, rows: Rows) -> Result<TariffsAndMeters, AllocError>
+    ensures { IfOk result (λ both. (both.0.items ≡ tariffs_of rows) × (both.1.items ≡ meters_of rows)) }
+{
+    let mut rest = rows.into_vec();
+    let mut tariffs = Vec::new(alloc);
+    let mut meters = Vec::new(alloc);
+    while let Some(row) = rest.pop() {
+        match row {
+            Row::Tariff(name, steps) => tariffs.push((name, steps))?,
+            Row::Meter(number, meter) => meters.push((number, meter))?,
+        }
+    }
+    Ok((tariffs, meters))
 }
 
 fn set_tariff(records: &mut Records, number: MeterNo, name: TariffName)

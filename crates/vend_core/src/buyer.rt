@@ -15,9 +15,9 @@ pub struct Buyer {
 }
 
 impl Model for Buyer {
-    ghost use Rattle.vend_core.specs.Decision.{MeterFacts};
+    ghost use Rattle.vend_core.specs.Decision.{Buyer};
 
-    ghost Value = { MeterFacts };
+    ghost Value = { Buyer };
 
     ghost use Rattle.std.specs.Prelude.{◌^◌, ◌≤◌};
     ghost use Rattle.std.specs.Option.{ForSome};

@@ -1,17 +1,20 @@
 use crate::answer::Answer;
 use crate::meter::Meter;
 use crate::meter_no::MeterNo;
+use crate::rows::Rows;
 use crate::sale::Sale;
 use crate::shift::Shift;
 use crate::tariff_name::TariffName;
 use sts_fields::Moment;
 use tariff::Steps;
 
-/// A row that a granted request adds or sets.
+/// What a granted request adds or sets.
 #[derive(Debug, Drop)]
 pub enum Edit {
     AddTariff(TariffName, Steps),
     AddMeter(MeterNo, Meter),
+    /// The new rows of an import, at least one.
+    AddRows(Rows),
     SetTariff(MeterNo, TariffName),
     OpenShift(Shift),
     /// The shift of this number, closed at this moment.

@@ -1,14 +1,15 @@
-ghost use Rattle.std.specs.Prelude.{◌≡◌, Ok, Some, None};
+ghost use Rattle.std.specs.Prelude.{◌≡◌, ◌≢◌, ◌⊎◌, ℕ, List, IfErr, Ok, Err, Some, None, false};
 ghost use Rattle.std.specs.Option.{option_copied};
 ghost use Rattle.tariff.specs.Purchase.{purchase_of};
-ghost use Rattle.vend_core.specs.Decision.{add_meter, add_tariff, changed, close_shift, decision, meter_eq, next_number, open_a_shift, reprint, sell, sell_again, set_tariff, steps_eq};
-ghost use Rattle.vend_core.specs.Facts.{AreFacts, IsUnlessMemory, report_found};
+ghost use Rattle.vend_core.specs.Decision.{add_meter, add_tariff, changed, close_shift, decision, is_new, meter_eq, next_number, open_a_shift, reprint, sell, sell_again, set_tariff, steps_eq};
+ghost use Rattle.vend_core.specs.Facts.{AreFacts, IsUnlessMemory, report_found, takes_memory};
 ghost use Rattle.vend_core.specs.Office.{Office};
 
 use crate::answer::Answer;
 use crate::buyer::Buyer;
 use crate::change::{Change, Edit};
 use crate::facts::Facts;
+use crate::import::import;
 use crate::meter::Meter;
 use crate::meter_no::MeterNo;
 use crate::operator::Operator;
@@ -35,8 +36,11 @@ pub fn decide<T: BlockTransform>(
     facts: &Facts,
     at: &Stamped,
 ) -> Result<Change, Refusal>
-    ensures { (o : Office) → AreFacts o at.now facts.now
+    ensures decided { (o : Office) → AreFacts o at.now facts.now
         → IsUnlessMemory result (decision (T.forwards transform.now) o at.now) }
+    ensures exact { (o : Office) → AreFacts o at.now facts.now → takes_memory at.now.request ≡ false
+        → result ≡ decision (T.forwards transform.now) o at.now }
+    ensures no_store { (result ≢ Err Refusal.Store) × (result ≢ Err Refusal.Stopped) }
 {
     match &at.request {
         Request::AddTariff(name, steps) => add_tariff(*name, steps, facts.tariff.as_ref()),
@@ -44,13 +48,14 @@ pub fn decide<T: BlockTransform>(
             *number,
             *meter,
             facts.meter,
-            facts.tariff.as_ref(),
+            facts.has_tariff,
         ),
+        Request::Import(rows) => import(alloc, rows, facts.rows.as_ref()),
         Request::SetTariff(number, name) => set_tariff(
             *number,
             *name,
             facts.meter,
-            facts.tariff.as_ref(),
+            facts.has_tariff,
         ),
         Request::OpenShift(operator) => open_shift(
             at.moment,
@@ -103,13 +108,13 @@ fn next_number(count: u64) -> Result<u32, Refusal>
     }
 }
 
-fn same_steps(there: &Steps, steps: &Steps) -> bool
+pub(crate) fn same_steps(there: &Steps, steps: &Steps) -> bool
     ensures { result ≡ steps_eq there.now steps.now }
 {
     there.as_slice() == steps.as_slice()
 }
 
-fn same_meter(there: &Meter, meter: &Meter) -> bool
+pub(crate) fn same_meter(there: &Meter, meter: &Meter) -> bool
     ensures { result ≡ meter_eq there.now meter.now }
 {
     there.base.year() == meter.base.year()
@@ -117,21 +122,43 @@ fn same_meter(there: &Meter, meter: &Meter) -> bool
         && there.key == meter.key
 }
 
+// Whether a tariff is new where these steps are under its name, or why it is refused.
+pub(crate) fn is_new_tariff(steps: &Steps, there: Option<&Steps>) -> Result<bool, Refusal>
+    ensures value { (name : List ℕ) → result ≡ is_new (add_tariff name steps.now (option_copied there.entry)) }
+    ensures cause { IfErr result (λ refusal. refusal ≡ Refusal.Differs) }
+{
+    match there {
+        None => Ok(true),
+        Some(there) if same_steps(there, steps) => Ok(false),
+        Some(_) => Err(Refusal::Differs),
+    }
+}
+
+// The same of a meter, where there is this one under its number, and a tariff for it or none.
+pub(crate) fn is_new_meter(
+    meter: &Meter,
+    there: Option<Meter>,
+    has_tariff: bool,
+) -> Result<bool, Refusal>
+    ensures value { (number : List ℕ) → result ≡ is_new (add_meter number meter.now there has_tariff) }
+    ensures causes { IfErr result (λ refusal. (refusal ≡ Refusal.Differs) ⊎ (refusal ≡ Refusal.NoTariff)) }
+{
+    match there {
+        Some(there) if same_meter(&there, meter) => Ok(false),
+        Some(_) => Err(Refusal::Differs),
+        None if has_tariff => Ok(true),
+        None => Err(Refusal::NoTariff),
+    }
+}
+
 fn add_tariff(name: TariffName, steps: &Steps, there: Option<&Steps>) -> Result<Change, Refusal>
     ensures { IsUnlessMemory result (add_tariff name steps.now (option_copied there.entry)) }
 {
-    match there {
-        Some(there) => {
-            if same_steps(there, steps) {
-                unchanged(Answer::Done)
-            } else {
-                Err(Refusal::Differs)
-            }
-        }
-        None => {
-            let steps = steps.clone()?;
-            changed(Edit::AddTariff(name, steps), Answer::Done)
-        }
+    if is_new_tariff(steps, there)? {
+        let steps = steps.clone()?;
+        changed(Edit::AddTariff(name, steps), Answer::Done)
+    } else {
+        unchanged(Answer::Done)
     }
 }
 
@@ -139,38 +166,34 @@ fn add_meter(
     number: MeterNo,
     meter: Meter,
     there: Option<Meter>,
-    tariff: Option<&Steps>,
+    has_tariff: bool,
 ) -> Result<Change, Refusal>
-    ensures { result ≡ add_meter number meter there (option_copied tariff.entry) }
+    ensures { result ≡ add_meter number meter there has_tariff }
 {
-    if let Some(there) = there {
-        return if same_meter(&there, &meter) {
-            unchanged(Answer::Done)
-        } else {
-            Err(Refusal::Differs)
-        };
+    if is_new_meter(&meter, there, has_tariff)? {
+        changed(Edit::AddMeter(number, meter), Answer::Done)
+    } else {
+        unchanged(Answer::Done)
     }
-    if tariff.is_none() {
-        return Err(Refusal::NoTariff);
-    }
-    changed(Edit::AddMeter(number, meter), Answer::Done)
 }
 
 fn set_tariff(
     number: MeterNo,
     name: TariffName,
     meter: Option<Meter>,
-    tariff: Option<&Steps>,
+    has_tariff: bool,
 ) -> Result<Change, Refusal>
-    ensures { result ≡ set_tariff number name meter (option_copied tariff.entry) }
+    ensures { result ≡ set_tariff number name meter has_tariff }
 {
-    if meter.is_none() {
-        return Err(Refusal::NoMeter);
-    }
-    if tariff.is_none() {
+    let meter = meter.ok_or(Refusal::NoMeter)?;
+    if !has_tariff {
         return Err(Refusal::NoTariff);
     }
-    changed(Edit::SetTariff(number, name), Answer::Done)
+    if meter.tariff.as_bytes() == name.as_bytes() {
+        unchanged(Answer::Done)
+    } else {
+        changed(Edit::SetTariff(number, name), Answer::Done)
+    }
 }
 
 fn open_shift(

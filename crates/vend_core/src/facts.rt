@@ -1,4 +1,5 @@
 use crate::buyer::Buyer;
+use crate::import_facts::ImportFacts;
 use crate::meter::Meter;
 use crate::sale::Sale;
 use crate::sales::Sales;
@@ -10,10 +11,14 @@ use tariff::Steps;
 /// A request looks at some of the fields; the others may be left empty.
 #[derive(Debug, Drop)]
 pub struct Facts {
-    /// The steps under the request's tariff name.
+    /// The steps under the name of the tariff that is added.
     pub tariff: Option<Steps>,
     /// The meter under the request's number, where a meter is added or set.
     pub meter: Option<Meter>,
+    /// Whether there is a tariff of that meter's tariff name, or of the one that it is set to.
+    pub has_tariff: bool,
+    /// What there is under the names of an import's rows.
+    pub rows: Option<ImportFacts>,
     /// The open shift of the request's operator.
     pub open_shift: Option<Shift>,
     /// How many shifts there are.
@@ -41,6 +46,8 @@ impl Facts {
         Facts {
             tariff: None,
             meter: None,
+            has_tariff: false,
+            rows: None,
             open_shift: None,
             shift_count: 0,
             first_sale: None,

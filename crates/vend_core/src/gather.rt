@@ -1,18 +1,26 @@
-ghost use Rattle.std.specs.Prelude.{◌≡◌, IfOk, Some, length};
+ghost use Rattle.std.specs.Prelude.{◌≡◌, IfOk, IsNone, IsOk, List, Err, Some, is_some, length, true};
 ghost use Rattle.std.specs.Option.{option_copied};
-ghost use Rattle.vend_core.specs.Decision.{meter_facts};
-ghost use Rattle.vend_core.specs.Facts.{AreFacts, AreSaleFacts, report_of};
+ghost use Rattle.vend_core.specs.Decision.{buyer_of, row_decision};
+ghost use Rattle.vend_core.specs.Facts.{AreFacts, AreMeterFacts, AreNewSaleFacts, AreOpeningFacts, AreRowsFacts, AreSaleFacts, AreSettingFacts, keeps_lists, report_of, row_facts};
 ghost use Rattle.vend_core.specs.Lists.{recorded};
-ghost use Rattle.vend_core.specs.Lookup.{open_shift, steps_for};
+ghost use Rattle.vend_core.specs.Lookup.{steps_for};
+ghost use Rattle.vend_core.specs.Office.{Office};
+ghost use Rattle.vend_core.specs.declared.row_facts.RowFacts.{RowFacts};
 
 use crate::buyer::Buyer;
+use crate::decisions::{same_meter, same_steps};
 use crate::facts::Facts;
+use crate::import_facts::ImportFacts;
 use crate::look_up;
 use crate::meter::Meter;
 use crate::meter_no::MeterNo;
 use crate::operator::Operator;
 use crate::records::Records;
+use crate::refusal::Refusal;
 use crate::request::{Order, Request, Stamped};
+use crate::row::Row;
+use crate::row_facts::RowFacts;
+use crate::rows::Rows;
 use crate::tariff_name::TariffName;
 use std::alloc::{AllocError, Global};
 use sts_fields::{Moment, month_of};
@@ -20,14 +28,19 @@ use tariff::Steps;
 
 /// What the tests of a request look at in these records.
 pub(crate) fn facts(alloc: Global, records: &Records, at: &Stamped) -> Result<Facts, AllocError>
-    ensures { IfOk result (AreFacts (recorded records.now) at.now) }
+    ensures facts { IfOk result (AreFacts (recorded records.now) at.now) }
+    ensures exact { keeps_lists at.now.request ≡ true → IsOk result }
 {
     match &at.request {
         Request::AddTariff(name, _) => tariff_facts(records, name),
-        Request::AddMeter(number, meter) => meter_and_tariff_facts(records, number, &meter.tariff),
-        Request::SetTariff(number, name) => meter_and_tariff_facts(records, number, name),
-        Request::OpenShift(operator) => Ok(open_shift_facts(records, operator)),
-        Request::CloseShift(operator) => Ok(open_shift_facts(records, operator)),
+        Request::AddMeter(number, meter) => Ok(meter_facts(records, number, meter)),
+        Request::Import(rows) => import_facts(alloc, records, rows),
+        Request::SetTariff(number, name) => Ok(setting_facts(records, number, name)),
+        Request::OpenShift(operator) => Ok(opening_facts(records, operator)),
+        Request::CloseShift(operator) => Ok(Facts {
+            open_shift: look_up::open_shift(&records.shifts, operator),
+            ..Facts::none()
+        }),
         Request::Sell(order) => sale_facts(records, at.moment, order),
         Request::Reprint(number) => Ok(Facts {
             sale: look_up::sale_numbered(&records.sales, *number),
@@ -56,23 +69,90 @@ fn owned(steps: Option<&Steps>) -> Result<Option<Steps>, AllocError>
     }
 }
 
-fn meter_and_tariff_facts(
-    records: &Records,
-    number: &MeterNo,
-    name: &TariffName,
-) -> Result<Facts, AllocError>
-    ensures meter { IfOk result (λ f. f.meter ≡ (recorded records.now).meters number.now) }
-    ensures tariff { IfOk result (λ f. f.tariff ≡ (recorded records.now).tariffs name.now) }
+fn has_tariff(records: &Records, name: &TariffName) -> bool
+    ensures { result ≡ is_some ((recorded records.now).tariffs name.now) }
 {
+    look_up::steps_under(&records.tariffs, name).is_some()
+}
+
+fn meter_facts(records: &Records, number: &MeterNo, meter: &Meter) -> Facts
+    ensures { AreMeterFacts (recorded records.now) number.now meter.now result }
+{
+    let there = look_up::meter_under(&records.meters, number);
+    Facts {
+        meter: there,
+        has_tariff: there.is_none() && has_tariff(records, &meter.tariff),
+        ..Facts::none()
+    }
+}
+
+fn setting_facts(records: &Records, number: &MeterNo, name: &TariffName) -> Facts
+    ensures { AreSettingFacts (recorded records.now) number.now name.now result }
+{
+    let meter = look_up::meter_under(&records.meters, number);
+    Facts {
+        meter,
+        has_tariff: meter.is_some() && has_tariff(records, name),
+        ..Facts::none()
+    }
+}
+
+// What is under the names of the rows, up to the first row that differs from it.
+fn import_facts(alloc: Global, records: &Records, rows: &Rows) -> Result<Facts, AllocError>
+    ensures { IfOk result (λ f. (fs : List RowFacts) × (f.rows ≡ Some fs)
+        × AreRowsFacts (recorded records.now) rows.now fs) }
+{
+    let found = found_of(alloc, records, rows.as_slice())?;
     Ok(Facts {
-        meter: look_up::meter_under(&records.meters, number),
-        ..tariff_facts(records, name)?
+        rows: Some(ImportFacts::of(found)),
+        ..Facts::none()
     })
 }
 
-fn open_shift_facts(records: &Records, operator: &Operator) -> Facts
-    ensures open_shift { result.open_shift ≡ open_shift (recorded records.now) operator.now }
-    ensures shift_count { result.shift_count ≡ length (recorded records.now).shifts }
+fn found_of(alloc: Global, records: &Records, rows: &[Row]) -> Result<Vec<RowFacts>, AllocError>
+    ensures { IfOk result (λ found. AreRowsFacts (recorded records.now) rows.now found.items) }
+{
+    let mut found = Vec::new(alloc);
+    for row in rows {
+        let facts = row_facts(records, row)?;
+        let differs = differs(row, &facts);
+        found.push(facts)?;
+        if differs {
+            return Ok(found);
+        }
+    }
+    Ok(found)
+}
+
+fn row_facts(records: &Records, row: &Row) -> Result<RowFacts, AllocError>
+    ensures { IfOk result (λ found. found ≡ row_facts (recorded records.now) row.now) }
+{
+    match row {
+        Row::Tariff(name, _) => Ok(RowFacts::Tariff(owned(look_up::steps_under(
+            &records.tariffs,
+            name,
+        ))?)),
+        Row::Meter(number, meter) => match look_up::meter_under(&records.meters, number) {
+            Some(there) => Ok(RowFacts::Meter(there)),
+            None => Ok(RowFacts::NoMeter(has_tariff(records, &meter.tariff))),
+        },
+    }
+}
+
+// Whether something else is there under the row's name.
+fn differs(row: &Row, found: &RowFacts) -> bool
+    ensures { (o : Office) → found.now ≡ row_facts o row.now
+        → result ≡ true → row_decision o row.now ≡ Err Refusal.Differs }
+{
+    match (row, found) {
+        (Row::Tariff(_, steps), RowFacts::Tariff(Some(there))) => !same_steps(there, steps),
+        (Row::Meter(_, meter), RowFacts::Meter(there)) => !same_meter(there, meter),
+        _ => false,
+    }
+}
+
+fn opening_facts(records: &Records, operator: &Operator) -> Facts
+    ensures { AreOpeningFacts (recorded records.now) operator.now result }
 {
     Facts {
         open_shift: look_up::open_shift(&records.shifts, operator),
@@ -84,9 +164,26 @@ fn open_shift_facts(records: &Records, operator: &Operator) -> Facts
 fn sale_facts(records: &Records, moment: Moment, order: &Order) -> Result<Facts, AllocError>
     ensures { IfOk result (AreSaleFacts (recorded records.now) moment order.now) }
 {
+    let first_sale = look_up::sale_of_ref(&records.sales, &order.operator, &order.order_ref);
+    if first_sale.is_some() {
+        return Ok(Facts {
+            first_sale,
+            ..Facts::none()
+        });
+    }
+    new_sale_facts(records, moment, order)
+}
+
+fn new_sale_facts(records: &Records, moment: Moment, order: &Order) -> Result<Facts, AllocError>
+    ensures none { IfOk result (λ f. IsNone f.first_sale) }
+    ensures facts { IfOk result (AreNewSaleFacts (recorded records.now) moment order.now) }
+{
+    let open_shift = look_up::open_shift(&records.shifts, &order.operator);
+    if open_shift.is_none() {
+        return Ok(Facts::none());
+    }
     Ok(Facts {
-        first_sale: look_up::sale_of_ref(&records.sales, &order.operator, &order.order_ref),
-        open_shift: look_up::open_shift(&records.shifts, &order.operator),
+        open_shift,
         buyer: buyer(records, &order.meter, moment)?,
         sale_count: records.sales.len() as u64,
         ..Facts::none()
@@ -95,7 +192,7 @@ fn sale_facts(records: &Records, moment: Moment, order: &Order) -> Result<Facts,
 
 // What a sale at a moment looks at of the meter of this number.
 fn buyer(records: &Records, number: &MeterNo, moment: Moment) -> Result<Option<Buyer>, AllocError>
-    ensures { IfOk result (λ found. found ≡ meter_facts (recorded records.now) number.now moment) }
+    ensures { IfOk result (λ found. found ≡ buyer_of (recorded records.now) number.now moment) }
 {
     let Some(meter) = look_up::meter_under(&records.meters, number) else {
         return Ok(None);

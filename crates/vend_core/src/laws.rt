@@ -4,8 +4,9 @@ ghost use Rattle.sts_fields.specs.declared.base.Base.{Base};
 ghost use Rattle.sts_token.specs.Token.{KeepsRange};
 ghost use Rattle.vend_core.specs.Cash.{AskForReports, cash_of, cash_of_reports};
 ghost use Rattle.vend_core.specs.Fold.{after, reply, step};
-ghost use Rattle.vend_core.specs.Growth.{HasGrown};
+ghost use Rattle.vend_core.specs.Growth.{HasGrown, HaveStayed};
 ghost use Rattle.vend_core.specs.Handed.{sales_of};
+ghost use Rattle.vend_core.specs.Imports.{ImportsNothing, SetsNoTariff};
 ghost use Rattle.vend_core.specs.Lookup.{greatest_of, sale_of_ref, sales_of_shift, used};
 ghost use Rattle.vend_core.specs.NewSale.{IsNewSale};
 ghost use Rattle.vend_core.specs.Office.{IsOffice, Office, Rises, empty_office};
@@ -16,6 +17,7 @@ ghost use Rattle.vend_core.specs.declared.request.Order.{Order};
 ghost use Rattle.vend_core.specs.declared.refusal.Refusal.{Refusal};
 ghost use Rattle.vend_core.specs.declared.request.Request.{Request};
 ghost use Rattle.vend_core.specs.declared.request.Stamped.{Stamped};
+ghost use Rattle.vend_core.specs.declared.row.Row.{Row};
 ghost use Rattle.vend_core.specs.declared.sale.Sale.{Sale};
 ghost use Rattle.vend_core.specs.declared.shift.Shift.{Shift};
 
@@ -73,6 +75,16 @@ pub fn office_law()
         → reply forward o at ≡ Ok (Answer.Report shift (sales_of_shift o shift.number)) }
     ensures answers_stand { (forward : ℕ → ℕ → ℕ) (o : Office) (at : Stamped)
         → All (Contains (step forward o at).sales) (sales_of (reply forward o at)) }
+
+    // Tariffs and meters stand as they are, whatever is asked but SetTariff. So an import that was
+    // granted and comes again, with no SetTariff in between, changes nothing and has no new row.
+    ensures stays { (forward : ℕ → ℕ → ℕ) (o : Office) (at : Stamped)
+        → SetsNoTariff at → HaveStayed o (step forward o at) }
+    ensures imported_again { (forward : ℕ → ℕ → ℕ) (o : Office) (at again : Stamped) (between : List Stamped)
+        (rows : List Row) (new : ℕ)
+        → at.request ≡ Request.Import rows → again.request ≡ Request.Import rows
+        → reply forward o at ≡ Ok (Answer.Imported new) → All SetsNoTariff between
+        → ImportsNothing forward (after forward (step forward o at) between) again }
 
     // Rows only come at the end, and a sale stays as it was made.
     ensures grows { (forward : ℕ → ℕ → ℕ) (o : Office) (ats : List Stamped)

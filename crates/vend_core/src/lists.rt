@@ -68,17 +68,20 @@ impl<T> Lists<T> {
 }
 
 impl<T: BlockTransform> Lists<T> {
-    ghost use Rattle.std.specs.Prelude.{◌≡◌};
-    ghost use Rattle.vend_core.specs.Lists.{IsServed, office_of, transform_of};
+    ghost use Rattle.std.specs.Prelude.{◌≡◌, true};
+    ghost use Rattle.vend_core.specs.Facts.{keeps_lists};
+    ghost use Rattle.vend_core.specs.Lists.{IsServed, IsStep, office_of, transform_of};
     ghost use Rattle.vend_core.specs.Office.{IsOffice};
     ghost use Rattle.vend_core.specs.Request.{IsStamped};
 
     /// Serves a request: its answer, or why it is refused.
     ///
     /// A refused request leaves the office as it was. Besides the refusals of `docs/OFFICE.md` only
-    /// `Refusal::Memory` comes, where a vector found no memory.
+    /// `Refusal::Memory` comes, where a vector found no memory, and never to a SetTariff, a
+    /// CloseShift or a Reprint: they add no row and hand out no list.
     pub fn serve(&mut self, at: &Stamped) -> Reply
         ensures served { IsServed (T.forwards (transform_of self.old)) (office_of self.old) at.now result (office_of self.new) }
+        ensures exact { keeps_lists at.now.request ≡ true → IsStep (T.forwards (transform_of self.old)) (office_of self.old) at.now result (office_of self.new) }
         ensures office { IsOffice (office_of self.old) → IsStamped at.now → IsOffice (office_of self.new) }
         ensures transform { transform_of self.new ≡ transform_of self.old }
     {
@@ -89,12 +92,13 @@ impl<T: BlockTransform> Lists<T> {
     // Serves a request, whatever the office that the lists keep.
     fn served(&mut self, at: &Stamped) -> Reply
         ensures served { IsServed (T.forwards (transform_of self.old)) (office_of self.old) at.now result (office_of self.new) }
+        ensures exact { keeps_lists at.now.request ≡ true → IsStep (T.forwards (transform_of self.old)) (office_of self.old) at.now result (office_of self.new) }
         ensures transform { transform_of self.new ≡ transform_of self.old }
     {
         let facts = facts(self.alloc, &self.records, at)?;
         let Change { edit, answer } = decide(self.alloc, &self.transform, &facts, at)?;
         if let Some(edit) = edit {
-            apply(&mut self.records, edit)?;
+            apply(self.alloc, &mut self.records, edit)?;
         }
         Ok(answer)
     }

@@ -1,6 +1,7 @@
 ghost use Rattle.std.specs.Prelude.{◌≡◌};
 ghost use Rattle.vend_core.specs.Refusal.{refusal_name, refusal_number};
 
+use crate::row_cause::RowCause;
 use std::alloc::AllocError;
 use sts_fields::TidFault;
 use thiserror::Error;
@@ -34,6 +35,9 @@ pub enum Refusal {
     NoSale,
     #[error("there is no such shift")]
     NoSuchShift,
+    /// The number of the row, from 1 on (the header of a file is row 0), and why.
+    #[error("row {0} of the import: {1}")]
+    ImportRow(u32, RowCause),
     #[error("out of memory")]
     Memory,
     #[error("the store failed")]
@@ -61,6 +65,7 @@ impl Refusal {
             Refusal::OfficeFull => 11,
             Refusal::NoSale => 12,
             Refusal::NoSuchShift => 13,
+            Refusal::ImportRow(..) => 14,
             Refusal::Memory => 15,
             Refusal::Store => 16,
             Refusal::Stopped => 17,
@@ -85,6 +90,7 @@ impl Refusal {
             Refusal::OfficeFull => "OfficeFull",
             Refusal::NoSale => "NoSale",
             Refusal::NoSuchShift => "NoSuchShift",
+            Refusal::ImportRow(..) => "ImportRow",
             Refusal::Memory => "Memory",
             Refusal::Store => "Store",
             Refusal::Stopped => "Stopped",

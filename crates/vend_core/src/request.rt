@@ -4,6 +4,7 @@ use crate::meter::Meter;
 use crate::meter_no::MeterNo;
 use crate::operator::Operator;
 use crate::order_ref::Ref;
+use crate::rows::Rows;
 use crate::tariff_name::TariffName;
 use sts_fields::Moment;
 use tariff::{Steps, Tender};
@@ -23,6 +24,8 @@ pub struct Order {
 pub enum Request {
     AddTariff(TariffName, Steps),
     AddMeter(MeterNo, Meter),
+    /// All the rows, or none.
+    Import(Rows),
     SetTariff(MeterNo, TariffName),
     OpenShift(Operator),
     CloseShift(Operator),

@@ -1,5 +1,6 @@
 use Rattle.book_tables.proofs.EditLemmas.{edited_members, no_members}
 use Rattle.book_tables.proofs.FoundLemmas.{all_steps, found_numbered, found_open, found_ref, found_tariff, meter_found, no_steps, step_found}
+use Rattle.book_tables.proofs.NewLemmas.{decided_new}
 use Rattle.book_tables.proofs.laws.members_law.Goals as goal
 
 pub returns-clause-empty : goal.returns-clause-empty
@@ -7,6 +8,9 @@ returns-clause-empty c = no_members
 
 pub returns-clause-edited : goal.returns-clause-edited
 returns-clause-edited c = edited_members
+
+pub returns-clause-decided : goal.returns-clause-decided
+returns-clause-decided c = decided_new
 
 pub returns-clause-tariff : goal.returns-clause-tariff
 returns-clause-tariff c = λ rows o name are. found_tariff rows o are name

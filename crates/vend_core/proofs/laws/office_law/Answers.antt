@@ -1,6 +1,7 @@
 use Rattle.std.proofs.Common.{refl}
 use Rattle.vend_core.specs.Lookup.{used}
 use Rattle.vend_core.specs.declared.refusal.Refusal.TheVariants.{Memory, Store, Stopped}
+use Rattle.vend_core.proofs.AgainLemmas.{imported_again, step_stays}
 use Rattle.vend_core.proofs.AnswerLemmas.{answered_stand, sells_one}
 use Rattle.vend_core.proofs.CashLemmas.{cash_adds_up}
 use Rattle.vend_core.proofs.FoldLemmas.{after_grows, after_keeps_office}
@@ -59,3 +60,9 @@ returns-clause-fresh c = λ o meter base now. c.fresh_law.ensures.computed (used
 
 pub returns-clause-rules_alone : goal.returns-clause-rules_alone
 returns-clause-rules_alone c = λ forward o at. (never_answers forward o at Memory refl, never_answers forward o at Store refl, never_answers forward o at Stopped refl)
+
+pub returns-clause-stays : goal.returns-clause-stays
+returns-clause-stays c = step_stays
+
+pub returns-clause-imported_again : goal.returns-clause-imported_again
+returns-clause-imported_again c = imported_again

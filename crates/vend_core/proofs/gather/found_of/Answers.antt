@@ -1,0 +1,13 @@
+use Rattle.std.proofs.Common.{[], List, sym, subst}
+use Rattle.std.proofs.lemmas.List.{append-nil, drop_all}
+use Rattle.vend_core.specs.Facts.{AreRowsFacts}
+use Rattle.vend_core.specs.Lists.{recorded}
+use Rattle.vend_core.specs.declared.row.Row.{Row}
+use Rattle.vend_core.specs.declared.row_facts.RowFacts.{RowFacts}
+use Rattle.vend_core.proofs.gather.found_of.Goals as goal
+
+pub returns : goal.returns
+returns c =
+    let o = recorded c.args.records.now in
+    subst (λ (fs : List RowFacts). AreRowsFacts o c.args.rows.now fs) (append-nil c.loop-row.found.items)
+    (c.loop-row.invariant [] (subst (λ (rest : List Row). AreRowsFacts o rest []) (sym (drop_all c.loop-row.row-index c.args.rows.now c.loop-row-test.false)) tt))

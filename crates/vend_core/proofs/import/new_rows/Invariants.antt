@@ -1,0 +1,19 @@
+use Rattle.std.proofs.Common.{◌≡◌, ◌≤◌, ◌+◌, drop, length}
+use Rattle.vend_core.specs.Decision.{new_rows}
+use Rattle.vend_core.specs.Edits.{with_rows}
+use Rattle.vend_core.specs.Facts.{AreRowsFacts}
+use Rattle.vend_core.specs.Growth.{HaveStayed}
+use Rattle.vend_core.specs.Office.{Office}
+use Rattle.vend_core.proofs.ImportLemmas.{ahead}
+use Rattle.vend_core.proofs.import.new_rows.Given as goal
+
+-- the new rows of all are those taken, and the new ones of the rest in the office with them
+abbrev pub invariant-loop-row : goal.invariant-loop-row
+invariant-loop-row l = record {
+  numbered : l.number ≡ l.row-index;
+  few : length l.taken.rows.items ≤ l.row-index;
+  stayed : (o : Office) → AreRowsFacts o l.rows l.found → HaveStayed o (with_rows l.taken.rows.items o);
+  facts : (o : Office) → AreRowsFacts o l.rows l.found → AreRowsFacts o (drop l.row-index l.rows) (drop l.row-index l.found);
+  rest : (o : Office) → AreRowsFacts o l.rows l.found
+      → new_rows o 1 l.rows ≡ ahead l.taken.rows.items (new_rows (with_rows l.taken.rows.items o) (l.row-index + 1) (drop l.row-index l.rows));
+}

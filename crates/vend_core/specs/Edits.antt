@@ -1,0 +1,46 @@
+-- What a decision makes of an office: the rows that it adds or sets.
+use Rattle.std.specs.Prelude.{ℕ, ◌==◌, List, [], ◌∷◌, ◌++◌, map, if◌then◌else◌, Some, Result, Ok, Err, option_map, bytes_eq}
+use Rattle.std.specs.Option.{option_map_or}
+use Rattle.vend_core.specs.Office.{Office}
+use Rattle.vend_core.specs.declared.change.Change.{Change}
+use Rattle.vend_core.specs.declared.change.Edit.{Edit}
+use Rattle.vend_core.specs.declared.change.Edit.TheVariants.{AddTariff, AddMeter, AddRows, SetTariff, OpenShift, CloseShift, AddSale}
+use Rattle.vend_core.specs.declared.meter.Meter.{Meter}
+use Rattle.vend_core.specs.declared.refusal.Refusal.{Refusal}
+use Rattle.vend_core.specs.declared.row.Row.{Row}
+use Rattle.vend_core.specs.declared.row.Row.TheVariants as kinds
+use Rattle.vend_core.specs.declared.shift.Shift.{Shift}
+
+-- a meter with another tariff, and a shift that is closed
+abbrev pub with_tariff : List ℕ → Meter → Meter
+with_tariff name m = record m { tariff = name }
+
+abbrev pub closed_at : ℕ → Shift → Shift
+closed_at moment s = record s { closed = Some moment }
+
+-- the office with a row under its name or number
+abbrev pub with_row : Row → Office → Office
+with_row (kinds.Tariff name steps) o = record o { tariffs = λ q. if bytes_eq q name then Some steps else o.tariffs q }
+with_row (kinds.Meter number m) o = record o { meters = λ q. if bytes_eq q number then Some m else o.meters q }
+
+-- the office with rows, one after another
+abbrev pub with_rows : List Row → Office → Office
+with_rows [] o = o
+with_rows (row ∷ rows) o = with_rows rows (with_row row o)
+
+-- the office after an edit: rows are put under their names and numbers, or one is set, added at the end, or closed
+abbrev pub applied : Edit → Office → Office
+applied (AddTariff name steps) o = with_row (kinds.Tariff name steps) o
+applied (AddMeter number m) o = with_row (kinds.Meter number m) o
+applied (AddRows rows) o = with_rows rows o
+applied (SetTariff number name) o =
+    record o { meters = λ q. if bytes_eq q number then option_map (with_tariff name) (o.meters q) else o.meters q }
+applied (OpenShift s) o = record o { shifts = o.shifts ++ s ∷ [] }
+applied (CloseShift number moment) o =
+    record o { shifts = map (λ s. if s.number == number then closed_at moment s else s) o.shifts }
+applied (AddSale s) o = record o { sales = o.sales ++ s ∷ [] }
+
+-- the office after a decision: a refused request leaves it as it was
+abbrev pub office_after : Office → Result Change Refusal → Office
+office_after o (Ok change) = option_map_or (λ edit. applied edit o) change.edit o
+office_after o (Err refusal) = o

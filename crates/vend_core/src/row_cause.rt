@@ -1,0 +1,38 @@
+use std::fmt;
+
+/// Why a row of an import is refused.
+///
+/// The reader of a file gives the first four, and the office the other two.
+#[derive(Clone, Copy, Debug, PartialEq, Eq, Hash)]
+pub enum RowCause {
+    /// Row 0 is not the header, or there is none.
+    Header,
+    /// The row has another number of fields.
+    Columns,
+    /// The field of this number, from 1 on, is the first one outside its rule.
+    Field(u8),
+    /// The row is one more than the greatest number of rows.
+    TooManyRows,
+    /// Another tariff or meter is there under the row's name or number.
+    Differs,
+    /// There is no tariff of the name that the row's meter has.
+    NoTariff,
+}
+
+impl fmt::Display for RowCause {
+    ghost use Rattle.std.specs.Prelude.{Some};
+    ghost use Rattle.vend_core.specs.RowCause.{cause_text};
+
+    ghost output = { λ cause. Some (cause_text cause) };
+
+    fn fmt<W: fmt::Write>(&self, f: &mut fmt::Formatter<W>) -> fmt::Result {
+        match self {
+            RowCause::Header => write!(f, "Header"),
+            RowCause::Columns => write!(f, "Columns"),
+            RowCause::Field(number) => write!(f, "Field {number}"),
+            RowCause::TooManyRows => write!(f, "TooManyRows"),
+            RowCause::Differs => write!(f, "Differs"),
+            RowCause::NoTariff => write!(f, "NoTariff"),
+        }
+    }
+}

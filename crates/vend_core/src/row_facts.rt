@@ -1,0 +1,13 @@
+use crate::meter::Meter;
+use tariff::Steps;
+
+/// What the office has under the name of an import's row, before the import.
+#[derive(Debug, Drop)]
+pub enum RowFacts {
+    /// The steps under a tariff row's name.
+    Tariff(Option<Steps>),
+    /// The meter under a meter row's number.
+    Meter(Meter),
+    /// There is no meter under a meter row's number; whether there is a tariff of its tariff name.
+    NoMeter(bool),
+}
