@@ -7,3 +7,4 @@ pub mod TurnLemmas
 pub mod KeyLemmas
 pub mod StandingLemmas
 pub mod RecogniseLemmas
+pub mod SameTablesLemmas
