@@ -28,3 +28,4 @@ pub mod TurnLemmas
 pub mod KeyLemmas
 pub mod StandingLemmas
 pub mod RecogniseLemmas
+pub mod SameTablesLemmas

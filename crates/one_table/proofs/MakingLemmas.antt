@@ -54,7 +54,7 @@ makes_none a sound = record {
   free = tt;
   new = tt;
   places = λ at u h. h;
-  still = λ u h. (h, refl);
+  still = λ u h. (h, refl, refl);
   rows = all_from _ a.schema.tables (λ t h. refl);
   unreferred = λ names among h. h;
   harmless = λ names idle h. h;
@@ -95,7 +95,7 @@ module _ (ts : List Table) (t : Table) (a mid b : Database) (early : MakesTables
         free = all_push _ ts t early.free (free_before a.schema mid.schema t.name grown last.free);
         new = all_push (IsNew b) ts t (all_from (IsNew b) ts (λ u h. still_new u (all_has (IsNew mid) ts u early.new h))) (new.0, new.2);
         places = λ at u h. still_has mid.schema b.schema at u step (early.places at u h);
-        still = λ u h. let before = early.still u h in let now = still_stands mid.schema b.schema u step before.0 in (now.0, now.1 ∙ before.1);
+        still = λ u h. let before = early.still u h in let now = still_stands mid.schema b.schema u step before.0 in (now.0, now.1 ∙ before.1, ap b.trees now.1 ∙ rows_of_standing mid.schema mid.trees b.trees u before.0 last.rows ∙ before.2);
         rows = rows_since;
         unreferred = λ names among h. let parts = all_front _ ts t among in still_unreferred mid.schema t b.schema added names parts.1 (early.unreferred names parts.0 h);
         harmless = λ names idle h. let parts = all_front _ ts t idle in still_harmless mid.schema t b.schema added names parts.1 (early.harmless names parts.0 h);

@@ -6,12 +6,8 @@ use Rattle.sqlite_schema.specs.declared.schema.Schema.{Schema}
 use Rattle.sqlite_schema.specs.declared.schema.Table.{Table}
 use Rattle.sqlite_schema.specs.Names.{table_named}
 use Rattle.one_table.specs.Comparing.{IsAlike, IsPlainTable, IsOwnTree, StandsAt}
-use Rattle.one_table.specs.Standing.{keys_on, own_keys, place_in, tree_in, Stands}
+use Rattle.one_table.specs.Standing.{keys_on, own_keys, tree_in, Stands}
 use Rattle.one_table.proofs.GrowthLemmas.{place_of_has, stands_by}
-
--- a table that stands is found by its name
-pub stands_named : (s : Schema) (t : Table) → Stands s t → table_named s t.name ≡ Some (place_in s t.name)
-stands_named s t h = h.has.named
 
 same_some : (a b : Table) → Some a ≡ Some b → a ≡ b
 same_some a b e = cc

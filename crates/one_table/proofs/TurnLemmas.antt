@@ -1,10 +1,10 @@
 -- Tables that are made one after the other inside a transaction, as the connection shows it.
-use Rattle.std.proofs.Common.{◌≡◌, ◌⊎◌, ℕ, ◌<◌, true, IsTrue, List, [], ◌∷◌, ◌++◌, length, Ok, refl, sym, ap, subst, subst₂, ◌∙◌, inl, inr, arith}
+use Rattle.std.proofs.Common.{◌≡◌, ◌⊎◌, ℕ, true, IsTrue, List, [], ◌∷◌, ◌++◌, Ok, refl, sym, ap, subst, subst₂, ◌∙◌, inl, inr}
 use Rattle.std.specs.List.{AllZip}
 use Rattle.sqlite_schema.specs.declared.schema.Table.{Table}
 use Rattle.sqlite_resolve.specs.Compile.{table_defined_by}
 use Rattle.sqlite.specs.Effect.{IsDatabase}
-use Rattle.sqlite.specs.State.{State, Shows, KeepsCommit}
+use Rattle.sqlite.specs.State.{State, Shows}
 use Rattle.one_table.specs.Making.{AreDefined, MakesTable, MakesTables}
 use Rattle.one_table.proofs.MakingLemmas.{makes_none, makes_more}
 
@@ -21,17 +21,6 @@ pub record HasMadeNone (texts : List (List ℕ)) (old now : State) : Type 0 wher
 
 abbrev pub HasMadeSo : List (List ℕ) → State → State → Type 0
 HasMadeSo texts old now = HasMadeNone texts old now ⊎ HasMade texts old now
-
-pub keeps_commit : (texts : List (List ℕ)) (old now : State) → HasMadeSo texts old now → KeepsCommit old now
-keeps_commit texts old now (inl none) = record { was_open = λ is. subst IsTrue none.is_open is; committed = λ _. none.committed }
-keeps_commit texts old now (inr some) = record { was_open = λ _. some.shows.was_open; committed = λ _. some.shows.committed_is }
-
-keeps_more : (old mid new : State) → KeepsCommit old mid → KeepsCommit mid new → KeepsCommit old new
-keeps_more old mid new p q = record { was_open = λ is. p.was_open (q.was_open is); committed = λ is. q.committed is ∙ p.committed (q.was_open is) }
-
--- what a refusal leaves
-pub keeps_after : (texts : List (List ℕ)) (old mid new : State) → HasMadeSo texts old mid → KeepsCommit mid new → KeepsCommit old new
-keeps_after texts old mid new made = keeps_more old mid new (keeps_commit texts old mid made)
 
 shows_more : (old mid new : State) → Shows old mid mid.now old.committed true → Shows mid new new.now mid.committed true → Shows old new new.now old.committed true
 shows_more old mid new p q = record { was_open = p.was_open; is_open = q.is_open; now_is = refl; committed_is = q.committed_is ∙ p.committed_is; mode = q.mode }
@@ -70,8 +59,3 @@ makes_next texts text old mid new made last shows = record {
       let early = so_far texts old mid made shows.was_open sound parts.0 parts.3 in
       subst (λ l. MakesTables l old.now new.now) (sym parts.2) (makes_more parts.0 parts.1 old.now mid.now new.now early (last parts.1 parts.4) (sound all.was_open));
 }
-
--- there was at least one
-pub made_some : (texts : List (List ℕ)) (old now : State) → 0 < length texts → HasMadeSo texts old now → HasMade texts old now
-made_some texts old now some (inl none) = absurd (omega (arith, ap length none.none))
-made_some texts old now some (inr made) = made

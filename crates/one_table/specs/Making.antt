@@ -94,7 +94,7 @@ pub record MakesTables (ts : List Table) (a b : Database) : Type 0 where
   pub new : AllByRecursion (IsNew b) ts
   -- each table that stood stands where it stood, with its keys and its rows
   pub places : (at : ℕ) (u : Table) → Has a.schema at u → Has b.schema at u
-  pub still : (u : Table) → Stands a.schema u → Stands b.schema u × (tree_in b.schema u.name ≡ tree_in a.schema u.name)
+  pub still : (u : Table) → Stands a.schema u → Stands b.schema u × (tree_in b.schema u.name ≡ tree_in a.schema u.name) × (b.trees (tree_in b.schema u.name) ≡ a.trees (tree_in a.schema u.name))
   pub rows : KeepsRows a.schema.tables a.trees b.trees
   -- no reference onto these names came in, but from the tables themselves
   pub unreferred : (names : List (List ℕ)) → AreAmong names ts → is_unreferred names a.schema ≡ true → is_unreferred names b.schema ≡ true

@@ -141,7 +141,7 @@ fn tree_in(schema: &Schema, name: &str) -> u32
 }
 
 /// Whether no reference to the table of this name takes an action, as CASCADE, where a row that it
-/// points to is changed or deleted.
+/// points to is changed or deleted. The table has to be there: of another name it says nothing.
 pub fn is_table_left_alone(schema: &Schema, name: &str) -> bool
     ensures { result ≡ is_left_alone schema.now (tree_in schema.now name.now) }
 {

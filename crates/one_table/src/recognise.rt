@@ -40,7 +40,7 @@ pub fn stand(alloc: Global, schema: &Schema, texts: &[&str]) -> Result<bool, Com
     Ok(true)
 }
 
-/// Whether no reference to a table of one of these names takes an action.
+/// Whether no reference to a table of one of these names takes an action. The tables have to be there.
 pub fn are_left_alone(schema: &Schema, names: &[&str]) -> bool
     ensures { result ≡ list_all (λ name. is_left_alone schema.now (tree_in schema.now name.now))
         names.now }
