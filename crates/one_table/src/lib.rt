@@ -24,5 +24,7 @@ pub mod make;
 mod read_fault;
 mod readers;
 pub mod recognise;
+#[cfg(test)]
+mod row_tests;
 mod updating;
 mod writing;
