@@ -12,10 +12,11 @@ use Rattle.sqlite.specs.Effect.{Database}
 use Rattle.sqlite.specs.Listing.{understood}
 use Rattle.sqlite.specs.Rows.{Written, Task}
 use Rattle.sqlite.specs.Does.{Tally, AtPlace, OnRows, WritesRows}
-use Rattle.sqlite.specs.State.{State, mode_of, Shows, Writes, Runs, ExecutesInside}
+use Rattle.sqlite.specs.State.{State, mode_of, Shows, Writes, Runs, ExecutesInside, KeepsCommit}
 use Rattle.sqlite.proofs.Callers.{statement_of, runs_as}
 use Rattle.sqlite_trees.specs.declared.store.Store.{Ghosts}
 use Rattle.sqlite.specs.Held.{Held, state}
+use Rattle.sqlite.proofs.InsideLemmas.{unchanged_keeps}
 use Rattle.one_table.specs.Answer.{IsLeft}
 use Rattle.one_table.specs.Reading.{Means}
 use Rattle.one_table.specs.InTransaction.{HasChanged}
@@ -83,3 +84,14 @@ refused_by g sql params old new e ended runs = elim (cases_Bool old.in_transacti
 pub on_ok : {A E P Q : Type 0} (r : Result A E) → (P → Q) → OnOk r P → OnOk r Q
 on_ok (Ok a) f p = f p
 on_ok (Err e) f p = tt
+
+pub keeps_inside : (old new : State) → Shows old new new.now old.committed true → KeepsCommit old new
+keeps_inside old new h = record { was_open = λ _. h.was_open; committed = λ _. h.committed_is }
+
+pub keeps_then : (a b c : State) → KeepsCommit a b → KeepsCommit b c → KeepsCommit a c
+keeps_then a b c p q = record { was_open = λ k. p.was_open (q.was_open k); committed = λ k. q.committed k ∙ p.committed (q.was_open k) }
+
+-- a text that was refused commits nothing
+pub keeps_refused : {S : Type 0} (g : Ghosts S) (old new : Held S) → IsLeft (state g old) (state g new) ⊎ (new ≡ old) → KeepsCommit (state g old) (state g new)
+keeps_refused g old new (inl left) = unchanged_keeps (state g old) (state g new) left
+keeps_refused g old new (inr same) = subst (λ h. KeepsCommit (state g old) (state g h)) (sym same) (record { was_open = λ k. k; committed = λ _. refl })

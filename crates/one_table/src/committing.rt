@@ -21,9 +21,8 @@ pub trait Change<S: Alter> {
             (state S.Store tx.new.conn.now).now
             × Shows (state S.Store tx.old.conn.now) (state S.Store tx.new.conn.now)
             (state S.Store tx.new.conn.now).now (state S.Store tx.old.conn.now).committed true) }
-        ensures refused { HasCleanDisk (state S.Store tx.new.conn.now)
-            → OnErr result (KeepsCommit
-            (state S.Store tx.old.conn.now) (state S.Store tx.new.conn.now)) }
+        ensures kept { HasCleanDisk (state S.Store tx.new.conn.now)
+            → KeepsCommit (state S.Store tx.old.conn.now) (state S.Store tx.new.conn.now) }
         ensures survives { Survives
             (state S.Store tx.old.conn.now) (state S.Store tx.new.conn.now) (λ _. ⊥) };
 }

@@ -1,6 +1,6 @@
-ghost use Rattle.std.specs.Prelude.{◌≡◌, ◌⊎◌, ℕ, List, IsTrue, OnOk, OnErr};
+ghost use Rattle.std.specs.Prelude.{◌≡◌, ◌⊎◌, ℕ, List, IsTrue, OnOk, OnErr, true};
 ghost use Rattle.sqlite.specs.Values.{bound};
-ghost use Rattle.sqlite.specs.State.{HasCleanDisk, Survives};
+ghost use Rattle.sqlite.specs.State.{HasCleanDisk, Survives, Shows, KeepsCommit};
 ghost use Rattle.sqlite.specs.Held.{state};
 ghost use Rattle.sqlite.specs.Table.{Table};
 ghost use Rattle.sqlite.specs.Term.{Term};
@@ -27,6 +27,11 @@ pub fn insert<S: Alter>(
         → OnOk result (PutsRow t (new_row t terms (bound params.now)
         ((state S.Store tx.old.conn.now).now.trees t.tree))
         (state S.Store tx.old.conn.now) (state S.Store tx.new.conn.now)) }
+    ensures inside { HasCleanDisk (state S.Store tx.new.conn.now)
+        → OnOk result (Shows (state S.Store tx.old.conn.now) (state S.Store tx.new.conn.now)
+        (state S.Store tx.new.conn.now).now (state S.Store tx.old.conn.now).committed true) }
+    ensures kept { HasCleanDisk (state S.Store tx.new.conn.now)
+        → KeepsCommit (state S.Store tx.old.conn.now) (state S.Store tx.new.conn.now) }
     ensures refused { HasCleanDisk (state S.Store tx.new.conn.now)
         → OnErr result (IsLeft (state S.Store tx.old.conn.now) (state S.Store tx.new.conn.now)
         ⊎ (tx.new.conn.now ≡ tx.old.conn.now)) }

@@ -25,6 +25,8 @@ mod read_fault;
 mod readers;
 pub mod recognise;
 #[cfg(test)]
+mod row_tests;
+#[cfg(test)]
 mod table_tests;
 mod updating;
 mod writing;
