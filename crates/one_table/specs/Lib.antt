@@ -1,1 +1,17 @@
 pub mod Place
+pub mod ReadFaults
+pub mod Answer
+pub mod Taken
+pub mod Simple
+pub mod Reading
+pub mod Changing
+pub mod Inserting
+pub mod InTransaction
+pub mod Updating
+pub mod Committing
+pub mod Listed
+pub mod Numbered
+pub mod Making
+pub mod Standing
+pub mod Referring
+pub mod Comparing

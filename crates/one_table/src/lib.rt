@@ -3,3 +3,30 @@
 //! The crate knows no table of the office. `specs/` has the definitions, `proofs/` the theorems that a crate of
 //! tables cites for each of its texts.
 #![tactic(auto)]
+
+pub use committing::{Change, CommitFault, change_once};
+pub use folding::fold_rows;
+pub use from_row::{FromRow, column};
+pub use gathering::Gather;
+pub use inserting::insert;
+pub use read_fault::ReadFault;
+pub use readers::{read_row, read_rows};
+pub use updating::update;
+
+mod committing;
+mod compare;
+mod folding;
+mod from_row;
+mod gathering;
+mod inserting;
+pub mod inspect;
+pub mod make;
+mod read_fault;
+mod readers;
+pub mod recognise;
+#[cfg(test)]
+mod row_tests;
+#[cfg(test)]
+mod table_tests;
+mod updating;
+mod writing;

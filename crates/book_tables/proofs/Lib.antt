@@ -1,0 +1,12 @@
+pub mod EditLemmas
+pub mod FoundLemmas
+pub mod HoldsLemmas
+pub mod KeptLemmas
+pub mod KeyTextLemmas
+pub mod ListLemmas
+pub mod MemberLemmas
+pub mod NewLemmas
+pub mod PartLemmas
+pub mod RowLemmas
+pub mod TextLemmas
+pub mod ValueLemmas

@@ -1,0 +1,10 @@
+pub mod Edited
+pub mod Found
+pub mod Holds
+pub mod Parts
+pub mod ReadBack
+pub mod Rows
+pub mod Stands
+pub mod Tables
+pub mod Texts
+pub mod Values

@@ -1,0 +1,99 @@
+-- The rows of the office's tables: the records that they are, and the values that are stored of each.
+use Rattle.std.specs.Prelude.{ℕ, pos, List, [], ◌∷◌, Option, Some, None}
+use Rattle.sqlite.specs.Order.{Row}
+use Rattle.sqlite.specs.declared.types.Value.{Value}
+use Rattle.sqlite.specs.declared.types.Value.TheVariants.{Null, Int, Text}
+use Rattle.sts_fields.specs.Base.{year_of}
+use Rattle.sts_fields.specs.Calendar.{month_at}
+use Rattle.sts_token.specs.Digits.{digits_text}
+use Rattle.tariff.specs.declared.step.Step.{Step}
+use Rattle.vend_core.specs.declared.meter.Meter.{Meter}
+use Rattle.vend_core.specs.declared.sale.Sale.{Sale}
+use Rattle.vend_core.specs.declared.shift.Shift.{Shift}
+
+-- a step of a tariff: the place counts from 0
+pub record StepRow : Type 0 where
+  pub tariff : List ℕ
+  pub place : ℕ
+  pub step : Step
+
+-- all rows of the office's tables, in the order in which they stand; shifts and sales by their numbers
+pub record Rows : Type 0 where
+  pub tariffs : List (List ℕ)
+  pub steps : List StepRow
+  pub meters : List (List ℕ × Meter)
+  pub shifts : List Shift
+  pub sales : List Sale
+
+-- a whole number, and one that may be missing
+abbrev pub number : ℕ → Value
+number n = Int (pos n)
+
+abbrev pub optional : Option ℕ → Value
+optional None = Null
+optional (Some n) = number n
+
+-- the sixteen lower-case hexadecimal digits of a key
+abbrev pub secret_of : ℕ → List ℕ
+secret_of key = digits_text 16 16 key
+
+-- the format number of these tables
+abbrev pub format : ℕ
+format = 1
+
+-- what is stored of columns of which the first is the row's number: the number stands in front, and NULL in its column
+abbrev pub keyed : Row → Row
+keyed [] = []
+keyed (n ∷ columns) = n ∷ Null ∷ columns
+
+-- the columns of each table's rows, in the order of the table
+abbrev pub about_columns : Row
+about_columns = number 1 ∷ number format ∷ []
+
+abbrev pub tariff_columns : List ℕ → Row
+tariff_columns name = Text name ∷ []
+
+abbrev pub step_columns : StepRow → Row
+step_columns r = Text r.tariff ∷ number r.place ∷ optional r.step.ends ∷ number r.step.price ∷ []
+
+abbrev pub meter_columns : (List ℕ × Meter) → Row
+meter_columns m = Text m.0 ∷ number (year_of m.1.base) ∷ Text m.1.tariff ∷ Text (secret_of m.1.key) ∷ []
+
+abbrev pub shift_columns : Shift → Row
+shift_columns s = number s.number ∷ Text s.operator ∷ number s.opened ∷ optional s.closed ∷ []
+
+abbrev pub sale_columns : Sale → Row
+sale_columns s =
+    number s.number ∷ number s.moment ∷ number (month_at s.moment) ∷ number s.shift ∷ Text s.operator ∷ Text s.order_ref
+    ∷ Text s.meter ∷ number (year_of s.base) ∷ number s.tid ∷ number s.rnd ∷ number s.tenths ∷ number s.price
+    ∷ number s.tender ∷ Text s.digits ∷ []
+
+-- what is stored of the rows that have a number
+abbrev pub about_row : Row
+about_row = keyed about_columns
+
+abbrev pub shift_row : Shift → Row
+shift_row s = keyed (shift_columns s)
+
+abbrev pub sale_row : Sale → Row
+sale_row s = keyed (sale_columns s)
+
+-- the columns that a SELECT names, in this order, so that its row shows the whole record
+abbrev pub shown_step : Step → Row
+shown_step s = optional s.ends ∷ number s.price ∷ []
+
+abbrev pub shown_meter : Meter → Row
+shown_meter m = number (year_of m.base) ∷ Text m.tariff ∷ Text (secret_of m.key) ∷ []
+
+abbrev pub shown_shift : Shift → Row
+shown_shift s = shift_columns s
+
+abbrev pub shown_sale : Sale → Row
+shown_sale s =
+    number s.number ∷ number s.moment ∷ number s.shift ∷ Text s.operator ∷ Text s.order_ref ∷ Text s.meter
+    ∷ number (year_of s.base) ∷ number s.tid ∷ number s.rnd ∷ number s.tenths ∷ number s.price ∷ number s.tender
+    ∷ Text s.digits ∷ []
+
+-- the one column that is a number
+abbrev pub shown_number : ℕ → Row
+shown_number n = number n ∷ []

@@ -1,0 +1,20 @@
+-- The texts that make the office's tables.
+use Rattle.std.specs.Prelude.{ℕ, List, codes}
+
+abbrev pub about_text : List ℕ
+about_text = codes "CREATE TABLE about (id INTEGER PRIMARY KEY, format INTEGER NOT NULL) STRICT"
+
+abbrev pub tariffs_text : List ℕ
+tariffs_text = codes "CREATE TABLE tariffs (name TEXT NOT NULL PRIMARY KEY) STRICT"
+
+abbrev pub tariff_steps_text : List ℕ
+tariff_steps_text = codes "CREATE TABLE tariff_steps (tariff TEXT NOT NULL REFERENCES tariffs (name), place INTEGER NOT NULL, ends INTEGER, price INTEGER NOT NULL, UNIQUE (tariff, place)) STRICT"
+
+abbrev pub meters_text : List ℕ
+meters_text = codes "CREATE TABLE meters (meter TEXT NOT NULL PRIMARY KEY, base INTEGER NOT NULL, tariff TEXT NOT NULL REFERENCES tariffs (name), secret TEXT NOT NULL) STRICT"
+
+abbrev pub shifts_text : List ℕ
+shifts_text = codes "CREATE TABLE shifts (number INTEGER PRIMARY KEY, operator TEXT NOT NULL, opened INTEGER NOT NULL, closed INTEGER) STRICT"
+
+abbrev pub sales_text : List ℕ
+sales_text = codes "CREATE TABLE sales (number INTEGER PRIMARY KEY, moment INTEGER NOT NULL, month INTEGER NOT NULL, shift INTEGER NOT NULL REFERENCES shifts (number), operator TEXT NOT NULL, ref TEXT NOT NULL, meter TEXT NOT NULL REFERENCES meters (meter), base INTEGER NOT NULL, tid INTEGER NOT NULL, rnd INTEGER NOT NULL, tenths INTEGER NOT NULL, price INTEGER NOT NULL, tender INTEGER NOT NULL, digits TEXT NOT NULL, UNIQUE (operator, ref), UNIQUE (meter, base, tid)) STRICT"

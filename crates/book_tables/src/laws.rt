@@ -1,0 +1,110 @@
+//! What holds of the office's tables, whatever statement is run on them.
+
+ghost use Rattle.std.specs.Prelude.{◌≡◌, ◌≤◌, ◌<◌, ◌&&◌, ◌==◌, ℕ, List, Option, None, Some, All, Ok, bytes_eq, filter, is_none, length, map, option_map, slice_get};
+ghost use Rattle.std.specs.Option.{option_to_list};
+ghost use Rattle.sqlite.specs.Effect.{Database};
+ghost use Rattle.sqlite_resolve.specs.Compile.{table_defined_by};
+ghost use Rattle.tariff.specs.declared.step.Step.{Step};
+ghost use Rattle.vend_core.specs.Decision.{decision};
+ghost use Rattle.vend_core.specs.Edits.{applied};
+ghost use Rattle.vend_core.specs.Lookup.{open_shift, sale_numbered, sale_of_ref, shift_numbered};
+ghost use Rattle.vend_core.specs.Office.{IsOffice, Office, empty_office};
+ghost use Rattle.vend_core.specs.declared.answer.Answer.{Answer};
+ghost use Rattle.vend_core.specs.declared.change.Edit.{Edit};
+ghost use Rattle.vend_core.specs.declared.meter.Meter.{Meter};
+ghost use Rattle.vend_core.specs.declared.request.Stamped.{Stamped};
+ghost use Rattle.vend_core.specs.declared.sale.Sale.{Sale};
+ghost use Rattle.vend_core.specs.declared.shift.Shift.{Shift};
+ghost use Rattle.book_tables.specs.Edited.{IsNew, edited, no_rows};
+ghost use Rattle.book_tables.specs.Found.{meters_numbered, step_at, steps_at, tariffs_named};
+ghost use Rattle.book_tables.specs.Holds.{IsUntaken, StandsFor};
+ghost use Rattle.book_tables.specs.ReadBack.{ReadsBack};
+ghost use Rattle.book_tables.specs.Rows.{Rows, shown_meter, shown_number, shown_sale, shown_shift, shown_step};
+ghost use Rattle.book_tables.specs.Stands.{AreMembersOf};
+ghost use Rattle.book_tables.specs.Tables.{about_table, meters_table, sales_table, shifts_table, tariff_steps_table, tariffs_table};
+ghost use Rattle.book_tables.specs.Texts.{about_text, meters_text, sales_text, shifts_text, tariff_steps_text, tariffs_text};
+ghost use Rattle.book_tables.specs.Values.{AreMeterValues, AreSaleValues, AreShiftValues, AreStepValues, IsNumber, IsSoldAmount, IsTid};
+
+use vend_core::office_law;
+
+/// Which office a database stands for.
+pub fn stands_law()
+    // It stands for at most one, and for the empty one where it has none of the tables.
+    ensures one_office { (db : Database) (o p : Office) → StandsFor db o → StandsFor db p → o ≡ p }
+    ensures untaken { (db : Database) → IsUntaken db.schema → StandsFor db empty_office }
+
+    // The members of an office keep the rules of their values, so that no row of theirs is refused.
+    ensures steps { (o : Office) (name : List ℕ) (steps : List Step)
+        → IsOffice o → o.tariffs name ≡ Some steps → All AreStepValues steps }
+    ensures meters { (o : Office) (number : List ℕ) (m : Meter)
+        → IsOffice o → o.meters number ≡ Some m → AreMeterValues m }
+    ensures shifts { (o : Office) → IsOffice o → All AreShiftValues o.shifts }
+    ensures sales { (o : Office) → IsOffice o → All AreSaleValues o.sales }
+
+    // What is stored of a value that keeps its rules reads back as that value.
+    ensures number_back { (n : ℕ) (read : Option ℕ)
+        → IsNumber n → ReadsBack shown_number IsNumber (shown_number n) read → read ≡ Some n }
+    ensures tid_back { (tid : ℕ) (read : Option ℕ)
+        → IsTid tid → ReadsBack shown_number IsTid (shown_number tid) read → read ≡ Some tid }
+    ensures amount_back { (tenths : ℕ) (read : Option ℕ)
+        → IsSoldAmount tenths → ReadsBack shown_number IsSoldAmount (shown_number tenths) read
+        → read ≡ Some tenths }
+    ensures step_back { (s : Step) (read : Option Step)
+        → AreStepValues s → ReadsBack shown_step AreStepValues (shown_step s) read → read ≡ Some s }
+    ensures meter_back { (m : Meter) (read : Option Meter)
+        → AreMeterValues m → ReadsBack shown_meter AreMeterValues (shown_meter m) read
+        → read ≡ Some m }
+    ensures shift_back { (s : Shift) (read : Option Shift)
+        → AreShiftValues s → ReadsBack shown_shift AreShiftValues (shown_shift s) read
+        → read ≡ Some s }
+    ensures sale_back { (s : Sale) (read : Option Sale)
+        → AreSaleValues s → ReadsBack shown_sale AreSaleValues (shown_sale s) read → read ≡ Some s }
+
+    // The six texts define the six tables.
+    ensures about_defined { table_defined_by about_text ≡ Ok (about_table 0) }
+    ensures tariffs_defined { table_defined_by tariffs_text ≡ Ok (tariffs_table 0) }
+    ensures tariff_steps_defined { table_defined_by tariff_steps_text ≡ Ok (tariff_steps_table 0) }
+    ensures meters_defined { table_defined_by meters_text ≡ Ok (meters_table 0) }
+    ensures shifts_defined { table_defined_by shifts_text ≡ Ok (shifts_table 0) }
+    ensures sales_defined { table_defined_by sales_text ≡ Ok (sales_table 0) }
+{
+    office_law();
+}
+
+/// What the rows have of the office whose members they are, and how both change by an edit.
+pub fn members_law()
+    // An edit leaves them its members, where what it adds is new, as it is in each decision.
+    ensures empty { AreMembersOf no_rows empty_office }
+    ensures edited { (rows : Rows) (o : Office) (edit : Edit)
+        → AreMembersOf rows o → IsNew edit o → AreMembersOf (edited edit rows) (applied edit o) }
+    ensures decided { (forward : ℕ → ℕ → ℕ) (o : Office) (at : Stamped) (edit : Edit) (answer : Answer)
+        → decision forward o at ≡ Ok (record { edit = Some edit; answer = answer }) → IsNew edit o }
+
+    // The rows that have what is looked up are what the office has under it.
+    ensures tariff { (rows : Rows) (o : Office) (name : List ℕ) → AreMembersOf rows o
+        → tariffs_named rows name ≡ option_to_list (option_map (λ _. name) (o.tariffs name)) }
+    ensures step { (rows : Rows) (o : Office) (name : List ℕ) (place : ℕ) → AreMembersOf rows o
+        → map (λ r. r.step) (steps_at rows name place) ≡ option_to_list (step_at o name place) }
+    ensures meter { (rows : Rows) (o : Office) (number : List ℕ) → AreMembersOf rows o
+        → map (λ r. r.1) (meters_numbered rows number) ≡ option_to_list (o.meters number) }
+
+    // The steps at the first places, as far as there are any, are those of the tariff.
+    ensures all_steps { (o : Office) (name : List ℕ) (steps : List Step)
+        → IsOffice o → 1 ≤ length steps → length steps ≤ 8
+        → ((place : ℕ) → place < 8 → step_at o name place ≡ slice_get steps place)
+        → o.tariffs name ≡ Some steps }
+    ensures no_steps { (o : Office) (name : List ℕ)
+        → IsOffice o → step_at o name 0 ≡ None → o.tariffs name ≡ None }
+
+    // At most one shift and one sale pass each test.
+    ensures shift_numbered { (o : Office) (number : ℕ) → IsOffice o
+        → filter (λ s. s.number == number) o.shifts ≡ option_to_list (shift_numbered o number) }
+    ensures open_shift { (o : Office) (operator : List ℕ) → IsOffice o
+        → filter (λ s. bytes_eq s.operator operator && is_none s.closed) o.shifts
+        ≡ option_to_list (open_shift o operator) }
+    ensures sale_numbered { (o : Office) (number : ℕ) → IsOffice o
+        → filter (λ s. s.number == number) o.sales ≡ option_to_list (sale_numbered o number) }
+    ensures sale_of_ref { (o : Office) (operator order_ref : List ℕ) → IsOffice o
+        → filter (λ s. bytes_eq s.operator operator && bytes_eq s.order_ref order_ref) o.sales
+        ≡ option_to_list (sale_of_ref o operator order_ref) }
+{}

@@ -1,0 +1,15 @@
+//! The tables of an office in one SQLite file: one function for each fixed statement.
+//!
+//! `docs/OFFICE.md` has the tables in words. `specs/` says which rows stand for which office.
+#![tactic(auto)]
+
+pub use error::TableError;
+pub use laws::{members_law, stands_law};
+
+mod cells;
+mod error;
+mod laws;
+mod records;
+#[cfg(test)]
+mod tests;
+mod values;

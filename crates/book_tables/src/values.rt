@@ -1,0 +1,105 @@
+//! The values of the columns of a row, in the order of its table, as a write binds them.
+
+ghost use Rattle.std.specs.Prelude.{◌≡◌};
+ghost use Rattle.sqlite.specs.Values.{bound};
+ghost use Rattle.sts_token.specs.Key.{IsKeyText};
+ghost use Rattle.book_tables.specs.Rows.{meter_columns, number, optional, sale_columns, shift_columns, step_columns, tariff_columns};
+ghost use Rattle.sqlite_value.specs.Value.{owned};
+
+use sqlite::types::ValueRef;
+use sts_fields::{Moment, month_of};
+use tariff::Step;
+use vend_core::{Meter, MeterNo, Sale, Shift, TariffName};
+
+fn whole(n: u32) -> ValueRef<'static>
+    ensures { owned result ≡ number n }
+{
+    ValueRef::Int(i64::from(n))
+}
+
+fn seconds(moment: Moment) -> ValueRef<'static>
+    ensures { owned result ≡ number moment }
+{
+    ValueRef::Int(moment.secs())
+}
+
+/// The name of a tariff.
+pub(crate) fn tariff_values(name: &TariffName) -> [ValueRef<'_>; 1]
+    ensures { bound result ≡ tariff_columns name.now }
+{
+    [ValueRef::Text(name.as_bytes())]
+}
+
+/// A step of a tariff at its place, from 0.
+pub(crate) fn step_values(name: &TariffName, place: u32, step: Step) -> [ValueRef<'_>; 4]
+    ensures { bound result
+        ≡ step_columns (record { tariff = name.now; place = place; step = step }) }
+{
+    let ends = match step.ends {
+        Some(ends) => whole(ends),
+        None => ValueRef::Null,
+    };
+    [
+        ValueRef::Text(name.as_bytes()),
+        whole(place),
+        ends,
+        whole(step.price),
+    ]
+}
+
+/// A meter with its number and the text of its key.
+#[tactic(auto, using(crate::proofs::KeyTextLemmas::is_stored_text))]
+pub(crate) fn meter_values<'a>(
+    meter_no: &'a MeterNo,
+    meter: &'a Meter,
+    secret: &'a [u8; 16],
+) -> [ValueRef<'a>; 4]
+    requires { IsKeyText meter.now.key secret.now }
+    ensures { bound result ≡ meter_columns (meter_no.now, meter.now) }
+{
+    [
+        ValueRef::Text(meter_no.as_bytes()),
+        whole(meter.base.year()),
+        ValueRef::Text(meter.tariff.as_bytes()),
+        ValueRef::Text(secret),
+    ]
+}
+
+/// A shift.
+pub(crate) fn shift_values(shift: &Shift) -> [ValueRef<'_>; 4]
+    ensures { bound result ≡ shift_columns shift.now }
+{
+    let closed = match shift.closed {
+        Some(closed) => seconds(closed),
+        None => ValueRef::Null,
+    };
+    [
+        whole(shift.number),
+        ValueRef::Text(shift.operator.as_bytes()),
+        seconds(shift.opened),
+        closed,
+    ]
+}
+
+/// A sale, with the month of its moment.
+pub(crate) fn sale_values(sale: &Sale) -> [ValueRef<'_>; 14]
+    ensures { bound result ≡ sale_columns sale.now }
+{
+    let month = month_of(sale.moment).unwrap();
+    [
+        whole(sale.number),
+        seconds(sale.moment),
+        whole(month),
+        whole(sale.shift),
+        ValueRef::Text(sale.operator.as_bytes()),
+        ValueRef::Text(sale.order_ref.as_bytes()),
+        ValueRef::Text(sale.meter.as_bytes()),
+        whole(sale.base.year()),
+        whole(sale.tid),
+        whole(u32::from(sale.rnd)),
+        whole(sale.tenths.tenths()),
+        whole(sale.price),
+        whole(sale.tender.cents()),
+        ValueRef::Text(&sale.digits),
+    ]
+}

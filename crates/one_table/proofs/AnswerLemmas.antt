@@ -1,0 +1,171 @@
+-- A query that runs where its text was compiled just before.
+use Rattle.std.proofs.Common.{◌≡◌, ℕ, ◌+◌, ◌<◌, ◌≤◌, length, take, get_or, List, [], ◌∷◌, ◌++◌, Result, Ok, Err, None, IfOk, IfErr, OnOk, OnErr, false, sym, subst, ◌∙◌, ap, inl, inr, true, arith}
+use Rattle.std.proofs.lemmas.List.{take_more}
+use Rattle.std.specs.List.{AllZip}
+use Rattle.sqlite_value.specs.Order.{Row}
+use Rattle.sqlite_trees.specs.declared.error.StoreError.{StoreError}
+use Rattle.sqlite_trees.specs.declared.error.StoreError.TheVariants.{OutOfMemory, Io, Corrupt, Full, Broken, Unstorable}
+use Rattle.sqlite.specs.declared.error.Error.{Error}
+use Rattle.sqlite.specs.Clock.{timed}
+use Rattle.sqlite.specs.Effect.{Database, RefusesToRead}
+use Rattle.sqlite.specs.Listing.{understood, reads_listing, IsSourceOf}
+use Rattle.sqlite.specs.Given.{IsPlain}
+use Rattle.sqlite.specs.State.{State, HasCleanDisk, IsStatement, IsNoStatement, IsNotRun, IsUnchanged, IsRolledBack, HasCause, Fails, Survives, CommitsShowing, Shown, Begins, ShowsRows, FailsToShow, FailsToQuery}
+use Rattle.sqlite.proofs.StateLemmas.{survives_then}
+use Rattle.sqlite.proofs.Callers.{unchanged_then, never_commits, shown_begins}
+use Rattle.one_table.specs.declared.read_fault.ReadFault.{ReadFault}
+use Rattle.one_table.specs.declared.read_fault.ReadFault.TheVariants.{Database as Failed, Row as Bad, TooMuch}
+use Rattle.one_table.specs.ReadFaults.{OnlyWhere}
+use Rattle.one_table.specs.Answer.{OnlyAsks, IsLeft, FailsToRead}
+
+pub read_push : {X : Type 0} (R : Row → X → Type 0) (rows : List Row) (xs : List X) (row : Row) (x : X) → AllZip R rows xs → R row x → AllZip R (rows ++ row ∷ []) (xs ++ x ∷ [])
+read_push R [] [] row x all here = (here, tt)
+read_push R [] (y ∷ ys) row x all here = absurd all
+read_push R (r ∷ rows) [] row x all here = absurd all
+read_push R (r ∷ rows) (y ∷ ys) row x all here = (all.0, read_push R rows ys row x all.1 here)
+
+-- one more row of those that were taken so far
+pub read_more : {X : Type 0} (R : Row → X → Type 0) (rows : List Row) (i : ℕ) (xs : List X) (row : Row) (x : X) → i < length rows → row ≡ get_or rows i row → AllZip R (take i rows) xs → R row x
+    → AllZip R (take (i + 1) rows) (xs ++ x ∷ [])
+read_more R rows i xs row x low is all here =
+    subst (λ taken. AllZip R taken (xs ++ x ∷ [])) (ap (λ r. take i rows ++ r ∷ []) is ∙ sym (take_more rows i row low)) (read_push R (take i rows) xs row x all here)
+
+rolled_back_then : (old mid new : State) → IsUnchanged old mid → IsRolledBack mid new → IsRolledBack old new
+rolled_back_then old mid new same back = record {
+  was_open = λ _. same.0.was_open;
+  undone = λ k. ((back.undone k).0 ∙ same.0.committed_is, (back.undone k).1 ∙ same.0.committed_is);
+  autocommit = back.autocommit;
+  unmarked = back.unmarked;
+  counts = record { changes = back.counts.changes ∙ same.1.changes; last_rowid = back.counts.last_rowid ∙ same.1.last_rowid };
+}
+
+pub left_then : (old mid new : State) → IsUnchanged old mid → IsLeft mid new → IsLeft old new
+left_then old mid new same (inl kept) = inl (unchanged_then old mid new same kept)
+left_then old mid new same (inr back) = inr (rolled_back_then old mid new same back)
+
+caused : (old mid new : State) (big : Type 0) (cause : StoreError) → IsUnchanged old mid → old.faults ≤ mid.faults → HasCause mid new big cause → HasCause old new big cause
+caused old mid new big OutOfMemory same more h = tt
+caused old mid new big Io same more h = omega arith
+caused old mid new big Corrupt same more h = omega arith
+caused old mid new big Full same more h = omega arith
+caused old mid new big Broken same more h = let shut : true ≡ false = sym same.0.is_open ∙ h in cc
+caused old mid new big Unstorable same more h = h
+
+fails_then : (old mid new : State) (big : Type 0) (e : Error) → IsUnchanged old mid → old.faults ≤ mid.faults → Fails mid new big e → Fails old new big e
+fails_then old mid new big e same more h = (h.0, h.1, caused old mid new big h.0 same more h.2, rolled_back_then old mid new same h.3, h.4)
+
+abbrev NoStatementIn : Database → List ℕ → Row → Error → State → Type 0
+NoStatementIn db sql params e s = IsNoStatement (record s { now = db }) sql params e
+
+module _ (sql : List ℕ) (params : Row) (old mid new : State) (same : IsUnchanged old mid) where
+  abbrev statement_before : (c : _) → IsStatement mid sql params c → IsStatement old sql params c
+  statement_before c it = record { is = subst (λ (d : Database). understood d.schema sql ≡ Ok c) same.0.now_is it.is; whole = it.whole; given = it.given; now = it.now }
+
+  not_run_before : (e : Error) → old.faults ≤ mid.faults → IsNotRun mid new sql params e → IsNotRun old new sql params e
+  unfolding IsNotRun
+  not_run_before e more (inl h) = inl (subst (λ (d : Database). NoStatementIn d sql params e old) same.0.now_is h.0, unchanged_then old mid new same h.1)
+  not_run_before e more (inr h) = inr (fails_then old mid new ⊥ e same more h)
+
+  module _ (plain : IsPlain (understood old.now.schema sql)) where
+    none_shown : (c : _) → IsStatement mid sql params c → (c.returning ≡ None)
+    none_shown c it = (subst IsPlain (statement_before c it).is plain).0
+
+    pub shown_before : (rows : List Row) → Shown sql params mid new rows → Shown sql params old new rows
+    unfolding Shown
+    shown_before rows h =
+        let none = none_shown h.0 h.1 in
+        let full = timed params h.0.formats h.1.now in
+        let it = subst (ShowsRows mid new sql h.0 full rows) none h.2 in (
+          h.0,
+          statement_before h.0 h.1,
+          subst (ShowsRows old new sql h.0 full rows) (sym none)
+              (it.0, subst (λ (d : Database). IsSourceOf (reads_listing d.schema sql) d it.0) same.0.now_is it.1, it.2, unchanged_then old mid new same it.3),
+        )
+
+    pub fails_before : (e : Error) → old.faults ≤ mid.faults → mid.step_limit ≡ old.step_limit → FailsToQuery sql params mid new e → FailsToQuery sql params old new e
+    unfolding FailsToQuery
+    fails_before e more limit (inl h) = inl (not_run_before e more h)
+    fails_before e more limit (inr h) =
+        let none = none_shown h.0 h.1 in
+        let full = timed params h.0.formats h.1.now in
+        let it = subst (FailsToShow mid new sql h.0 full e) none h.2 in inr (
+          h.0,
+          statement_before h.0 h.1,
+          subst (FailsToShow old new sql h.0 full e) (sym none)
+              (it.0, subst (λ (d : Database). IsSourceOf (reads_listing d.schema sql) d it.0) same.0.now_is it.1, subst (λ l. RefusesToRead l h.0.command it.0 full e) limit it.2, unchanged_then old mid new same it.3),
+        )
+
+module _ (sql : List ℕ) (params : Row) (old new : State) (plain : IsPlain (understood old.now.schema sql)) where
+  pub shown_same : (rows : List Row) → Shown sql params old new rows → IsUnchanged old new
+  unfolding Shown
+  shown_same rows h =
+      let none = (subst IsPlain h.1.is plain).0 in
+      (subst (ShowsRows old new sql h.0 (timed params h.0.formats h.1.now) rows) none h.2).3
+
+  pub fails_left : (e : Error) → FailsToQuery sql params old new e → IsLeft old new
+  unfolding FailsToQuery IsNotRun
+  fails_left e (inl (inl h)) = inl h.1
+  fails_left e (inl (inr h)) = inr h.3
+  fails_left e (inr h) =
+      let none = (subst IsPlain h.1.is plain).0 in
+      inl (subst (FailsToShow old new sql h.0 (timed params h.0.formats h.1.now) e) none h.2).3
+
+pub not_run_left : (sql : List ℕ) (params : Row) (old new : State) (e : Error) → IsNotRun old new sql params e → IsLeft old new
+unfolding IsNotRun
+not_run_left sql params old new e (inl h) = inl h.1
+not_run_left sql params old new e (inr h) = inr h.3
+
+pub not_run_fails : (sql : List ℕ) (params : Row) (old new : State) (e : Error) → IsNotRun old new sql params e → FailsToQuery sql params old new e
+unfolding FailsToQuery
+not_run_fails sql params old new e h = inl h
+
+-- the text was compiled where the connection was open, and runs then
+pub asks_survives : (sql text : List ℕ) (params : Row) (old mid new : State) → OnlyAsks old sql → (HasCleanDisk mid → (text ≡ sql) × IsUnchanged old mid) → Survives old mid (λ _. ⊥)
+    → Survives mid new (CommitsShowing text params mid) → Survives old new (λ _. ⊥)
+asks_survives sql text params old mid new asks made first second =
+    survives_then old mid new (λ _. ⊥) (CommitsShowing text params mid) (λ _. ⊥) (λ _ db none. none)
+    (λ clean db commits. let it = made (omega (arith, second.clean)) in
+    never_commits sql params mid db (subst (λ (d : Database). IsPlain (understood d.schema sql)) (sym it.1.0.now_is) (asks it.1.0.was_open)) (rw it.0 at commits))
+    first second
+
+-- what a query leaves, with the answer's rows as `items` gives them
+pub record HasAsked {V : Type 0} (items : V → List Row) (sql : List ℕ) (params : Row) (old new : State) (r : Result V Error) : Type 0 where
+  pub given : IfOk r (λ v. Shown sql params old new (items v))
+  pub same : OnOk r (IsUnchanged old new)
+  pub kept : OnErr r (IsLeft old new)
+  pub faults : IfErr r (FailsToQuery sql params old new)
+
+pub has_asked : {V : Type 0} (items : V → List Row) (sql text : List ℕ) (params : Row) (old mid new : State) (r : Result V Error) → OnlyAsks old sql → text ≡ sql → IsUnchanged old mid → Survives old mid (λ _. ⊥)
+    → IfOk r (λ v. Shown text params mid new (items v)) → IfErr r (FailsToQuery text params mid new) → HasAsked items sql params old new r
+has_asked items sql text params old mid new (Ok v) asks is same kept h none =
+    let plain = asks same.0.was_open in
+    let shown = shown_before sql params old mid new same plain (items v) (rw is at h) in
+    record { given = shown; same = shown_same sql params old new plain (items v) shown; kept = tt; faults = tt }
+has_asked items sql text params old mid new (Err e) asks is same kept none h =
+    let plain = asks same.0.was_open in
+    let fails = fails_before sql params old mid new same plain e kept.counts kept.limit (rw is at h) in
+    record { given = tt; same = tt; kept = fails_left sql params old new plain e fails; faults = fails }
+
+-- a row of the answer was refused, or there was no memory
+pub stops_at : (IsReadable : Row → Type 0) (sql : List ℕ) (params : Row) (old new : State) (rows : List Row) (i : ℕ) (row : Row) → i < length rows → row ≡ get_or rows i row
+    → Begins sql params new rows → IsUnchanged old new → (why : ReadFault) → OnlyWhere (¬ IsReadable row) why → FailsToRead IsReadable sql params old new why
+stops_at IsReadable sql params old new rows i row low is begins same (Failed e) (inl none) = inr (none, same)
+stops_at IsReadable sql params old new rows i row low is begins same Bad (inl none) = cc
+stops_at IsReadable sql params old new rows i row low is begins same TooMuch (inl none) = cc
+stops_at IsReadable sql params old new rows i row low is begins same (Failed e) (inr bad) = absurd (let no = bad.0 in cc)
+stops_at IsReadable sql params old new rows i row low is begins same Bad (inr bad) = (record { rows = rows; begins = begins; bad = (i, row, low, sym is, bad.1) }, same)
+stops_at IsReadable sql params old new rows i row low is begins same TooMuch (inr bad) = absurd (let no = bad.0 in cc)
+
+-- the same of an answer that was taken whole
+pub stops_in : (IsReadable : Row → Type 0) (sql : List ℕ) (params : Row) (old new : State) → OnlyAsks old sql → (rows : List Row) (i : ℕ) (row : Row) → i < length rows → row ≡ get_or rows i row
+    → Shown sql params old new rows → IsUnchanged old new → (why : ReadFault) → OnlyWhere (¬ IsReadable row) why → FailsToRead IsReadable sql params old new why
+stops_in IsReadable sql params old new asks rows i row low is shown same =
+    stops_at IsReadable sql params old new rows i row low is (shown_begins sql params old new rows (asks same.0.was_open) shown) same
+
+-- a query that failed right after its text was compiled
+pub fails_asked : (sql text : List ℕ) (params : Row) (old mid new : State) (e : Error) → OnlyAsks old sql → (text ≡ sql) × IsUnchanged old mid → Survives old mid (λ _. ⊥) → FailsToQuery text params mid new e
+    → IsLeft old new × FailsToQuery sql params old new e
+fails_asked sql text params old mid new e asks made kept h =
+    let plain = asks made.1.0.was_open in
+    let fails = fails_before sql params old mid new made.1 plain e kept.counts kept.limit (rw made.0 at h) in
+    (fails_left sql params old new plain e fails, fails)

@@ -1,0 +1,25 @@
+-- A column keeps a value of its own kind.
+use Rattle.std.proofs.Common.{◌≡◌, ℕ, ℤ, Bool, true, false, cond, List, refl}
+use Rattle.sqlite_value.specs.declared.value.Value.{Value}
+use Rattle.sqlite_value.specs.declared.value.Value.TheVariants.{Null, Int, Text as Words}
+use Rattle.sqlite_sql.specs.Ops.{unary}
+use Rattle.sqlite_schema.specs.declared.schema.Kind.TheVariants.{Integer, Text}
+use Rattle.sqlite_rules.specs.Cast.{cast}
+
+either : (b : Bool) (x : Value) → cond b x x ≡ x
+either true x = refl
+either false x = refl
+
+pub cast_int : (n : ℤ) → cast Integer (Int n) ≡ Int n
+unfolding unary
+cast_int n = either _ (Int n)
+
+pub cast_no_int : cast Integer Null ≡ Null
+unfolding unary
+cast_no_int = either _ Null
+
+pub cast_text : (text : List ℕ) → cast Text (Words text) ≡ Words text
+cast_text text = refl
+
+pub cast_no_text : cast Text Null ≡ Null
+cast_no_text = refl

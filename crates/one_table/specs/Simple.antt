@@ -1,0 +1,106 @@
+-- Expressions that read the row of one table, and the schema in which that table stands alone.
+use Rattle.std.specs.Prelude.{ℕ, zero, suc, Bool, true, false, not, ◌&&◌, ◌==◌, List, [], ◌∷◌, length, bytes_eq, Option, Some, None, is_some}
+use Rattle.std.specs.List.{list_all}
+use Rattle.sqlite_ast.specs.declared.Expr.{Expr, out-Expr}
+use Rattle.sqlite_ast.specs.declared.Expr.TheOpen.{Expr-F, Shown-F}
+use Rattle.sqlite_ast.specs.declared.Core.{Core, out-Core}
+use Rattle.sqlite_ast.specs.declared.Origin.{Origin}
+use Rattle.sqlite_ast.specs.declared.Origin.TheVariants as origin
+use Rattle.sqlite_ast.specs.declared.Select.{Select, out-Select}
+use Rattle.sqlite_ast.specs.declared.Shown.{Shown, out-Shown}
+use Rattle.sqlite_ast.specs.declared.Sort.{Sort, out-Sort}
+use Rattle.sqlite_ast.specs.declared.Source.{Source, out-Source}
+use Rattle.sqlite_ast.specs.Layer.{Layer, ShownLayer}
+use Rattle.sqlite_schema.specs.Names.{column_named}
+use Rattle.sqlite_schema.specs.declared.schema.Schema.{Schema}
+use Rattle.sqlite_schema.specs.declared.schema.Table.{Table}
+use Rattle.sqlite_resolve.specs.declared.scope.Bound.{Bound}
+use Rattle.sqlite_resolve.specs.declared.scope.Output.{Output}
+use Rattle.sqlite_resolve.specs.Order.{peeled}
+use Rattle.sqlite_resolve.specs.Scope.{Context, Name}
+
+-- the schema that has this table and nothing else
+abbrev pub one : Table → Schema
+one t = record { tables = t ∷ []; indexes = []; views = [] }
+
+-- NULL, an integer, a text, a parameter, a column of the table by its bare name, or an operator on two of these
+abbrev pub is_simple_at : (Expr → Bool) → Table → Layer → Bool
+is_simple_at again t Expr-F.Null = true
+is_simple_at again t (Expr-F.Integer text) = true
+is_simple_at again t (Expr-F.Text text) = true
+is_simple_at again t (Expr-F.Parameter n) = true
+is_simple_at again t (Expr-F.Column None name) = is_some (column_named t name)
+is_simple_at again t (Expr-F.Binary op a b) = again a && again b
+is_simple_at again t _ = false
+
+-- the same, nested less deep than the number
+abbrev pub is_simple : ℕ → Table → Expr → Bool
+is_simple zero t e = false
+is_simple (suc n) t e = is_simple_at (is_simple n t) t (out-Expr e)
+
+-- expressions nest no deeper than this
+abbrev pub depth : ℕ
+depth = 20
+
+abbrev pub is_simple_or_absent : Table → Option Expr → Bool
+is_simple_or_absent t None = true
+is_simple_or_absent t (Some e) = is_simple depth t e
+
+abbrev pub is_simple_output_at : Table → ShownLayer → Bool
+is_simple_output_at t (Shown-F.One e alias text) = is_simple depth t e
+is_simple_output_at t _ = false
+
+abbrev pub is_simple_output : Table → Shown → Bool
+is_simple_output t s = is_simple_output_at t (out-Shown s)
+
+abbrev pub is_simple_sort : Table → Sort → Bool
+is_simple_sort t s = is_simple depth t (peeled (out-Sort s).key)
+
+-- a number or a parameter, as after LIMIT
+abbrev pub is_count_at : Layer → Bool
+is_count_at (Expr-F.Integer text) = true
+is_count_at (Expr-F.Parameter n) = true
+is_count_at _ = false
+
+abbrev pub is_count_or_absent : Option Expr → Bool
+is_count_or_absent None = true
+is_count_or_absent (Some e) = is_count_at (out-Expr e)
+
+-- the table by its name
+abbrev pub names_it : Table → Origin Select → Bool
+names_it t (origin.Table name) = bytes_eq name t.name
+names_it t (origin.Query s) = false
+
+-- the table, with no alias
+abbrev pub is_source : Table → Source → Bool
+is_source t s =
+    names_it t (out-Source s).origin && not (out-Source s).is_left && not (is_some (out-Source s).alias) && not (is_some (out-Source s).on) && (length (out-Source s).using == 0)
+
+-- FROM has the table alone
+abbrev pub is_from : Table → List Source → Bool
+is_from t [] = false
+is_from t (s ∷ []) = is_source t s
+is_from t (s ∷ more ∷ others) = false
+
+abbrev pub is_simple_core : Table → Core → Bool
+is_simple_core t core =
+    is_from t (out-Core core).from && list_all (is_simple_output t) (out-Core core).shown && is_simple_or_absent t (out-Core core).filter
+    && (length (out-Core core).group == 0) && not (is_some (out-Core core).having)
+
+-- columns of the one table, by WHERE, ORDER BY, LIMIT and OFFSET
+abbrev pub is_simple_select : Table → Select → Bool
+is_simple_select t s =
+    is_simple_core t (out-Select s).first && (length (out-Select s).with == 0) && (length (out-Select s).others == 0) && list_all (is_simple_sort t) (out-Select s).order
+    && is_count_or_absent (out-Select s).limit && is_count_or_absent (out-Select s).offset
+
+abbrev pub bound_at : ℕ → Name → Bound
+bound_at at name = record { name = name; table = at; slot = 1; shared = [] }
+
+-- an expression is read where slot 1 has a row of the table at this place
+abbrev pub reading : Schema → ℕ → Name → List Output → Bool → Context
+reading s at name shown may_aggregate = record {
+  schema = s;
+  levels = (record { tables = bound_at at name ∷ []; shown = shown }) ∷ [];
+  may_aggregate = may_aggregate;
+  may_alias = true;
+}

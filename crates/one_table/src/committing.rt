@@ -1,0 +1,68 @@
+ghost use Rattle.std.specs.Prelude.{◌≡◌, true, false, IsTrue, IfErr, OnOk, OnErr, MatchResult};
+ghost use Rattle.sqlite_trees.specs.Tree.{Trees};
+ghost use Rattle.sqlite.specs.Effect.{Database};
+ghost use Rattle.sqlite.specs.State.{HasCleanDisk, Shows, KeepsCommit, Survives};
+ghost use Rattle.sqlite.specs.Held.{state};
+ghost use Rattle.one_table.specs.Committing.{IsUndone, HasCommitted, LeavesMade, Risks};
+
+use sqlite::{Alter, Connection, Error, Transaction};
+
+/// A change of a database, which is made inside a transaction and commits nothing by itself.
+pub trait Change<S: Alter> {
+    type Fault;
+
+    // What the database is before and after it.
+    ghost makes: { Self → Database → Database → Type 0 };
+
+    fn make(&self, tx: &mut Transaction<'_, S>) -> Result<(), Self::Fault>
+        ensures same_reference { tx.new.conn.ghost_name ≡ tx.old.conn.ghost_name }
+        ensures made { HasCleanDisk (state S.Store tx.new.conn.now)
+            → OnOk result (makes self.now (state S.Store tx.old.conn.now).now
+            (state S.Store tx.new.conn.now).now
+            × Shows (state S.Store tx.old.conn.now) (state S.Store tx.new.conn.now)
+            (state S.Store tx.new.conn.now).now (state S.Store tx.old.conn.now).committed true) }
+        ensures kept { HasCleanDisk (state S.Store tx.new.conn.now)
+            → KeepsCommit (state S.Store tx.old.conn.now) (state S.Store tx.new.conn.now) }
+        ensures survives { Survives
+            (state S.Store tx.old.conn.now) (state S.Store tx.new.conn.now) (λ _. ⊥) };
+}
+
+/// Why a change is not known to be committed.
+#[derive(Debug, Drop)]
+pub enum CommitFault<F> {
+    /// The change was not made, and nothing of it is left.
+    Unmade(F),
+    /// The commit failed, for want of memory or by the disk. While the connection is open nothing of
+    /// the change is there, but after a crash it may be.
+    InDoubt(Error),
+}
+
+/// Makes a change in a transaction of its own, and commits it once.
+pub fn change_once<S: Alter, C: Change<S>>(
+    conn: &mut Connection<S>,
+    change: &C,
+) -> Result<(), CommitFault<C::Fault>>
+    requires { conn.old.in_transaction ≡ false }
+    ensures committed { HasCleanDisk (state S.Store conn.new)
+        → OnOk result ((db : Database) × C.makes change.now (state S.Store conn.old).now db
+        × HasCommitted db (state S.Store conn.old) (state S.Store conn.new)) }
+    ensures undone { HasCleanDisk (state S.Store conn.new)
+        → OnErr result (IsUndone (state S.Store conn.old) (state S.Store conn.new)) }
+    ensures risks { IfErr result (Risks (C.makes change.now)
+        (state S.Store conn.old) (state S.Store conn.new)) }
+    ensures crash { Survives (state S.Store conn.old) (state S.Store conn.new)
+        (LeavesMade (C.makes change.now) (state S.Store conn.old).now) }
+    ensures exact { IsTrue (state S.Store conn.new).is_open
+        → (trees : Trees) → (state S.Store conn.new).may_leave trees
+        → trees ≡ (state S.Store conn.new).committed.trees }
+    ensures autocommit { conn.new.in_transaction ≡ false }
+{
+    let mut tx = conn.transaction();
+    if let Err(fault) = change.make(&mut tx) {
+        return Err(CommitFault::Unmade(fault));
+    }
+    match tx.commit() {
+        Ok(()) => Ok(()),
+        Err(error) => Err(CommitFault::InDoubt(error)),
+    }
+}

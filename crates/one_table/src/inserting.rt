@@ -1,0 +1,42 @@
+ghost use Rattle.std.specs.Prelude.{◌≡◌, ◌⊎◌, ℕ, List, IsTrue, OnOk, OnErr, true};
+ghost use Rattle.sqlite.specs.Values.{bound};
+ghost use Rattle.sqlite.specs.State.{HasCleanDisk, Survives, Shows, KeepsCommit};
+ghost use Rattle.sqlite.specs.Held.{state};
+ghost use Rattle.sqlite.specs.Table.{Table};
+ghost use Rattle.sqlite.specs.Term.{Term};
+ghost use Rattle.one_table.specs.Place.{Has};
+ghost use Rattle.one_table.specs.Answer.{IsLeft};
+ghost use Rattle.one_table.specs.Inserting.{IsInsert, new_row};
+ghost use Rattle.one_table.specs.InTransaction.{PutsRow};
+
+use crate::writing::run;
+use sqlite::types::ValueRef;
+use sqlite::{Alter, Error, Transaction};
+
+/// Puts one row into a table, by a text that names its columns.
+pub fn insert<S: Alter>(
+    tx: &mut Transaction<'_, S>,
+    sql: &str,
+    params: &[ValueRef<'_>],
+) -> Result<(), Error>
+    ensures same_reference { tx.new.conn.ghost_name ≡ tx.old.conn.ghost_name }
+    ensures added { HasCleanDisk (state S.Store tx.new.conn.now)
+        → (t : Table) (at : ℕ) (terms : List Term) → IsInsert t terms sql.now
+        → (IsTrue (state S.Store tx.old.conn.now).is_open
+        → Has (state S.Store tx.old.conn.now).now.schema at t)
+        → OnOk result (PutsRow t (new_row t terms (bound params.now)
+        ((state S.Store tx.old.conn.now).now.trees t.tree))
+        (state S.Store tx.old.conn.now) (state S.Store tx.new.conn.now)) }
+    ensures inside { HasCleanDisk (state S.Store tx.new.conn.now)
+        → OnOk result (Shows (state S.Store tx.old.conn.now) (state S.Store tx.new.conn.now)
+        (state S.Store tx.new.conn.now).now (state S.Store tx.old.conn.now).committed true) }
+    ensures kept { HasCleanDisk (state S.Store tx.new.conn.now)
+        → KeepsCommit (state S.Store tx.old.conn.now) (state S.Store tx.new.conn.now) }
+    ensures refused { HasCleanDisk (state S.Store tx.new.conn.now)
+        → OnErr result (IsLeft (state S.Store tx.old.conn.now) (state S.Store tx.new.conn.now)
+        ⊎ (tx.new.conn.now ≡ tx.old.conn.now)) }
+    ensures survives { Survives
+        (state S.Store tx.old.conn.now) (state S.Store tx.new.conn.now) (λ _. ⊥) }
+{
+    run(tx, sql, params)
+}

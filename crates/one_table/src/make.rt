@@ -1,0 +1,56 @@
+//! CREATE TABLE inside a transaction: what it makes, and what it leaves as it was.
+ghost use Rattle.std.specs.Prelude.{◌≡◌, ◌<◌, ◌⊎◌, true, List, Ok, OnOk, OnErr, IsTrue, map, length};
+ghost use Rattle.std.specs.List.{list_all};
+ghost use Rattle.sqlite.specs.Effect.{IsDatabase};
+ghost use Rattle.sqlite.specs.Held.{state};
+ghost use Rattle.sqlite.specs.State.{HasCleanDisk, IsRolledBack, IsUnchanged, KeepsCommit, Shows, Survives};
+ghost use Rattle.sqlite_resolve.specs.Compile.{table_defined_by};
+ghost use Rattle.sqlite_schema.specs.declared.schema.Table.{Table};
+ghost use Rattle.one_table.specs.Making.{is_creation, AreDefined, MakesTable, MakesTables, StaysInside};
+
+use sqlite::{Alter, Error, Transaction};
+
+/// Makes the table that a text defines.
+fn create_table<S: Alter>(tx: &mut Transaction<'_, S>, text: &str) -> Result<(), Error>
+    requires { is_creation text.now ≡ true }
+    ensures same_reference { tx.new.conn.ghost_name ≡ tx.old.conn.ghost_name }
+    ensures added { HasCleanDisk (state S.Store tx.new.conn.now)
+        → (t : Table) → table_defined_by text.now ≡ Ok t → OnOk result (MakesTable t
+        (state S.Store tx.old.conn.now).now (state S.Store tx.new.conn.now).now) }
+    ensures kept { HasCleanDisk (state S.Store tx.new.conn.now)
+        → OnOk result (StaysInside (state S.Store tx.old.conn.now) (state S.Store tx.new.conn.now)) }
+    ensures refused { HasCleanDisk (state S.Store tx.new.conn.now)
+        → OnErr result (KeepsCommit (state S.Store tx.old.conn.now) (state S.Store tx.new.conn.now)) }
+    ensures survives { Survives (state S.Store tx.old.conn.now) (state S.Store tx.new.conn.now) (λ _. ⊥) }
+{
+    tx.execute(text, &[])?;
+    Ok(())
+}
+
+/// Makes the tables that the texts define, one after the other.
+///
+/// Other tables stay where they are, with their rows, whatever they are. The tables that were made
+/// before an error go with the transaction, which the caller drops.
+///
+/// # Errors
+/// A name that is taken, and what the store refuses.
+pub fn create_tables<S: Alter>(tx: &mut Transaction<'_, S>, texts: &[&str]) -> Result<(), Error>
+    requires some { 0 < length texts.now }
+    requires creations { list_all (λ t. is_creation t.now) texts.now ≡ true }
+    ensures same_reference { tx.new.conn.ghost_name ≡ tx.old.conn.ghost_name }
+    ensures added { HasCleanDisk (state S.Store tx.new.conn.now)
+        → (IsTrue (state S.Store tx.old.conn.now).is_open
+        → IsDatabase (state S.Store tx.old.conn.now).now)
+        → (ts : List Table) → AreDefined (map (λ t. t.now) texts.now) ts → OnOk result (MakesTables
+        ts (state S.Store tx.old.conn.now).now (state S.Store tx.new.conn.now).now) }
+    ensures kept { HasCleanDisk (state S.Store tx.new.conn.now)
+        → OnOk result (StaysInside (state S.Store tx.old.conn.now) (state S.Store tx.new.conn.now)) }
+    ensures refused { HasCleanDisk (state S.Store tx.new.conn.now)
+        → OnErr result (KeepsCommit (state S.Store tx.old.conn.now) (state S.Store tx.new.conn.now)) }
+    ensures survives { Survives (state S.Store tx.old.conn.now) (state S.Store tx.new.conn.now) (λ _. ⊥) }
+{
+    'texts: for text in texts {
+        create_table(tx, text)?;
+    }
+    Ok(())
+}
