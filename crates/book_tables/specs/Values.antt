@@ -32,9 +32,9 @@ IsClosing closed = IfSome closed IsMoment
 abbrev pub IsTid : ℕ → Type 0
 IsTid tid = tid ≤ last_tid
 
--- an amount that a sale can be of: one that a token can carry, and not nothing
+-- an amount that a sale can be of: one that a token can carry
 abbrev pub IsSoldAmount : ℕ → Type 0
-IsSoldAmount tenths = (1 ≤ tenths) × IsRepresentable tenths
+IsSoldAmount tenths = IsRepresentable tenths
 
 -- a key is a number of 64 bits
 abbrev pub IsKey : ℕ → Type 0

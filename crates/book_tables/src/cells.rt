@@ -130,7 +130,7 @@ pub(crate) fn amount_at(row: &Row, at: usize) -> Option<Amount>
     ensures { ReadsBack number IsSoldAmount (column row.now at) result }
 {
     amount_law();
-    match between_at(row, at, 1, Amount::MAX_TENTHS) {
+    match between_at(row, at, 0, Amount::MAX_TENTHS) {
         Some(tenths) => Amount::of_tenths(tenths),
         None => None,
     }

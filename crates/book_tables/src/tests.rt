@@ -127,7 +127,7 @@ fn single_columns(rt: HostRuntime) -> Result<(), Fail> {
     let row = answer(rt.alloc(), "SELECT 0", &[])?;
     assert_eq!(rt; number_of(&row), None);
     assert_eq!(rt; tid_of(&row), Some(0));
-    assert_eq!(rt; amount_of(&row), None);
+    assert_eq!(rt; amount_of(&row), Amount::of_tenths(0));
     let row = answer(rt.alloc(), "SELECT 1, 1", &[])?;
     assert_eq!(rt; number_of(&row), None);
     Ok(())

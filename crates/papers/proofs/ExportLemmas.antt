@@ -1,5 +1,5 @@
 -- The records of an export, one behind the other.
-use Rattle.std.proofs.Common.{◌≡◌, ◌∙◌, ◌+◌, ◌<◌, ℕ, [], ◌∷◌, ◌++◌, Bool, false, List, length, get_or, take, ap, append_assoc, sym, arith, pos, ◌≤ℤ◌, w64, to_z, of_z, Some, Result, Ok, Err, IfOk, MatchResult, Vec, Global}
+use Rattle.std.proofs.Common.{◌≡◌, ◌∙◌, ◌+◌, ◌<◌, ℕ, [], ◌∷◌, ◌++◌, Bool, false, List, length, get_or, take, ap, append_assoc, sym, arith, pos, ◌≤◌, w64, to_z, of_z, Some, Result, Ok, Err, IfOk, MatchResult, Vec, Global}
 use Rattle.std.specs.Result.{IsErrAnd}
 use Rattle.std.proofs.lemmas.List.{flat_map_more, take_more}
 use Rattle.std.proofs.lemmas.List.Concat.{flat_map-append}
@@ -37,7 +37,7 @@ items_given Q (Err e) (Ok w) held bytes same keeps failed = absurd failed
 items_given Q (Err e) (Err f) held bytes same keeps failed = tt
 
 -- a moment, read from the bits of a number of 64 bits with a sign
-pub moment_of_bits : (moment : ℕ) → pos moment ≤ℤ pos 4102444799 → to_z w64 (of_z w64 (pos moment)) ≡ pos moment
+pub moment_of_bits : (moment : ℕ) → moment ≤ 4102444799 → to_z w64 (of_z w64 (pos moment)) ≡ pos moment
 moment_of_bits moment last = to_z-of_z w64 (pos moment) (omega (arith, ints))
 
 -- the sales of one list and then those of another

@@ -9,7 +9,7 @@ use Rattle.papers.proofs.exports.put_sale.Goals as goal
 pub returns : goal.returns
 returns c = λ text held.
     let s = c.args.sale.now in
-    let last = rw c.secs.ensures.value at c.secs.ensures.to_last in
+    let last = c.secs.ensures.range.1 in
     let seconds = moment_of_bits s.moment last in
     let written : decimal (nat_abs (to_z w64 (of_z w64 c.secs.result))) ≡ decimal s.moment =
     ap (λ z. decimal (nat_abs (to_z w64 (of_z w64 z)))) c.secs.ensures.value ∙ ap (λ z. decimal (nat_abs z)) seconds in
