@@ -10,9 +10,11 @@ pub mod InsertTextLemmas
 pub mod ChangeLemmas
 pub mod CastLemmas
 pub mod InsertLemmas
+mod InsertExample
 pub mod AppendLemmas
 pub mod UpdateLemmas
 pub mod ListedLemmas
+pub mod ReadLemmas
 pub mod LookUpLemmas
 pub mod TestsLemmas
 pub mod UniqueLemmas

@@ -32,8 +32,8 @@ pub trait Change<S: Alter> {
 pub enum CommitFault<F> {
     /// The change was not made, and nothing of it is left.
     Unmade(F),
-    /// The commit failed, for want of memory or by the disk. While the connection is open nothing of
-    /// the change is there, but after a crash it may be.
+    /// The commit failed, for want of memory or by the disk. A connection that is still open has
+    /// nothing of the change. One that was shut may find the change there when it is opened again.
     InDoubt(Error),
 }
 

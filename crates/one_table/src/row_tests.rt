@@ -5,8 +5,12 @@ use sqlite::{Alter, Connection, Error, Row, Transaction, params};
 use std::alloc::Global;
 use std::test::Fail;
 
-const MAKE: &str =
-    "CREATE TABLE before (a TEXT) STRICT; CREATE TABLE notes (number INTEGER PRIMARY KEY, title TEXT NOT NULL, size INTEGER NOT NULL) STRICT; CREATE TABLE after (a TEXT) STRICT";
+const NOTES: &str =
+    "CREATE TABLE notes (number INTEGER PRIMARY KEY, title TEXT, size INTEGER) STRICT";
+
+const EARLIER: &str = "CREATE TABLE before (a TEXT) STRICT";
+
+const LATER: &str = "CREATE TABLE later (a TEXT) STRICT";
 
 const PUT: &str = "INSERT INTO notes (number, title, size) VALUES (?1, 'note', ?2)";
 
@@ -76,7 +80,9 @@ impl<S: Alter> Change<S> for Edit {
 }
 
 fn make_tables<S: Alter>(conn: &mut Connection<S>) -> Result<(), Error> {
-    conn.execute_batch(MAKE)
+    conn.execute_batch(EARLIER)?;
+    conn.execute_batch(NOTES)?;
+    conn.execute_batch(LATER)
 }
 
 /// `false` where the connection is in a transaction, or the change or its commit failed.
