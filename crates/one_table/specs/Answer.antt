@@ -17,7 +17,8 @@ OnlyAsks s sql = IsTrue s.is_open → IsPlain (understood s.now.schema sql)
 abbrev pub IsLeft : State → State → Type 0
 IsLeft old new = IsUnchanged old new ⊎ IsRolledBack old new
 
-module _ {X : Type 0} (IsReadAs : Row → X → Type 0) (sql : List ℕ) (params : Row) (old new : State) where
+module _ {X : Type 0} (IsReadAs : Row → X → Type 0) (sql : List ℕ) (params : Row)
+    (old new : State) where
   -- an answer of the text has a row for each of the values, in this order, and no other row
   pub record GivesAll (values : List X) : Type 0 where
     pub rows : List Row
@@ -28,7 +29,8 @@ module _ {X : Type 0} (IsReadAs : Row → X → Type 0) (sql : List ℕ) (params
   IsFirst None rows = rows ≡ []
   IsFirst (Some x) rows = (row : Row) × (more : List Row) × (rows ≡ row ∷ more) × IsReadAs row x
 
-  -- the value is that of the first row of an answer, and there is none only where the answer has no row
+  -- the value is that of the first row of an answer, and there is none only where the answer has no
+  -- row
   pub record GivesFirst (value : Option X) : Type 0 where
     pub rows : List Row
     pub shown : Shown sql params old new rows
@@ -43,11 +45,13 @@ module _ (IsReadable : Row → Type 0) (sql : List ℕ) (params : Row) (old new 
 
   -- why a reader stops: only what the database said, or a want of memory, or a bad row
   abbrev pub FailsToRead : ReadFault → Type 0
-  FailsToRead (fault.Database e) = FailsToQuery sql params old new e ⊎ ((fault.Database e ≡ no_memory) × IsUnchanged old new)
+  FailsToRead (fault.Database e) =
+      FailsToQuery sql params old new e ⊎ ((fault.Database e ≡ no_memory) × IsUnchanged old new)
   FailsToRead fault.Row = HasBadRow × IsUnchanged old new
   FailsToRead fault.TooMuch = ⊥
 
-module _ {X A : Type 0} (IsReadAs : Row → X → Type 0) (gathered : A → X → A) (start : A) (sql : List ℕ) (params : Row) (old new : State) where
+module _ {X A : Type 0} (IsReadAs : Row → X → Type 0) (gathered : A → X → A) (start : A)
+    (sql : List ℕ) (params : Row) (old new : State) where
   -- it is gathered from what the rows of an answer stand for, each once and none left out
   pub record GivesGathered (all : A) : Type 0 where
     pub values : List X
@@ -57,7 +61,8 @@ module _ {X A : Type 0} (IsReadAs : Row → X → Type 0) (gathered : A → X �
   module _ (HasRoom : A → X → Type 0) where
     -- the last of the values does not fit, or there are more rows than can be counted
     abbrev pub IsOver : List X → Type 0
-    IsOver values = ((front : List X) × (last : X) × (values ≡ front ++ last ∷ []) × (¬ HasRoom (fold gathered start front) last)) ⊎ (2 ^ 64 ≤ length values + 1)
+    IsOver values = ((front : List X) × (last : X) × (values ≡ front ++ last ∷ [])
+        × (¬ HasRoom (fold gathered start front) last)) ⊎ (2 ^ 64 ≤ length values + 1)
 
     -- what the first rows of an answer stand for is too much
     pub record RunsOver : Type 0 where
@@ -70,6 +75,7 @@ module _ {X A : Type 0} (IsReadAs : Row → X → Type 0) (gathered : A → X �
     module _ (IsReadable : Row → Type 0) where
       -- why a reader that gathers stops
       abbrev pub FailsToGather : ReadFault → Type 0
-      FailsToGather (fault.Database e) = FailsToRead IsReadable sql params old new (fault.Database e)
+      FailsToGather (fault.Database e) =
+          FailsToRead IsReadable sql params old new (fault.Database e)
       FailsToGather fault.Row = FailsToRead IsReadable sql params old new fault.Row
       FailsToGather fault.TooMuch = RunsOver × IsUnchanged old new

@@ -30,7 +30,9 @@ update_of _ = None
 
 -- of this table, by simple expressions
 abbrev pub is_simple_update : Table → Sets → Bool
-is_simple_update t u = bytes_eq u.0 t.name && list_all (λ set. is_simple depth t set.1) u.1 && is_simple_or_absent t u.2
+is_simple_update t u =
+    bytes_eq u.0 t.name && list_all (λ set. is_simple depth t set.1) u.1
+    && is_simple_or_absent t u.2
 
 abbrev pub draft_if_typed : Table → Draft → Checked Query
 draft_if_typed t d = if is_typed t (query_of d) [] then Ok (query_of d) else Err Mismatch
@@ -40,7 +42,9 @@ unfoldable pub sets_meant : Table → Sets → Checked Query
 sets_meant t u = and_then (updated (one t) 0 t u.1 u.2) (draft_if_typed t)
 
 unfoldable pub update_in : Table → Parsed → Checked Query
-update_in t p = and_then (or_else (update_of p.statement) Misuse) (λ u. if (length p.formats == 0) && is_simple_update t u then sets_meant t u else Err Unsupported)
+update_in t p = and_then (or_else (update_of p.statement) Misuse)
+    (λ u.
+    if (length p.formats == 0) && is_simple_update t u then sets_meant t u else Err Unsupported)
 
 unfoldable pub update_meant : Table → List ℕ → Checked Query
 update_meant t sql = and_then (first sql) (update_in t)

@@ -6,7 +6,8 @@ use Rattle.one_table.specs.declared.committing.CommitFault.{CommitFault}
 use Rattle.one_table.specs.declared.committing.CommitFault.TheVariants.{Unmade, InDoubt}
 use Rattle.sqlite.specs.State.{State, Survives}
 
--- If the connection is open, it was open, and it holds what was committed before. No transaction is under way.
+-- If the connection is open, it was open, and it holds what was committed before. No transaction is
+-- under way.
 pub record IsUndone (old new : State) : Type 0 where
   pub was_open : IsTrue new.is_open → IsTrue old.is_open
   pub now_is : IsTrue new.is_open → new.now ≡ old.committed
@@ -14,7 +15,8 @@ pub record IsUndone (old new : State) : Type 0 where
   pub autocommit : new.in_transaction ≡ false
   pub unmarked : new.marks ≡ []
 
--- The connection was open and is, and it holds this database, which is committed. No transaction is under way.
+-- The connection was open and is, and it holds this database, which is committed. No transaction is
+-- under way.
 pub record HasCommitted (db : Database) (old new : State) : Type 0 where
   pub was_open : IsTrue old.is_open
   pub is_open : IsTrue new.is_open
@@ -27,7 +29,9 @@ pub record HasCommitted (db : Database) (old new : State) : Type 0 where
 abbrev pub LeavesMade : (Database → Database → Type 0) → Database → Trees → Type 0
 LeavesMade Makes old trees = (db : Database) × Makes old db × (trees ≡ db.trees)
 
--- a change that was not made leaves nothing new after a crash, and one whose commit failed may be there
-abbrev pub Risks : {F : Type 0} → (Database → Database → Type 0) → State → State → CommitFault F → Type 0
+-- a change that was not made leaves nothing new after a crash, and one whose commit failed may be
+-- there
+abbrev pub Risks : {F : Type 0} → (Database → Database → Type 0) → State → State → CommitFault F
+    → Type 0
 Risks Makes old new (Unmade why) = Survives old new (λ _. ⊥)
 Risks Makes old new (InDoubt e) = Survives old new (LeavesMade Makes old.now)

@@ -42,12 +42,14 @@ Puts = Name × List Name × List Expr
 
 -- an INSERT of one row, which is refused where a row is in its way, and shows nothing
 abbrev pub insert_of : Statement → Option Puts
-insert_of (written.Insert conflict.Abort name columns (rows.Values (row ∷ [])) [] []) = Some (name, columns, row)
+insert_of (written.Insert conflict.Abort name columns (rows.Values (row ∷ [])) [] []) =
+    Some (name, columns, row)
 insert_of _ = None
 
 -- into this table, of simple values, and with no default that reads the time
 abbrev pub is_simple_insert : Table → Puts → Bool
-is_simple_insert t w = bytes_eq w.0 t.name && (length t.stamps.formats == 0) && list_all is_value w.2
+is_simple_insert t w =
+    bytes_eq w.0 t.name && (length t.stamps.formats == 0) && list_all is_value w.2
 
 -- the row where the table stands alone, for a text with so many parameters
 unfoldable pub puts_meant : Table → ℕ → Puts → Checked Source
@@ -55,7 +57,11 @@ puts_meant t count w = new_rows (one t) t count w.1 (rows.Values (w.2 ∷ []))
 
 unfoldable pub insert_in : Table → Parsed → Checked Source
 insert_in t p =
-    and_then (or_else (insert_of p.statement) Misuse) (λ w. if (length p.formats == 0) && is_simple_insert t w then puts_meant t (small p.names + small t.stamps.formats) w else Err Unsupported)
+    and_then (or_else (insert_of p.statement) Misuse)
+    (λ w.
+    if (length p.formats == 0) && is_simple_insert t w
+    then puts_meant t (small p.names + small t.stamps.formats) w
+    else Err Unsupported)
 
 unfoldable pub insert_meant : Table → List ℕ → Checked Source
 insert_meant t sql = and_then (first sql) (insert_in t)
@@ -68,7 +74,8 @@ row_of t terms = source.Values terms (length t.columns + 1)
 abbrev pub insert_as : ℕ → Table → List Term → Command
 insert_as at t terms = Insert at (row_of t terms)
 
--- The text is an INSERT of one row into the table, and these are its terms. The table neither counts its rowids nor has a default that reads the time.
+-- The text is an INSERT of one row into the table, and these are its terms. The table neither
+-- counts its rowids nor has a default that reads the time.
 pub record IsInsert (t : Table) (terms : List Term) (sql : List ℕ) : Type 0 where
   pub means : insert_meant t sql ≡ Ok (row_of t terms)
   pub whole : length terms ≡ length t.columns + 1

@@ -35,8 +35,10 @@ rising at = (col 1 at, record { collation = Binary; descending = false }) ∷ []
 abbrev pub falling : ℕ → List (Term × Key)
 falling at = (col 1 at, record { collation = Binary; descending = true }) ∷ []
 
--- The table holds these values in this order. The tests are p of a value, and what is shown of it is this row.
-pub record IsListing {X : Type 0} (db : Trees) (tree : ℕ) (tests shown : List Term) (params : Row) (stored : X → Row) (xs : List X) (p : X → Bool) (show : X → Row) : Type 0 where
+-- The table holds these values in this order. The tests are p of a value, and what is shown of it
+-- is this row.
+pub record IsListing {X : Type 0} (db : Trees) (tree : ℕ) (tests shown : List Term) (params : Row)
+    (stored : X → Row) (xs : List X) (p : X → Bool) (show : X → Row) : Type 0 where
   pub holds_them : db tree ≡ map stored xs
   pub passes : (x : X) → list_all (holds (params ∷ stored x ∷ [])) tests ≡ p x
   pub shows : (x : X) → eval_all shown (params ∷ stored x ∷ []) ≡ show x

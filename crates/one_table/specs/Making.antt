@@ -40,7 +40,8 @@ AreDefined texts ts = AllZip (λ text t. table_defined_by text ≡ Ok t) texts t
 -- ---- the schema
 
 abbrev untyped : List ℕ → Column
-untyped name = record { name = name; kind = Any; is_strict = false; not_null = false; default = Null; collation = Binary }
+untyped name =
+    record { name = name; kind = Any; is_strict = false; not_null = false; default = Null; collation = Binary }
 
 -- SQLite's own table, in which an AUTOINCREMENT counts
 abbrev pub counters : Table
@@ -94,13 +95,20 @@ pub record MakesTables (ts : List Table) (a b : Database) : Type 0 where
   pub new : AllByRecursion (IsNew b) ts
   -- each table that stood stands where it stood, with its keys and its rows
   pub places : (at : ℕ) (u : Table) → Has a.schema at u → Has b.schema at u
-  pub still : (u : Table) → Stands a.schema u → Stands b.schema u × (tree_in b.schema u.name ≡ tree_in a.schema u.name) × (b.trees (tree_in b.schema u.name) ≡ a.trees (tree_in a.schema u.name))
+  pub still : (u : Table) → Stands a.schema u
+      → Stands b.schema u × (tree_in b.schema u.name ≡ tree_in a.schema u.name)
+      × (b.trees (tree_in b.schema u.name) ≡ a.trees (tree_in a.schema u.name))
   pub rows : KeepsRows a.schema.tables a.trees b.trees
   -- no reference onto these names came in, but from the tables themselves
-  pub unreferred : (names : List (List ℕ)) → AreAmong names ts → is_unreferred names a.schema ≡ true → is_unreferred names b.schema ≡ true
-  pub harmless : (names : List (List ℕ)) → AreIdle ts → is_harmless names a.schema ≡ true → is_harmless names b.schema ≡ true
-  pub left_alone : (names : List (List ℕ)) → AreAmong names ts → AreIdle ts → is_harmless names a.schema ≡ true → AllByRecursion (λ t. is_left_alone b.schema (tree_in b.schema t.name) ≡ true) ts
-  pub alone : (tree : ℕ) → tree < next_tree a.schema → AreIdle ts → is_left_alone a.schema tree ≡ true → is_left_alone b.schema tree ≡ true
+  pub unreferred : (names : List (List ℕ)) → AreAmong names ts → is_unreferred names a.schema ≡ true
+      → is_unreferred names b.schema ≡ true
+  pub harmless : (names : List (List ℕ)) → AreIdle ts → is_harmless names a.schema ≡ true
+      → is_harmless names b.schema ≡ true
+  pub left_alone : (names : List (List ℕ)) → AreAmong names ts → AreIdle ts
+      → is_harmless names a.schema ≡ true
+      → AllByRecursion (λ t. is_left_alone b.schema (tree_in b.schema t.name) ≡ true) ts
+  pub alone : (tree : ℕ) → tree < next_tree a.schema → AreIdle ts
+      → is_left_alone a.schema tree ≡ true → is_left_alone b.schema tree ≡ true
   pub sound : IsDatabase b
 
 -- the connection is open and in its transaction, and nothing was committed

@@ -8,6 +8,7 @@ use Rattle.one_table.specs.declared.read_fault.ReadFault.TheVariants.{Database, 
 abbrev pub no_memory : ReadFault
 no_memory = Database (SqliteFailure OutOfMemory)
 
--- a row is refused only for this reason, and nothing else stops the reading of a row but a want of memory
+-- a row is refused only for this reason, and nothing else stops the reading of a row but a want of
+-- memory
 abbrev pub OnlyWhere : Type 0 → ReadFault → Type 0
 OnlyWhere Reason fault = (fault ≡ no_memory) ⊎ ((fault ≡ Row) × Reason)

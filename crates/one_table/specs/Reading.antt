@@ -25,7 +25,8 @@ use Rattle.sqlite.specs.State.{State, Fails, IsUnchanged}
 use Rattle.sqlite.specs.Listing.{understood, reads_listing}
 use Rattle.one_table.specs.Simple.{one, is_simple_select}
 
--- the text is this command, which neither shows what it writes nor reads the time or the list of tables
+-- the text is this command, which neither shows what it writes nor reads the time or the list of
+-- tables
 pub record Means (s : Schema) (sql : List ℕ) (is : Command) : Type 0 where
   pub compiled : Compiled
   pub understands : understood s sql ≡ Ok compiled
@@ -40,17 +41,23 @@ select_of _ = None
 
 -- the query goes by the types of the table's columns, under these parameters
 abbrev pub is_typed : Table → Query → Row → Bool
-is_typed t q params = accepts_after params q (Some (row_classes t ∷ [])) && (is_count params q.limit && is_count params q.offset)
+is_typed t q params =
+    accepts_after params q (Some (row_classes t ∷ [])) &&
+    (is_count params q.limit && is_count params q.offset)
 
 abbrev pub if_typed : Table → Query → List Name → Checked (Query × List Name)
 if_typed t q names = if is_typed t q [] then Ok (q, names) else Err Mismatch
 
 -- the query where the table stands alone, and the names of its columns
 unfoldable pub select_meant : Table → Select → Checked (Query × List Name)
-select_meant t s = and_then (paging (one t) s) (λ page. and_then (named (one t) (out-Select s).first (out-Select s).order page) (λ d. if_typed t (query_of d.0) d.1))
+select_meant t s = and_then (paging (one t) s)
+    (λ page. and_then (named (one t) (out-Select s).first (out-Select s).order page)
+    (λ d. if_typed t (query_of d.0) d.1))
 
 unfoldable pub text_meant : Table → Parsed → Checked (Query × List Name)
-text_meant t p = and_then (or_else (select_of p.statement) Misuse) (λ s. if (length p.formats == 0) && is_simple_select t s then select_meant t s else Err Unsupported)
+text_meant t p = and_then (or_else (select_of p.statement) Misuse)
+    (λ s.
+    if (length p.formats == 0) && is_simple_select t s then select_meant t s else Err Unsupported)
 
 -- the same of a text
 unfoldable pub meant : Table → List ℕ → Checked (Query × List Name)
@@ -59,7 +66,8 @@ meant t sql = and_then (first sql) (text_meant t)
 abbrev pub select_as : Query → List Name → Command
 select_as q names = command.Select (record { lets = []; body = q }) names
 
--- The text is a SELECT of simple expressions over the table: this query, whose columns have these names.
+-- The text is a SELECT of simple expressions over the table: this query, whose columns have these
+-- names.
 pub record IsSelect (t : Table) (q : Query) (names : List Name) (sql : List ℕ) : Type 0 where
   pub means : meant t sql ≡ Ok (q, names)
   pub from : q.from ≡ inner t.tree end
@@ -74,4 +82,6 @@ is_whole sql count = is_whole_in sql count (first sql)
 
 -- why a SELECT fails: want of memory or the disk, or the limit on steps, where one is set
 abbrev pub FailsPlainly : State → State → Error → Type 0
-FailsPlainly old new e = Fails old new ⊥ e ⊎ ((e ≡ SqliteFailure code.OperationInterrupted) × IsSome old.step_limit × IsUnchanged old new)
+FailsPlainly old new e =
+    Fails old new ⊥ e ⊎ ((e ≡ SqliteFailure code.OperationInterrupted)
+    × IsSome old.step_limit × IsUnchanged old new)

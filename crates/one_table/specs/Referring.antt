@@ -15,7 +15,8 @@ is_among names name = list_any (λ n. same_name name n) names
 
 -- the table is one of these names, or refers to none of them
 abbrev pub is_apart : List (List ℕ) → Table → Bool
-is_apart names t = is_among names t.name || list_all (λ r. not (is_among names r.parent)) t.references
+is_apart names t =
+    is_among names t.name || list_all (λ r. not (is_among names r.parent)) t.references
 
 -- No other table refers to one of these names, be there a table of that name or not.
 abbrev pub is_unreferred : List (List ℕ) → Schema → Bool
@@ -31,15 +32,19 @@ is_idle r = is_no_action r.on_delete && is_no_action r.on_update
 
 -- no reference onto one of these names takes an action
 abbrev pub is_harmless : List (List ℕ) → Schema → Bool
-is_harmless names s = list_all (λ t. list_all (λ r. is_idle r || not (is_among names r.parent)) t.references) s.tables
+is_harmless names s =
+    list_all (λ t. list_all (λ r. is_idle r || not (is_among names r.parent)) t.references) s.tables
 
 -- the reference points to the table of a tree
 abbrev pub points_to : Schema → ℕ → Reference → Bool
-points_to s tree r = unwrap_or (option_map (λ t. t.tree == tree) (find (λ t. same_name t.name r.parent) s.tables)) false
+points_to s tree r =
+    unwrap_or (option_map (λ t. t.tree == tree) (find (λ t. same_name t.name r.parent) s.tables))
+    false
 
 -- no reference to the table of a tree takes an action
 abbrev pub is_left_alone : Schema → ℕ → Bool
-is_left_alone s tree = list_all (λ t. list_all (λ r. is_idle r || not (points_to s tree r)) t.references) s.tables
+is_left_alone s tree =
+    list_all (λ t. list_all (λ r. is_idle r || not (points_to s tree r)) t.references) s.tables
 
 -- no object has one of these names, and no table refers to one
 pub record AreUntaken (names : List (List ℕ)) (s : Schema) : Type 0 where

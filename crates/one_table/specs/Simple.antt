@@ -23,7 +23,8 @@ use Rattle.sqlite_resolve.specs.Scope.{Context, Name}
 abbrev pub one : Table → Schema
 one t = record { tables = t ∷ []; indexes = []; views = [] }
 
--- NULL, an integer, a text, a parameter, a column of the table by its bare name, or an operator on two of these
+-- NULL, an integer, a text, a parameter, a column of the table by its bare name, or an operator on
+-- two of these
 abbrev pub is_simple_at : (Expr → Bool) → Table → Layer → Bool
 is_simple_at again t Expr-F.Null = true
 is_simple_at again t (Expr-F.Integer text) = true
@@ -74,7 +75,9 @@ names_it t (origin.Query s) = false
 -- the table, with no alias
 abbrev pub is_source : Table → Source → Bool
 is_source t s =
-    names_it t (out-Source s).origin && not (out-Source s).is_left && not (is_some (out-Source s).alias) && not (is_some (out-Source s).on) && (length (out-Source s).using == 0)
+    names_it t (out-Source s).origin && not (out-Source s).is_left && not
+    (is_some (out-Source s).alias) && not (is_some (out-Source s).on) &&
+    (length (out-Source s).using == 0)
 
 -- FROM has the table alone
 abbrev pub is_from : Table → List Source → Bool
@@ -84,13 +87,15 @@ is_from t (s ∷ more ∷ others) = false
 
 abbrev pub is_simple_core : Table → Core → Bool
 is_simple_core t core =
-    is_from t (out-Core core).from && list_all (is_simple_output t) (out-Core core).shown && is_simple_or_absent t (out-Core core).filter
+    is_from t (out-Core core).from && list_all (is_simple_output t) (out-Core core).shown
+    && is_simple_or_absent t (out-Core core).filter
     && (length (out-Core core).group == 0) && not (is_some (out-Core core).having)
 
 -- columns of the one table, by WHERE, ORDER BY, LIMIT and OFFSET
 abbrev pub is_simple_select : Table → Select → Bool
 is_simple_select t s =
-    is_simple_core t (out-Select s).first && (length (out-Select s).with == 0) && (length (out-Select s).others == 0) && list_all (is_simple_sort t) (out-Select s).order
+    is_simple_core t (out-Select s).first && (length (out-Select s).with == 0) &&
+    (length (out-Select s).others == 0) && list_all (is_simple_sort t) (out-Select s).order
     && is_count_or_absent (out-Select s).limit && is_count_or_absent (out-Select s).offset
 
 abbrev pub bound_at : ℕ → Name → Bound

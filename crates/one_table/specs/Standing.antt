@@ -1,4 +1,5 @@
--- A table that stands in a database exactly as a text defines it, whatever other tables the database has.
+-- A table that stands in a database exactly as a text defines it, whatever other tables the
+-- database has.
 use Rattle.std.specs.Prelude.{◌≡◌, ℕ, ◌+◌, ◌==◌, Bool, true, List, [], ◌∷◌, map, filter, slice_get, slice_index_or, option_map, unwrap_or}
 use Rattle.sqlite_value.specs.declared.keys.Order.{Order}
 use Rattle.sqlite_value.specs.Keys.{plain}
@@ -29,7 +30,8 @@ keys_on s tree = map key_of (filter (λ i. i.table == tree) s.indexes)
 -- the keys that a table's own UNIQUE and PRIMARY KEY make
 abbrev pub keys_from : List Order → ℕ → List (List ℕ) → List Key
 keys_from orders at [] = []
-keys_from orders at (columns ∷ more) = (true, columns, slice_index_or orders at plain) ∷ keys_from orders (at + 1) more
+keys_from orders at (columns ∷ more) =
+    (true, columns, slice_index_or orders at plain) ∷ keys_from orders (at + 1) more
 
 abbrev pub own_keys : Table → List Key
 own_keys t = keys_from t.orders 0 t.uniques

@@ -1,5 +1,5 @@
-//! Tests of a schema that was found in a file: which names are free, which tables stand in it exactly
-//! so, and which references there are.
+//! Tests of a schema that was found in a file: which names are free, which tables stand in it
+//! exactly so, and which references there are.
 ghost use Rattle.std.specs.Prelude.{◌≡◌, ◌↔◌, ◌==◌, ◌||◌, ◌<◌, true, not, Option, None, Some, find, map, filter, slice_get, slice_index_or, length, IsTrue, OnSome};
 ghost use Rattle.std.specs.List.{list_all};
 ghost use Rattle.std.specs.Option.{option_copied};
@@ -26,7 +26,8 @@ fn is_used(schema: &Schema, name: &str) -> bool
 
 /// Whether no table, index or view has one of these names.
 pub fn are_free(schema: &Schema, names: &[&str]) -> bool
-    ensures { result ≡ list_all (λ name. not (is_used schema.now name)) (map (λ n. n.now) names.now) }
+    ensures { result ≡ list_all (λ name. not (is_used schema.now name))
+        (map (λ n. n.now) names.now) }
 {
     for name in names {
         if is_used(schema, name) {

@@ -29,7 +29,8 @@ fn stands_as(alloc: Global, schema: &Schema, text: &str) -> Result<bool, Compile
 pub fn stand(alloc: Global, schema: &Schema, texts: &[&str]) -> Result<bool, CompileError>
     ensures told { IfOk result
         (λ all. IsTrue all ↔ AllByRecursion (λ text. StandsAs schema.now text.now) texts.now) }
-    ensures failed { IfErr result (λ e. (ts : List Table) → AreDefined (map (λ t. t.now) texts.now) ts
+    ensures failed { IfErr result
+        (λ e. (ts : List Table) → AreDefined (map (λ t. t.now) texts.now) ts
         → ¬ (e ≢ CompileError.OutOfMemory)) }
 {
     for text in texts {
@@ -40,7 +41,8 @@ pub fn stand(alloc: Global, schema: &Schema, texts: &[&str]) -> Result<bool, Com
     Ok(true)
 }
 
-/// Whether no reference to a table of one of these names takes an action. The tables have to be there.
+/// Whether no reference to a table of one of these names takes an action. The tables have to be
+/// there.
 pub fn are_left_alone(schema: &Schema, names: &[&str]) -> bool
     ensures { result ≡ list_all (λ name. is_left_alone schema.now (tree_in schema.now name.now))
         names.now }

@@ -58,9 +58,13 @@ pub record AreEntryWords (words : Words) : Type 0 where
   pub shape : HasEntryShape words
   pub key : AreKeyDigits (text_at words 1)
 
--- the words that are left where a choice of the transform stands in front and is taken off, or none does
+-- the words that are left where a choice of the transform stands in front and is taken off, or none
+-- does
 abbrev pub AreLeft : Words → Words → Type 0
-AreLeft words rest = ((text_at words 0 ≡ codes "--transform") × ((text_at words 1 ≡ codes "plain") ⊎ (text_at words 1 ≡ codes "demo")) × (rest ≡ drop 2 words)) ⊎ ((text_at words 0 ≢ codes "--transform") × (rest ≡ words))
+AreLeft words rest =
+    ((text_at words 0 ≡ codes "--transform")
+    × ((text_at words 1 ≡ codes "plain") ⊎ (text_at words 1 ≡ codes "demo"))
+    × (rest ≡ drop 2 words)) ⊎ ((text_at words 0 ≢ codes "--transform") × (rest ≡ words))
 
 -- the words ask to enter tokens into a meter
 pub record AskToEnter (words : Words) : Type 0 where

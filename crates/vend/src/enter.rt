@@ -33,7 +33,8 @@ impl<'w, 't> Enter<'w, 't> {
         Ok(Enter { key, tokens })
     }
 
-    /// Prints what a meter with the transform answers to each token, and then its credit in tenths of a kWh.
+    /// Prints what a meter with the transform answers to each token, and then its credit in tenths
+    /// of a kWh.
     pub(crate) fn run<O: Write>(&self, transform: Shipped, out: &mut O) -> io::Result<()> {
         match transform {
             Shipped::Plain => enter_all(Meter::new(Plain, self.key), self.tokens, out),

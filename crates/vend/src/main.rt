@@ -1,4 +1,5 @@
-//! Vends credit tokens for prepayment electricity meters: reads the words of a command line and prints.
+//! Vends credit tokens for prepayment electricity meters: reads the words of a command line and
+//! prints.
 #![tactic(auto)]
 
 use crate::run::{refused_words, run};

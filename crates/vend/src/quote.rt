@@ -8,7 +8,8 @@ use std::io::{self, Write};
 use tariff::{MAX_PRIOR, Steps, StepsFault, Tender, buy};
 use vend_core::Refusal;
 
-/// What `quote` is asked: what a tender buys of some steps after the tenths that the month had before.
+/// What `quote` is asked: what a tender buys of some steps after the tenths that the month had
+/// before.
 #[derive(Drop)]
 pub struct Quote {
     steps: Steps,
@@ -41,7 +42,8 @@ impl Quote {
         })
     }
 
-    /// Prints the tenths, the price and the change, or why nothing is bought; answers whether something is.
+    /// Prints the tenths, the price and the change, or why nothing is bought; answers whether
+    /// something is.
     pub(crate) fn run<O: Write, E: Write>(&self, out: &mut O, err: &mut E) -> io::Result<bool> {
         match buy(&self.steps, self.prior, self.tender) {
             Some(bought) => {

@@ -23,7 +23,8 @@ pub enum End {
     BadWords = 2,
 }
 
-/// Runs the command that some words give, the program's own name left out, and answers the exit status.
+/// Runs the command that some words give, the program's own name left out, and answers the exit
+/// status.
 ///
 /// Any other words print `bad words`, a value outside its rule `bad word`; both end with 2.
 pub fn run<O: Write, E: Write>(alloc: Global, words: &[&str], out: &mut O, err: &mut E) -> u8

@@ -23,7 +23,8 @@ impl Sell {
     /// Reads the words after `sell`: `--base Y --key K --at S T..`, in this order.
     pub(crate) fn read(alloc: Global, words: &[&str]) -> Result<Sell, BadWords>
         ensures shape { (result ≡ Err BadWords.Shape) ↔ ¬ HasSellShape words.now }
-        ensures said { IfOk result (λ sell. SaysSale words.now sell.base sell.key sell.moment sell.amounts.items) }
+        ensures said { IfOk result
+            (λ sell. SaysSale words.now sell.base sell.key sell.moment sell.amounts.items) }
     {
         let ["--base", base, "--key", key, "--at", at, amounts @ ..] = words else {
             return Err(BadWords::Shape);
@@ -50,7 +51,8 @@ impl Sell {
         })
     }
 
-    /// Sells, and prints each token on a line of the output, then why it stopped on the error output.
+    /// Sells, and prints each token on a line of the output, then why it stopped on the error
+    /// output.
     pub(crate) fn run<T: BlockTransform, O: Write, E: Write>(
         &self,
         alloc: Global,

@@ -11,11 +11,14 @@ pub enum Shipped {
 }
 
 impl Shipped {
-    /// Takes `--transform plain|demo` off the front of the words; where it is not there, the transform is `Plain`.
+    /// Takes `--transform plain|demo` off the front of the words; where it is not there, the
+    /// transform is `Plain`.
     pub(crate) fn take<'w, 't>(words: &'w [&'t str]) -> Result<(Shipped, &'w [&'t str]), BadWords>
         ensures transform { IfOk result (λ taken. (taken.0 ≡ Shipped.Demo)
-            ↔ ((text_at words.now 0 ≡ codes "--transform") × (text_at words.now 1 ≡ codes "demo"))) }
-        ensures taken { (rest : Words) → AreLeft words.now rest → IsOk result × IfOk result (λ taken. taken.1.now ≡ rest) }
+            ↔ ((text_at words.now 0 ≡ codes "--transform")
+            × (text_at words.now 1 ≡ codes "demo"))) }
+        ensures taken { (rest : Words) → AreLeft words.now rest
+            → IsOk result × IfOk result (λ taken. taken.1.now ≡ rest) }
     {
         match words {
             ["--transform", "plain", rest @ ..] => Ok((Shipped::Plain, rest)),

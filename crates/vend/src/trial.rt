@@ -18,7 +18,8 @@ pub enum TrialFault {
     Memory,
 }
 
-/// Sells amounts in tenths of a kWh, one after another at a moment, to one meter that was sold nothing before.
+/// Sells amounts in tenths of a kWh, one after another at a moment, to one meter that was sold
+/// nothing before.
 ///
 /// Amount i, counted from 1, has the nibble i mod 16. The tokens are those before the first amount
 /// that is refused, and the fault says why that one was; its amount is tested first.
@@ -30,7 +31,8 @@ pub fn trial<T: BlockTransform>(
     moment: Moment,
     amounts: &[u32],
 ) -> (Vec<[u8; 20]>, Option<TrialFault>)
-    ensures { (tids : List ℕ) × IsTrial (T.forwards transform.now) key base moment amounts.now tids result.0.items result.1 }
+    ensures { (tids : List ℕ) × IsTrial
+        (T.forwards transform.now) key base moment amounts.now tids result.0.items result.1 }
 {
     let Ok(mut tokens) = Vec::with_capacity(alloc, amounts.len()) else {
         return (Vec::new(alloc), Some(TrialFault::Memory));
@@ -70,9 +72,11 @@ fn sell<T: BlockTransform>(
     requires nibble { nibble < 2 ^ 4 }
     requires last { ForSome last (λ tid. tid ≤ 16777215) }
     ensures sold { (used : List ℕ) (n : ℕ) → IsLast used last → nibble ≡ n % 16
-        → IfOk result (λ sale. IsSale (T.forwards transform.now) key base moment used n tenths sale.tid sale.token) }
+        → IfOk result (λ sale. IsSale
+        (T.forwards transform.now) key base moment used n tenths sale.tid sale.token) }
     ensures within { IfOk result (λ sale. sale.tid ≤ 16777215) }
-    ensures refused { (used : List ℕ) → IsLast used last → IfErr result (IsRefusedBy base moment used tenths) }
+    ensures refused { (used : List ℕ) → IsLast used last
+        → IfErr result (IsRefusedBy base moment used tenths) }
 {
     let Some(amount) = Amount::of_tenths(tenths) else {
         return Err(TrialFault::Amount);

@@ -17,9 +17,11 @@ pub enum BadWords {
     Memory,
 }
 
-/// A number in ASCII digits, leading zeros allowed, or `None` exactly where the word is none or 2^64 and more.
+/// A number in ASCII digits, leading zeros allowed, or `None` exactly where the word is none or
+/// 2^64 and more.
 pub(crate) fn number(word: &str) -> Option<u64>
-    ensures numeral { IsSome result ↔ (IsNumeral 10 word.now × (digits_value 10 word.now < 2 ^ 64)) }
+    ensures numeral { IsSome result
+        ↔ (IsNumeral 10 word.now × (digits_value 10 word.now < 2 ^ 64)) }
     ensures value { IfSome result (λ n. digits_value 10 word.now ≡ n) }
 {
     if word.as_bytes().first() == Some(&b'+') {
@@ -31,7 +33,9 @@ pub(crate) fn number(word: &str) -> Option<u64>
 /// The base date that a word names by its year.
 pub(crate) fn base(word: &str) -> Option<Base>
     ensures year { IsSome result
-        ↔ (IsNumeral 10 word.now × ((digits_value 10 word.now ≡ 1993) ⊎ (digits_value 10 word.now ≡ 2014) ⊎ (digits_value 10 word.now ≡ 2035))) }
+        ↔ (IsNumeral 10 word.now
+        × ((digits_value 10 word.now ≡ 1993) ⊎ (digits_value 10 word.now ≡ 2014)
+        ⊎ (digits_value 10 word.now ≡ 2035))) }
     ensures value { IfSome result (λ base. year_of base ≡ digits_value 10 word.now) }
 {
     let year = u32::try_from(number(word)?).ok()?;
@@ -41,7 +45,8 @@ pub(crate) fn base(word: &str) -> Option<Base>
 /// The moment that a word gives in Unix seconds.
 pub(crate) fn moment(word: &str) -> Option<Moment>
     ensures range { IsSome result
-        ↔ (IsNumeral 10 word.now × (725846400 ≤ digits_value 10 word.now) × (digits_value 10 word.now ≤ 4102444799)) }
+        ↔ (IsNumeral 10 word.now × (725846400 ≤ digits_value 10 word.now)
+        × (digits_value 10 word.now ≤ 4102444799)) }
     ensures value { IfSome result (λ moment. moment ≡ digits_value 10 word.now) }
 {
     let seconds = i64::try_from(number(word)?).ok()?;

@@ -17,4 +17,5 @@ AskForReports ats = (number : ℕ) → (ats number).request ≡ ShiftReport numb
 
 -- the cash of the reports of all shifts, added
 abbrev pub cash_of_reports : (ℕ → ℕ → ℕ) → Office → (ℕ → Stamped) → ℕ
-cash_of_reports forward o ats = sum_by (λ shift. cash_of (sales_of (reply forward o (ats shift.number)))) o.shifts
+cash_of_reports forward o ats =
+    sum_by (λ shift. cash_of (sales_of (reply forward o (ats shift.number)))) o.shifts

@@ -1,4 +1,5 @@
--- Lives of an office: what was asked and answered from an opening to a stop, what a stop may leave, and one life after another.
+-- Lives of an office: what was asked and answered from an opening to a stop, what a stop may leave,
+-- and one life after another.
 use Rattle.std.specs.Prelude.{◌≡◌, ℕ, ◌⊎◌, Bool, true, false, List, [], ◌∷◌, map, filter, take, Result, Ok, Err, All, Contains}
 use Rattle.sts_token.specs.Token.{KeepsRange}
 use Rattle.vend_core.specs.Fold.{after, replies_to, reply, step}
@@ -16,14 +17,16 @@ pub record Exchange : Type 0 where
   pub request : Stamped
   pub reply : Result Answer Refusal
 
--- a life: the office that it opens, the transform that it writes tokens with, and its exchanges in order.
+-- a life: the office that it opens, the transform that it writes tokens with, and its exchanges in
+-- order.
 -- A stop inside a call counts as the reply of that call on a store that fails from there on
 pub record Life : Type 0 where
   pub opening : Office
   pub forward : ℕ → ℕ → ℕ
   pub exchanges : List Exchange
 
--- a reply acknowledges its request where it grants it, or refuses it for a reason of the request's own
+-- a reply acknowledges its request where it grants it, or refuses it for a reason of the request's
+-- own
 abbrev pub acknowledges : Result Answer Refusal → Bool
 acknowledges (Ok answer) = true
 acknowledges (Err Memory) = false
@@ -47,7 +50,8 @@ replies_acknowledged life = map (λ e. e.reply) (filter (λ e. acknowledges e.re
 abbrev pub in_doubt : Life → List Stamped
 in_doubt life = map (λ e. e.request) (filter (λ e. doubts e.reply) life.exchanges)
 
--- once the store failed, in one of these requests or in a call beside them, everything is answered as stopped
+-- once the store failed, in one of these requests or in a call beside them, everything is answered
+-- as stopped
 abbrev pub StopsAtDoubt : List (Result Answer Refusal) → Type 0
 StopsAtDoubt [] = Unit {0}
 StopsAtDoubt (Err Store ∷ replies) = All (λ reply. reply ≡ Err Stopped) replies
@@ -67,12 +71,16 @@ present life = after life.forward life.opening (acknowledged life)
 
 -- a life may leave its present office, or that with the request in doubt as one more step
 abbrev pub MayLeave : Life → Office → Type 0
-MayLeave life o = (o ≡ present life) ⊎ ((at : Stamped) × Contains (in_doubt life) at × (o ≡ step life.forward (present life) at))
+MayLeave life o = (o ≡ present life)
+    ⊎ ((at : Stamped) × Contains (in_doubt life) at × (o ≡ step life.forward (present life) at))
 
--- the first life opens the office start, each other one an office that the one before may leave, and the last may leave o
+-- the first life opens the office start, each other one an office that the one before may leave,
+-- and the last may leave o
 abbrev pub LeadTo : Office → List Life → Office → Type 0
 LeadTo start [] o = o ≡ start
-LeadTo start (life ∷ lives) o = IsLife life × (life.opening ≡ start) × ((left : Office) × MayLeave life left × LeadTo left lives o)
+LeadTo start (life ∷ lives) o =
+    IsLife life × (life.opening ≡ start)
+    × ((left : Office) × MayLeave life left × LeadTo left lives o)
 
 -- these are an office's lives from the empty office on, and the last may leave o
 abbrev pub AreLives : List Life → Office → Type 0
@@ -80,12 +88,15 @@ AreLives lives o = LeadTo empty_office lives o
 
 -- a life gave this answer
 abbrev pub Answered : List Life → Answer → Type 0
-Answered lives answer = (life : Life) × Contains lives life × Contains (map (λ e. e.reply) life.exchanges) (Ok answer)
+Answered lives answer =
+    (life : Life) × Contains lives life × Contains (map (λ e. e.reply) life.exchanges) (Ok answer)
 
--- a life handed out this sale: in a reply, or as one that stood after a beginning of its acknowledged requests
+-- a life handed out this sale: in a reply, or as one that stood after a beginning of its
+-- acknowledged requests
 abbrev pub HandsOut : Life → Sale → Type 0
 HandsOut life s =
-    ((reply : Result Answer Refusal) × Contains (map (λ e. e.reply) life.exchanges) reply × Contains (sales_of reply) s)
+    ((reply : Result Answer Refusal) × Contains (map (λ e. e.reply) life.exchanges) reply
+    × Contains (sales_of reply) s)
     ⊎ ((n : ℕ) × Contains (after life.forward life.opening (take n (acknowledged life))).sales s)
 
 abbrev pub IsHanded : List Life → Sale → Type 0

@@ -15,11 +15,14 @@ base_eq a b = year_of a == year_of b
 
 -- the identifiers sold to a meter under a base
 abbrev pub used : Office → List ℕ → Base → List ℕ
-used o meter base = map (λ s. s.tid) (filter (λ s. bytes_eq s.meter meter && base_eq s.base base) o.sales)
+used o meter base = map (λ s. s.tid)
+    (filter (λ s. bytes_eq s.meter meter && base_eq s.base base) o.sales)
 
 -- the tenths sold to a meter in a month, under any base
 abbrev pub prior : Office → List ℕ → ℕ → ℕ
-prior o meter month = sum_by (λ s. s.tenths) (filter (λ s. bytes_eq s.meter meter && (month_at s.moment == month)) o.sales)
+prior o meter month =
+    sum_by (λ s. s.tenths)
+    (filter (λ s. bytes_eq s.meter meter && (month_at s.moment == month)) o.sales)
 
 -- the steps of a meter's tariff, which an office has
 abbrev pub steps_for : Office → Meter → List Step
@@ -31,7 +34,8 @@ open_shift o operator = find (λ s. bytes_eq s.operator operator && is_none s.cl
 
 -- the sale that an operator made under a ref
 abbrev pub sale_of_ref : Office → List ℕ → List ℕ → Option Sale
-sale_of_ref o operator order_ref = find (λ s. bytes_eq s.operator operator && bytes_eq s.order_ref order_ref) o.sales
+sale_of_ref o operator order_ref =
+    find (λ s. bytes_eq s.operator operator && bytes_eq s.order_ref order_ref) o.sales
 
 -- the sale and the shift of a number
 abbrev pub sale_numbered : Office → ℕ → Option Sale

@@ -29,7 +29,8 @@ luhn_sum [] = 0
 luhn_sum (d ∷ []) = digit_value d
 luhn_sum (d ∷ e ∷ ds) = digit_value d + doubled (digit_value e) + luhn_sum ds
 
--- a meter's number: eleven digits whose sum, every second one from the right doubled, is a multiple of ten
+-- a meter's number: eleven digits whose sum, every second one from the right doubled, is a multiple
+-- of ten
 pub record IsMeterNo (text : List ℕ) : Type 0 where
   pub eleven : length text ≡ 11
   pub digits : AllPass is_ascii_digit text

@@ -19,8 +19,10 @@ abbrev pub fields_of : Sale → TokenFields
 fields_of s = record { rnd = s.rnd; tid = s.tid; tenths = s.tenths }
 
 -- s is the new sale of an order that is served at a moment, with a nibble, by an office
-pub record IsNewSale (forward : ℕ → ℕ → ℕ) (o : Office) (at : Stamped) (order : Order) (s : Sale) : Type 0 where
-  -- the meter, the operator's open shift, the present minute under the meter's base, and what the tender buys
+pub record IsNewSale (forward : ℕ → ℕ → ℕ) (o : Office) (at : Stamped) (order : Order)
+    (s : Sale) : Type 0 where
+  -- the meter, the operator's open shift, the present minute under the meter's base, and what the
+  -- tender buys
   pub to_meter : Meter
   pub in_shift : Shift
   pub minute : ℕ
@@ -28,7 +30,8 @@ pub record IsNewSale (forward : ℕ → ℕ → ℕ) (o : Office) (at : Stamped)
   pub meter_is : o.meters order.meter ≡ Some to_meter
   pub shift_is : open_shift o order.operator ≡ Some in_shift
   pub minute_is : minute_of to_meter.base at.moment ≡ Ok minute
-  pub bought_is : IsPurchase (steps_for o to_meter) (prior o order.meter (month_at at.moment)) order.tender bought
+  pub bought_is : IsPurchase (steps_for o to_meter)
+      (prior o order.meter (month_at at.moment)) order.tender bought
   -- the sale: its number is the count and one more, and its identifier is the fresh one
   pub number : s.number ≡ length o.sales + 1
   pub moment : s.moment ≡ at.moment

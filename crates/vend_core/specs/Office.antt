@@ -11,7 +11,8 @@ use Rattle.vend_core.specs.declared.meter.Meter.{Meter}
 use Rattle.vend_core.specs.declared.sale.Sale.{Sale}
 use Rattle.vend_core.specs.declared.shift.Shift.{Shift}
 
--- tariffs by name, meters by number, shifts and sales in the order that they came; no totals, and no last identifier
+-- tariffs by name, meters by number, shifts and sales in the order that they came; no totals, and
+-- no last identifier
 pub record Office : Type 0 where
   pub tariffs : List ℕ → Option (List Step)
   pub meters : List ℕ → Option Meter
@@ -47,7 +48,8 @@ pub record IsShiftRow (s : Shift) : Type 0 where
   pub opened : IsMoment s.opened
   pub closed : (secs : ℕ) → s.closed ≡ Some secs → IsMoment secs
 
--- the values of a sale: it was made in a shift and to a meter of the office, and its price is at most the tender
+-- the values of a sale: it was made in a shift and to a meter of the office, and its price is at
+-- most the tender
 pub record IsSaleRow (o : Office) (s : Sale) : Type 0 where
   pub moment : IsMoment s.moment
   pub shift : (1 ≤ s.shift) × (s.shift ≤ length o.shifts)
@@ -63,13 +65,15 @@ pub record IsSaleRow (o : Office) (s : Sale) : Type 0 where
 
 -- the rows are numbered 1, 2, 3 and on
 abbrev pub AreNumbered : {Row : Type 0} → (Row → ℕ) → List Row → Type 0
-AreNumbered {Row} number rows = (i : ℕ) (row : Row) → slice_get rows i ≡ Some row → number row ≡ i + 1
+AreNumbered {Row} number rows = (i : ℕ) (row : Row) → slice_get rows i ≡ Some row
+    → number row ≡ i + 1
 
 -- two shifts, the first opened before the second, that are not both open for one operator
 abbrev pub NotBothOpen : Shift → Shift → Type 0
 NotBothOpen a b = IsNone a.closed → IsNone b.closed → a.operator ≢ b.operator
 
--- two sales, the first made before the second: no identifier of a meter under a base and no ref is used twice
+-- two sales, the first made before the second: no identifier of a meter under a base and no ref is
+-- used twice
 pub record IsBefore (a b : Sale) : Type 0 where
   pub number : a.number < b.number
   pub tid : a.meter ≡ b.meter → a.base ≡ b.base → a.tid ≢ b.tid
@@ -81,7 +85,8 @@ Rises a b = a.meter ≡ b.meter → a.base ≡ b.base → a.tid < b.tid
 
 -- what an office keeps
 pub record IsOffice (o : Office) : Type 0 where
-  pub tariffs : (name : List ℕ) (steps : List Step) → o.tariffs name ≡ Some steps → IsTariffRow name steps
+  pub tariffs : (name : List ℕ) (steps : List Step) → o.tariffs name ≡ Some steps
+      → IsTariffRow name steps
   pub meters : (number : List ℕ) (m : Meter) → o.meters number ≡ Some m → IsMeterRow o number m
   pub shifts : All IsShiftRow o.shifts
   pub shift_numbers : AreNumbered (λ s. s.number) o.shifts

@@ -22,5 +22,6 @@ IsSameOrder order first = (first.meter ≡ order.meter) × (first.tender ≡ ord
 abbrev pub SellsOne : (ℕ → ℕ → ℕ) → Office → Stamped → Type 0
 SellsOne forward o at =
     ((step forward o at).sales ≡ o.sales)
-    ⊎ ((s : Sale) × ((order : Order) × (at.request ≡ requests.Sell order) × IsNewSale forward o at order s)
+    ⊎ ((s : Sale)
+    × ((order : Order) × (at.request ≡ requests.Sell order) × IsNewSale forward o at order s)
     × ((step forward o at).sales ≡ o.sales ++ s ∷ []) × (reply forward o at ≡ Ok (answers.Sold s)))

@@ -16,22 +16,32 @@ abbrev pub row_of : {X : Type 0} → List (List ℕ × X) → List ℕ → Optio
 row_of rows name = lookup (bytes_eq name) rows
 
 -- the office that the rows stand for
-abbrev pub office_of_rows : List (List ℕ × List Step) → List (List ℕ × Meter) → List Shift → List Sale → Office
+abbrev pub office_of_rows : List (List ℕ × List Step) → List (List ℕ × Meter) → List Shift
+    → List Sale → Office
 office_of_rows tariffs meters shifts sales =
-    record { tariffs = λ name. row_of tariffs name; meters = λ number. row_of meters number; shifts = shifts; sales = sales }
+    record {
+      tariffs = λ name. row_of tariffs name;
+      meters =
+          λ number. row_of meters number;
+      shifts = shifts;
+      sales = sales;
+    }
 
 -- a meter's tariff is one of the office's
 abbrev pub HaveTariffs : List (List ℕ × List Step) → List (List ℕ × Meter) → Type 0
-HaveTariffs tariffs meters = (number : List ℕ) (m : Meter) → row_of meters number ≡ Some m → IsSome (row_of tariffs m.tariff)
+HaveTariffs tariffs meters = (number : List ℕ) (m : Meter) → row_of meters number ≡ Some m
+    → IsSome (row_of tariffs m.tariff)
 
--- what a sale needs of the sales before it: identifiers of 24 bits, and at most a thousand million of them
+-- what a sale needs of the sales before it: identifiers of 24 bits, and at most a thousand million
+-- of them
 pub record AreSales (sales : List Sale) : Type 0 where
   pub tids : All (λ s. s.tid ≤ last_tid) sales
   pub count : length sales ≤ greatest_count
 
 -- a meter's row with another tariff, where it has this number
 abbrev pub row_with_tariff : List ℕ → List ℕ → (List ℕ × Meter) → (List ℕ × Meter)
-row_with_tariff number name row = if bytes_eq row.0 number then (row.0, with_tariff name row.1) else row
+row_with_tariff number name row =
+    if bytes_eq row.0 number then (row.0, with_tariff name row.1) else row
 
 -- the tariffs and the meters among an import's rows, the last one in front
 abbrev pub tariffs_of : List Row → List (List ℕ × List Step)

@@ -13,10 +13,12 @@ pub record IsPadded (n len : ℕ) (bytes : List ℕ) : Type 0 where
 abbrev pub padded : ℕ → List ℕ → List ℕ
 padded n text = text ++ replicate (n - length text) 0
 
-pub length-text : (n len : ℕ) (bytes : List ℕ) → IsPadded n len bytes → length (take len bytes) ≡ len
+pub length-text : (n len : ℕ) (bytes : List ℕ) → IsPadded n len bytes
+    → length (take len bytes) ≡ len
 length-text n len bytes p = length-take-le len bytes (omega (arith, p.room, p.within))
 
-pub padded-text : (n len : ℕ) (bytes : List ℕ) → IsPadded n len bytes → padded n (take len bytes) ≡ bytes
+pub padded-text : (n len : ℕ) (bytes : List ℕ) → IsPadded n len bytes
+    → padded n (take len bytes) ≡ bytes
 padded-text n len bytes p =
     ap (λ (k : ℕ). take len bytes ++ replicate (n - k) 0) (length-text n len bytes p)
     ∙ ap (λ (xs : List ℕ). take len bytes ++ xs) (sym p.zeros) ∙ take-append-drop len bytes

@@ -1,4 +1,5 @@
--- The tokens of handed sales: where they were written, and how those of one meter come to the simulated meter.
+-- The tokens of handed sales: where they were written, and how those of one meter come to the
+-- simulated meter.
 use Rattle.std.specs.Prelude.{◌≡◌, ℕ, ◌^◌, ◌<◌, ◌&&◌, ◌==◌, Bool, List, All, AllPairs, Contains, map, filter, nat_lt, count_by}
 use Rattle.std.specs.List.{list_any}
 use Rattle.sts_fields.specs.declared.base.Base.{Base}
@@ -18,7 +19,8 @@ pub record WasWritten (lives : List Life) (s : Sale) : Type 0 where
   pub key_bits : key < 2 ^ 64
   pub token : IsToken life.forward key (fields_of s) s.digits
 
--- a simulated meter: its number, the base that its identifiers count from, and its transform, two ways, and key
+-- a simulated meter: its number, the base that its identifiers count from, and its transform, two
+-- ways, and key
 pub record SimMeter : Type 0 where
   pub number : List ℕ
   pub base : Base
@@ -30,7 +32,8 @@ pub record SimMeter : Type 0 where
 abbrev pub reads_by : SimMeter → Reader
 reads_by m = reading_of m.inverse m.key
 
--- handed sales to the meter under its base, each once, in the order of sale, that were sold under its transform and key
+-- handed sales to the meter under its base, each once, in the order of sale, that were sold under
+-- its transform and key
 pub record AreSalesTo (lives : List Life) (m : SimMeter) (sales : List Sale) : Type 0 where
   pub transform : IsTransform m.forward m.inverse
   pub key_bits : m.key < 2 ^ 64

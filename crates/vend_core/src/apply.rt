@@ -143,13 +143,15 @@ fn open_shift(records: &mut Records, shift: Shift) -> Result<(), AllocError>
 }
 
 fn close_shift(records: &mut Records, number: u32, moment: Moment)
-    ensures { recorded records.new ≡ applied (Edit.CloseShift number moment) (recorded records.old) }
+    ensures { recorded records.new
+        ≡ applied (Edit.CloseShift number moment) (recorded records.old) }
 {
     close_shift_of(&mut records.shifts, number, moment);
 }
 
 fn close_shift_of(shifts: &mut [Shift], number: u32, moment: Moment)
-    ensures { shifts.new ≡ map (λ s. if s.number == number then closed_at moment s else s) shifts.old }
+    ensures { shifts.new
+        ≡ map (λ s. if s.number == number then closed_at moment s else s) shifts.old }
 {
     for shift in shifts.iter_mut() {
         *shift = closed_if(shift, number, moment);
@@ -158,7 +160,8 @@ fn close_shift_of(shifts: &mut [Shift], number: u32, moment: Moment)
 
 // The shift closed at this moment, where it has this number.
 fn closed_if(shift: &Shift, number: u32, moment: Moment) -> Shift
-    ensures { result ≡ (if shift.now.number == number then closed_at moment shift.now else shift.now) }
+    ensures { result ≡ (if shift.now.number == number then closed_at moment shift.now else
+        shift.now) }
 {
     if shift.number == number {
         Shift {

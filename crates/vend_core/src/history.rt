@@ -64,7 +64,8 @@ pub fn history_law()
 
     // A reprint is the first token, whatever transforms the lives have.
     ensures reprint { (lives : List Life) (o : Office) (first again : Sale)
-        → AreLives lives o → Answered lives (Answer.Sold first) → Answered lives (Answer.Reprinted again)
+        → AreLives lives o → Answered lives (Answer.Sold first)
+        → Answered lives (Answer.Reprinted again)
         → again.number ≡ first.number → again.digits ≡ first.digits }
 
     // An identifier is at least 2 and not reserved, and a token was written in one of the lives.
@@ -73,15 +74,18 @@ pub fn history_law()
     ensures written { (lives : List Life) (o : Office) (s : Sale)
         → AreLives lives o → IsHanded lives s → WasWritten lives s }
 
-    // The tokens of one meter's sales under one base come to a new meter in any order, with repeats.
+    // The tokens of one meter's sales under one base come to a new meter in any order, with
+    // repeats.
     // One that had not come yet is accepted exactly if those of fewer than fifty later sales came
     // before it; so in order of sale all are.
-    ensures first_entry { (lives : List Life) (o : Office) (m : SimMeter) (sales came : List Sale) (s : Sale)
+    ensures first_entry { (lives : List Life) (o : Office) (m : SimMeter) (sales came : List Sale)
+        (s : Sale)
         → AreLives lives o → AreSalesTo lives m sales
         → All (Contains sales) came → Contains sales s → ¬ Contains came s
         → (Accepts (reads_by m) (tokens_of came) s.digits (fields_of s)
         ↔ (later_sales_come sales came s < 50)) }
-    ensures in_order { (lives : List Life) (o : Office) (m : SimMeter) (earlier later : List Sale) (s : Sale)
+    ensures in_order { (lives : List Life) (o : Office) (m : SimMeter) (earlier later : List Sale)
+        (s : Sale)
         → AreLives lives o → AreSalesTo lives m (earlier ++ s ∷ later)
         → Accepts (reads_by m) (tokens_of earlier) s.digits (fields_of s) }
 
@@ -91,7 +95,8 @@ pub fn history_law()
         → AreLives lives o → AreSalesTo lives m sales → All (Contains sales) came
         → credit_of (reads_by m) (tokens_of came)
         ≡ sum_by (λ s. s.tenths) (accepted_of (reads_by m) (tokens_of came) sales) }
-    ensures accepted { (lives : List Life) (o : Office) (m : SimMeter) (sales came : List Sale) (s : Sale)
+    ensures accepted { (lives : List Life) (o : Office) (m : SimMeter) (sales came : List Sale)
+        (s : Sale)
         → AreLives lives o → AreSalesTo lives m sales → All (Contains sales) came
         → (Contains (accepted_of (reads_by m) (tokens_of came) sales) s
         ↔ (Contains sales s × WasAccepted (reads_by m) (map digits_of came) s.tid)) }

@@ -42,7 +42,8 @@ pub fn office_law()
     // A new sale is what the rules say, and stands at the end; nothing else adds a sale.
     ensures new_sale { (forward : ℕ → ℕ → ℕ) (o : Office) (at : Stamped) (order : Order) (s : Sale)
         → IsOffice o → KeepsRange forward → at.request ≡ Request.Sell order
-        → sale_of_ref o order.operator order.order_ref ≡ None → reply forward o at ≡ Ok (Answer.Sold s)
+        → sale_of_ref o order.operator order.order_ref ≡ None
+        → reply forward o at ≡ Ok (Answer.Sold s)
         → IsNewSale forward o at order s × ((step forward o at).sales ≡ o.sales ++ s ∷ []) }
     ensures at_most_one { (forward : ℕ → ℕ → ℕ) (o : Office) (at : Stamped)
         → IsOffice o → KeepsRange forward → SellsOne forward o at }
@@ -54,13 +55,15 @@ pub fn office_law()
         × (IsSameOrder order first → reply forward o at ≡ Ok (Answer.Sold first))
         × (¬ IsSameOrder order first → reply forward o at ≡ Err Refusal.RefReused) }
 
-    // The rules themselves never answer that memory or the store failed, or that the office stopped.
+    // The rules themselves never answer that memory or the store failed, or that the office
+    // stopped.
     ensures rules_alone { (forward : ℕ → ℕ → ℕ) (o : Office) (at : Stamped)
         → (reply forward o at ≢ Err Refusal.Memory)
         × (reply forward o at ≢ Err Refusal.Store)
         × (reply forward o at ≢ Err Refusal.Stopped) }
 
-    // A refusal leaves the office as it was, and so do a reprint and a report, which give what stands.
+    // A refusal leaves the office as it was, and so do a reprint and a report, which give what
+    // stands.
     ensures refused { (forward : ℕ → ℕ → ℕ) (o : Office) (at : Stamped) (refusal : Refusal)
         → reply forward o at ≡ Err refusal → step forward o at ≡ o }
     ensures reprints { (forward : ℕ → ℕ → ℕ) (o : Office) (at : Stamped) (number : ℕ)
@@ -80,7 +83,8 @@ pub fn office_law()
     // granted and comes again, with no SetTariff in between, changes nothing and has no new row.
     ensures stays { (forward : ℕ → ℕ → ℕ) (o : Office) (at : Stamped)
         → SetsNoTariff at → HaveStayed o (step forward o at) }
-    ensures imported_again { (forward : ℕ → ℕ → ℕ) (o : Office) (at again : Stamped) (between : List Stamped)
+    ensures imported_again { (forward : ℕ → ℕ → ℕ) (o : Office) (at again : Stamped)
+        (between : List Stamped)
         (rows : List Row) (new : ℕ)
         → at.request ≡ Request.Import rows → again.request ≡ Request.Import rows
         → reply forward o at ≡ Ok (Answer.Imported new) → All SetsNoTariff between

@@ -69,7 +69,8 @@ pub(crate) fn sale_numbered(sales: &[Sale], number: u32) -> Option<Sale>
 
 /// The sale that an operator made under a ref.
 pub(crate) fn sale_of_ref(sales: &[Sale], operator: &Operator, order_ref: &Ref) -> Option<Sale>
-    ensures { result ≡ find (λ s. bytes_eq s.operator operator.now && bytes_eq s.order_ref order_ref.now) sales.now }
+    ensures { result ≡ find
+        (λ s. bytes_eq s.operator operator.now && bytes_eq s.order_ref order_ref.now) sales.now }
 {
     sales.iter().copied().find(|sale| sale.operator.as_bytes() == operator.as_bytes()
         && sale.order_ref.as_bytes() == order_ref.as_bytes())
@@ -106,7 +107,9 @@ fn is_under(sale: &Sale, meter: &MeterNo, base: Base) -> bool
 /// The greatest identifier sold to a meter under a base.
 pub(crate) fn last_tid(sales: &[Sale], meter: &MeterNo, base: Base) -> Option<u32>
     requires { All (λ s. s.tid ≤ last_tid) sales.now }
-    ensures value { result ≡ greatest_of (map (λ s. s.tid) (filter (λ s. bytes_eq s.meter meter.now && base_eq s.base base) sales.now)) }
+    ensures value { result
+        ≡ greatest_of (map (λ s. s.tid)
+        (filter (λ s. bytes_eq s.meter meter.now && base_eq s.base base) sales.now)) }
     ensures range { ForSome result (λ tid. tid ≤ last_tid) }
 {
     let mut last: Option<u32> = None;
@@ -128,7 +131,9 @@ fn is_in_month(sale: &Sale, meter: &MeterNo, month: u32) -> bool
 /// The tenths sold to a meter in a month.
 pub(crate) fn prior(sales: &[Sale], meter: &MeterNo, month: u32) -> u64
     requires { length sales.now ≤ greatest_count }
-    ensures value { result ≡ sum_by (λ s. s.tenths) (filter (λ s. bytes_eq s.meter meter.now && (month_at s.moment == month)) sales.now) }
+    ensures value { result
+        ≡ sum_by (λ s. s.tenths)
+        (filter (λ s. bytes_eq s.meter meter.now && (month_at s.moment == month)) sales.now) }
     ensures range { result ≤ 10 ^ 17 }
 {
     amount_law();

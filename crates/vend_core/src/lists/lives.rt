@@ -1,4 +1,5 @@
-//! Lives of the office over plain vectors: stops, reopenings, other transforms, and a clock that goes back.
+//! Lives of the office over plain vectors: stops, reopenings, other transforms, and a clock that
+//! goes back.
 use super::tests::{FIRST_DAY, METER, are, ask, flat, office, order, refuses_at, reprinted, sold};
 use crate::answer::Answer;
 use crate::lists::Lists;
