@@ -5,6 +5,9 @@ pub mod KeyTextLemmas
 pub mod ListLemmas
 pub mod MemberLemmas
 pub mod PartLemmas
+pub mod ReadLemmas
 pub mod RowLemmas
+pub mod SaleTexts
+pub mod SaleLemmas
 pub mod TextLemmas
 pub mod ValueLemmas

@@ -10,4 +10,7 @@ mod cells;
 mod error;
 mod laws;
 mod records;
+pub mod sales;
+mod shown;
+mod texts;
 mod values;

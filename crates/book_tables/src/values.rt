@@ -1,6 +1,6 @@
 //! The values of the columns of the tables' rows, in the order of each table, as a write binds them.
 
-ghost use Rattle.std.specs.Prelude.{◌≡◌};
+ghost use Rattle.std.specs.Prelude.{◌≡◌, ◌∷◌, []};
 ghost use Rattle.sqlite.specs.Values.{bound};
 ghost use Rattle.sts_token.specs.Key.{IsKeyText};
 ghost use Rattle.book_tables.specs.Rows.{meter_columns, number, optional, sale_columns, shift_columns, step_columns, tariff_columns};
@@ -21,6 +21,13 @@ fn seconds(moment: Moment) -> ValueRef<'static>
     ensures { owned result ≡ number moment }
 {
     ValueRef::Int(moment.secs())
+}
+
+/// A whole number.
+pub(crate) fn number_values(n: u32) -> [ValueRef<'static>; 1]
+    ensures { bound result ≡ number n ∷ [] }
+{
+    [whole(n)]
 }
 
 /// The name of a tariff.
