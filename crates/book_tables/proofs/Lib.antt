@@ -1,4 +1,5 @@
 pub mod EditLemmas
+pub mod FindLemmas
 pub mod FoundLemmas
 pub mod HoldsLemmas
 pub mod KeyTextLemmas

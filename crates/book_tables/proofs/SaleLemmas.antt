@@ -1,79 +1,91 @@
--- What the statements on the table of sales find, and why they fail.
-use Rattle.std.proofs.Common.{◌≡◌, ℕ, ◌≤◌, List, [], ◌∷◌, length, map, Option, Result, IfOk, IfErr, OnOk, refl, sym, ap, subst, ◌∙◌}
-use Rattle.std.specs.Prelude.{◌==◌, All, Bool, filter, find, codes}
+-- What the statements on the table of sales find.
+use Rattle.std.proofs.Common.{◌≡◌, ℕ, List, [], ◌∷◌, length, map, refl, sym, ap, subst, ◌∙◌, ◌≤◌}
+use Rattle.std.specs.Prelude.{◌&&◌, ◌==◌, All, Bool, bytes_eq, codes, filter, find}
 use Rattle.std.specs.Option.{option_to_list}
-use Rattle.std.proofs.lemmas.List.Elements.{All-filter, All-map, All-same, All-weaker}
-use Rattle.sqlite.specs.Order.{Row}
-use Rattle.sqlite.specs.State.{IsUnchanged, State}
-use Rattle.sqlite_sql.specs.Query.{IsAnswer}
-use Rattle.sqlite_trees.specs.Tree.{Trees}
+use Rattle.std.proofs.lemmas.List.Elements.{All-same}
+use Rattle.sqlite.specs.declared.types.Value.TheVariants.{Text}
 use Rattle.sqlite_schema.specs.declared.schema.Schema.{Schema}
-use Rattle.sqlite_typed.proofs.TestLemmas.{last_term}
-use Rattle.one_table.specs.Answer.{GivesFirst, OnlyAsks}
+use Rattle.sqlite_typed.proofs.TestLemmas.{last_term, then_term}
 use Rattle.one_table.specs.Place.{Has}
 use Rattle.one_table.specs.Standing.{place_in, tree_in}
 use Rattle.one_table.proofs.ListedLemmas.{one_row}
-use Rattle.one_table.proofs.TestsLemmas.{number_is}
-use Rattle.vend_core.specs.Office.{AreNumbered}
+use Rattle.one_table.proofs.TestsLemmas.{number_is, text_is}
+use Rattle.vend_core.specs.Office.{IsOffice, Office}
 use Rattle.vend_core.specs.declared.sale.Sale.{Sale}
 use Rattle.book_tables.specs.Holds.{HasOffice}
-use Rattle.book_tables.specs.Reading.{AreOfOffice, FailsToRead, FailsToShow, HasRows, HasTables, IsShown, ShowsRecord}
-use Rattle.book_tables.specs.Rows.{Rows, number, sale_row, shown_sale}
+use Rattle.book_tables.specs.Reading.{AreOfOffice}
+use Rattle.book_tables.specs.Rows.{Rows, number, shown_sale}
 use Rattle.book_tables.specs.Tables.{sales_table}
 use Rattle.book_tables.specs.Values.{AreSaleValues}
-use Rattle.book_tables.specs.declared.error.TableError.{TableError}
-use Rattle.book_tables.proofs.FoundLemmas.{found_numbered}
-use Rattle.book_tables.proofs.ReadLemmas.{fails, few, found_keeps, gives, only_asks}
+use Rattle.book_tables.proofs.FindLemmas.{Finds}
+use Rattle.book_tables.proofs.FoundLemmas.{found_numbered, found_ref}
+use Rattle.book_tables.proofs.ReadLemmas.{few, found_keeps}
 use Rattle.book_tables.proofs.RowLemmas.{one_shown_sale}
-use Rattle.book_tables.proofs.SaleTexts.{sale_numbered_asks, sale_numbered_query, sale_numbered_text}
+use Rattle.book_tables.proofs.SaleTexts.{sale_names, sale_numbered_asks, sale_numbered_query, sale_numbered_text, sale_of_ref_asks, sale_of_ref_query, sale_of_ref_text}
 use Rattle.book_tables.proofs.ValueLemmas.{sales_keep}
 
-sales_stand : (s : Schema) → HasOffice s → Has s (place_in s (codes "sales")) (sales_table (tree_in s (codes "sales")))
+pub sales_stand : (s : Schema) → HasOffice s → Has s (place_in s (codes "sales")) (sales_table (tree_in s (codes "sales")))
 sales_stand s has = has.sales.has
 
-sales_keep_values : (rows : Rows) → AreOfOffice rows → All AreSaleValues rows.sales
+pub sales_keep_values : (rows : Rows) → AreOfOffice rows → All AreSaleValues rows.sales
 sales_keep_values rows (o, office, are) = All-same AreSaleValues rows.sales o.sales are.sales (sales_keep o office)
 
-one_sale : (a b : Sale) → AreSaleValues a → AreSaleValues b → shown_sale a ≡ shown_sale b → a ≡ b
-one_sale a b keeps_a keeps_b same = one_shown_sale a b same
+-- a test that at most one sale of an office passes
+abbrev IsOfOne : (Sale → Bool) → Type 0
+IsOfOne p = (o : Office) → IsOffice o → filter p o.sales ≡ option_to_list (find p o.sales)
 
--- rows that show sales of an office can be read
-sales_readable : (p : Sale → Bool) (rows : Rows) → AreOfOffice rows → (answer : List Row) → answer ≡ map shown_sale (filter p rows.sales) → All (ShowsRecord shown_sale AreSaleValues) answer
-sales_readable p rows of_office answer are =
-    let ShowsSale : Row → Type 0 = ShowsRecord shown_sale AreSaleValues in
-    All-same ShowsSale answer (map shown_sale (filter p rows.sales)) are
-    (All-map ShowsSale shown_sale (filter p rows.sales)
-    (All-weaker AreSaleValues (λ s. ShowsSale (shown_sale s)) (λ s keeps. (s, (refl, keeps))) (filter p rows.sales)
-    (All-filter p AreSaleValues rows.sales (sales_keep_values rows of_office))))
+-- so it is with the office's rows
+one_of_rows : (p : Sale → Bool) → IsOfOne p → (rows : Rows) → AreOfOffice rows → filter p rows.sales ≡ option_to_list (find p rows.sales)
+one_of_rows p one rows (o, office, are) = subst (λ (sales : List Sale). filter p sales ≡ option_to_list (find p sales)) (sym are.sales) (one o office)
+
+few_of_rows : (p : Sale → Bool) → IsOfOne p → (rows : Rows) → AreOfOffice rows → length (filter p rows.sales) ≤ 1
+few_of_rows p one rows of_office = subst (λ (l : List Sale). length l ≤ 1) (sym (one_of_rows p one rows of_office)) (few (find p rows.sales))
 
 -- ---- the sale of a number
 
 module _ (n : ℕ) where
-  abbrev is_it : Sale → Bool
-  is_it s = s.number == n
+  abbrev has_number : Sale → Bool
+  has_number s = s.number == n
 
-  it_only : (rows : Rows) → AreOfOffice rows → filter is_it rows.sales ≡ option_to_list (find is_it rows.sales)
-  it_only rows (o, office, are) =
-      found_numbered (λ (s : Sale). s.number) rows.sales n (subst (λ (sales : List Sale). AreNumbered (λ (s : Sale). s.number) sales) (sym are.sales) office.sale_numbers)
+  of_one_number : IsOfOne has_number
+  of_one_number o office = found_numbered (λ (s : Sale). s.number) o.sales n office.sale_numbers
 
-  answers : (db : Trees) (tree : ℕ) (rows : Rows) → db tree ≡ map sale_row rows.sales → AreOfOffice rows → (answer : List Row) → IsAnswer (sale_numbered_query tree) db (number n ∷ []) answer
-      → answer ≡ map shown_sale (filter is_it rows.sales)
-  answers db tree rows held of_office answer is =
-      one_row (record { holds_them = held; passes = λ s. last_term (number_is s.number n); shows = λ s. refl }) answer is
-      (subst (λ (l : List Sale). length l ≤ 1) (sym (it_only rows of_office)) (few (find is_it rows.sales)))
+  pub sale_numbered : Finds sale_numbered_text (number n ∷ []) shown_sale AreSaleValues (λ rows. find has_number rows.sales)
+  sale_numbered = record {
+    table = sales_table;
+    query = sale_numbered_query;
+    names = sale_names;
+    asks = sale_numbered_asks n;
+    name = codes "sales";
+    stands = sales_stand;
+    one = λ a b keeps_a keeps_b same. one_shown_sale a b same;
+    kept = λ rows of_office. found_keeps has_number AreSaleValues rows.sales (sales_keep_values rows of_office);
+    answers = λ db rows held of_office answer is.
+        one_row (record { holds_them = held.sales; passes = λ s. last_term (number_is s.number n); shows = λ s. refl }) answer is (few_of_rows has_number of_one_number rows of_office)
+        ∙ ap (map shown_sale) (one_of_rows has_number of_one_number rows of_office);
+  }
 
-  pub sale_numbered_asks_only : (s : State) → HasTables s → OnlyAsks s sale_numbered_text
-  sale_numbered_asks_only = only_asks (sale_numbered_asks n) (codes "sales") sales_stand
+-- ---- the sale that an operator made under a ref
 
-  pub sale_numbered_gives : (old new : State) (rows : Rows) → HasRows old rows → AreOfOffice rows → (r : Result (Option Sale) TableError) (values : Row) → values ≡ number n ∷ []
-      → OnOk r (IsUnchanged old new) → IfOk r (GivesFirst (IsShown shown_sale AreSaleValues) sale_numbered_text values old new) → IfOk r (λ found. found ≡ find is_it rows.sales)
-  sale_numbered_gives old new rows has of_office =
-      gives (sale_numbered_asks n) (codes "sales") sales_stand shown_sale AreSaleValues one_sale old new rows has (find is_it rows.sales)
-      (found_keeps is_it AreSaleValues rows.sales (sales_keep_values rows of_office))
-      (λ answer held is. answers old.now.trees (tree_in old.now.schema (codes "sales")) rows held.sales of_office answer is ∙ ap (map shown_sale) (it_only rows of_office))
+module _ (operator order_ref : List ℕ) where
+  abbrev has_ref : Sale → Bool
+  has_ref s = bytes_eq s.operator operator && bytes_eq s.order_ref order_ref
 
-  pub sale_numbered_fails : (old new : State) → HasTables old → (r : Result (Option Sale) TableError) (values : Row) → values ≡ number n ∷ []
-      → IfErr r (FailsToShow (ShowsRecord shown_sale AreSaleValues) sale_numbered_text values old new) → IfErr r (FailsToRead old new)
-  sale_numbered_fails old new has =
-      fails (sale_numbered_asks n) (codes "sales") sales_stand (ShowsRecord shown_sale AreSaleValues) old new has
-      (λ rows held of_office answer is. sales_readable is_it rows of_office answer (answers old.now.trees (tree_in old.now.schema (codes "sales")) rows held.sales of_office answer is))
+  of_one_ref : IsOfOne has_ref
+  of_one_ref o office = found_ref o operator order_ref office
+
+  pub sale_of_ref : Finds sale_of_ref_text (Text operator ∷ Text order_ref ∷ []) shown_sale AreSaleValues (λ rows. find has_ref rows.sales)
+  sale_of_ref = record {
+    table = sales_table;
+    query = sale_of_ref_query;
+    names = sale_names;
+    asks = sale_of_ref_asks operator order_ref;
+    name = codes "sales";
+    stands = sales_stand;
+    one = λ a b keeps_a keeps_b same. one_shown_sale a b same;
+    kept = λ rows of_office. found_keeps has_ref AreSaleValues rows.sales (sales_keep_values rows of_office);
+    answers = λ db rows held of_office answer is.
+        one_row (record { holds_them = held.sales; passes = λ s. then_term (text_is s.operator operator) (last_term (text_is s.order_ref order_ref)); shows = λ s. refl }) answer is
+        (few_of_rows has_ref of_one_ref rows of_office)
+        ∙ ap (map shown_sale) (one_of_rows has_ref of_one_ref rows of_office);
+  }

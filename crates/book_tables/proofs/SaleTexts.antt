@@ -1,5 +1,6 @@
 -- What each text over the table of sales means.
 use Rattle.std.proofs.Common.{ℕ, List, [], ◌∷◌, refl, codes}
+use Rattle.sqlite.specs.declared.types.Value.TheVariants.{Text}
 use Rattle.sqlite_value.specs.declared.keys.Collation.TheVariants.{Binary}
 use Rattle.sqlite_sql.specs.Query.{Query}
 use Rattle.sqlite_sql.specs.Term.{Term, col, op2}
@@ -36,4 +37,19 @@ sale_numbered_query tree = query_on tree has_number sale_terms [] no_limit
 pub sale_numbered_asks : (n : ℕ) → Asks sales_table sale_numbered_query sale_names sale_numbered_text (number n ∷ [])
 unfolding everything is_whole meant select_meant text_meant
 sale_numbered_asks n =
+    record { is = λ tree. record { means = refl; from = refl }; bare = λ tree. refl; typed = λ tree. refl; whole = refl }
+
+abbrev pub sale_of_ref_text : List ℕ
+sale_of_ref_text =
+    codes "SELECT number, moment, shift, operator, ref, meter, base, tid, rnd, tenths, price, tender, digits FROM sales WHERE operator = ?1 AND ref = ?2"
+
+abbrev has_operator_and_ref : List Term
+has_operator_and_ref = op2 (Compare Eq Binary) (col 1 5) (col 0 0) ∷ op2 (Compare Eq Binary) (col 1 6) (col 0 1) ∷ []
+
+abbrev pub sale_of_ref_query : ℕ → Query
+sale_of_ref_query tree = query_on tree has_operator_and_ref sale_terms [] no_limit
+
+pub sale_of_ref_asks : (operator order_ref : List ℕ) → Asks sales_table sale_of_ref_query sale_names sale_of_ref_text (Text operator ∷ Text order_ref ∷ [])
+unfolding everything is_whole meant select_meant text_meant
+sale_of_ref_asks operator order_ref =
     record { is = λ tree. record { means = refl; from = refl }; bare = λ tree. refl; typed = λ tree. refl; whole = refl }

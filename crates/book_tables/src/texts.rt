@@ -3,3 +3,7 @@
 pub(crate) const SALE_NUMBERED: &str =
     "SELECT number, moment, shift, operator, ref, meter, base, tid, rnd, tenths, price, tender, \
     digits FROM sales WHERE number = ?1";
+
+pub(crate) const SALE_OF_REF: &str =
+    "SELECT number, moment, shift, operator, ref, meter, base, tid, rnd, tenths, price, tender, \
+    digits FROM sales WHERE operator = ?1 AND ref = ?2";
