@@ -6,11 +6,15 @@
 pub use error::TableError;
 pub use laws::{members_law, stands_law};
 
+pub mod about;
 mod cells;
 mod error;
 mod laws;
+pub mod meters;
 mod records;
 pub mod sales;
+pub mod shifts;
 mod shown;
+pub mod tariffs;
 mod texts;
 mod values;
