@@ -16,5 +16,7 @@ pub mod sales;
 pub mod shifts;
 mod shown;
 pub mod tariffs;
+#[cfg(test)]
+mod tests;
 mod texts;
 mod values;
