@@ -3,7 +3,7 @@ use Rattle.std.proofs.Common.{pos, None, option_map, unwrap_or, take, reverse, �
 use Rattle.std.specs.Prelude.{◌&&◌, ◌==◌, All, Bool, bytes_eq, codes, filter, find}
 use Rattle.std.specs.List.{last_or}
 use Rattle.std.specs.Option.{option_to_list}
-use Rattle.std.proofs.lemmas.List.Elements.{All-same, All-weaker}
+use Rattle.std.proofs.lemmas.List.Elements.{All-weaker}
 use Rattle.sqlite.specs.declared.types.Value.TheVariants.{Int, Text}
 use Rattle.sqlite_schema.specs.declared.schema.Schema.{Schema}
 use Rattle.sqlite_sql.specs.Term.{lit}
@@ -30,8 +30,15 @@ use Rattle.book_tables.proofs.ValueLemmas.{sales_keep}
 pub sales_stand : (s : Schema) → HasOffice s → Has s (place_in s (codes "sales")) (sales_table (tree_in s (codes "sales")))
 sales_stand s has = has.sales.has
 
+-- what holds of the sales of each office
+sales_of : (P : List Sale → Type 0) → ((o : Office) → IsOffice o → P o.sales) → (rows : Rows) → AreOfOffice rows → P rows.sales
+sales_of P each rows (o, office, are) = subst P (sym are.sales) (each o office)
+
 pub sales_keep_values : (rows : Rows) → AreOfOffice rows → All AreSaleValues rows.sales
-sales_keep_values rows (o, office, are) = All-same AreSaleValues rows.sales o.sales are.sales (sales_keep o office)
+sales_keep_values = sales_of (All AreSaleValues) sales_keep
+
+numbered : (rows : Rows) → AreOfOffice rows → AreNumbered (λ (s : Sale). s.number) rows.sales
+numbered = sales_of (AreNumbered (λ (s : Sale). s.number)) (λ o office. office.sale_numbers)
 
 -- a test that at most one sale of an office passes
 abbrev IsOfOne : (Sale → Bool) → Type 0
@@ -39,7 +46,7 @@ IsOfOne p = (o : Office) → IsOffice o → filter p o.sales ≡ option_to_list 
 
 -- so it is with the office's rows
 one_of_rows : (p : Sale → Bool) → IsOfOne p → (rows : Rows) → AreOfOffice rows → filter p rows.sales ≡ option_to_list (find p rows.sales)
-one_of_rows p one rows (o, office, are) = subst (λ (sales : List Sale). filter p sales ≡ option_to_list (find p sales)) (sym are.sales) (one o office)
+one_of_rows p one = sales_of (λ sales. filter p sales ≡ option_to_list (find p sales)) one
 
 few_of_rows : (p : Sale → Bool) → IsOfOne p → (rows : Rows) → AreOfOffice rows → length (filter p rows.sales) ≤ 1
 few_of_rows p one rows of_office = subst (λ (l : List Sale). length l ≤ 1) (sym (one_of_rows p one rows of_office)) (few (find p rows.sales))
@@ -94,9 +101,6 @@ module _ (operator order_ref : List ℕ) where
   }
 
 -- ---- the number of the last sale
-
-numbered : (rows : Rows) → AreOfOffice rows → AreNumbered (λ (s : Sale). s.number) rows.sales
-numbered rows (o, office, are) = subst (λ (sales : List Sale). AreNumbered (λ (s : Sale). s.number) sales) (sym are.sales) office.sale_numbers
 
 pub last_sale_counts : (rows : Rows) → AreOfOffice rows → unwrap_or (option_map (λ (s : Sale). s.number) (last_or None rows.sales)) 0 ≡ length rows.sales
 last_sale_counts rows of_office = last_is_count (λ (s : Sale). s.number) rows.sales (numbered rows of_office)

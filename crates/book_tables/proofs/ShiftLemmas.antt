@@ -3,7 +3,7 @@ use Rattle.std.proofs.Common.{◌≡◌, ℕ, List, [], ◌∷◌, length, map, 
 use Rattle.std.specs.Prelude.{◌&&◌, ◌==◌, All, Bool, bytes_eq, codes, filter, find, is_none}
 use Rattle.std.specs.List.{last_or}
 use Rattle.std.specs.Option.{option_to_list}
-use Rattle.std.proofs.lemmas.List.Elements.{All-same, All-weaker}
+use Rattle.std.proofs.lemmas.List.Elements.{All-weaker}
 use Rattle.sqlite.specs.declared.types.Value.TheVariants.{Int, Null, Text}
 use Rattle.sqlite_schema.specs.declared.schema.Schema.{Schema}
 use Rattle.sqlite_sql.specs.Ops.{binary, is_true}
@@ -33,8 +33,15 @@ use Rattle.book_tables.proofs.ValueLemmas.{shifts_keep}
 pub shifts_stand : (s : Schema) → HasOffice s → Has s (place_in s (codes "shifts")) (shifts_table (tree_in s (codes "shifts")))
 shifts_stand s has = has.shifts.has
 
+-- what holds of the shifts of each office
+shifts_of : (P : List Shift → Type 0) → ((o : Office) → IsOffice o → P o.shifts) → (rows : Rows) → AreOfOffice rows → P rows.shifts
+shifts_of P each rows (o, office, are) = subst P (sym are.shifts) (each o office)
+
 pub shifts_keep_values : (rows : Rows) → AreOfOffice rows → All AreShiftValues rows.shifts
-shifts_keep_values rows (o, office, are) = All-same AreShiftValues rows.shifts o.shifts are.shifts (shifts_keep o office)
+shifts_keep_values = shifts_of (All AreShiftValues) shifts_keep
+
+numbered : (rows : Rows) → AreOfOffice rows → AreNumbered (λ (s : Shift). s.number) rows.shifts
+numbered = shifts_of (AreNumbered (λ (s : Shift). s.number)) (λ o office. office.shift_numbers)
 
 -- a test that at most one shift of an office passes
 abbrev IsOfOne : (Shift → Bool) → Type 0
@@ -42,10 +49,7 @@ IsOfOne p = (o : Office) → IsOffice o → filter p o.shifts ≡ option_to_list
 
 -- so it is with the office's rows
 one_of_rows : (p : Shift → Bool) → IsOfOne p → (rows : Rows) → AreOfOffice rows → filter p rows.shifts ≡ option_to_list (find p rows.shifts)
-one_of_rows p one rows (o, office, are) = subst (λ (shifts : List Shift). filter p shifts ≡ option_to_list (find p shifts)) (sym are.shifts) (one o office)
-
-numbered : (rows : Rows) → AreOfOffice rows → AreNumbered (λ (s : Shift). s.number) rows.shifts
-numbered rows (o, office, are) = subst (λ (shifts : List Shift). AreNumbered (λ (s : Shift). s.number) shifts) (sym are.shifts) office.shift_numbers
+one_of_rows p one = shifts_of (λ shifts. filter p shifts ≡ option_to_list (find p shifts)) one
 
 -- ---- the shift of a number
 
