@@ -6,10 +6,19 @@
 pub use error::TableError;
 pub use laws::{members_law, stands_law};
 
+pub mod about;
 mod cells;
 mod error;
 mod laws;
+#[cfg(test)]
+mod look_up_tests;
+pub mod meters;
 mod records;
+pub mod sales;
+pub mod shifts;
+mod shown;
+pub mod tariffs;
 #[cfg(test)]
 mod tests;
+mod texts;
 mod values;
