@@ -9,3 +9,5 @@ pub mod PartLemmas
 pub mod RowLemmas
 pub mod TextLemmas
 pub mod ValueLemmas
+pub mod WriteLemmas
+pub mod WriteTexts

@@ -6,10 +6,12 @@
 pub use error::TableError;
 pub use laws::{members_law, stands_law};
 
+pub mod adding;
 mod cells;
 mod error;
 mod laws;
 mod records;
 #[cfg(test)]
 mod tests;
+mod texts;
 mod values;
