@@ -1,5 +1,6 @@
 pub mod EditLemmas
 pub mod FoundLemmas
+pub mod HiddenWriteLemmas
 pub mod HoldsLemmas
 pub mod KeptLemmas
 pub mod KeyTextLemmas

@@ -1,8 +1,26 @@
 -- What the rows of the office are after a write of one of its tables.
-use Rattle.std.proofs.Common.{◌≡◌, ◌<◌, ℕ, ℤ, suc, pos, ◌+◌, ◌+ℤ◌, ◌<ℤ◌, List, [], ◌∷◌, ◌++◌, length, fold, Some, slice_get, codes, refl, sym, ap, ◌∙◌, arith}
+use Rattle.std.proofs.Common.{◌≡◌, ◌<◌, ℕ, ℤ, suc, pos, ◌==◌, ◌≤◌, Bool, Option, None, ◌+◌, ◌+ℤ◌, ◌<ℤ◌, List, [], ◌∷◌, ◌++◌, length, map, filter, find, fold, Some, slice_get, codes, refl, sym, ap, subst, ◌∙◌, arith}
 use Rattle.std.specs.List.{AllByRecursion}
 use Rattle.std.proofs.lemmas.Int.{ints}
+use Rattle.std.specs.Option.{option_to_list}
 use Rattle.sqlite.specs.Order.{Row}
+use Rattle.sqlite_value.specs.declared.value.Value.TheVariants.{Int}
+use Rattle.sqlite_rules.specs.Cast.{cast}
+use Rattle.sqlite_schema.specs.declared.schema.Kind.TheVariants.{Integer}
+use Rattle.sqlite_typed.proofs.TestLemmas.{last_term}
+use Rattle.one_table.specs.InTransaction.{SetsRows}
+use Rattle.one_table.specs.Updating.{Sets}
+use Rattle.one_table.proofs.TestsLemmas.{number_is}
+use Rattle.one_table.proofs.UpdateLemmas.{sets_listed}
+use Rattle.vend_core.specs.Fold.{closed_at}
+use Rattle.vend_core.specs.declared.shift.Shift.{Shift}
+use Rattle.book_tables.specs.Edited.{shift_closed}
+use Rattle.book_tables.specs.Rows.{optional, shift_columns, shift_row}
+use Rattle.book_tables.specs.Tables.{shifts_table}
+use Rattle.book_tables.specs.Writing.{AddsShift, ClosesShift}
+use Rattle.book_tables.proofs.FoundLemmas.{found_numbered}
+use Rattle.book_tables.proofs.KeptLemmas.{shifts_changed}
+use Rattle.book_tables.proofs.WriteTexts.{new_shift_terms, shift_closed_query, shift_closed_terms, is_that_shift}
 use Rattle.sqlite.specs.State.{State}
 use Rattle.sqlite_keyed.specs.Keyed.{IsKeyedBy, next_key}
 use Rattle.sqlite_keyed.proofs.ListLemmas.{all_weaker}
@@ -63,7 +81,7 @@ module _ {X : Type 0} (number : X → ℕ) where
 
 -- ---- one table
 
-only_one : (name : List ℕ) (t : Table) (rows : List Row) (old new : State) → t.tree ≡ tree_in old.now.schema name → HasChanged t rows old new → WritesOnly (name ∷ []) old new
+pub only_one : (name : List ℕ) (t : Table) (rows : List Row) (old new : State) → t.tree ≡ tree_in old.now.schema name → HasChanged t rows old new → WritesOnly (name ∷ []) old new
 only_one name t rows old new is h = record {
   inside = h.inside;
   marks = h.marks;
@@ -73,11 +91,23 @@ only_one name t rows old new is h = record {
   sound = h.sound;
 }
 
-changes_only : (name : List ℕ) (old new : State) → WritesOnly (name ∷ []) old new → ChangesOnly name old.now new.now
+pub changes_only : (name : List ℕ) (old new : State) → WritesOnly (name ∷ []) old new → ChangesOnly name old.now new.now
 changes_only name old new only = record {
   schema = only.schema;
   tables = all_weaker _ _ (λ u kept apart. kept (apart, tt)) old.now.schema.tables only.tables;
 }
+
+-- ---- values that a column keeps
+
+pub cast_optional : (o : Option ℕ) → cast Integer (optional o) ≡ optional o
+cast_optional None = cast_no_int
+cast_optional (Some n) = cast_int (pos n)
+
+-- ---- one row at most
+
+pub few : {X : Type 0} (o : Option X) → length (option_to_list o) ≤ 1
+few None = omega arith
+few (Some x) = omega arith
 
 -- ---- a new sale
 
@@ -101,4 +131,53 @@ module _ (old new : State) (s : Sale) (params : Row) (bound : params ≡ sale_co
             ∙ ap (put_row (sale_row s)) held.sales
             ∙ appends (λ (x : Sale). pos x.number) sale_row (λ x. refl) rows.sales s (numbers_rise (λ (x : Sale). x.number) rows.sales next.numbered) (next_number (λ (x : Sale). x.number) rows.sales s.number next) in
             sales_changed old.now new.now rows held (rows.sales ++ s ∷ []) (changes_only (codes "sales") old new only) put;
+      }
+
+-- ---- a new shift
+
+shift_is : (tree : ℕ) (s : Shift) (rows : List Row) → new_row (shifts_table tree) new_shift_terms (shift_columns s) rows ≡ shift_row s
+shift_is tree s rows = rw (cast_int (pos s.number), cast_no_int, cast_int (pos s.opened), cast_optional s.closed) refl
+
+module _ (old new : State) where
+  abbrev shifts : Table
+  shifts = shifts_table (tree_in old.now.schema (codes "shifts"))
+
+  pub adds_shift : (s : Shift) (params : Row) → params ≡ shift_columns s → PutsRow shifts (new_row shifts new_shift_terms params (old.now.trees shifts.tree)) old new → AddsShift s old new
+  adds_shift s params bound h =
+      let only = only_one (codes "shifts") shifts _ old new refl h.changed in
+      record {
+        only = only;
+        rows = λ rows held next.
+            let row : new_row shifts new_shift_terms params (old.now.trees shifts.tree) ≡ shift_row s =
+            ap (λ (p : Row). new_row shifts new_shift_terms p (old.now.trees shifts.tree)) bound ∙ shift_is shifts.tree s (old.now.trees shifts.tree) in
+            let put = h.changed.rows_are ∙ ap (λ (r : Row). put_row r (old.now.trees shifts.tree)) row ∙ ap (put_row (shift_row s)) held.shifts
+            ∙ appends (λ (x : Shift). pos x.number) shift_row (λ x. refl) rows.shifts s (numbers_rise (λ (x : Shift). x.number) rows.shifts next.numbered) (next_number (λ (x : Shift). x.number) rows.shifts s.number next) in
+            shifts_changed old.now new.now rows held (rows.shifts ++ s ∷ []) (changes_only (codes "shifts") old new only) put;
+      }
+
+  -- ---- a shift that is closed
+
+  abbrev is_that : ℕ → Shift → Bool
+  is_that number s = s.number == number
+
+  closing : (number moment : ℕ) → Sets shifts is_that_shift shift_closed_terms (Int (pos number) ∷ Int (pos moment) ∷ []) (λ (s : Shift). pos s.number) shift_row (is_that number) (closed_at moment)
+  closing number moment = record {
+    keyed = λ s. refl;
+    passes = λ s. last_term (number_is s.number number);
+    identifies = λ s. refl;
+    becomes = λ s. rw (cast_int (pos s.number), cast_no_int, cast_int (pos s.opened), cast_int (pos moment)) refl;
+    stays = λ s. refl;
+  }
+
+  pub closes_shift : (number moment : ℕ) (params : Row) → params ≡ Int (pos number) ∷ Int (pos moment) ∷ [] → SetsRows shifts (shift_closed_query shifts.tree) params old new → ClosesShift number moment old new
+  closes_shift number moment params bound h =
+      let set = subst (λ (p : Row). SetsRows shifts (shift_closed_query shifts.tree) p old new) bound h in
+      let only = only_one (codes "shifts") shifts _ old new refl set.changed in
+      record {
+        only = only;
+        rows = λ rows held numbered.
+            let one : length (filter (is_that number) rows.shifts) ≤ 1 = subst (λ (l : List Shift). length l ≤ 1) (sym (found_numbered (λ (s : Shift). s.number) rows.shifts number numbered)) (few (find (is_that number) rows.shifts)) in
+            let changed = sets_listed shifts is_that_shift shift_closed_terms (Int (pos number) ∷ Int (pos moment) ∷ []) (λ (s : Shift). pos s.number) shift_row (is_that number) (closed_at moment) (closing number moment)
+            old new rows.shifts set held.shifts (numbers_rise (λ (s : Shift). s.number) rows.shifts numbered) one in
+            shifts_changed old.now new.now rows held (map (shift_closed number moment) rows.shifts) (changes_only (codes "shifts") old new only) changed.rows_are;
       }

@@ -8,6 +8,7 @@ pub use laws::{members_law, stands_law};
 
 pub mod adding;
 mod cells;
+pub mod changing;
 mod error;
 mod laws;
 mod records;
