@@ -84,9 +84,10 @@ module _ {X : Type 0} (stored : X → Row) (t : Table) (terms : List Term) (para
   pub stands_after : (xs : List X) → map (drop 1) rows ≡ map stored xs → IsInOrder rows → (map (drop 1) (new.now.trees t.tree) ≡ map stored (xs ++ x ∷ [])) × IsInOrder (new.now.trees t.tree)
   stands_after xs holds order =
       let last = stands_last (Null ∷ stored x) refl rows order.rises order.are_numbers in
-      let put : new.now.trees t.tree ≡ put_row (with_rowid Chosen rows (Null ∷ stored x)) rows = h.changed.rows_are ∙ ap (λ (r : Row). put_row r rows) row_is in
-      (ap (map (drop 1)) put ∙ last.columns ∙ ap (λ (l : List Row). l ++ stored x ∷ []) holds ∙ sym (map-append stored xs (x ∷ [])),
-          subst IsInOrder (sym put) (record { rises = last.rises; are_numbers = last.are_numbers }))
+      let put : new.now.trees t.tree ≡ put_row (with_rowid Chosen rows (Null ∷ stored x)) rows = h.changed.rows_are ∙ ap (λ (r : Row). put_row r rows) row_is in (
+        ap (map (drop 1)) put ∙ last.columns ∙ ap (λ (l : List Row). l ++ stored x ∷ []) holds ∙ sym (map-append stored xs (x ∷ [])),
+        subst IsInOrder (sym put) (record { rises = last.rises; are_numbers = last.are_numbers }),
+      )
 
 -- the rows of a name, where the schema stays
 order_there : (name : List ℕ) (old new : State) → new.now.schema ≡ old.now.schema → IsInOrder (new.now.trees (tree_in old.now.schema name)) → IsInOrder (rows_in new.now name)
@@ -191,7 +192,8 @@ module _ (old new : State) where
         rows = λ rows held order apart.
             let set = sets_hidden meter_columns (is_that number) (renamed name) meters is_that_meter tariff_set_terms (Text number ∷ Text name ∷ []) (setting number name) (λ r none. cc)
             old new rows.meters h held.meters order.rises order.are_numbers (one_at_most number rows.meters apart) in
-            let in_order : IsInOrder set.rows = record { rises = set.rises; are_numbers = set.are_numbers } in
-            (meters_changed old.now new.now rows held (map (row_with_tariff number name) rows.meters) (changes_only (codes "meters") old new only) (ap (map (drop 1)) set.changed.rows_are ∙ set.holds),
-                order_there (codes "meters") old new only.schema (subst IsInOrder (sym set.changed.rows_are) in_order));
+            let in_order : IsInOrder set.rows = record { rises = set.rises; are_numbers = set.are_numbers } in (
+              meters_changed old.now new.now rows held (map (row_with_tariff number name) rows.meters) (changes_only (codes "meters") old new only) (ap (map (drop 1)) set.changed.rows_are ∙ set.holds),
+              order_there (codes "meters") old new only.schema (subst IsInOrder (sym set.changed.rows_are) in_order),
+            );
       }

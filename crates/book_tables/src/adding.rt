@@ -63,7 +63,11 @@ pub fn add_shift<S: Alter>(tx: &mut Transaction<'_, S>, shift: &Shift) -> Result
 ///
 /// # Errors
 /// What the database refuses: a number that is taken, a tariff that is not there, and want of memory.
-pub fn add_meter<S: Alter>(tx: &mut Transaction<'_, S>, number: &MeterNo, meter: &Meter) -> Result<(), TableError>
+pub fn add_meter<S: Alter>(
+    tx: &mut Transaction<'_, S>,
+    number: &MeterNo,
+    meter: &Meter,
+) -> Result<(), TableError>
     ensures same_reference { tx.new.conn.ghost_name ≡ tx.old.conn.ghost_name }
     ensures added { HasCleanDisk (state S.Store tx.new.conn.now)
         → (IsTrue (state S.Store tx.old.conn.now).is_open
@@ -106,7 +110,12 @@ pub fn add_name<S: Alter>(tx: &mut Transaction<'_, S>, name: &TariffName) -> Res
 ///
 /// # Errors
 /// What the database refuses: a place that is taken, a tariff that is not there, and want of memory.
-pub fn add_step<S: Alter>(tx: &mut Transaction<'_, S>, name: &TariffName, place: u32, step: Step) -> Result<(), TableError>
+pub fn add_step<S: Alter>(
+    tx: &mut Transaction<'_, S>,
+    name: &TariffName,
+    place: u32,
+    step: Step,
+) -> Result<(), TableError>
     ensures same_reference { tx.new.conn.ghost_name ≡ tx.old.conn.ghost_name }
     ensures added { HasCleanDisk (state S.Store tx.new.conn.now)
         → (IsTrue (state S.Store tx.old.conn.now).is_open

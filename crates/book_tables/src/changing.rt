@@ -20,7 +20,11 @@ use vend_core::{MeterNo, TariffName};
 ///
 /// # Errors
 /// Want of memory, and the disk.
-pub fn close_shift<S: Alter>(tx: &mut Transaction<'_, S>, number: u32, moment: Moment) -> Result<(), TableError>
+pub fn close_shift<S: Alter>(
+    tx: &mut Transaction<'_, S>,
+    number: u32,
+    moment: Moment,
+) -> Result<(), TableError>
     ensures same_reference { tx.new.conn.ghost_name ≡ tx.old.conn.ghost_name }
     ensures changed { HasCleanDisk (state S.Store tx.new.conn.now)
         → (IsTrue (state S.Store tx.old.conn.now).is_open
@@ -41,7 +45,11 @@ pub fn close_shift<S: Alter>(tx: &mut Transaction<'_, S>, number: u32, moment: M
 ///
 /// # Errors
 /// What the database refuses: a tariff that is not there, and want of memory.
-pub fn set_tariff<S: Alter>(tx: &mut Transaction<'_, S>, number: &MeterNo, name: &TariffName) -> Result<(), TableError>
+pub fn set_tariff<S: Alter>(
+    tx: &mut Transaction<'_, S>,
+    number: &MeterNo,
+    name: &TariffName,
+) -> Result<(), TableError>
     ensures same_reference { tx.new.conn.ghost_name ≡ tx.old.conn.ghost_name }
     ensures changed { HasCleanDisk (state S.Store tx.new.conn.now)
         → (IsTrue (state S.Store tx.old.conn.now).is_open

@@ -16,3 +16,5 @@ mod records;
 mod tests;
 mod texts;
 mod values;
+#[cfg(test)]
+mod write_tests;
