@@ -8,6 +8,7 @@ pub mod ListLemmas
 pub mod MemberLemmas
 pub mod PartLemmas
 pub mod RowLemmas
+pub mod TariffWriteLemmas
 pub mod TextLemmas
 pub mod ValueLemmas
 pub mod WriteLemmas

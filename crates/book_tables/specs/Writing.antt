@@ -7,6 +7,8 @@ use Rattle.sqlite.specs.State.{Shows, State}
 use Rattle.sqlite_trees.specs.Tree.{IsTable, rowid}
 use Rattle.sqlite_trees.specs.View.{is_int}
 use Rattle.vend_core.specs.PlainRows.{row_with_tariff}
+use Rattle.tariff.specs.declared.step.Step.{Step}
+use Rattle.vend_core.specs.declared.change.Edit.TheVariants.{AddTariff}
 use Rattle.vend_core.specs.declared.meter.Meter.{Meter}
 use Rattle.sqlite_rules.specs.Edit.{IsNoIndex}
 use Rattle.sqlite_schema.specs.declared.schema.Schema.{Schema}
@@ -14,7 +16,7 @@ use Rattle.one_table.specs.Standing.{tree_in}
 use Rattle.vend_core.specs.Office.{AreNumbered}
 use Rattle.vend_core.specs.declared.sale.Sale.{Sale}
 use Rattle.vend_core.specs.declared.shift.Shift.{Shift}
-use Rattle.book_tables.specs.Edited.{shift_closed}
+use Rattle.book_tables.specs.Edited.{edited, shift_closed, step_rows}
 use Rattle.book_tables.specs.Holds.{Holds, rows_in}
 use Rattle.book_tables.specs.Rows.{Rows, StepRow}
 
@@ -37,6 +39,11 @@ pub record HasOneMore {X : Type 0} (x : X) (old new : List X) : Type 0 where
   pub after : List X
   pub old_is : old ≡ before ++ after
   pub new_is : new ≡ before ++ x ∷ after
+
+-- a list with each of these values more, one after the other
+abbrev pub HasMore : {X : Type 0} → List X → List X → List X → Type 0
+HasMore [] old new = new ≡ old
+HasMore (x ∷ xs) old new = (mid : List _) × HasOneMore x old mid × HasMore xs mid new
 
 -- The hidden numbers of the rows are whole and rise, as SQLite keeps every table. No clause of `sqlite` says it of a database that is found.
 pub record IsInOrder (rows : List Row) : Type 0 where
@@ -86,3 +93,11 @@ pub record SetsTariff (number name : List ℕ) (old new : State) : Type 0 where
   pub only : WritesOnly (codes "meters" ∷ []) old new
   pub rows : (rows : Rows) → Holds old.now rows → IsInOrder (rows_in old.now (codes "meters")) → AllPairs (λ a b. a.0 ≢ b.0) rows.meters
       → Holds new.now (record rows { meters = map (row_with_tariff number name) rows.meters }) × IsInOrder (rows_in new.now (codes "meters"))
+
+-- a tariff more: its name, and its steps at their places
+pub record AddsTariff (name : List ℕ) (added : List Step) (old new : State) : Type 0 where
+  pub only : WritesOnly (codes "tariffs" ∷ codes "tariff_steps" ∷ []) old new
+  pub rows : (rows : Rows) → Holds old.now rows
+      → (tariffs : List (List ℕ)) × (steps : List StepRow) × HasOneMore name rows.tariffs tariffs × HasMore (step_rows name added) rows.steps steps × Holds new.now (record rows { tariffs = tariffs; steps = steps })
+  pub last : (rows : Rows) → Holds old.now rows → IsInOrder (rows_in old.now (codes "tariffs")) → IsInOrder (rows_in old.now (codes "tariff_steps"))
+      → Holds new.now (edited (AddTariff name added) rows) × IsInOrder (rows_in new.now (codes "tariffs")) × IsInOrder (rows_in new.now (codes "tariff_steps"))

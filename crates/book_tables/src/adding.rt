@@ -1,11 +1,11 @@
 //! The statements that add rows to the tables.
 
-ghost use Rattle.std.specs.Prelude.{◌≡◌, ◌⊎◌, IsTrue, OnOk, OnErr};
-ghost use Rattle.sqlite.specs.State.{HasCleanDisk, Survives};
+ghost use Rattle.std.specs.Prelude.{◌≡◌, ◌⊎◌, ◌≤◌, length, IsTrue, OnOk, OnErr};
+ghost use Rattle.sqlite.specs.State.{HasCleanDisk, KeepsCommit, Survives};
 ghost use Rattle.sqlite.specs.Held.{state};
 ghost use Rattle.one_table.specs.Answer.{IsLeft};
 ghost use Rattle.book_tables.specs.Holds.{HasOffice};
-ghost use Rattle.book_tables.specs.Writing.{AddsMeter, AddsName, AddsSale, AddsShift, AddsStep};
+ghost use Rattle.book_tables.specs.Writing.{AddsMeter, AddsName, AddsSale, AddsShift, AddsStep, AddsTariff};
 
 use crate::error::TableError;
 use crate::texts::{NEW_METER, NEW_SALE, NEW_SHIFT, NEW_STEP, NEW_TARIFF};
@@ -129,5 +129,40 @@ pub fn add_step<S: Alter>(
         (state S.Store tx.old.conn.now) (state S.Store tx.new.conn.now) (λ _. ⊥) }
 {
     insert(tx, NEW_STEP, &step_values(name, place, step))?;
+    Ok(())
+}
+
+/// Adds a tariff with its steps, in their order and from place 0.
+///
+/// What was added before an error goes with the transaction, which the caller drops.
+///
+/// # Errors
+/// What the database refuses: a name that is taken, and want of memory.
+pub fn add_tariff<S: Alter>(
+    tx: &mut Transaction<'_, S>,
+    name: &TariffName,
+    steps: &[Step],
+) -> Result<(), TableError>
+    requires { length steps.now ≤ 8 }
+    ensures same_reference { tx.new.conn.ghost_name ≡ tx.old.conn.ghost_name }
+    ensures added { HasCleanDisk (state S.Store tx.new.conn.now)
+        → (IsTrue (state S.Store tx.old.conn.now).is_open
+        → HasOffice (state S.Store tx.old.conn.now).now.schema)
+        → OnOk result (AddsTariff name.now steps.now
+        (state S.Store tx.old.conn.now) (state S.Store tx.new.conn.now)) }
+    ensures refused { HasCleanDisk (state S.Store tx.new.conn.now)
+        → (IsTrue (state S.Store tx.old.conn.now).is_open
+        → HasOffice (state S.Store tx.old.conn.now).now.schema)
+        → OnErr result (KeepsCommit
+        (state S.Store tx.old.conn.now) (state S.Store tx.new.conn.now)) }
+    ensures survives { Survives
+        (state S.Store tx.old.conn.now) (state S.Store tx.new.conn.now) (λ _. ⊥) }
+{
+    add_name(tx, name)?;
+    let mut place = 0;
+    'steps: for step in steps {
+        add_step(tx, name, place, *step)?;
+        place += 1;
+    }
     Ok(())
 }

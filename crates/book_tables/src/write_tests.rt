@@ -1,4 +1,4 @@
-use crate::adding::{add_meter, add_name, add_sale, add_shift, add_step};
+use crate::adding::{add_meter, add_name, add_sale, add_shift, add_step, add_tariff};
 use crate::changing::{close_shift, set_tariff};
 use sqlite::{Connection, Error, ErrorCode, MemStore, Transaction};
 use std::alloc::Global;
@@ -71,18 +71,17 @@ fn write(tx: &mut Transaction<'_, MemStore>) -> Result<(), Fail> {
     let home = TariffName::read(b"home").ok_or("home")?;
     let shop = TariffName::read(b"shop").ok_or("shop")?;
     let number = MeterNo::read(b"12345678903").ok_or("number")?;
-    add_name(tx, &home)?;
-    add_name(tx, &shop)?;
     let first = Step {
         ends: Some(500),
         price: 10,
     };
-    add_step(tx, &home, 0, first)?;
     let last = Step {
         ends: None,
         price: 20,
     };
-    add_step(tx, &home, 1, last)?;
+    add_tariff(tx, &home, &[first, last])?;
+    add_name(tx, &shop)?;
+    add_step(tx, &shop, 0, last)?;
     let other = MeterNo::read(b"79927398713").ok_or("other")?;
     add_meter(tx, &other, &meter(b"home")?)?;
     add_meter(tx, &number, &meter(b"home")?)?;
@@ -138,7 +137,7 @@ fn each_write_puts_its_columns_in_their_places(rt: HostRuntime) -> Result<(), Fa
     let mut conn = filled(rt.alloc())?;
     let rows = [
         ("SELECT count(*) FROM tariffs", 2),
-        ("SELECT count(*) FROM tariff_steps", 2),
+        ("SELECT count(*) FROM tariff_steps", 3),
         ("SELECT count(*) FROM meters", 2),
         ("SELECT count(*) FROM shifts", 2),
         ("SELECT count(*) FROM sales", 2),
