@@ -2,6 +2,7 @@ pub mod AboutLemmas
 pub mod EditLemmas
 pub mod FindLemmas
 pub mod FoundLemmas
+pub mod HiddenWriteLemmas
 pub mod HoldsLemmas
 pub mod KeptLemmas
 pub mod KeyTextLemmas
@@ -19,5 +20,8 @@ pub mod SaleTexts
 pub mod ShiftLemmas
 pub mod ShiftTexts
 pub mod TariffLemmas
+pub mod TariffWriteLemmas
 pub mod TextLemmas
 pub mod ValueLemmas
+pub mod WriteLemmas
+pub mod WriteTexts

@@ -9,3 +9,4 @@ pub mod Stands
 pub mod Tables
 pub mod Texts
 pub mod Values
+pub mod Writing

@@ -7,7 +7,9 @@ pub use error::TableError;
 pub use laws::{members_law, stands_law};
 
 pub mod about;
+pub mod adding;
 mod cells;
+pub mod changing;
 mod error;
 mod laws;
 #[cfg(test)]
@@ -22,3 +24,5 @@ pub mod tariffs;
 mod tests;
 mod texts;
 mod values;
+#[cfg(test)]
+mod write_tests;

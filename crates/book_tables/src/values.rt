@@ -12,13 +12,15 @@ use sts_fields::{Moment, month_of};
 use tariff::Step;
 use vend_core::{Meter, MeterNo, Operator, Ref, Sale, Shift, TariffName};
 
-fn whole(n: u32) -> ValueRef<'static>
+/// A whole number.
+pub(crate) fn whole(n: u32) -> ValueRef<'static>
     ensures { owned result ≡ number n }
 {
     ValueRef::Int(i64::from(n))
 }
 
-fn seconds(moment: Moment) -> ValueRef<'static>
+/// A moment, in seconds.
+pub(crate) fn seconds(moment: Moment) -> ValueRef<'static>
     ensures { owned result ≡ number moment }
 {
     ValueRef::Int(moment.secs())

@@ -1,0 +1,199 @@
+-- What the rows of the tariffs, their steps and the meters are after a write. SQLite chooses the numbers of these rows.
+use Rattle.std.proofs.Common.{◌≡◌, ◌≢◌, ℕ, pos, Bool, true, false, ◌||◌, List, [], ◌∷◌, ◌++◌, length, map, filter, find, drop, IsTrue, Ordering, Less, Equal, Greater, Option, None, Some, ◌≤◌, codes, refl, sym, ap, ◌∙◌, subst, arith}
+use Rattle.std.specs.Prelude.{AllPairs, bytes_eq}
+use Rattle.std.specs.List.{AllByRecursion, list_any}
+use Rattle.std.specs.Option.{option_to_list}
+use Rattle.std.proofs.lemmas.Bool.{false≢true}
+use Rattle.std.proofs.lemmas.List.{map-append}
+use Rattle.std.proofs.lemmas.Slice.Eq.{bytes_eq-Decides}
+use Rattle.sqlite.specs.Effect.{Database}
+use Rattle.sqlite.specs.Order.{Row}
+use Rattle.sqlite.specs.State.{State}
+use Rattle.sqlite_value.specs.Order.{value_cmp}
+use Rattle.sqlite_value.specs.declared.value.Value.TheVariants.{Null, Text}
+use Rattle.sqlite_trees.specs.Tree.{put_row, rowid}
+use Rattle.sqlite_sql.specs.Term.{Term}
+use Rattle.sqlite_rules.specs.declared.error.Rowids.TheVariants.{Chosen}
+use Rattle.sqlite_rules.specs.Edit.{is_taken, with_rowid}
+use Rattle.sqlite_schema.specs.declared.schema.Schema.{Schema}
+use Rattle.sqlite_schema.specs.declared.schema.Table.{Table}
+use Rattle.sqlite_typed.proofs.TestLemmas.{last_term}
+use Rattle.one_table.specs.InTransaction.{PutsRow, SetsRows}
+use Rattle.one_table.specs.Inserting.{new_row, source_row}
+use Rattle.one_table.specs.Standing.{tree_in}
+use Rattle.one_table.specs.Updating.{SetsHidden}
+use Rattle.one_table.proofs.AppendLemmas.{stands_last}
+use Rattle.one_table.proofs.CastLemmas.{cast_int, cast_no_int}
+use Rattle.one_table.proofs.HiddenSetLemmas.{sets_hidden}
+use Rattle.one_table.proofs.TestsLemmas.{text_is}
+use Rattle.sts_fields.specs.Base.{year_of}
+use Rattle.vend_core.specs.Fold.{with_tariff}
+use Rattle.vend_core.specs.PlainRows.{row_with_tariff}
+use Rattle.vend_core.specs.declared.meter.Meter.{Meter}
+use Rattle.book_tables.specs.Holds.{Holds, rows_in}
+use Rattle.book_tables.specs.Rows.{Rows, StepRow, meter_columns, step_columns, tariff_columns}
+use Rattle.book_tables.specs.Tables.{meters_table, tariff_steps_table, tariffs_table}
+use Rattle.book_tables.specs.Writing.{AddsMeter, AddsName, AddsStep, HasOneMore, IsInOrder, SetsTariff, WritesOnly}
+use Rattle.book_tables.proofs.KeptLemmas.{meters_changed, steps_changed, tariffs_changed}
+use Rattle.book_tables.proofs.ListLemmas.{NotBothPass, first_is_all, pairs_weaker}
+use Rattle.book_tables.proofs.WriteLemmas.{cast_optional, changes_only, few, only_one}
+use Rattle.book_tables.proofs.WriteTexts.{four_terms, is_that_meter, one_term, tariff_set_query, tariff_set_terms}
+
+-- ---- one row more
+
+module _ {X : Type 0} (stored : X → Row) (r : Row) (x : X) (is : drop 1 r ≡ stored x) where
+  record IsAmong (rows : List Row) (xs : List X) : Type 0 where
+    ys : List X
+    more : HasOneMore x xs ys
+    holds : map (drop 1) (put_row r rows) ≡ map stored ys
+
+  put_among : (rows : List Row) (xs : List X) → map (drop 1) rows ≡ map stored xs → is_taken rows r ≡ false → IsAmong rows xs
+  put_among [] [] e fresh = record { ys = x ∷ []; more = record { before = []; after = []; old_is = refl; new_is = refl }; holds = ap (λ c. c ∷ []) is }
+  put_among [] (y ∷ xs) e fresh = cc
+  put_among (q ∷ rows) [] e fresh = cc
+  put_among (q ∷ rows) (y ∷ xs) e fresh =
+      let first : drop 1 q ≡ stored y = cc in
+      let others : map (drop 1) rows ≡ map stored xs = cc in
+      by_order (value_cmp (rowid q) (rowid r)) refl first others (λ less. put_among rows xs others (rw less at fresh))
+    where
+      by_order : (o : Ordering) → value_cmp (rowid q) (rowid r) ≡ o → drop 1 q ≡ stored y → map (drop 1) rows ≡ map stored xs → (value_cmp (rowid q) (rowid r) ≡ Less → IsAmong rows xs) → IsAmong (q ∷ rows) (y ∷ xs)
+      by_order Less is_less first others more =
+          let rest = more is_less in
+          record {
+            ys = y ∷ rest.ys;
+            more = record { before = y ∷ rest.more.before; after = rest.more.after; old_is = ap (λ l. y ∷ l) rest.more.old_is; new_is = ap (λ l. y ∷ l) rest.more.new_is };
+            holds = rw (is_less, first, rest.holds) refl;
+          }
+      by_order Equal is_equal first others more = absurd (false≢true (sym (rw is_equal at fresh)))
+      by_order Greater is_greater first others more = record { ys = x ∷ y ∷ xs; more = record { before = []; after = y ∷ xs; old_is = refl; new_is = refl }; holds = rw (is_greater, is, first, others) refl }
+
+-- the rows of a table after a row of it was put in
+module _ {X : Type 0} (stored : X → Row) (t : Table) (terms : List Term) (params : Row) (x : X) (source : source_row t terms params ≡ Null ∷ stored x) (old new : State)
+    (h : PutsRow t (new_row t terms params (old.now.trees t.tree)) old new) where
+  abbrev rows : List Row
+  rows = old.now.trees t.tree
+
+  row_is : new_row t terms params rows ≡ with_rowid Chosen rows (Null ∷ stored x)
+  row_is = ap (with_rowid Chosen rows) source
+
+  pub stands_among : (xs : List X) → map (drop 1) rows ≡ map stored xs → (ys : List X) × HasOneMore x xs ys × (map (drop 1) (new.now.trees t.tree) ≡ map stored ys)
+  stands_among xs holds =
+      let among = put_among stored (new_row t terms params rows) x (ap (drop 1) row_is) rows xs holds h.fresh in
+      (among.ys, among.more, ap (map (drop 1)) h.changed.rows_are ∙ among.holds)
+
+  pub stands_after : (xs : List X) → map (drop 1) rows ≡ map stored xs → IsInOrder rows → (map (drop 1) (new.now.trees t.tree) ≡ map stored (xs ++ x ∷ [])) × IsInOrder (new.now.trees t.tree)
+  stands_after xs holds order =
+      let last = stands_last (Null ∷ stored x) refl rows order.rises order.are_numbers in
+      let put : new.now.trees t.tree ≡ put_row (with_rowid Chosen rows (Null ∷ stored x)) rows = h.changed.rows_are ∙ ap (λ (r : Row). put_row r rows) row_is in (
+        ap (map (drop 1)) put ∙ last.columns ∙ ap (λ (l : List Row). l ++ stored x ∷ []) holds ∙ sym (map-append stored xs (x ∷ [])),
+        subst IsInOrder (sym put) (record { rises = last.rises; are_numbers = last.are_numbers }),
+      )
+
+-- the rows of a name, where the schema stays
+order_there : (name : List ℕ) (old new : State) → new.now.schema ≡ old.now.schema → IsInOrder (new.now.trees (tree_in old.now.schema name)) → IsInOrder (rows_in new.now name)
+order_there name old new same order = subst (λ (s : Schema). IsInOrder (new.now.trees (tree_in s name))) (sym same) order
+
+-- ---- a meter
+
+module _ (old new : State) where
+  abbrev meters : Table
+  meters = meters_table (tree_in old.now.schema (codes "meters"))
+
+  meter_source : (number : List ℕ) (m : Meter) → source_row meters four_terms (meter_columns (number, m)) ≡ Null ∷ meter_columns (number, m)
+  meter_source number m = rw (cast_no_int, cast_int (pos (year_of m.base))) refl
+
+  pub adds_meter : (number : List ℕ) (m : Meter) (params : Row) → params ≡ meter_columns (number, m) → PutsRow meters (new_row meters four_terms params (old.now.trees meters.tree)) old new → AddsMeter number m old new
+  adds_meter number m params bound put =
+      let h = subst (λ (p : Row). PutsRow meters (new_row meters four_terms p (old.now.trees meters.tree)) old new) bound put in
+      let only = only_one (codes "meters") meters _ old new refl h.changed in
+      let kept = changes_only (codes "meters") old new only in
+      record {
+        only = only;
+        rows = λ rows held.
+            let it = stands_among meter_columns meters four_terms (meter_columns (number, m)) (number, m) (meter_source number m) old new h rows.meters held.meters in
+            (it.0, it.1, meters_changed old.now new.now rows held it.0 kept it.2);
+        last = λ rows held order.
+            let it = stands_after meter_columns meters four_terms (meter_columns (number, m)) (number, m) (meter_source number m) old new h rows.meters held.meters order in
+            (meters_changed old.now new.now rows held (rows.meters ++ (number, m) ∷ []) kept it.0, order_there (codes "meters") old new only.schema it.1);
+      }
+
+  -- ---- the name of a tariff
+
+  abbrev tariffs : Table
+  tariffs = tariffs_table (tree_in old.now.schema (codes "tariffs"))
+
+  name_source : (name : List ℕ) → source_row tariffs one_term (tariff_columns name) ≡ Null ∷ tariff_columns name
+  name_source name = rw cast_no_int refl
+
+  pub adds_name : (name : List ℕ) (params : Row) → params ≡ tariff_columns name → PutsRow tariffs (new_row tariffs one_term params (old.now.trees tariffs.tree)) old new → AddsName name old new
+  adds_name name params bound put =
+      let h = subst (λ (p : Row). PutsRow tariffs (new_row tariffs one_term p (old.now.trees tariffs.tree)) old new) bound put in
+      let only = only_one (codes "tariffs") tariffs _ old new refl h.changed in
+      let kept = changes_only (codes "tariffs") old new only in
+      record {
+        only = only;
+        rows = λ rows held.
+            let it = stands_among tariff_columns tariffs one_term (tariff_columns name) name (name_source name) old new h rows.tariffs held.tariffs in
+            (it.0, it.1, tariffs_changed old.now new.now rows held it.0 kept it.2);
+        last = λ rows held order.
+            let it = stands_after tariff_columns tariffs one_term (tariff_columns name) name (name_source name) old new h rows.tariffs held.tariffs order in
+            (tariffs_changed old.now new.now rows held (rows.tariffs ++ name ∷ []) kept it.0, order_there (codes "tariffs") old new only.schema it.1);
+      }
+
+  -- ---- a step
+
+  abbrev steps : Table
+  steps = tariff_steps_table (tree_in old.now.schema (codes "tariff_steps"))
+
+  step_source : (r : StepRow) → source_row steps four_terms (step_columns r) ≡ Null ∷ step_columns r
+  step_source r = rw (cast_no_int, cast_int (pos r.place), cast_optional r.step.ends, cast_int (pos r.step.price)) refl
+
+  pub adds_step : (r : StepRow) (params : Row) → params ≡ step_columns r → PutsRow steps (new_row steps four_terms params (old.now.trees steps.tree)) old new → AddsStep r old new
+  adds_step r params bound put =
+      let h = subst (λ (p : Row). PutsRow steps (new_row steps four_terms p (old.now.trees steps.tree)) old new) bound put in
+      let only = only_one (codes "tariff_steps") steps _ old new refl h.changed in
+      let kept = changes_only (codes "tariff_steps") old new only in
+      record {
+        only = only;
+        rows = λ rows held.
+            let it = stands_among step_columns steps four_terms (step_columns r) r (step_source r) old new h rows.steps held.steps in
+            (it.0, it.1, steps_changed old.now new.now rows held it.0 kept it.2);
+        last = λ rows held order.
+            let it = stands_after step_columns steps four_terms (step_columns r) r (step_source r) old new h rows.steps held.steps order in
+            (steps_changed old.now new.now rows held (rows.steps ++ r ∷ []) kept it.0, order_there (codes "tariff_steps") old new only.schema it.1);
+      }
+
+  -- ---- the tariff of a meter
+
+  abbrev is_that : List ℕ → (List ℕ × Meter) → Bool
+  is_that number r = bytes_eq r.0 number
+
+  abbrev renamed : List ℕ → (List ℕ × Meter) → (List ℕ × Meter)
+  renamed name r = (r.0, with_tariff name r.1)
+
+  setting : (number name : List ℕ) → SetsHidden meters is_that_meter tariff_set_terms (Text number ∷ Text name ∷ []) meter_columns (is_that number) (renamed name)
+  setting number name = record {
+    passes = λ n r. last_term (text_is r.0 number);
+    identifies = λ n r. refl;
+    becomes = λ n r. rw (cast_int n, cast_int (pos (year_of r.1.base))) refl;
+  }
+
+  one_at_most : (number : List ℕ) (xs : List (List ℕ × Meter)) → AllPairs (λ a b. a.0 ≢ b.0) xs → length (filter (is_that number) xs) ≤ 1
+  one_at_most number xs apart =
+      let once = pairs_weaker (λ a b. a.0 ≢ b.0) (NotBothPass (is_that number)) xs (λ a b differ p q. differ ((bytes_eq-Decides a.0 number).0 p ∙ sym ((bytes_eq-Decides b.0 number).0 q))) apart in
+      subst (λ (l : List (List ℕ × Meter)). length l ≤ 1) (sym (first_is_all (is_that number) xs once)) (few (find (is_that number) xs))
+
+  pub sets_tariff : (number name : List ℕ) (params : Row) → params ≡ Text number ∷ Text name ∷ [] → SetsRows meters (tariff_set_query meters.tree) params old new → SetsTariff number name old new
+  sets_tariff number name params bound found =
+      let h = subst (λ (p : Row). SetsRows meters (tariff_set_query meters.tree) p old new) bound found in
+      let only = only_one (codes "meters") meters _ old new refl h.changed in
+      record {
+        only = only;
+        rows = λ rows held order apart.
+            let set = sets_hidden meter_columns (is_that number) (renamed name) meters is_that_meter tariff_set_terms (Text number ∷ Text name ∷ []) (setting number name) (λ r none. cc)
+            old new rows.meters h held.meters order.rises order.are_numbers (one_at_most number rows.meters apart) in
+            let in_order : IsInOrder set.rows = record { rises = set.rises; are_numbers = set.are_numbers } in (
+              meters_changed old.now new.now rows held (map (row_with_tariff number name) rows.meters) (changes_only (codes "meters") old new only) (ap (map (drop 1)) set.changed.rows_are ∙ set.holds),
+              order_there (codes "meters") old new only.schema (subst IsInOrder (sym set.changed.rows_are) in_order),
+            );
+      }

@@ -1,0 +1,103 @@
+-- What the text of each write means.
+use Rattle.std.proofs.Common.{ℕ, List, [], ◌∷◌, refl, codes}
+use Rattle.sqlite_value.specs.declared.value.Value.TheVariants.{Null}
+use Rattle.sqlite_sql.specs.Term.{Term, lit, col}
+use Rattle.sqlite_tied.specs.Compute.{everything}
+use Rattle.sqlite_value.specs.declared.keys.Collation.TheVariants.{Binary}
+use Rattle.sqlite_sql.specs.Term.{op2}
+use Rattle.sqlite_sql.specs.Query.{Query}
+use Rattle.sqlite_sql.specs.declared.ops.BinaryOp.TheVariants.{Compare}
+use Rattle.sqlite_sql.specs.declared.ops.CompareOp.TheVariants.{Eq}
+use Rattle.one_table.specs.Changing.{IsUpdate, sets_meant, update_in, update_meant}
+use Rattle.one_table.specs.Listed.{no_limit, query_on}
+use Rattle.one_table.specs.Inserting.{IsInsert, insert_in, insert_meant, puts_meant}
+use Rattle.book_tables.specs.Tables.{meters_table, sales_table, shifts_table, tariff_steps_table, tariffs_table}
+
+-- ---- a new sale
+
+abbrev pub new_sale_text : List ℕ
+new_sale_text =
+    codes "INSERT INTO sales (number, moment, month, shift, operator, ref, meter, base, tid, rnd, tenths, price, tender, digits) VALUES (?1, ?2, ?3, ?4, ?5, ?6, ?7, ?8, ?9, ?10, ?11, ?12, ?13, ?14)"
+
+abbrev pub new_sale_terms : List Term
+new_sale_terms =
+    col 0 0 ∷ lit Null ∷ col 0 1 ∷ col 0 2 ∷ col 0 3 ∷ col 0 4 ∷ col 0 5 ∷ col 0 6 ∷ col 0 7 ∷ col 0 8 ∷ col 0 9 ∷ col 0 10 ∷ col 0 11 ∷ col 0 12 ∷ col 0 13 ∷ []
+
+pub new_sale_means : (tree : ℕ) → IsInsert (sales_table tree) new_sale_terms new_sale_text
+unfolding everything insert_meant insert_in puts_meant
+new_sale_means tree = record { means = refl; whole = refl; uncounted = refl; unstamped = refl }
+
+-- ---- a new shift, and its closing
+
+abbrev pub new_shift_text : List ℕ
+new_shift_text = codes "INSERT INTO shifts (number, operator, opened, closed) VALUES (?1, ?2, ?3, ?4)"
+
+abbrev pub new_shift_terms : List Term
+new_shift_terms = col 0 0 ∷ lit Null ∷ col 0 1 ∷ col 0 2 ∷ col 0 3 ∷ []
+
+pub new_shift_means : (tree : ℕ) → IsInsert (shifts_table tree) new_shift_terms new_shift_text
+unfolding everything insert_meant insert_in puts_meant
+new_shift_means tree = record { means = refl; whole = refl; uncounted = refl; unstamped = refl }
+
+abbrev pub shift_closed_text : List ℕ
+shift_closed_text = codes "UPDATE shifts SET closed = ?2 WHERE number = ?1"
+
+abbrev pub is_that_shift : List Term
+is_that_shift = op2 (Compare Eq Binary) (col 1 0) (col 0 0) ∷ []
+
+abbrev pub shift_closed_terms : List Term
+shift_closed_terms = col 1 0 ∷ col 1 0 ∷ lit Null ∷ col 1 2 ∷ col 1 3 ∷ col 0 1 ∷ []
+
+abbrev pub shift_closed_query : ℕ → Query
+shift_closed_query tree = query_on tree is_that_shift shift_closed_terms [] no_limit
+
+pub shift_closed_means : (tree : ℕ) → IsUpdate (shifts_table tree) (shift_closed_query tree) shift_closed_text
+unfolding everything update_meant update_in sets_meant
+shift_closed_means tree = record { means = refl; from = refl }
+
+-- ---- rows whose numbers SQLite chooses
+
+abbrev pub new_meter_text : List ℕ
+new_meter_text = codes "INSERT INTO meters (meter, base, tariff, secret) VALUES (?1, ?2, ?3, ?4)"
+
+abbrev pub four_terms : List Term
+four_terms = lit Null ∷ col 0 0 ∷ col 0 1 ∷ col 0 2 ∷ col 0 3 ∷ []
+
+pub new_meter_means : (tree : ℕ) → IsInsert (meters_table tree) four_terms new_meter_text
+unfolding everything insert_meant insert_in puts_meant
+new_meter_means tree = record { means = refl; whole = refl; uncounted = refl; unstamped = refl }
+
+abbrev pub new_tariff_text : List ℕ
+new_tariff_text = codes "INSERT INTO tariffs (name) VALUES (?1)"
+
+abbrev pub one_term : List Term
+one_term = lit Null ∷ col 0 0 ∷ []
+
+pub new_tariff_means : (tree : ℕ) → IsInsert (tariffs_table tree) one_term new_tariff_text
+unfolding everything insert_meant insert_in puts_meant
+new_tariff_means tree = record { means = refl; whole = refl; uncounted = refl; unstamped = refl }
+
+abbrev pub new_step_text : List ℕ
+new_step_text = codes "INSERT INTO tariff_steps (tariff, place, ends, price) VALUES (?1, ?2, ?3, ?4)"
+
+pub new_step_means : (tree : ℕ) → IsInsert (tariff_steps_table tree) four_terms new_step_text
+unfolding everything insert_meant insert_in puts_meant
+new_step_means tree = record { means = refl; whole = refl; uncounted = refl; unstamped = refl }
+
+-- ---- the tariff of a meter
+
+abbrev pub tariff_set_text : List ℕ
+tariff_set_text = codes "UPDATE meters SET tariff = ?2 WHERE meter = ?1"
+
+abbrev pub is_that_meter : List Term
+is_that_meter = op2 (Compare Eq Binary) (col 1 1) (col 0 0) ∷ []
+
+abbrev pub tariff_set_terms : List Term
+tariff_set_terms = col 1 0 ∷ col 1 0 ∷ col 1 1 ∷ col 1 2 ∷ col 0 1 ∷ col 1 4 ∷ []
+
+abbrev pub tariff_set_query : ℕ → Query
+tariff_set_query tree = query_on tree is_that_meter tariff_set_terms [] no_limit
+
+pub tariff_set_means : (tree : ℕ) → IsUpdate (meters_table tree) (tariff_set_query tree) tariff_set_text
+unfolding everything update_meant update_in sets_meant
+tariff_set_means tree = record { means = refl; from = refl }

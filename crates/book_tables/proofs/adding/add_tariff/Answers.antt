@@ -1,0 +1,48 @@
+use Rattle.std.proofs.Common.{rules, arith, ◌≡◌, ◌∙◌, sym, subst, take, length, get_or, List, None}
+use Rattle.sqlite.specs.Held.{state}
+use Rattle.sqlite.specs.State.{HasCleanDisk}
+use Rattle.std.proofs.lemmas.List.{length-take-le, take_all, take_more}
+use Rattle.tariff.specs.declared.step.Step.{Step}
+use Rattle.book_tables.specs.Writing.{AddsTariff}
+use Rattle.book_tables.proofs.TariffWriteLemmas.{on_err, adds_keeps, adds_next, adds_none, left_keeps, keeps_more, refused_keeps, still_has}
+use Rattle.book_tables.proofs.adding.add_tariff.Goals as goal
+
+pub steps-init : goal.steps-init
+steps-init g c = record {
+  same = search rules;
+  place = search rules;
+  survives = search rules;
+  added = λ clean has. adds_none c.args.name.now (state g.S.Store c.args.tx.now.conn.now) (state g.S.Store c.add_name.new.tx.conn.now) (c.in_ok-add_name.ensures.added clean has);
+}
+
+pub steps-preserved : goal.steps-preserved
+steps-preserved g c = record {
+  same = search rules;
+  place = search rules;
+  survives = search rules;
+  added = λ clean has.
+      let old = state g.S.Store c.args.tx.now.conn.now in
+      let mid = state g.S.Store c.steps.tx.conn.now in
+      let new = state g.S.Store c.add_step.new.tx.conn.now in
+      let early : HasCleanDisk mid = omega (arith, c.add_step.ensures.survives.clean) in
+      let so_far = c.steps.invariant.added early has in
+      let last = c.in_ok-add_step.ensures.added clean (still_has c.args.name.now _ old mid so_far has) in
+      let step = get_or c.args.steps.now c.steps.step-index (record { ends = None; price = 0 }) in
+      let count : length (take c.steps.step-index c.args.steps.now) ≡ c.steps.step-index = length-take-le c.steps.step-index c.args.steps.now (omega (arith, c.steps-test.true)) in
+      subst (λ (l : List Step). AddsTariff c.args.name.now l old new) (sym (take_more c.args.steps.now c.steps.step-index (record { ends = None; price = 0 }) c.steps-test.true))
+      (adds_next c.args.name.now (take c.steps.step-index c.args.steps.now) c.steps.place step old mid new (c.steps.invariant.place ∙ sym count) so_far last);
+}
+
+pub returns-in_err-add_step-clause-refused : goal.returns-in_err-add_step-clause-refused
+returns-in_err-add_step-clause-refused g c clean has =
+    let old = state g.S.Store c.args.tx.now.conn.now in
+    let mid = state g.S.Store c.steps.tx.conn.now in
+    let new = state g.S.Store c.add_step.new.tx.conn.now in
+    let early : HasCleanDisk mid = omega (arith, c.add_step.ensures.survives.clean) in
+    on_err c.from_residual-in_err-add_step.result
+    (keeps_more old mid new (adds_keeps c.args.name.now _ old mid (c.steps.invariant.added early has)) (refused_keeps g.S.Store c.steps.tx.conn.now c.add_step.new.tx.conn.now (c.in_err-add_step.ensures.refused clean)))
+
+pub returns-clause-added : goal.returns-clause-added
+returns-clause-added g c clean has =
+    subst (λ (l : List Step). AddsTariff c.args.name.now l (state g.S.Store c.args.tx.now.conn.now) (state g.S.Store c.steps.tx.conn.now)) (take_all c.steps.step-index c.args.steps.now c.steps-test.false)
+    (c.steps.invariant.added clean has)

@@ -1,0 +1,168 @@
+//! The statements that add rows to the tables.
+
+ghost use Rattle.std.specs.Prelude.{◌≡◌, ◌⊎◌, ◌≤◌, length, IsTrue, OnOk, OnErr};
+ghost use Rattle.sqlite.specs.State.{HasCleanDisk, KeepsCommit, Survives};
+ghost use Rattle.sqlite.specs.Held.{state};
+ghost use Rattle.one_table.specs.Answer.{IsLeft};
+ghost use Rattle.book_tables.specs.Holds.{HasOffice};
+ghost use Rattle.book_tables.specs.Writing.{AddsMeter, AddsName, AddsSale, AddsShift, AddsStep, AddsTariff};
+
+use crate::error::TableError;
+use crate::texts::{NEW_METER, NEW_SALE, NEW_SHIFT, NEW_STEP, NEW_TARIFF};
+use crate::values::{meter_values, sale_values, shift_values, step_values, tariff_values};
+use one_table::insert;
+use sqlite::{Alter, Transaction};
+use sts_token::key_text;
+use tariff::Step;
+use vend_core::{Meter, MeterNo, Sale, Shift, TariffName};
+
+/// Adds a sale, with the month of its moment.
+///
+/// # Errors
+/// What the database refuses: a number or a ref that is taken, an identifier that the meter has had,
+/// a shift or a meter that is not there, and want of memory.
+pub fn add_sale<S: Alter>(tx: &mut Transaction<'_, S>, sale: &Sale) -> Result<(), TableError>
+    ensures same_reference { tx.new.conn.ghost_name ≡ tx.old.conn.ghost_name }
+    ensures added { HasCleanDisk (state S.Store tx.new.conn.now)
+        → (IsTrue (state S.Store tx.old.conn.now).is_open
+        → HasOffice (state S.Store tx.old.conn.now).now.schema)
+        → OnOk result (AddsSale sale.now
+        (state S.Store tx.old.conn.now) (state S.Store tx.new.conn.now)) }
+    ensures refused { HasCleanDisk (state S.Store tx.new.conn.now)
+        → OnErr result (IsLeft (state S.Store tx.old.conn.now) (state S.Store tx.new.conn.now)
+        ⊎ (tx.new.conn.now ≡ tx.old.conn.now)) }
+    ensures survives { Survives
+        (state S.Store tx.old.conn.now) (state S.Store tx.new.conn.now) (λ _. ⊥) }
+{
+    insert(tx, NEW_SALE, &sale_values(sale))?;
+    Ok(())
+}
+
+/// Adds a shift.
+///
+/// # Errors
+/// What the database refuses: a number that is taken, and want of memory.
+pub fn add_shift<S: Alter>(tx: &mut Transaction<'_, S>, shift: &Shift) -> Result<(), TableError>
+    ensures same_reference { tx.new.conn.ghost_name ≡ tx.old.conn.ghost_name }
+    ensures added { HasCleanDisk (state S.Store tx.new.conn.now)
+        → (IsTrue (state S.Store tx.old.conn.now).is_open
+        → HasOffice (state S.Store tx.old.conn.now).now.schema)
+        → OnOk result (AddsShift shift.now
+        (state S.Store tx.old.conn.now) (state S.Store tx.new.conn.now)) }
+    ensures refused { HasCleanDisk (state S.Store tx.new.conn.now)
+        → OnErr result (IsLeft (state S.Store tx.old.conn.now) (state S.Store tx.new.conn.now)
+        ⊎ (tx.new.conn.now ≡ tx.old.conn.now)) }
+    ensures survives { Survives
+        (state S.Store tx.old.conn.now) (state S.Store tx.new.conn.now) (λ _. ⊥) }
+{
+    insert(tx, NEW_SHIFT, &shift_values(shift))?;
+    Ok(())
+}
+
+/// Adds a meter, with its number and its key.
+///
+/// # Errors
+/// What the database refuses: a number that is taken, a tariff that is not there, and want of memory.
+pub fn add_meter<S: Alter>(
+    tx: &mut Transaction<'_, S>,
+    number: &MeterNo,
+    meter: &Meter,
+) -> Result<(), TableError>
+    ensures same_reference { tx.new.conn.ghost_name ≡ tx.old.conn.ghost_name }
+    ensures added { HasCleanDisk (state S.Store tx.new.conn.now)
+        → (IsTrue (state S.Store tx.old.conn.now).is_open
+        → HasOffice (state S.Store tx.old.conn.now).now.schema)
+        → OnOk result (AddsMeter number.now meter.now
+        (state S.Store tx.old.conn.now) (state S.Store tx.new.conn.now)) }
+    ensures refused { HasCleanDisk (state S.Store tx.new.conn.now)
+        → OnErr result (IsLeft (state S.Store tx.old.conn.now) (state S.Store tx.new.conn.now)
+        ⊎ (tx.new.conn.now ≡ tx.old.conn.now)) }
+    ensures survives { Survives
+        (state S.Store tx.old.conn.now) (state S.Store tx.new.conn.now) (λ _. ⊥) }
+{
+    let secret = key_text(meter.key);
+    insert(tx, NEW_METER, &meter_values(number, meter, &secret))?;
+    Ok(())
+}
+
+/// Adds the name of a tariff, with no steps.
+///
+/// # Errors
+/// What the database refuses: a name that is taken, and want of memory.
+pub fn add_name<S: Alter>(tx: &mut Transaction<'_, S>, name: &TariffName) -> Result<(), TableError>
+    ensures same_reference { tx.new.conn.ghost_name ≡ tx.old.conn.ghost_name }
+    ensures added { HasCleanDisk (state S.Store tx.new.conn.now)
+        → (IsTrue (state S.Store tx.old.conn.now).is_open
+        → HasOffice (state S.Store tx.old.conn.now).now.schema)
+        → OnOk result (AddsName name.now
+        (state S.Store tx.old.conn.now) (state S.Store tx.new.conn.now)) }
+    ensures refused { HasCleanDisk (state S.Store tx.new.conn.now)
+        → OnErr result (IsLeft (state S.Store tx.old.conn.now) (state S.Store tx.new.conn.now)
+        ⊎ (tx.new.conn.now ≡ tx.old.conn.now)) }
+    ensures survives { Survives
+        (state S.Store tx.old.conn.now) (state S.Store tx.new.conn.now) (λ _. ⊥) }
+{
+    insert(tx, NEW_TARIFF, &tariff_values(name))?;
+    Ok(())
+}
+
+/// Adds a step of a tariff at a place, from 0.
+///
+/// # Errors
+/// What the database refuses: a place that is taken, a tariff that is not there, and want of memory.
+pub fn add_step<S: Alter>(
+    tx: &mut Transaction<'_, S>,
+    name: &TariffName,
+    place: u32,
+    step: Step,
+) -> Result<(), TableError>
+    ensures same_reference { tx.new.conn.ghost_name ≡ tx.old.conn.ghost_name }
+    ensures added { HasCleanDisk (state S.Store tx.new.conn.now)
+        → (IsTrue (state S.Store tx.old.conn.now).is_open
+        → HasOffice (state S.Store tx.old.conn.now).now.schema)
+        → OnOk result (AddsStep (record { tariff = name.now; place = place; step = step })
+        (state S.Store tx.old.conn.now) (state S.Store tx.new.conn.now)) }
+    ensures refused { HasCleanDisk (state S.Store tx.new.conn.now)
+        → OnErr result (IsLeft (state S.Store tx.old.conn.now) (state S.Store tx.new.conn.now)
+        ⊎ (tx.new.conn.now ≡ tx.old.conn.now)) }
+    ensures survives { Survives
+        (state S.Store tx.old.conn.now) (state S.Store tx.new.conn.now) (λ _. ⊥) }
+{
+    insert(tx, NEW_STEP, &step_values(name, place, step))?;
+    Ok(())
+}
+
+/// Adds a tariff with its steps, in their order and from place 0.
+///
+/// What was added before an error goes with the transaction, which the caller drops.
+///
+/// # Errors
+/// What the database refuses: a name that is taken, and want of memory.
+pub fn add_tariff<S: Alter>(
+    tx: &mut Transaction<'_, S>,
+    name: &TariffName,
+    steps: &[Step],
+) -> Result<(), TableError>
+    requires { length steps.now ≤ 8 }
+    ensures same_reference { tx.new.conn.ghost_name ≡ tx.old.conn.ghost_name }
+    ensures added { HasCleanDisk (state S.Store tx.new.conn.now)
+        → (IsTrue (state S.Store tx.old.conn.now).is_open
+        → HasOffice (state S.Store tx.old.conn.now).now.schema)
+        → OnOk result (AddsTariff name.now steps.now
+        (state S.Store tx.old.conn.now) (state S.Store tx.new.conn.now)) }
+    ensures refused { HasCleanDisk (state S.Store tx.new.conn.now)
+        → (IsTrue (state S.Store tx.old.conn.now).is_open
+        → HasOffice (state S.Store tx.old.conn.now).now.schema)
+        → OnErr result (KeepsCommit
+        (state S.Store tx.old.conn.now) (state S.Store tx.new.conn.now)) }
+    ensures survives { Survives
+        (state S.Store tx.old.conn.now) (state S.Store tx.new.conn.now) (λ _. ⊥) }
+{
+    add_name(tx, name)?;
+    let mut place = 0;
+    'steps: for step in steps {
+        add_step(tx, name, place, *step)?;
+        place += 1;
+    }
+    Ok(())
+}
