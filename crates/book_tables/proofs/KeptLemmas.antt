@@ -21,7 +21,7 @@ pub record ChangesOnly (name : List ℕ) (a b : Database) : Type 0 where
   pub schema : b.schema ≡ a.schema
   pub tables : AllByRecursion (λ u. u.tree ≢ tree_in a.schema name → b.trees u.tree ≡ a.trees u.tree) a.schema.tables
 
-names_differ : (a b : List ℕ) → bytes_eq a b ≡ false → a ≢ b
+pub names_differ : (a b : List ℕ) → bytes_eq a b ≡ false → a ≢ b
 names_differ a b apart same = false≢true (sym apart ∙ (bytes_eq-Decides a b).1 same)
 
 listed_holds : (P : Table → Type 0) (ts : List Table) (at : ℕ) (t : Table) → slice_get ts at ≡ Some t → AllByRecursion P ts → P t

@@ -5,6 +5,7 @@ pub mod HoldsLemmas
 pub mod KeptLemmas
 pub mod KeyTextLemmas
 pub mod ListLemmas
+pub mod MakingLemmas
 pub mod MemberLemmas
 pub mod NewLemmas
 pub mod PartLemmas

@@ -9,6 +9,8 @@ pub use laws::{members_law, stands_law};
 mod cells;
 mod error;
 mod laws;
+pub mod making;
+pub mod recognising;
 mod records;
 pub mod sales;
 mod shown;
