@@ -10,6 +10,7 @@ pub mod MemberLemmas
 pub mod NewLemmas
 pub mod PartLemmas
 pub mod ReadLemmas
+pub mod RecognisingLemmas
 pub mod RowLemmas
 pub mod SaleTexts
 pub mod SaleLemmas
