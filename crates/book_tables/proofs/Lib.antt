@@ -1,5 +1,6 @@
 pub mod EditLemmas
 pub mod FindLemmas
+pub mod FormatLemmas
 pub mod FoundLemmas
 pub mod HoldsLemmas
 pub mod KeptLemmas

@@ -145,7 +145,7 @@ module _ (old mid new : State) (room : HasRoom old) (shows : StaysInside old mid
   holds = record {
     has = subst HasOffice (sym put.changed.schema) has;
     about = ap (λ (s : Schema). new.now.trees (tree_in s (codes "about"))) put.changed.schema ∙ put.changed.rows_are
-    ∙ format_is (tree_in mid.now.schema (codes "about")) (mid.now.trees (tree_in mid.now.schema (codes "about"))) m.new.0.1;
+        ∙ format_is (tree_in mid.now.schema (codes "about")) (mid.now.trees (tree_in mid.now.schema (codes "about"))) m.new.0.1;
     tariffs = ap (map (drop 1)) (still_empty (tariffs_table 0) m.new.1.0.0 m.new.1.0.1 (names_differ _ _ refl));
     steps = ap (map (drop 1)) (still_empty (tariff_steps_table 0) m.new.1.1.0.0 m.new.1.1.0.1 (names_differ _ _ refl));
     meters = ap (map (drop 1)) (still_empty (meters_table 0) m.new.1.1.1.0.0 m.new.1.1.1.0.1 (names_differ _ _ refl));

@@ -42,13 +42,22 @@ office_found s unreferred calm all = record {
 }
 
 pub all_stand : (s : Schema) → HasOffice s → AllStand s
-all_stand s has =
-    (stands_as s _ (about_table 0) about_defined (record { defaults = refl; checks = refl; stamps = refl }) has.about,
-    (stands_as s _ (tariffs_table 0) tariffs_defined (record { defaults = refl; checks = refl; stamps = refl }) has.tariffs,
-    (stands_as s _ (tariff_steps_table 0) tariff_steps_defined (record { defaults = refl; checks = refl; stamps = refl }) has.tariff_steps,
-    (stands_as s _ (meters_table 0) meters_defined (record { defaults = refl; checks = refl; stamps = refl }) has.meters,
-    (stands_as s _ (shifts_table 0) shifts_defined (record { defaults = refl; checks = refl; stamps = refl }) has.shifts,
-    (stands_as s _ (sales_table 0) sales_defined (record { defaults = refl; checks = refl; stamps = refl }) has.sales, tt))))))
+all_stand s has = (
+  stands_as s _ (about_table 0) about_defined (record { defaults = refl; checks = refl; stamps = refl }) has.about,
+  (
+    stands_as s _ (tariffs_table 0) tariffs_defined (record { defaults = refl; checks = refl; stamps = refl }) has.tariffs,
+    (
+      stands_as s _ (tariff_steps_table 0) tariff_steps_defined (record { defaults = refl; checks = refl; stamps = refl }) has.tariff_steps,
+      (
+        stands_as s _ (meters_table 0) meters_defined (record { defaults = refl; checks = refl; stamps = refl }) has.meters,
+        (
+          stands_as s _ (shifts_table 0) shifts_defined (record { defaults = refl; checks = refl; stamps = refl }) has.shifts,
+          (stands_as s _ (sales_table 0) sales_defined (record { defaults = refl; checks = refl; stamps = refl }) has.sales, tt),
+        ),
+      ),
+    ),
+  ),
+)
 
 pub calm_of : (s : Schema) → HasOffice s → are_calm s
 calm_of s has = rw (has.meters_alone, has.shifts_alone) refl

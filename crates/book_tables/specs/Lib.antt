@@ -1,4 +1,5 @@
 pub mod Edited
+pub mod Format
 pub mod Found
 pub mod Holds
 pub mod Making

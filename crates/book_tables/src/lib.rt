@@ -8,8 +8,11 @@ pub use laws::{members_law, stands_law};
 
 mod cells;
 mod error;
+pub mod format;
 mod laws;
 pub mod making;
+#[cfg(test)]
+mod opening_tests;
 pub mod recognising;
 mod records;
 pub mod sales;

@@ -30,7 +30,7 @@ pub(crate) const NAMES: [&str; 6] = [
 
 pub(crate) const NEW_FORMAT: &str = "INSERT INTO about (id, format) VALUES (1, 1)";
 
-pub(crate) const FORMAT: &str = "SELECT id, format FROM about ORDER BY id LIMIT 2";
+pub(crate) const FORMAT: &str = "SELECT id, format FROM about LIMIT 2";
 
 pub(crate) const SALE_NUMBERED: &str =
     "SELECT number, moment, shift, operator, ref, meter, base, tid, rnd, tenths, price, tender, \
