@@ -53,7 +53,7 @@ first_is_enough true y z e = refl
 first_is_enough false y z e = absurd (false≢true e)
 
 -- a database with the office's tables has their names
-not_untaken : (s : Schema) → HasOffice s → IsUntaken s → ⊥
+pub not_untaken : (s : Schema) → HasOffice s → IsUntaken s → ⊥
 not_untaken s has untaken =
     let rest = list_all (λ name. not (is_used s name)) (codes "tariffs" ∷ codes "tariff_steps" ∷ codes "meters" ∷ codes "shifts" ∷ codes "sales" ∷ []) in
     let free : not (is_used s (codes "about")) ≡ true = first_true (not (is_used s (codes "about"))) rest untaken.free in

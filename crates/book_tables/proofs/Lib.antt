@@ -1,6 +1,6 @@
-pub mod AboutLemmas
 pub mod EditLemmas
 pub mod FindLemmas
+pub mod FormatLemmas
 pub mod FoundLemmas
 pub mod HiddenWriteLemmas
 pub mod HoldsLemmas
@@ -8,12 +8,14 @@ pub mod KeptLemmas
 pub mod KeyTextLemmas
 pub mod LastLemmas
 pub mod ListLemmas
+pub mod MakingLemmas
 pub mod MemberLemmas
 pub mod MeterLemmas
 pub mod NewLemmas
 pub mod OneRowTexts
 pub mod PartLemmas
 pub mod ReadLemmas
+pub mod RecognisingLemmas
 pub mod RowLemmas
 pub mod SaleLemmas
 pub mod SaleTexts

@@ -1,4 +1,4 @@
--- What each text over the tables of meters and tariffs and over `about` means.
+-- What each text over the tables of meters and tariffs means.
 use Rattle.std.proofs.Common.{ℕ, List, [], ◌∷◌, refl, codes}
 use Rattle.sqlite.specs.declared.types.Value.TheVariants.{Text}
 use Rattle.sqlite_value.specs.declared.keys.Collation.TheVariants.{Binary}
@@ -11,7 +11,7 @@ use Rattle.sqlite_resolve.specs.Scope.{Name}
 use Rattle.one_table.specs.Listed.{query_on, no_limit}
 use Rattle.one_table.specs.Reading.{is_whole, meant, select_meant, text_meant}
 use Rattle.book_tables.specs.Rows.{number}
-use Rattle.book_tables.specs.Tables.{about_table, meters_table, tariffs_table}
+use Rattle.book_tables.specs.Tables.{meters_table, tariffs_table}
 use Rattle.book_tables.proofs.ReadLemmas.{Asks}
 
 abbrev is_first : List Term
@@ -40,15 +40,4 @@ tariff_named_query tree = query_on tree is_first (col 1 1 ∷ []) [] no_limit
 pub tariff_named_asks : (name : List ℕ) → Asks tariffs_table tariff_named_query (codes "name" ∷ []) tariff_named_text (Text name ∷ [])
 unfolding everything is_whole meant select_meant text_meant
 tariff_named_asks name =
-    record { is = λ tree. record { means = refl; from = refl }; bare = λ tree. refl; typed = λ tree. refl; whole = refl }
-
-abbrev pub format_text : List ℕ
-format_text = codes "SELECT format FROM about"
-
-abbrev pub format_query : ℕ → Query
-format_query tree = query_on tree [] (col 1 2 ∷ []) [] no_limit
-
-pub format_asks : Asks about_table format_query (codes "format" ∷ []) format_text []
-unfolding everything is_whole meant select_meant text_meant
-format_asks =
     record { is = λ tree. record { means = refl; from = refl }; bare = λ tree. refl; typed = λ tree. refl; whole = refl }

@@ -1,6 +1,8 @@
 pub mod Edited
+pub mod Format
 pub mod Found
 pub mod Holds
+pub mod Making
 pub mod Parts
 pub mod ReadBack
 pub mod Reading

@@ -6,15 +6,19 @@
 pub use error::TableError;
 pub use laws::{members_law, stands_law};
 
-pub mod about;
 pub mod adding;
 mod cells;
 pub mod changing;
 mod error;
+pub mod format;
 mod laws;
 #[cfg(test)]
 mod look_up_tests;
+pub mod making;
 pub mod meters;
+#[cfg(test)]
+mod opening_tests;
+pub mod recognising;
 mod records;
 pub mod sales;
 pub mod shifts;

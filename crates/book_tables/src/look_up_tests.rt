@@ -1,6 +1,6 @@
 //! Each statement once, over memory, in a file that has other tables before and after the office's.
 
-use crate::{about, meters, sales, shifts, tariffs};
+use crate::{format, meters, sales, shifts, tariffs};
 use sqlite::{Alter, Connection, Error};
 use std::alloc::Global;
 use std::test::Fail;
@@ -125,7 +125,7 @@ fn finds_meters_and_tariffs(rt: HostRuntime) -> Result<(), Fail> {
     assert_eq!(rt; tariffs::has_tariff(&mut conn, &home)?, true);
     let farm = TariffName::read(b"farm").ok_or("a name")?;
     assert_eq!(rt; tariffs::has_tariff(&mut conn, &farm)?, false);
-    assert_eq!(rt; about::format_number(&mut conn)?, Some(1));
+    assert_eq!(rt; format::format_number(rt.alloc(), &mut conn)?, Some(1));
     Ok(())
 }
 

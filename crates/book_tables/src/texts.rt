@@ -1,5 +1,37 @@
 //! The texts of the fixed statements on the office's tables.
 
+/// What defines each of the six tables, in the order in which they are made.
+pub(crate) const TABLES: [&str; 6] = [
+    "CREATE TABLE about (id INTEGER PRIMARY KEY, format INTEGER NOT NULL) STRICT",
+    "CREATE TABLE tariffs (name TEXT NOT NULL PRIMARY KEY) STRICT",
+    "CREATE TABLE tariff_steps (tariff TEXT NOT NULL REFERENCES tariffs (name), \
+    place INTEGER NOT NULL, ends INTEGER, price INTEGER NOT NULL, UNIQUE (tariff, place)) STRICT",
+    "CREATE TABLE meters (meter TEXT NOT NULL PRIMARY KEY, base INTEGER NOT NULL, \
+    tariff TEXT NOT NULL REFERENCES tariffs (name), secret TEXT NOT NULL) STRICT",
+    "CREATE TABLE shifts (number INTEGER PRIMARY KEY, operator TEXT NOT NULL, \
+    opened INTEGER NOT NULL, closed INTEGER) STRICT",
+    "CREATE TABLE sales (number INTEGER PRIMARY KEY, moment INTEGER NOT NULL, \
+    month INTEGER NOT NULL, shift INTEGER NOT NULL REFERENCES shifts (number), \
+    operator TEXT NOT NULL, ref TEXT NOT NULL, meter TEXT NOT NULL REFERENCES meters (meter), \
+    base INTEGER NOT NULL, tid INTEGER NOT NULL, rnd INTEGER NOT NULL, tenths INTEGER NOT NULL, \
+    price INTEGER NOT NULL, tender INTEGER NOT NULL, digits TEXT NOT NULL, \
+    UNIQUE (operator, ref), UNIQUE (meter, base, tid)) STRICT",
+];
+
+/// The names of the six tables.
+pub(crate) const NAMES: [&str; 6] = [
+    "about",
+    "tariffs",
+    "tariff_steps",
+    "meters",
+    "shifts",
+    "sales",
+];
+
+pub(crate) const NEW_FORMAT: &str = "INSERT INTO about (id, format) VALUES (1, 1)";
+
+pub(crate) const FORMAT: &str = "SELECT id, format FROM about LIMIT 2";
+
 pub(crate) const SALE_NUMBERED: &str =
     "SELECT number, moment, shift, operator, ref, meter, base, tid, rnd, tenths, price, tender, \
     digits FROM sales WHERE number = ?1";
@@ -22,8 +54,6 @@ pub(crate) const LAST_SHIFT_NUMBER: &str = "SELECT number FROM shifts ORDER BY n
 pub(crate) const METER_NUMBERED: &str = "SELECT base, tariff, secret FROM meters WHERE meter = ?1";
 
 pub(crate) const TARIFF_NAMED: &str = "SELECT name FROM tariffs WHERE name = ?1";
-
-pub(crate) const FORMAT_NUMBER: &str = "SELECT format FROM about";
 
 pub(crate) const NEW_SALE: &str =
     "INSERT INTO sales (number, moment, month, shift, operator, ref, meter, base, tid, rnd, tenths, price, tender, digits) VALUES (?1, ?2, ?3, ?4, ?5, ?6, ?7, ?8, ?9, ?10, ?11, ?12, ?13, ?14)";

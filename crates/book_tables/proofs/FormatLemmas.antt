@@ -1,0 +1,123 @@
+-- The number of the format, as the rows of `about` show it.
+use Rattle.std.proofs.Common.{◌≡◌, ◌↔◌, ℕ, ◌<◌, ◌^◌, List, [], ◌∷◌, length, get_or, map, map-id, take, filter, true, IsPermutation, Option, None, Some, refl, sym, ap, subst, ◌∙◌, arith}
+use Rattle.std.specs.Prelude.{IsTrue, codes}
+use Rattle.std.specs.List.{AllZip}
+use Rattle.std.proofs.lemmas.List.Sorted.{IsPermutation-sym}
+use Rattle.sqlite.specs.Effect.{Database}
+use Rattle.sqlite.specs.Order.{Row}
+use Rattle.sqlite.specs.State.{State}
+use Rattle.sqlite.proofs.Callers.{one_permutation}
+use Rattle.sqlite_resolve.specs.Scope.{Name}
+use Rattle.sqlite_schema.specs.declared.schema.Schema.{Schema}
+use Rattle.sqlite_sql.specs.Query.{IsAnswer, Query}
+use Rattle.sqlite_sql.specs.Term.{Term, col, lit}
+use Rattle.sqlite_tied.specs.Compute.{everything}
+use Rattle.one_table.specs.Listed.{IsListing, no_limit, query_on}
+use Rattle.one_table.specs.Answer.{GivesAll}
+use Rattle.one_table.specs.Place.{Has}
+use Rattle.one_table.specs.Reading.{is_whole, meant, select_meant, text_meant}
+use Rattle.one_table.specs.Standing.{place_in, tree_in}
+use Rattle.one_table.proofs.ListedLemmas.{all_rows}
+use Rattle.book_tables.specs.Format.{HasFormat, IsFormatOf, about_shown, shown_format}
+use Rattle.book_tables.specs.Holds.{HasOffice, rows_in}
+use Rattle.book_tables.specs.ReadBack.{ReadsBack}
+use Rattle.book_tables.specs.Rows.{number}
+use Rattle.book_tables.specs.Tables.{about_table}
+use Rattle.book_tables.specs.declared.format.Told.{Told}
+use Rattle.book_tables.specs.Reading.{HasTables}
+use Rattle.book_tables.proofs.ReadLemmas.{Asks, answer_is}
+
+-- ---- the text
+
+abbrev pub format_text : List ℕ
+format_text = codes "SELECT id, format FROM about LIMIT 2"
+
+abbrev pub format_terms : List Term
+format_terms = col 1 0 ∷ col 1 2 ∷ []
+
+abbrev pub format_names : List Name
+format_names = codes "id" ∷ codes "format" ∷ []
+
+abbrev pub format_query : ℕ → Query
+format_query tree = query_on tree [] format_terms [] (lit (number 2))
+
+pub format_asks : Asks about_table format_query format_names format_text []
+unfolding everything is_whole meant select_meant text_meant
+format_asks = record { is = λ tree. record { means = refl; from = refl }; bare = λ tree. refl; typed = λ tree. refl; whole = refl }
+
+pub about_stands : (s : Schema) → HasOffice s → Has s (place_in s (codes "about")) (about_table (tree_in s (codes "about")))
+about_stands s has = has.about.has
+
+-- ---- the answer: at most two of the rows
+
+all_kept : {X : Type 0} (xs : List X) → filter (λ _. true) xs ≡ xs
+all_kept [] = refl
+all_kept (x ∷ xs) = ap (λ l. x ∷ l) (all_kept xs)
+
+two_of : (db : Database) (rows : List Row) → IsAnswer (format_query (tree_in db.schema (codes "about"))) db.trees [] rows
+    → (all : List Row) × IsPermutation (map about_shown (rows_in db (codes "about"))) all × (rows ≡ take 2 all)
+two_of db rows answer =
+    let all : List Row = map (λ o. o.1) answer.ordered in
+    let whole : IsAnswer (query_on (tree_in db.schema (codes "about")) [] format_terms [] no_limit) db.trees [] all =
+    record { staged = answer.staged; grouped = answer.grouped; kept = answer.kept; distinct = answer.distinct; ordered = answer.ordered; same = answer.same; sorted = answer.sorted; shown = refl } in
+    let listed = rows_in db (codes "about") in
+    let l : IsListing db.trees (tree_in db.schema (codes "about")) [] format_terms [] (λ (r : Row). r) listed (λ _. true) about_shown =
+    record { holds_them = sym (map-id listed); passes = λ r. refl; shows = λ r. refl } in
+    let same = all_rows l all whole in
+    (all, subst (λ l. IsPermutation (map about_shown l) all) (all_kept listed) same, answer.shown)
+
+-- one row is shown exactly where there is no other
+one_shown : (all rows some : List Row) (r : Row) → IsPermutation some all → rows ≡ take 2 all → (rows ≡ r ∷ []) ↔ (some ≡ r ∷ [])
+one_shown all rows some r same are = (λ e. back all same (sym are ∙ e), λ e. are ∙ ap (take 2) (one_permutation r all (subst (λ l. IsPermutation l all) e same)))
+  where
+    back : (all : List Row) → IsPermutation some all → take 2 all ≡ r ∷ [] → some ≡ r ∷ []
+    back [] same e = absurd (let f = ap length e in omega arith)
+    back (a ∷ []) same e = one_permutation a some (IsPermutation-sym some (a ∷ []) same) ∙ e
+    back (a ∷ b ∷ more) same e = absurd (let f = ap length e in omega arith)
+
+-- ---- what is told
+
+pub lone : {X : Type 0} (xs : List X) (x : X) → length xs ≡ 1 → x ≡ get_or xs 0 x → xs ≡ x ∷ []
+lone [] x one first = absurd (omega (arith, one))
+lone (y ∷ []) x one first = ap (λ z. z ∷ []) (sym first)
+lone (y ∷ z ∷ more) x one first = absurd (omega (arith, one))
+
+abbrev pub TellsOne : Row → Told → Type 0
+TellsOne row told = ReadsBack shown_format (λ n. n < 2 ^ 32) row told.format
+
+module _ (db : Database) (rows : List Row) (answer : IsAnswer (format_query (tree_in db.schema (codes "about"))) db.trees [] rows) where
+  shown_alone : (n : ℕ) → (rows ≡ shown_format n ∷ []) ↔ HasFormat db n
+  shown_alone n = let two = two_of db rows answer in one_shown two.0 rows _ (shown_format n) two.1 two.2
+
+  pub none_told : (values : List Told) → AllZip TellsOne rows values → ¬ (length values ≡ 1) → IsFormatOf db None
+  none_told values told other n small = (λ e. absurd cc, λ has. absurd (other (alone values (subst (λ l. AllZip TellsOne l values) ((shown_alone n).1 has) told))))
+    where
+      alone : (values : List Told) → AllZip TellsOne (shown_format n ∷ []) values → length values ≡ 1
+      alone [] told = absurd told
+      alone (v ∷ []) told = refl
+      alone (v ∷ w ∷ more) told = absurd told.1
+
+  pub one_told : (value : Told) → AllZip TellsOne rows (value ∷ []) → IsFormatOf db value.format
+  one_told value told n small = go rows refl told
+    where
+      read : (row : Row) (found : Option ℕ) → ReadsBack shown_format (λ n. n < 2 ^ 32) row found → (found ≡ Some n) ↔ (row ≡ shown_format n)
+      read row None told = (λ e. absurd cc, λ e. absurd (told n small (sym e)))
+      read row (Some m) told = (λ e. let same : m ≡ n = cc in sym told.0 ∙ ap shown_format same, λ e. let same : shown_format m ≡ shown_format n = told.0 ∙ e in let one : m ≡ n = cc in ap Some one)
+
+      go : (l : List Row) → rows ≡ l → AllZip TellsOne l (value ∷ []) → (value.format ≡ Some n) ↔ HasFormat db n
+      go [] is told = absurd told
+      go (r ∷ []) is told =
+          let here = read r value.format told.0 in
+          let whole = shown_alone n in
+          (λ e. whole.0 (is ∙ ap (λ x. x ∷ []) (here.0 e)), λ has. here.1 (let e = sym is ∙ whole.1 has in cc))
+      go (r ∷ s ∷ more) is told = absurd told.1
+
+module _ (old new : State) (has : HasTables old) where
+  told_rows : (values : List Told) → (given : GivesAll TellsOne format_text [] old new values) → IsTrue old.is_open → IsAnswer (format_query (tree_in old.now.schema (codes "about"))) old.now.trees [] given.rows
+  told_rows values given runs = answer_is format_asks (codes "about") about_stands old new (has runs) given.rows given.shown
+
+  pub given_none : (values : List Told) → GivesAll TellsOne format_text [] old new values → IsTrue old.is_open → ¬ (length values ≡ 1) → IsFormatOf old.now None
+  given_none values given runs other = none_told old.now given.rows (told_rows values given runs) values given.read other
+
+  pub given_one : (values : List Told) (one : Told) → GivesAll TellsOne format_text [] old new values → IsTrue old.is_open → values ≡ one ∷ [] → IsFormatOf old.now one.format
+  given_one values one given runs is = one_told old.now given.rows (told_rows values given runs) one (subst (λ l. AllZip TellsOne given.rows l) is given.read)
