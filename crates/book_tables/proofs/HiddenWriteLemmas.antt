@@ -1,12 +1,9 @@
 -- What the rows of the tariffs, their steps and the meters are after a write. SQLite chooses the numbers of these rows.
-use Rattle.std.proofs.Common.{◌≡◌, ◌≢◌, ℕ, pos, Bool, true, false, ◌||◌, List, [], ◌∷◌, ◌++◌, length, map, filter, find, drop, IsTrue, Ordering, Less, Equal, Greater, Option, None, Some, ◌≤◌, codes, refl, sym, ap, ◌∙◌, subst, arith}
+use Rattle.std.proofs.Common.{◌≡◌, ◌≢◌, ℕ, pos, Bool, false, List, [], ◌∷◌, ◌++◌, length, map, filter, find, drop, Ordering, Less, Equal, Greater, ◌≤◌, codes, refl, sym, ap, ◌∙◌, subst}
 use Rattle.std.specs.Prelude.{AllPairs, bytes_eq}
-use Rattle.std.specs.List.{AllByRecursion, list_any}
-use Rattle.std.specs.Option.{option_to_list}
 use Rattle.std.proofs.lemmas.Bool.{false≢true}
 use Rattle.std.proofs.lemmas.List.{map-append}
 use Rattle.std.proofs.lemmas.Slice.Eq.{bytes_eq-Decides}
-use Rattle.sqlite.specs.Effect.{Database}
 use Rattle.sqlite.specs.Order.{Row}
 use Rattle.sqlite.specs.State.{State}
 use Rattle.sqlite_value.specs.Order.{value_cmp}
@@ -30,10 +27,10 @@ use Rattle.sts_fields.specs.Base.{year_of}
 use Rattle.vend_core.specs.Fold.{with_tariff}
 use Rattle.vend_core.specs.PlainRows.{row_with_tariff}
 use Rattle.vend_core.specs.declared.meter.Meter.{Meter}
-use Rattle.book_tables.specs.Holds.{Holds, rows_in}
-use Rattle.book_tables.specs.Rows.{Rows, StepRow, meter_columns, step_columns, tariff_columns}
+use Rattle.book_tables.specs.Holds.{rows_in}
+use Rattle.book_tables.specs.Rows.{StepRow, meter_columns, step_columns, tariff_columns}
 use Rattle.book_tables.specs.Tables.{meters_table, tariff_steps_table, tariffs_table}
-use Rattle.book_tables.specs.Writing.{AddsMeter, AddsName, AddsStep, HasOneMore, IsInOrder, SetsTariff, WritesOnly}
+use Rattle.book_tables.specs.Writing.{AddsMeter, AddsName, AddsStep, HasOneMore, IsInOrder, SetsTariff}
 use Rattle.book_tables.proofs.KeptLemmas.{meters_changed, steps_changed, tariffs_changed}
 use Rattle.book_tables.proofs.ListLemmas.{NotBothPass, first_is_all, pairs_weaker}
 use Rattle.book_tables.proofs.WriteLemmas.{cast_optional, changes_only, few, only_one}

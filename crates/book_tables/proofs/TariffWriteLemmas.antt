@@ -1,5 +1,5 @@
 -- What the rows are after a tariff with its steps was added, row by row.
-use Rattle.std.proofs.Common.{◌≡◌, ℕ, ◌+◌, true, IsTrue, List, [], ◌∷◌, ◌++◌, length, map, codes, inl, inr, ◌⊎◌, refl, sym, ap, subst, ◌∙◌, arith, append-nil, append_assoc, ◌≢◌, Result, Ok, Err, OnErr}
+use Rattle.std.proofs.Common.{◌≡◌, ℕ, ◌+◌, IsTrue, List, [], ◌∷◌, ◌++◌, length, map, codes, inl, inr, ◌⊎◌, refl, sym, ap, subst, ◌∙◌, arith, append-nil, append_assoc, ◌≢◌, Result, Ok, Err, OnErr}
 use Rattle.std.specs.List.{AllByRecursion, enumerate_from}
 use Rattle.sqlite_trees.specs.declared.store.Store.{Ghosts}
 use Rattle.sqlite.specs.Held.{Held, state}
@@ -13,7 +13,7 @@ use Rattle.one_table.specs.Standing.{Stands}
 use Rattle.tariff.specs.declared.step.Step.{Step}
 use Rattle.book_tables.specs.Edited.{step_rows}
 use Rattle.book_tables.specs.Holds.{HasOffice, Holds, rows_in}
-use Rattle.book_tables.specs.Rows.{Rows, StepRow}
+use Rattle.book_tables.specs.Rows.{StepRow}
 use Rattle.book_tables.specs.Tables.{tariff_steps_table, tariffs_table}
 use Rattle.book_tables.proofs.KeptLemmas.{ChangesOnly, names_differ, rows_kept}
 use Rattle.book_tables.proofs.WriteLemmas.{changes_only}

@@ -4,7 +4,7 @@ use Rattle.sqlite.specs.State.{HasCleanDisk}
 use Rattle.std.proofs.lemmas.List.{length-take-le, take_all, take_more}
 use Rattle.tariff.specs.declared.step.Step.{Step}
 use Rattle.book_tables.specs.Writing.{AddsTariff}
-use Rattle.book_tables.proofs.TariffWriteLemmas.{on_err, adds_keeps, adds_next, adds_none, left_keeps, keeps_more, refused_keeps, still_has}
+use Rattle.book_tables.proofs.TariffWriteLemmas.{on_err, adds_keeps, adds_next, adds_none, keeps_more, refused_keeps, still_has}
 use Rattle.book_tables.proofs.adding.add_tariff.Goals as goal
 
 pub steps-init : goal.steps-init
