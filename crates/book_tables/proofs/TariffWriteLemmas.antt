@@ -82,9 +82,11 @@ adds_none name old new adds = record {
   rows = λ rows held. let it = adds.rows rows held in (it.0, rows.steps, it.1, refl, it.2);
   last = λ rows held names_order steps_order.
       let it = adds.last rows held names_order in
-      let none : rows.steps ++ [] ≡ rows.steps = append-nil rows.steps in
-      (subst (λ (l : List StepRow). Holds new.now (record rows { tariffs = rows.tariffs ++ name ∷ []; steps = l })) (sym none) it.0, it.1,
-          order_kept old new (tariff_steps_table 0) (tariffs_table 0) (changes_only (codes "tariffs") old new adds.only) held.has.tariff_steps held.has.tariffs names_apart steps_order);
+      let none : rows.steps ++ [] ≡ rows.steps = append-nil rows.steps in (
+        subst (λ (l : List StepRow). Holds new.now (record rows { tariffs = rows.tariffs ++ name ∷ []; steps = l })) (sym none) it.0,
+        it.1,
+        order_kept old new (tariff_steps_table 0) (tariffs_table 0) (changes_only (codes "tariffs") old new adds.only) held.has.tariff_steps held.has.tariffs names_apart steps_order,
+      );
 }
 
 adds_at_end : (name : List ℕ) (xs : List Step) (s : Step) (old mid new : State) → AddsTariff name xs old mid → AddsStep (record { tariff = name; place = length xs; step = s }) mid new → AddsTariff name (xs ++ s ∷ []) old new
@@ -92,18 +94,22 @@ adds_at_end name xs s old mid new first second = record {
   only = then_second old mid new first.only second.only;
   rows = λ rows held.
       let a = first.rows rows held in
-      let b = second.rows (record rows { tariffs = a.0; steps = a.1 }) a.4 in
-      (a.0, b.0, a.2,
-          subst (λ (l : List StepRow). HasMore l rows.steps b.0) (sym (rows_are name xs s)) (more_still (step_rows name xs) (record { tariff = name; place = length xs; step = s }) rows.steps a.1 b.0 a.3 b.1),
-          b.2);
+      let b = second.rows (record rows { tariffs = a.0; steps = a.1 }) a.4 in (
+        a.0,
+        b.0,
+        a.2,
+        subst (λ (l : List StepRow). HasMore l rows.steps b.0) (sym (rows_are name xs s)) (more_still (step_rows name xs) (record { tariff = name; place = length xs; step = s }) rows.steps a.1 b.0 a.3 b.1),
+        b.2,
+      );
   last = λ rows held names_order steps_order.
       let a = first.last rows held names_order steps_order in
       let b = second.last (record rows { tariffs = rows.tariffs ++ name ∷ []; steps = rows.steps ++ step_rows name xs }) a.0 a.2 in
       let steps : (rows.steps ++ step_rows name xs) ++ record { tariff = name; place = length xs; step = s } ∷ [] ≡ rows.steps ++ step_rows name (xs ++ s ∷ []) =
-      append_assoc rows.steps (step_rows name xs) (record { tariff = name; place = length xs; step = s } ∷ []) ∙ ap (λ (l : List StepRow). rows.steps ++ l) (sym (rows_are name xs s)) in
-      (subst (λ (l : List StepRow). Holds new.now (record rows { tariffs = rows.tariffs ++ name ∷ []; steps = l })) steps b.0,
-          order_kept mid new (tariffs_table 0) (tariff_steps_table 0) (changes_only (codes "tariff_steps") mid new second.only) a.0.has.tariffs a.0.has.tariff_steps (λ same. names_apart (sym same)) a.1,
-          b.1);
+      append_assoc rows.steps (step_rows name xs) (record { tariff = name; place = length xs; step = s } ∷ []) ∙ ap (λ (l : List StepRow). rows.steps ++ l) (sym (rows_are name xs s)) in (
+        subst (λ (l : List StepRow). Holds new.now (record rows { tariffs = rows.tariffs ++ name ∷ []; steps = l })) steps b.0,
+        order_kept mid new (tariffs_table 0) (tariff_steps_table 0) (changes_only (codes "tariff_steps") mid new second.only) a.0.has.tariffs a.0.has.tariff_steps (λ same. names_apart (sym same)) a.1,
+        b.1,
+      );
 }
 
 -- with one step more

@@ -19,8 +19,8 @@ use vend_core::{Meter, MeterNo, Sale, Shift, TariffName};
 /// Adds a sale, with the month of its moment.
 ///
 /// # Errors
-/// What the database refuses: a number or a ref that is taken, an identifier that the meter has had,
-/// a shift or a meter that is not there, and want of memory.
+/// What the database refuses: a number or a ref that is taken, an identifier that the meter has
+/// had, a shift or a meter that is not there; want of memory, and the disk.
 pub fn add_sale<S: Alter>(tx: &mut Transaction<'_, S>, sale: &Sale) -> Result<(), TableError>
     ensures same_reference { tx.new.conn.ghost_name ≡ tx.old.conn.ghost_name }
     ensures added { HasCleanDisk (state S.Store tx.new.conn.now)
@@ -41,7 +41,7 @@ pub fn add_sale<S: Alter>(tx: &mut Transaction<'_, S>, sale: &Sale) -> Result<()
 /// Adds a shift.
 ///
 /// # Errors
-/// What the database refuses: a number that is taken, and want of memory.
+/// What the database refuses: a number that is taken; want of memory, and the disk.
 pub fn add_shift<S: Alter>(tx: &mut Transaction<'_, S>, shift: &Shift) -> Result<(), TableError>
     ensures same_reference { tx.new.conn.ghost_name ≡ tx.old.conn.ghost_name }
     ensures added { HasCleanDisk (state S.Store tx.new.conn.now)
@@ -62,7 +62,8 @@ pub fn add_shift<S: Alter>(tx: &mut Transaction<'_, S>, shift: &Shift) -> Result
 /// Adds a meter, with its number and its key.
 ///
 /// # Errors
-/// What the database refuses: a number that is taken, a tariff that is not there, and want of memory.
+/// What the database refuses: a number that is taken, a tariff that is not there; want of memory,
+/// and the disk.
 pub fn add_meter<S: Alter>(
     tx: &mut Transaction<'_, S>,
     number: &MeterNo,
@@ -88,7 +89,7 @@ pub fn add_meter<S: Alter>(
 /// Adds the name of a tariff, with no steps.
 ///
 /// # Errors
-/// What the database refuses: a name that is taken, and want of memory.
+/// What the database refuses: a name that is taken; want of memory, and the disk.
 pub fn add_name<S: Alter>(tx: &mut Transaction<'_, S>, name: &TariffName) -> Result<(), TableError>
     ensures same_reference { tx.new.conn.ghost_name ≡ tx.old.conn.ghost_name }
     ensures added { HasCleanDisk (state S.Store tx.new.conn.now)
@@ -109,7 +110,8 @@ pub fn add_name<S: Alter>(tx: &mut Transaction<'_, S>, name: &TariffName) -> Res
 /// Adds a step of a tariff at a place, from 0.
 ///
 /// # Errors
-/// What the database refuses: a place that is taken, a tariff that is not there, and want of memory.
+/// What the database refuses: a place that is taken, a tariff that is not there; want of memory,
+/// and the disk.
 pub fn add_step<S: Alter>(
     tx: &mut Transaction<'_, S>,
     name: &TariffName,
@@ -137,7 +139,7 @@ pub fn add_step<S: Alter>(
 /// What was added before an error goes with the transaction, which the caller drops.
 ///
 /// # Errors
-/// What the database refuses: a name that is taken, and want of memory.
+/// What the database refuses: a name that is taken; want of memory, and the disk.
 pub fn add_tariff<S: Alter>(
     tx: &mut Transaction<'_, S>,
     name: &TariffName,

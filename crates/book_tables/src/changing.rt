@@ -44,7 +44,7 @@ pub fn close_shift<S: Alter>(
 /// Sets the tariff of the meter of a number.
 ///
 /// # Errors
-/// What the database refuses: a tariff that is not there, and want of memory.
+/// What the database refuses: a tariff that is not there; want of memory, and the disk.
 pub fn set_tariff<S: Alter>(
     tx: &mut Transaction<'_, S>,
     number: &MeterNo,

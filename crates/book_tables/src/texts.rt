@@ -56,7 +56,9 @@ pub(crate) const METER_NUMBERED: &str = "SELECT base, tariff, secret FROM meters
 pub(crate) const TARIFF_NAMED: &str = "SELECT name FROM tariffs WHERE name = ?1";
 
 pub(crate) const NEW_SALE: &str =
-    "INSERT INTO sales (number, moment, month, shift, operator, ref, meter, base, tid, rnd, tenths, price, tender, digits) VALUES (?1, ?2, ?3, ?4, ?5, ?6, ?7, ?8, ?9, ?10, ?11, ?12, ?13, ?14)";
+    "INSERT INTO sales (number, moment, month, shift, operator, ref, meter, base, tid, rnd, \
+    tenths, price, tender, digits) \
+    VALUES (?1, ?2, ?3, ?4, ?5, ?6, ?7, ?8, ?9, ?10, ?11, ?12, ?13, ?14)";
 
 pub(crate) const NEW_SHIFT: &str =
     "INSERT INTO shifts (number, operator, opened, closed) VALUES (?1, ?2, ?3, ?4)";

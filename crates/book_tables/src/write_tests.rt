@@ -32,11 +32,11 @@ fn tables(alloc: Global) -> Result<Connection<MemStore>, Error> {
     Ok(conn)
 }
 
-fn shift(number: u32) -> Result<Shift, Fail> {
+fn shift(number: u32, opened: Moment) -> Result<Shift, Fail> {
     Ok(Shift {
         number,
         operator: Operator::read(b"ann").ok_or("operator")?,
-        opened: Moment::of_secs(725_846_400).ok_or("opened")?,
+        opened,
         closed: None,
     })
 }
@@ -85,8 +85,9 @@ fn write(tx: &mut Transaction<'_, MemStore>) -> Result<(), Fail> {
     let other = MeterNo::read(b"79927398713").ok_or("other")?;
     add_meter(tx, &other, &meter(b"home")?)?;
     add_meter(tx, &number, &meter(b"home")?)?;
-    add_shift(tx, &shift(1)?)?;
-    add_shift(tx, &shift(2)?)?;
+    let opened = Moment::of_secs(725_846_400).ok_or("opened")?;
+    add_shift(tx, &shift(1, opened)?)?;
+    add_shift(tx, &shift(2, opened)?)?;
     add_sale(tx, &sale(1, 3, b"r-1")?)?;
     add_sale(tx, &sale(2, 4, b"r-2")?)?;
     set_tariff(tx, &number, &shop)?;
@@ -94,24 +95,30 @@ fn write(tx: &mut Transaction<'_, MemStore>) -> Result<(), Fail> {
     Ok(())
 }
 
-// What is refused leaves the rows as they were.
+// Each of these rows is refused.
 fn refused(tx: &mut Transaction<'_, MemStore>) -> Result<bool, Fail> {
-    let number = MeterNo::read(b"12345678911").ok_or("number")?;
+    let home = TariffName::read(b"home").ok_or("home")?;
     let missing = TariffName::read(b"none").ok_or("none")?;
+    let number = MeterNo::read(b"12345678911").ok_or("number")?;
+    let opened = Moment::of_secs(725_846_400).ok_or("opened")?;
     let step = Step {
         ends: None,
         price: 30,
     };
-    let home = TariffName::read(b"home").ok_or("home")?;
-    Ok(
-        add_name(tx, &home).is_err()
-            && add_step(tx, &home, 1, step).is_err()
-            && add_step(tx, &missing, 0, step).is_err()
-            && add_meter(tx, &number, &meter(b"none")?).is_err()
-            && add_shift(tx, &shift(2)?).is_err()
-            && add_sale(tx, &sale(3, 4, b"r-3")?).is_err()
-            && add_sale(tx, &sale(3, 5, b"r-2")?).is_err(),
-    )
+    let lost = meter(b"none")?;
+    let second = shift(2, opened)?;
+    let same_tid = sale(3, 4, b"r-3")?;
+    let same_ref = sale(3, 5, b"r-2")?;
+    let refusals = [
+        add_name(tx, &home).is_err(),
+        add_step(tx, &home, 1, step).is_err(),
+        add_step(tx, &missing, 0, step).is_err(),
+        add_meter(tx, &number, &lost).is_err(),
+        add_shift(tx, &second).is_err(),
+        add_sale(tx, &same_tid).is_err(),
+        add_sale(tx, &same_ref).is_err(),
+    ];
+    Ok(!refusals.contains(&false))
 }
 
 fn filled(alloc: Global) -> Result<Connection<MemStore>, Fail> {
