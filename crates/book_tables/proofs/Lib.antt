@@ -1,4 +1,5 @@
 pub mod EditLemmas
+pub mod FindLemmas
 pub mod FoundLemmas
 pub mod HoldsLemmas
 pub mod KeptLemmas
@@ -6,6 +7,9 @@ pub mod KeyTextLemmas
 pub mod ListLemmas
 pub mod MemberLemmas
 pub mod PartLemmas
+pub mod ReadLemmas
 pub mod RowLemmas
+pub mod SaleTexts
+pub mod SaleLemmas
 pub mod TextLemmas
 pub mod ValueLemmas

@@ -3,6 +3,7 @@ pub mod Found
 pub mod Holds
 pub mod Parts
 pub mod ReadBack
+pub mod Reading
 pub mod Rows
 pub mod Stands
 pub mod Tables

@@ -1,5 +1,6 @@
 ghost use Rattle.std.specs.Prelude.{◌≡◌, ◌↔◌, IsTrue};
 
+use one_table::ReadFault;
 use sqlite::{Error, ErrorCode};
 use std::alloc::AllocError;
 use thiserror::Error as IsError;
@@ -49,5 +50,20 @@ impl From<AllocError> for TableError {
 
     fn from(_: AllocError) -> TableError {
         TableError::Database(Error::SqliteFailure(ErrorCode::OutOfMemory))
+    }
+}
+
+impl From<ReadFault> for TableError {
+    ghost use Rattle.std.specs.Prelude.{◌≡◌};
+    ghost use Rattle.book_tables.specs.Reading.{told};
+
+    ghost from_gives = { λ fault e. e ≡ told fault };
+
+    fn from(fault: ReadFault) -> TableError {
+        match fault {
+            ReadFault::Database(error) => TableError::Database(error),
+            ReadFault::Row => TableError::RowOfNoOffice,
+            ReadFault::TooMuch => TableError::RowOfNoOffice,
+        }
     }
 }

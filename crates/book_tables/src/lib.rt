@@ -10,6 +10,9 @@ mod cells;
 mod error;
 mod laws;
 mod records;
+pub mod sales;
+mod shown;
 #[cfg(test)]
 mod tests;
+mod texts;
 mod values;

@@ -1,7 +1,8 @@
 //! The values of the columns of a row, in the order of its table, as a write binds them.
 
-ghost use Rattle.std.specs.Prelude.{◌≡◌};
+ghost use Rattle.std.specs.Prelude.{◌≡◌, ◌∷◌, []};
 ghost use Rattle.sqlite.specs.Values.{bound};
+ghost use Rattle.sqlite.specs.declared.types.Value.TheVariants.{Text};
 ghost use Rattle.sts_token.specs.Key.{IsKeyText};
 ghost use Rattle.book_tables.specs.Rows.{meter_columns, number, optional, sale_columns, shift_columns, step_columns, tariff_columns};
 ghost use Rattle.sqlite_value.specs.Value.{owned};
@@ -9,7 +10,7 @@ ghost use Rattle.sqlite_value.specs.Value.{owned};
 use sqlite::types::ValueRef;
 use sts_fields::{Moment, month_of};
 use tariff::Step;
-use vend_core::{Meter, MeterNo, Sale, Shift, TariffName};
+use vend_core::{Meter, MeterNo, Operator, Ref, Sale, Shift, TariffName};
 
 fn whole(n: u32) -> ValueRef<'static>
     ensures { owned result ≡ number n }
@@ -21,6 +22,37 @@ fn seconds(moment: Moment) -> ValueRef<'static>
     ensures { owned result ≡ number moment }
 {
     ValueRef::Int(moment.secs())
+}
+
+/// A whole number.
+pub(crate) fn number_values(n: u32) -> [ValueRef<'static>; 1]
+    ensures { bound result ≡ number n ∷ [] }
+{
+    [whole(n)]
+}
+
+/// An operator.
+pub(crate) fn operator_values(operator: &Operator) -> [ValueRef<'_>; 1]
+    ensures { bound result ≡ Text operator.now ∷ [] }
+{
+    [ValueRef::Text(operator.as_bytes())]
+}
+
+/// An operator and a ref.
+pub(crate) fn ref_values<'a>(operator: &'a Operator, order_ref: &'a Ref) -> [ValueRef<'a>; 2]
+    ensures { bound result ≡ Text operator.now ∷ Text order_ref.now ∷ [] }
+{
+    [
+        ValueRef::Text(operator.as_bytes()),
+        ValueRef::Text(order_ref.as_bytes()),
+    ]
+}
+
+/// The number of a meter.
+pub(crate) fn meter_no_values(meter: &MeterNo) -> [ValueRef<'_>; 1]
+    ensures { bound result ≡ Text meter.now ∷ [] }
+{
+    [ValueRef::Text(meter.as_bytes())]
 }
 
 /// The name of a tariff.

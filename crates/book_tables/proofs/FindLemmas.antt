@@ -1,0 +1,55 @@
+-- Statements that look up one record of the office's rows.
+use Rattle.std.proofs.Common.{◌≡◌, ℕ, List, [], map, Option, None, Some, Result, IfOk, IfErr, OnOk, IfSome, refl}
+use Rattle.std.specs.Prelude.{All}
+use Rattle.std.specs.Option.{option_to_list}
+use Rattle.std.proofs.lemmas.List.Elements.{All-cons, All-nil, All-same}
+use Rattle.sqlite.specs.Effect.{Database}
+use Rattle.sqlite.specs.Order.{Row}
+use Rattle.sqlite.specs.State.{IsUnchanged, State}
+use Rattle.sqlite_resolve.specs.Scope.{Name}
+use Rattle.sqlite_schema.specs.declared.schema.Schema.{Schema}
+use Rattle.sqlite_schema.specs.declared.schema.Table.{Table}
+use Rattle.sqlite_sql.specs.Query.{IsAnswer, Query}
+use Rattle.one_table.specs.Answer.{GivesFirst, OnlyAsks}
+use Rattle.one_table.specs.Place.{Has}
+use Rattle.one_table.specs.Standing.{place_in, tree_in}
+use Rattle.book_tables.specs.Holds.{HasOffice, Holds}
+use Rattle.book_tables.specs.Reading.{AreOfOffice, FailsToRead, FailsToShow, HasRows, HasTables, IsShown, ShowsRecord}
+use Rattle.book_tables.specs.Rows.{Rows}
+use Rattle.book_tables.specs.declared.error.TableError.{TableError}
+use Rattle.book_tables.proofs.ReadLemmas as read
+use Rattle.book_tables.proofs.ReadLemmas.{Asks}
+
+-- the text, with these parameters, answers this record of the office's rows and no other
+pub record Finds {M : Type 0} (sql : List ℕ) (params : Row) (shown : M → Row) (keeps : M → Type 0) (found : Rows → Option M) : Type 0 where
+  pub table : ℕ → Table
+  pub query : ℕ → Query
+  pub names : List Name
+  pub asks : Asks table query names sql params
+  pub name : List ℕ
+  pub stands : (s : Schema) → HasOffice s → Has s (place_in s name) (table (tree_in s name))
+  pub one : (a b : M) → keeps a → keeps b → shown a ≡ shown b → a ≡ b
+  pub kept : (rows : Rows) → AreOfOffice rows → IfSome (found rows) keeps
+  pub answers : (db : Database) (rows : Rows) → Holds db rows → AreOfOffice rows → (answer : List Row) → IsAnswer (query (tree_in db.schema name)) db.trees params answer
+      → answer ≡ map shown (option_to_list (found rows))
+
+module _ {M : Type 0} {sql : List ℕ} {params : Row} {shown : M → Row} {keeps : M → Type 0} {found : Rows → Option M} (f : Finds sql params shown keeps found) where
+  pub only_asks : (s : State) → HasTables s → OnlyAsks s sql
+  only_asks = read.only_asks f.asks f.name f.stands
+
+  -- what a reader gives
+  pub gives : (old new : State) (rows : Rows) → HasRows old rows → AreOfOffice rows → (r : Result (Option M) TableError) (values : Row) → values ≡ params
+      → OnOk r (IsUnchanged old new) → IfOk r (GivesFirst (IsShown shown keeps) sql values old new) → IfOk r (λ x. x ≡ found rows)
+  gives old new rows has of_office =
+      read.gives f.asks f.name f.stands shown keeps f.one old new rows has (found rows) (f.kept rows of_office) (λ answer held is. f.answers old.now rows held of_office answer is)
+
+  readable : (o : Option M) → IfSome o keeps → All (ShowsRecord shown keeps) (map shown (option_to_list o))
+  readable None kept = All-nil (ShowsRecord shown keeps)
+  readable (Some x) kept = All-cons (ShowsRecord shown keeps) (shown x) [] (x, (refl, kept)) (All-nil (ShowsRecord shown keeps))
+
+  -- why it fails
+  pub fails : {A : Type 0} (old new : State) → HasTables old → (r : Result A TableError) (values : Row) → values ≡ params
+      → IfErr r (FailsToShow (ShowsRecord shown keeps) sql values old new) → IfErr r (FailsToRead old new)
+  fails old new has =
+      read.fails f.asks f.name f.stands (ShowsRecord shown keeps) old new has
+      (λ rows held of_office answer is. All-same (ShowsRecord shown keeps) answer (map shown (option_to_list (found rows))) (f.answers old.now rows held of_office answer is) (readable (found rows) (f.kept rows of_office)))

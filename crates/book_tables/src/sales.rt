@@ -1,0 +1,71 @@
+//! The statements on the table of sales.
+
+ghost use Rattle.std.specs.Prelude.{◌≡◌, ◌&&◌, ◌==◌, bytes_eq, false, find, IfOk, IfErr, OnOk, OnErr};
+ghost use Rattle.sqlite.specs.State.{HasCleanDisk, IsUnchanged, Survives};
+ghost use Rattle.sqlite.specs.Held.{state};
+ghost use Rattle.one_table.specs.Answer.{IsLeft};
+ghost use Rattle.book_tables.specs.Reading.{AreOfOffice, FailsToRead, HasRows, HasTables};
+ghost use Rattle.book_tables.specs.Rows.{Rows};
+
+use crate::error::TableError;
+use crate::shown::first_record;
+use crate::texts::{SALE_NUMBERED, SALE_OF_REF};
+use crate::values::{number_values, ref_values};
+use sqlite::{Alter, Connection};
+use vend_core::{Operator, Ref, Sale};
+
+/// The sale of a number.
+///
+/// # Errors
+/// What the database refuses, and a row that is no office's.
+pub fn sale_numbered<S: Alter>(
+    conn: &mut Connection<S>,
+    number: u32,
+) -> Result<Option<Sale>, TableError>
+    ensures given { HasCleanDisk (state S.Store conn.new)
+        → (rows : Rows) → HasRows (state S.Store conn.old) rows → AreOfOffice rows
+        → IfOk result (λ found. found ≡ find (λ s. s.number == number) rows.sales) }
+    ensures same { HasCleanDisk (state S.Store conn.new)
+        → HasTables (state S.Store conn.old)
+        → OnOk result (IsUnchanged (state S.Store conn.old) (state S.Store conn.new)) }
+    ensures kept { HasCleanDisk (state S.Store conn.new)
+        → HasTables (state S.Store conn.old)
+        → OnErr result (IsLeft (state S.Store conn.old) (state S.Store conn.new)) }
+    ensures mode { conn.old.in_transaction ≡ false → conn.new.in_transaction ≡ false }
+    ensures faults { HasCleanDisk (state S.Store conn.new)
+        → HasTables (state S.Store conn.old)
+        → IfErr result (FailsToRead (state S.Store conn.old) (state S.Store conn.new)) }
+    ensures survives { HasTables (state S.Store conn.old)
+        → Survives (state S.Store conn.old) (state S.Store conn.new) (λ _. ⊥) }
+{
+    first_record(conn, SALE_NUMBERED, &number_values(number))
+}
+
+/// The sale that an operator made under a ref.
+///
+/// # Errors
+/// What the database refuses, and a row that is no office's.
+pub fn sale_of_ref<S: Alter>(
+    conn: &mut Connection<S>,
+    operator: &Operator,
+    order_ref: &Ref,
+) -> Result<Option<Sale>, TableError>
+    ensures given { HasCleanDisk (state S.Store conn.new)
+        → (rows : Rows) → HasRows (state S.Store conn.old) rows → AreOfOffice rows
+        → IfOk result (λ found. found ≡ find (λ s. bytes_eq s.operator operator.now
+        && bytes_eq s.order_ref order_ref.now) rows.sales) }
+    ensures same { HasCleanDisk (state S.Store conn.new)
+        → HasTables (state S.Store conn.old)
+        → OnOk result (IsUnchanged (state S.Store conn.old) (state S.Store conn.new)) }
+    ensures kept { HasCleanDisk (state S.Store conn.new)
+        → HasTables (state S.Store conn.old)
+        → OnErr result (IsLeft (state S.Store conn.old) (state S.Store conn.new)) }
+    ensures mode { conn.old.in_transaction ≡ false → conn.new.in_transaction ≡ false }
+    ensures faults { HasCleanDisk (state S.Store conn.new)
+        → HasTables (state S.Store conn.old)
+        → IfErr result (FailsToRead (state S.Store conn.old) (state S.Store conn.new)) }
+    ensures survives { HasTables (state S.Store conn.old)
+        → Survives (state S.Store conn.old) (state S.Store conn.new) (λ _. ⊥) }
+{
+    first_record(conn, SALE_OF_REF, &ref_values(operator, order_ref))
+}

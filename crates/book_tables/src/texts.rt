@@ -1,0 +1,9 @@
+//! The texts of the fixed statements on the office's tables.
+
+pub(crate) const SALE_NUMBERED: &str =
+    "SELECT number, moment, shift, operator, ref, meter, base, tid, rnd, tenths, price, tender, \
+    digits FROM sales WHERE number = ?1";
+
+pub(crate) const SALE_OF_REF: &str =
+    "SELECT number, moment, shift, operator, ref, meter, base, tid, rnd, tenths, price, tender, \
+    digits FROM sales WHERE operator = ?1 AND ref = ?2";
