@@ -13,3 +13,6 @@ pub mod SaleTexts
 pub mod SaleLemmas
 pub mod TextLemmas
 pub mod ValueLemmas
+pub mod ListingLemmas
+pub mod SaleListTexts
+pub mod SaleListLemmas

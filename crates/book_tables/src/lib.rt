@@ -9,7 +9,9 @@ pub use laws::{members_law, stands_law};
 mod cells;
 mod error;
 mod laws;
+mod listed;
 mod records;
+pub mod sale_lists;
 pub mod sales;
 mod shown;
 #[cfg(test)]

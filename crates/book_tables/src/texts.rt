@@ -7,3 +7,12 @@ pub(crate) const SALE_NUMBERED: &str =
 pub(crate) const SALE_OF_REF: &str =
     "SELECT number, moment, shift, operator, ref, meter, base, tid, rnd, tenths, price, tender, \
     digits FROM sales WHERE operator = ?1 AND ref = ?2";
+
+pub(crate) const SALES_AFTER: &str =
+    "SELECT number, moment, shift, operator, ref, meter, base, tid, rnd, tenths, price, tender, \
+    digits FROM sales WHERE number > ?1 ORDER BY number LIMIT ?2";
+
+// No index serves it: it walks all sales.
+pub(crate) const SALES_OF_SHIFT: &str =
+    "SELECT number, moment, shift, operator, ref, meter, base, tid, rnd, tenths, price, tender, \
+    digits FROM sales WHERE shift = ?1 ORDER BY number";

@@ -135,3 +135,10 @@ pub(crate) fn sale_values(sale: &Sale) -> [ValueRef<'_>; 14]
         ValueRef::Text(&sale.digits),
     ]
 }
+
+/// A number, and how many rows after it.
+pub(crate) fn page_values(after: u32, limit: u32) -> [ValueRef<'static>; 2]
+    ensures { bound result ≡ number after ∷ number limit ∷ [] }
+{
+    [whole(after), whole(limit)]
+}
