@@ -16,3 +16,6 @@ pub mod ValueLemmas
 pub mod ListingLemmas
 pub mod SaleListTexts
 pub mod SaleListLemmas
+pub mod GatherLemmas
+pub mod SoldTexts
+pub mod SoldLemmas

@@ -82,7 +82,7 @@ module _ {M : Type 0} {sql : List ℕ} {params : Row} {shown : M → Row} {keeps
   gives items old new rows has of_office (Ok x) values are same given =
       listed old new rows has of_office same (items x) (subst (λ ps. GivesAll (IsShown shown keeps) sql ps old new (items x)) are given)
 
-  all_readable : (old : State) (rows : Rows) → Holds old.now rows → AreOfOffice rows → (answer : List Row) → IsAnswer (l.query (tree_in old.now.schema l.name)) old.now.trees params answer → All (ShowsRecord shown keeps) answer
+  pub all_readable : (old : State) (rows : Rows) → Holds old.now rows → AreOfOffice rows → (answer : List Row) → IsAnswer (l.query (tree_in old.now.schema l.name)) old.now.trees params answer → All (ShowsRecord shown keeps) answer
   all_readable old rows held of_office answer is =
       let found = l.answers old.now rows held of_office answer is in
       All-same (ShowsRecord shown keeps) answer (map shown found.0) found.2 (readable shown keeps found.0 (l.kept rows of_office found.0 found.1))

@@ -14,6 +14,7 @@ mod records;
 pub mod sale_lists;
 pub mod sales;
 mod shown;
+pub mod sold;
 #[cfg(test)]
 mod tests;
 mod texts;

@@ -16,3 +16,7 @@ pub(crate) const SALES_AFTER: &str =
 pub(crate) const SALES_OF_SHIFT: &str =
     "SELECT number, moment, shift, operator, ref, meter, base, tid, rnd, tenths, price, tender, \
     digits FROM sales WHERE shift = ?1 ORDER BY number";
+
+pub(crate) const TIDS_SOLD: &str = "SELECT tid FROM sales WHERE meter = ?1 AND base = ?2";
+
+pub(crate) const TENTHS_SOLD: &str = "SELECT tenths FROM sales WHERE meter = ?1 AND month = ?2";
