@@ -63,7 +63,7 @@ module _ {table : ℕ → Table} {query : ℕ → Query} {names : List Name} {sq
   abbrev asked : Schema → Query
   asked s = query (tree_in s name)
 
-  means : (s : Schema) → HasOffice s → Means s sql (select_as (asked s) names)
+  pub means : (s : Schema) → HasOffice s → Means s sql (select_as (asked s) names)
   means s has = selects s (place_in s name) (table (tree_in s name)) (stands s has) (asked s) names sql (asks.is (tree_in s name))
 
   pub only_asks : (s : State) → HasTables s → OnlyAsks s sql

@@ -12,6 +12,7 @@ pub mod changing;
 mod error;
 pub mod format;
 mod laws;
+mod listed;
 #[cfg(test)]
 mod look_up_tests;
 pub mod making;
@@ -20,9 +21,11 @@ pub mod meters;
 mod opening_tests;
 pub mod recognising;
 mod records;
+pub mod sale_lists;
 pub mod sales;
 pub mod shifts;
 mod shown;
+pub mod sold;
 pub mod tariffs;
 #[cfg(test)]
 mod tests;

@@ -32,6 +32,7 @@ pub(crate) trait Record: Sized {
 }
 
 /// A record as a row of an answer shows it.
+#[derive(Drop)]
 pub(crate) struct Shown<T> {
     pub(crate) record: T,
 }

@@ -3,12 +3,13 @@
 ghost use Rattle.std.specs.Prelude.{◌≡◌, ◌∷◌, []};
 ghost use Rattle.sqlite.specs.Values.{bound};
 ghost use Rattle.sqlite.specs.declared.types.Value.TheVariants.{Text};
+ghost use Rattle.sts_fields.specs.Base.{year_of};
 ghost use Rattle.sts_token.specs.Key.{IsKeyText};
 ghost use Rattle.book_tables.specs.Rows.{meter_columns, number, optional, sale_columns, shift_columns, step_columns, tariff_columns};
 ghost use Rattle.sqlite_value.specs.Value.{owned};
 
 use sqlite::types::ValueRef;
-use sts_fields::{Moment, month_of};
+use sts_fields::{Base, Moment, month_of};
 use tariff::Step;
 use vend_core::{Meter, MeterNo, Operator, Ref, Sale, Shift, TariffName};
 
@@ -136,4 +137,25 @@ pub(crate) fn sale_values(sale: &Sale) -> [ValueRef<'_>; 14]
         whole(sale.tender.cents()),
         ValueRef::Text(&sale.digits),
     ]
+}
+
+/// A number, and how many rows after it.
+pub(crate) fn page_values(after: u32, limit: u32) -> [ValueRef<'static>; 2]
+    ensures { bound result ≡ number after ∷ number limit ∷ [] }
+{
+    [whole(after), whole(limit)]
+}
+
+/// The number of a meter, and a base.
+pub(crate) fn base_values(meter: &MeterNo, base: Base) -> [ValueRef<'_>; 2]
+    ensures { bound result ≡ Text meter.now ∷ number (year_of base) ∷ [] }
+{
+    [ValueRef::Text(meter.as_bytes()), whole(base.year())]
+}
+
+/// The number of a meter, and a month.
+pub(crate) fn month_values(meter: &MeterNo, month: u32) -> [ValueRef<'_>; 2]
+    ensures { bound result ≡ Text meter.now ∷ number month ∷ [] }
+{
+    [ValueRef::Text(meter.as_bytes()), whole(month)]
 }

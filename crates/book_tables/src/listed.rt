@@ -1,0 +1,50 @@
+//! The records that all rows of an answer show.
+
+ghost use Rattle.std.specs.Prelude.{◌≡◌, false, map, IfOk, IfErr, OnOk, OnErr};
+ghost use Rattle.sqlite.specs.Values.{bound};
+ghost use Rattle.sqlite.specs.State.{HasCleanDisk, IsUnchanged, Survives};
+ghost use Rattle.sqlite.specs.Held.{state};
+ghost use Rattle.one_table.specs.Answer.{GivesAll, IsLeft, OnlyAsks};
+ghost use Rattle.book_tables.specs.Reading.{FailsToShow, IsShown, ShowsRecord};
+
+use crate::error::TableError;
+use crate::shown::{Record, Shown};
+use one_table::read_rows;
+use sqlite::types::ValueRef;
+use sqlite::{Alter, Connection};
+use std::alloc::{AllocError, Global};
+
+fn records_of<T: Record + Drop>(alloc: Global, shown: Vec<Shown<T>>) -> Result<Vec<T>, AllocError>
+    ensures { IfOk result (λ records. records.items ≡ map (λ s. s.record) shown.items) }
+{
+    shown.into_iter().map(|shown| shown.record).collect(alloc)
+}
+
+/// The records that the rows of an answer show, in its order.
+pub(crate) fn all_records<S: Alter, T: Record + Drop>(
+    alloc: Global,
+    conn: &mut Connection<S>,
+    sql: &str,
+    params: &[ValueRef<'_>],
+) -> Result<Vec<T>, TableError>
+    ensures given { HasCleanDisk (state S.Store conn.new)
+        → OnlyAsks (state S.Store conn.old) sql.now
+        → IfOk result (λ found. GivesAll (IsShown T.Record.shown T.Record.keeps) sql.now
+        (bound params.now) (state S.Store conn.old) (state S.Store conn.new) found.items) }
+    ensures same { HasCleanDisk (state S.Store conn.new)
+        → OnlyAsks (state S.Store conn.old) sql.now
+        → OnOk result (IsUnchanged (state S.Store conn.old) (state S.Store conn.new)) }
+    ensures kept { HasCleanDisk (state S.Store conn.new)
+        → OnlyAsks (state S.Store conn.old) sql.now
+        → OnErr result (IsLeft (state S.Store conn.old) (state S.Store conn.new)) }
+    ensures mode { conn.old.in_transaction ≡ false → conn.new.in_transaction ≡ false }
+    ensures faults { HasCleanDisk (state S.Store conn.new)
+        → OnlyAsks (state S.Store conn.old) sql.now
+        → IfErr result (FailsToShow (ShowsRecord T.Record.shown T.Record.keeps) sql.now
+        (bound params.now) (state S.Store conn.old) (state S.Store conn.new)) }
+    ensures survives { OnlyAsks (state S.Store conn.old) sql.now
+        → Survives (state S.Store conn.old) (state S.Store conn.new) (λ _. ⊥) }
+{
+    let shown: Vec<Shown<T>> = read_rows(alloc, conn, sql, params)?;
+    Ok(records_of(alloc, shown)?)
+}

@@ -1,0 +1,74 @@
+//! The statements that list sales, by number.
+
+ghost use Rattle.std.specs.Prelude.{◌≡◌, ◌==◌, false, filter, nat_lt, take, IfOk, IfErr, OnOk, OnErr};
+ghost use Rattle.sqlite.specs.State.{HasCleanDisk, IsUnchanged, Survives};
+ghost use Rattle.sqlite.specs.Held.{state};
+ghost use Rattle.one_table.specs.Answer.{IsLeft};
+ghost use Rattle.book_tables.specs.Reading.{AreOfOffice, FailsToRead, HasRows, HasTables};
+ghost use Rattle.book_tables.specs.Rows.{Rows};
+
+use crate::error::TableError;
+use crate::listed::all_records;
+use crate::texts::{SALES_AFTER, SALES_OF_SHIFT};
+use crate::values::{number_values, page_values};
+use sqlite::{Alter, Connection};
+use std::alloc::Global;
+use vend_core::Sale;
+
+/// A page: the first sales after a number, at most so many.
+///
+/// # Errors
+/// What the database refuses, and a row that is no office's.
+pub fn sales_after<S: Alter>(
+    alloc: Global,
+    conn: &mut Connection<S>,
+    number: u32,
+    limit: u32,
+) -> Result<Vec<Sale>, TableError>
+    ensures given { HasCleanDisk (state S.Store conn.new)
+        → (rows : Rows) → HasRows (state S.Store conn.old) rows → AreOfOffice rows
+        → IfOk result (λ found. found.items
+        ≡ take limit (filter (λ s. nat_lt number s.number) rows.sales)) }
+    ensures same { HasCleanDisk (state S.Store conn.new)
+        → HasTables (state S.Store conn.old)
+        → OnOk result (IsUnchanged (state S.Store conn.old) (state S.Store conn.new)) }
+    ensures kept { HasCleanDisk (state S.Store conn.new)
+        → HasTables (state S.Store conn.old)
+        → OnErr result (IsLeft (state S.Store conn.old) (state S.Store conn.new)) }
+    ensures mode { conn.old.in_transaction ≡ false → conn.new.in_transaction ≡ false }
+    ensures faults { HasCleanDisk (state S.Store conn.new)
+        → HasTables (state S.Store conn.old)
+        → IfErr result (FailsToRead (state S.Store conn.old) (state S.Store conn.new)) }
+    ensures survives { HasTables (state S.Store conn.old)
+        → Survives (state S.Store conn.old) (state S.Store conn.new) (λ _. ⊥) }
+{
+    all_records(alloc, conn, SALES_AFTER, &page_values(number, limit))
+}
+
+/// The sales of a shift. This walks all sales: no index has their shifts.
+///
+/// # Errors
+/// What the database refuses, and a row that is no office's.
+pub fn sales_of_shift<S: Alter>(
+    alloc: Global,
+    conn: &mut Connection<S>,
+    shift: u32,
+) -> Result<Vec<Sale>, TableError>
+    ensures given { HasCleanDisk (state S.Store conn.new)
+        → (rows : Rows) → HasRows (state S.Store conn.old) rows → AreOfOffice rows
+        → IfOk result (λ found. found.items ≡ filter (λ s. s.shift == shift) rows.sales) }
+    ensures same { HasCleanDisk (state S.Store conn.new)
+        → HasTables (state S.Store conn.old)
+        → OnOk result (IsUnchanged (state S.Store conn.old) (state S.Store conn.new)) }
+    ensures kept { HasCleanDisk (state S.Store conn.new)
+        → HasTables (state S.Store conn.old)
+        → OnErr result (IsLeft (state S.Store conn.old) (state S.Store conn.new)) }
+    ensures mode { conn.old.in_transaction ≡ false → conn.new.in_transaction ≡ false }
+    ensures faults { HasCleanDisk (state S.Store conn.new)
+        → HasTables (state S.Store conn.old)
+        → IfErr result (FailsToRead (state S.Store conn.old) (state S.Store conn.new)) }
+    ensures survives { HasTables (state S.Store conn.old)
+        → Survives (state S.Store conn.old) (state S.Store conn.new) (λ _. ⊥) }
+{
+    all_records(alloc, conn, SALES_OF_SHIFT, &number_values(shift))
+}

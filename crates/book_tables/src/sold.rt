@@ -1,0 +1,151 @@
+//! The statements on the sales to a meter, whose rows are taken one at a time: there may be more
+//! of them than there is memory.
+
+ghost use Rattle.std.specs.Prelude.{◌≡◌, ◌&&◌, ◌==◌, ◌+◌, ◌^◌, ◌<◌, ⊤, false, bytes_eq, filter, map, max, Some, sum_by, unwrap_or, IfOk, IfErr, OnOk, OnErr};
+ghost use Rattle.sqlite.specs.State.{HasCleanDisk, IsUnchanged, Survives};
+ghost use Rattle.sqlite.specs.Held.{state};
+ghost use Rattle.sts_fields.specs.Calendar.{month_at};
+ghost use Rattle.one_table.specs.Answer.{IsLeft};
+ghost use Rattle.vend_core.specs.Lookup.{base_eq, greatest_of};
+ghost use Rattle.book_tables.specs.Reading.{AreOfOffice, FailsToRead, HasRows, HasTables};
+ghost use Rattle.book_tables.specs.Rows.{Rows, shown_number};
+ghost use Rattle.book_tables.specs.Values.{IsSoldAmount, IsTid};
+
+use crate::error::TableError;
+use crate::records;
+use crate::shown::{Record, Shown};
+use crate::texts::{TENTHS_SOLD, TIDS_SOLD};
+use crate::values::{base_values, month_values};
+use one_table::{Gather, fold_rows};
+use sqlite::{Alter, Connection, Row};
+use sts_fields::{Amount, Base, amount_law};
+use vend_core::{MeterNo, office_law};
+
+// An identifier, as a row shows it.
+#[derive(Drop)]
+struct Tid {
+    number: u32,
+}
+
+impl Record for Tid {
+    ghost shown = { λ tid. shown_number tid.number };
+
+    ghost keeps = { λ tid. IsTid tid.number };
+
+    fn of_row(row: &Row) -> Option<Tid> {
+        match records::tid_of(row) {
+            Some(number) => Some(Tid { number }),
+            None => None,
+        }
+    }
+}
+
+impl Record for Amount {
+    ghost shown = { shown_number };
+
+    ghost keeps = { IsSoldAmount };
+
+    fn of_row(row: &Row) -> Option<Amount> {
+        records::amount_of(row)
+    }
+}
+
+// The greatest identifier so far.
+#[derive(Drop)]
+struct Greatest {
+    tid: Option<u32>,
+}
+
+impl Gather<Shown<Tid>> for Greatest {
+    ghost gathered = { λ all x. record { tid = Some (max (unwrap_or all.tid 0) x.record.number) } };
+
+    ghost has_room = { λ _ _. ⊤ };
+
+    fn gather(self, value: Shown<Tid>) -> Option<Greatest> {
+        let tid = self.tid.unwrap_or(0).max(value.record.number);
+        Some(Greatest { tid: Some(tid) })
+    }
+}
+
+// The tenths so far.
+#[derive(Drop)]
+struct Total {
+    tenths: u64,
+}
+
+impl Gather<Shown<Amount>> for Total {
+    ghost gathered = { λ all x. record { tenths = all.tenths + x.record } };
+
+    ghost has_room = { λ all x. all.tenths + x.record < 2 ^ 64 };
+
+    fn gather(self, value: Shown<Amount>) -> Option<Total> {
+        match self.tenths.checked_add(u64::from(value.record.tenths())) {
+            Some(tenths) => Some(Total { tenths }),
+            None => None,
+        }
+    }
+}
+
+/// The greatest identifier sold to a meter under a base.
+///
+/// # Errors
+/// What the database refuses, and a row that is no office's.
+pub fn greatest_tid<S: Alter>(
+    conn: &mut Connection<S>,
+    meter: &MeterNo,
+    base: Base,
+) -> Result<Option<u32>, TableError>
+    ensures given { HasCleanDisk (state S.Store conn.new)
+        → (rows : Rows) → HasRows (state S.Store conn.old) rows → AreOfOffice rows
+        → IfOk result (λ greatest. greatest ≡ greatest_of (map (λ s. s.tid)
+        (filter (λ s. bytes_eq s.meter meter.now && base_eq s.base base) rows.sales))) }
+    ensures same { HasCleanDisk (state S.Store conn.new)
+        → HasTables (state S.Store conn.old)
+        → OnOk result (IsUnchanged (state S.Store conn.old) (state S.Store conn.new)) }
+    ensures kept { HasCleanDisk (state S.Store conn.new)
+        → HasTables (state S.Store conn.old)
+        → OnErr result (IsLeft (state S.Store conn.old) (state S.Store conn.new)) }
+    ensures mode { conn.old.in_transaction ≡ false → conn.new.in_transaction ≡ false }
+    ensures faults { HasCleanDisk (state S.Store conn.new)
+        → HasTables (state S.Store conn.old)
+        → IfErr result (FailsToRead (state S.Store conn.old) (state S.Store conn.new)) }
+    ensures survives { HasTables (state S.Store conn.old)
+        → Survives (state S.Store conn.old) (state S.Store conn.new) (λ _. ⊥) }
+{
+    office_law();
+    let start = Greatest { tid: None };
+    let greatest: Greatest = fold_rows(conn, TIDS_SOLD, &base_values(meter, base), start)?;
+    Ok(greatest.tid)
+}
+
+/// The tenths of a kWh sold to a meter in a month, under any base.
+///
+/// # Errors
+/// What the database refuses, and a row that is no office's.
+pub fn tenths_in_month<S: Alter>(
+    conn: &mut Connection<S>,
+    meter: &MeterNo,
+    month: u32,
+) -> Result<u64, TableError>
+    ensures given { HasCleanDisk (state S.Store conn.new)
+        → (rows : Rows) → HasRows (state S.Store conn.old) rows → AreOfOffice rows
+        → IfOk result (λ tenths. tenths ≡ sum_by (λ s. s.tenths)
+        (filter (λ s. bytes_eq s.meter meter.now && (month_at s.moment == month)) rows.sales)) }
+    ensures same { HasCleanDisk (state S.Store conn.new)
+        → HasTables (state S.Store conn.old)
+        → OnOk result (IsUnchanged (state S.Store conn.old) (state S.Store conn.new)) }
+    ensures kept { HasCleanDisk (state S.Store conn.new)
+        → HasTables (state S.Store conn.old)
+        → OnErr result (IsLeft (state S.Store conn.old) (state S.Store conn.new)) }
+    ensures mode { conn.old.in_transaction ≡ false → conn.new.in_transaction ≡ false }
+    ensures faults { HasCleanDisk (state S.Store conn.new)
+        → HasTables (state S.Store conn.old)
+        → IfErr result (FailsToRead (state S.Store conn.old) (state S.Store conn.new)) }
+    ensures survives { HasTables (state S.Store conn.old)
+        → Survives (state S.Store conn.old) (state S.Store conn.new) (λ _. ⊥) }
+{
+    amount_law();
+    let start = Total { tenths: 0 };
+    let total: Total = fold_rows(conn, TENTHS_SOLD, &month_values(meter, month), start)?;
+    Ok(total.tenths)
+}
