@@ -1,8 +1,7 @@
 -- An import that a life granted and that comes again later, with no SetTariff in between, changes nothing.
-use Rattle.std.proofs.Common.{◌≡◌, ℕ, inl, inr, Bool, true, false, cond, List, [], ◌∷◌, ◌++◌, Result, Ok, Err, refl, sym, ◌∙◌, ap, subst}
+use Rattle.std.proofs.Common.{◌≡◌, ℕ, inl, inr, Bool, false, cond, List, [], ◌∷◌, ◌++◌, Result, Ok, Err, refl, sym, ◌∙◌, ap, subst}
 use Rattle.std.specs.Prelude.{All, Contains, filter, map}
-use Rattle.std.proofs.lemmas.List.{map-append}
-use Rattle.std.proofs.lemmas.List.Elements.{All-contains, All-filter, All-head, All-map, All-tail, Contains-append_right, filter-append}
+use Rattle.std.proofs.lemmas.List.Elements.{All-contains, All-filter, All-head, All-map, All-tail, filter-append}
 use Rattle.vend_core.specs.Fold.{after, replies_to, reply, step}
 use Rattle.vend_core.specs.Growth.{HaveStayed}
 use Rattle.vend_core.specs.Imports.{AsksNoSetTariff, ImportsNothing, SetsNoTariff}
@@ -11,7 +10,7 @@ use Rattle.vend_core.specs.Office.{Office, empty_office}
 use Rattle.vend_core.specs.declared.answer.Answer.{Answer}
 use Rattle.vend_core.specs.declared.answer.Answer.TheVariants as answers
 use Rattle.vend_core.specs.declared.refusal.Refusal.{Refusal}
-use Rattle.vend_core.specs.declared.refusal.Refusal.TheVariants.{Memory, Store, Stopped}
+use Rattle.vend_core.specs.declared.refusal.Refusal.TheVariants.{Store, Stopped}
 use Rattle.vend_core.specs.declared.request.Request.TheVariants as requests
 use Rattle.vend_core.specs.declared.request.Stamped.{Stamped}
 use Rattle.vend_core.specs.declared.row.Row.{Row}
