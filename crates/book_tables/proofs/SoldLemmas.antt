@@ -7,7 +7,6 @@ use Rattle.std.proofs.lemmas.List.Filters.{length-filter_both}
 use Rattle.std.proofs.lemmas.List.Sorted.{All-permutation, Contains-permutation, IsPermutation-map, IsPermutation-sym, length_permutation, sum_by-IsPermutation}
 use Rattle.std.proofs.lemmas.List.Sums.{sum-map, sum_by-append, sum_by-le}
 use Rattle.sqlite.specs.declared.types.Value.TheVariants.{Text}
-use Rattle.sqlite.specs.Order.{Row}
 use Rattle.sqlite_trees.proofs.ListLemmas.{map-map}
 use Rattle.sqlite_typed.proofs.TestLemmas.{last_term, then_term}
 use Rattle.sts_fields.specs.Amount.{IsRepresentable}
@@ -17,7 +16,8 @@ use Rattle.sts_fields.specs.Tid.{IsLast}
 use Rattle.sts_fields.specs.declared.base.Base.{Base}
 use Rattle.one_table.proofs.ListedLemmas.{all_listed}
 use Rattle.one_table.proofs.TestsLemmas.{number_is, text_is}
-use Rattle.vend_core.specs.Lookup.{base_eq, greatest_of}
+use Rattle.sts_fields.specs.Base.{base_eq}
+use Rattle.vend_core.specs.Lookup.{greatest_of}
 use Rattle.vend_core.specs.Office.{greatest_count}
 use Rattle.vend_core.specs.declared.sale.Sale.{Sale}
 use Rattle.book_tables.specs.Reading.{AreOfOffice}
@@ -201,7 +201,7 @@ module _ {X : Type 0} (record_of : X → ℕ) where
   tenths_within greatest meter month rows of_office found are =
       let kept : All IsSoldAmount found = found_keep (is_in_month meter month) (tenths_of meter month) IsSoldAmount (λ s values. values.tenths) rows of_office found are in
       let few = found_few (is_in_month meter month) (tenths_of meter month) rows of_office found are in
-      let whole : sum_by (λ (n : ℕ). n) found ≤ length found * 18201624 = sum_by-le (λ (n : ℕ). n) 18201624 found (λ i d below. greatest (get_or found i d) (kept i d below).1) in
+      let whole : sum_by (λ (n : ℕ). n) found ≤ length found * 18201624 = sum_by-le (λ (n : ℕ). n) 18201624 found (λ i d below. greatest (get_or found i d) (kept i d below)) in
       record {
         few = omega (arith, few);
         room = λ front last more is.

@@ -6,7 +6,8 @@ use Rattle.std.proofs.lemmas.List.Elements.{All-get_or}
 use Rattle.std.proofs.lemmas.Option.{slice_get-get_or}
 use Rattle.tariff.specs.declared.step.Step.{Step}
 use Rattle.vend_core.specs.Names.{IsMeterNo, IsName}
-use Rattle.vend_core.specs.Office.{AreNumbered, IsMoment, IsOffice, IsSaleRow, IsShiftRow, Office, greatest_count}
+use Rattle.sts_fields.specs.Moment.{IsMoment}
+use Rattle.vend_core.specs.Office.{AreNumbered, IsOffice, IsSaleRow, IsShiftRow, Office, greatest_count}
 use Rattle.vend_core.specs.declared.meter.Meter.{Meter}
 use Rattle.vend_core.specs.declared.sale.Sale.{Sale}
 use Rattle.vend_core.specs.declared.shift.Shift.{Shift}

@@ -4,7 +4,7 @@ use Rattle.sqlite.specs.Order.{Row, column}
 use Rattle.sqlite.specs.declared.types.Value.TheVariants.{Text}
 use Rattle.sts_fields.specs.Base.{year_of}
 use Rattle.sts_token.specs.Token.{AreTwentyDigits}
-use Rattle.vend_core.specs.Office.{IsMoment}
+use Rattle.sts_fields.specs.Moment.{IsMoment}
 use Rattle.vend_core.specs.declared.request.Order.{Order}
 use Rattle.book_tables.specs.Rows.{number}
 use Rattle.book_tables.specs.Values.{IsNumber, IsSoldAmount, IsTid}

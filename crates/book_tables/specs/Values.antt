@@ -7,7 +7,8 @@ use Rattle.tariff.specs.Steps.{EndFits, HasPrice}
 use Rattle.tariff.specs.Tender.{IsTender}
 use Rattle.tariff.specs.declared.step.Step.{Step}
 use Rattle.vend_core.specs.Names.{IsMeterNo, IsName, IsOperator}
-use Rattle.vend_core.specs.Office.{IsMoment, greatest_count}
+use Rattle.sts_fields.specs.Moment.{IsMoment}
+use Rattle.vend_core.specs.Office.{greatest_count}
 use Rattle.vend_core.specs.declared.meter.Meter.{Meter}
 use Rattle.vend_core.specs.declared.sale.Sale.{Sale}
 use Rattle.vend_core.specs.declared.shift.Shift.{Shift}

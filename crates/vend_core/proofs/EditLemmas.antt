@@ -11,7 +11,8 @@ use Rattle.tariff.specs.declared.step.Step.{Step}
 use Rattle.vend_core.specs.Fold.{applied, closed_at, with_tariff}
 use Rattle.vend_core.specs.Lookup.{open_shift}
 use Rattle.vend_core.specs.Names.{IsMeterNo, IsName}
-use Rattle.vend_core.specs.Office.{IsBefore, IsMeterRow, IsMoment, IsOffice, IsSaleRow, IsShiftRow, NotBothOpen, Office, greatest_count}
+use Rattle.sts_fields.specs.Moment.{IsMoment}
+use Rattle.vend_core.specs.Office.{IsBefore, IsMeterRow, IsOffice, IsSaleRow, IsShiftRow, NotBothOpen, Office, greatest_count}
 use Rattle.vend_core.specs.Request.{IsMeter}
 use Rattle.vend_core.specs.declared.change.Edit.TheVariants as edits
 use Rattle.vend_core.specs.declared.meter.Meter.{Meter}

@@ -14,7 +14,8 @@ use Rattle.vend_core.specs.Edits.{office_after}
 use Rattle.vend_core.specs.Lookup.{open_shift, sale_numbered, sale_of_ref, sales_of_shift, shift_numbered, used}
 use Rattle.vend_core.specs.Names.{IsName, IsOperator}
 use Rattle.vend_core.specs.NewSale.{IsNewSale}
-use Rattle.vend_core.specs.Office.{IsMoment, IsOffice, Office, greatest_count}
+use Rattle.sts_fields.specs.Moment.{IsMoment}
+use Rattle.vend_core.specs.Office.{IsOffice, Office, greatest_count}
 use Rattle.vend_core.specs.Request.{IsMeter, IsOrder, IsRequest, IsRow, IsStamped}
 use Rattle.vend_core.specs.Store.{MeetRows, Meets, MeetsNewSale, MeetsRow}
 use Rattle.vend_core.specs.declared.answer.Answer.{Answer}

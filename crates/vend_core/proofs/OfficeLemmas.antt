@@ -13,10 +13,12 @@ use Rattle.tariff.specs.Tender.{IsTender}
 use Rattle.tariff.specs.declared.step.Step.{Step}
 use Rattle.vend_core.specs.Decision.{add_meter, add_tariff, changed, close_shift, decision_of, import, buyer_of, meter_eq, next_number, open_a_shift, report, reprint, row_decision, sell, sell_again, sell_once, set_tariff, steps_eq, unchanged}
 use Rattle.vend_core.specs.Fold.{office_after, step}
-use Rattle.vend_core.specs.Lookup.{base_eq, open_shift, sale_numbered, sale_of_ref, sales_of_shift, shift_numbered, used}
+use Rattle.sts_fields.specs.Base.{base_eq}
+use Rattle.vend_core.specs.Lookup.{open_shift, sale_numbered, sale_of_ref, sales_of_shift, shift_numbered, used}
 use Rattle.vend_core.specs.Names.{IsName, IsOperator}
 use Rattle.vend_core.specs.NewSale.{IsNewSale}
-use Rattle.vend_core.specs.Office.{IsBefore, IsMoment, IsOffice, IsSaleRow, IsShiftRow, Office, Rises, empty_office}
+use Rattle.sts_fields.specs.Moment.{IsMoment}
+use Rattle.vend_core.specs.Office.{IsBefore, IsOffice, IsSaleRow, IsShiftRow, Office, Rises, empty_office}
 use Rattle.vend_core.specs.Request.{IsMeter, IsOrder, IsRequest, IsRow, IsStamped}
 use Rattle.vend_core.specs.declared.answer.Answer.{Answer}
 use Rattle.vend_core.specs.declared.answer.Answer.TheVariants as answers

@@ -9,7 +9,8 @@ use Rattle.std.proofs.lemmas.Slice.Eq.{bytes_eq-Decides}
 use Rattle.sts_fields.specs.Tid.{IsLast}
 use Rattle.sts_fields.specs.declared.base.Base.{Base}
 use Rattle.sts_fields.specs.declared.base.Base.TheVariants.{Y1993, Y2014, Y2035}
-use Rattle.vend_core.specs.Lookup.{base_eq, greatest_of, open_shift, sale_of_ref, used}
+use Rattle.sts_fields.specs.Base.{base_eq}
+use Rattle.vend_core.specs.Lookup.{greatest_of, open_shift, sale_of_ref, used}
 use Rattle.vend_core.specs.Office.{AreNumbered, IsOffice, NotBothOpen, Office}
 use Rattle.vend_core.specs.Store.{IsLastSale, IsOpenShift, IsUnderRef}
 use Rattle.vend_core.specs.declared.sale.Sale.{Sale}

@@ -10,7 +10,8 @@ use Rattle.sts_fields.specs.Calendar.{month_at}
 use Rattle.sts_fields.specs.Tid.{IsLast, last_tid}
 use Rattle.sts_fields.specs.declared.base.Base.{Base}
 use Rattle.vend_core.specs.Fold.{applied}
-use Rattle.vend_core.specs.Lookup.{base_eq, greatest_of, prior, used}
+use Rattle.sts_fields.specs.Base.{base_eq}
+use Rattle.vend_core.specs.Lookup.{greatest_of, prior, used}
 use Rattle.vend_core.specs.Office.{IsOffice, IsSaleRow, Office}
 use Rattle.vend_core.specs.declared.change.Edit.TheVariants as edits
 use Rattle.vend_core.specs.declared.sale.Sale.{Sale}

@@ -5,12 +5,13 @@ use Rattle.sts_fields.specs.Calendar.{month_at}
 use Rattle.sts_fields.specs.Tid.{fresh_after, minute_of}
 use Rattle.sts_fields.specs.declared.fault.TidFault.{TidFault}
 use Rattle.sts_fields.specs.declared.fault.TidFault.TheVariants.{BeforeBase, PastEnd, IdentifiersSpent, IdentifierAhead}
-use Rattle.sts_token.specs.Token.{token_of}
+use Rattle.sts_token.specs.Token.{Way, token_of}
 use Rattle.tariff.specs.Purchase.{purchase_of}
 pub use Rattle.tariff.specs.StepsEq.{step_eq, steps_eq}
 use Rattle.tariff.specs.declared.step.Step.{Step}
 use Rattle.vend_core.specs.Edits.{office_after}
-use Rattle.vend_core.specs.Lookup.{base_eq, greatest_of, open_shift, prior, sale_numbered, sale_of_ref, sales_of_shift, shift_numbered, steps_for, used}
+use Rattle.sts_fields.specs.Base.{base_eq}
+use Rattle.vend_core.specs.Lookup.{greatest_of, open_shift, prior, sale_numbered, sale_of_ref, sales_of_shift, shift_numbered, steps_for, used}
 use Rattle.vend_core.specs.Office.{Office, greatest_count}
 use Rattle.vend_core.specs.declared.answer.Answer.{Answer}
 use Rattle.vend_core.specs.declared.answer.Answer.TheVariants as answers
@@ -159,7 +160,7 @@ pub record Buyer : Type 0 where
 
 -- a new sale: the operator's open shift, the meter, its minute, the fresh identifier,
 -- the purchase, and room for one more
-abbrev pub sell : (ℕ → ℕ → ℕ) → ℕ → ℕ → Order → Option Shift → Option Buyer → ℕ
+abbrev pub sell : Way → ℕ → ℕ → Order → Option Shift → Option Buyer → ℕ
     → Result Change Refusal
 sell forward moment nibble order shift meter count = do
   s ← ok_or shift refusals.NoShift
@@ -185,7 +186,7 @@ sell forward moment nibble order shift meter count = do
   } in changed (edits.AddSale sale) (answers.Sold sale)
 
 -- Sell, where the operator made this sale under the ref
-abbrev pub sell_once : (ℕ → ℕ → ℕ) → ℕ → ℕ → Order → Option Sale → Option Shift → Option Buyer → ℕ
+abbrev pub sell_once : Way → ℕ → ℕ → Order → Option Sale → Option Shift → Option Buyer → ℕ
     → Result Change Refusal
 sell_once forward moment nibble order (Some first) shift meter count = sell_again order first
 sell_once forward moment nibble order None shift meter count =
@@ -214,7 +215,7 @@ buyer_of o number moment =
     }) (o.meters number)
 
 -- how an office decides a request
-abbrev pub decision_of : (ℕ → ℕ → ℕ) → Office → ℕ → ℕ → Request → Result Change Refusal
+abbrev pub decision_of : Way → Office → ℕ → ℕ → Request → Result Change Refusal
 decision_of forward o moment nibble (requests.AddTariff name steps) =
     add_tariff name steps (o.tariffs name)
 decision_of forward o moment nibble (requests.AddMeter number m) =
@@ -233,5 +234,5 @@ decision_of forward o moment nibble (requests.Reprint number) = reprint (sale_nu
 decision_of forward o moment nibble (requests.ShiftReport number) =
     report (shift_numbered o number) (sales_of_shift o number)
 
-abbrev pub decision : (ℕ → ℕ → ℕ) → Office → Stamped → Result Change Refusal
+abbrev pub decision : Way → Office → Stamped → Result Change Refusal
 decision forward o at = decision_of forward o at.moment at.nibble at.request

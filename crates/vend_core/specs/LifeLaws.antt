@@ -1,5 +1,6 @@
 -- How a life goes on: one exchange more, or many.
-use Rattle.std.specs.Prelude.{◌≡◌, ◌≢◌, ℕ, List, [], ◌∷◌, ◌++◌, Result, Err, All}
+use Rattle.std.specs.Prelude.{◌≡◌, ◌≢◌, List, [], ◌∷◌, ◌++◌, Result, Err, All}
+use Rattle.sts_token.specs.Token.{Way}
 use Rattle.vend_core.specs.Life.{Exchange, IsLife, Life, present}
 use Rattle.vend_core.specs.Office.{Office}
 use Rattle.vend_core.specs.declared.answer.Answer.{Answer}
@@ -10,7 +11,7 @@ use Rattle.vend_core.specs.declared.request.Request.TheVariants.{Reprint, ShiftR
 use Rattle.vend_core.specs.declared.request.Stamped.{Stamped}
 
 -- the life that has just opened an office
-abbrev pub opened : (ℕ → ℕ → ℕ) → Office → Life
+abbrev pub opened : Way → Office → Life
 opened forward o = record { opening = o; forward = forward; exchanges = [] }
 
 -- the life after these exchanges more

@@ -1,6 +1,6 @@
 -- What is looked up in an office.
-use Rattle.std.specs.Prelude.{ℕ, ◌&&◌, ◌==◌, Bool, List, [], ◌∷◌, map, filter, find, sum_by, max, Option, Some, None, is_none, unwrap_or, bytes_eq}
-use Rattle.sts_fields.specs.Base.{year_of}
+use Rattle.std.specs.Prelude.{ℕ, ◌&&◌, ◌==◌, List, [], ◌∷◌, map, filter, find, sum_by, max, Option, Some, None, is_none, unwrap_or, bytes_eq}
+use Rattle.sts_fields.specs.Base.{base_eq}
 use Rattle.sts_fields.specs.Calendar.{month_at}
 use Rattle.sts_fields.specs.declared.base.Base.{Base}
 use Rattle.tariff.specs.declared.step.Step.{Step}
@@ -8,10 +8,6 @@ use Rattle.vend_core.specs.Office.{Office}
 use Rattle.vend_core.specs.declared.meter.Meter.{Meter}
 use Rattle.vend_core.specs.declared.sale.Sale.{Sale}
 use Rattle.vend_core.specs.declared.shift.Shift.{Shift}
-
--- the two bases are one
-abbrev pub base_eq : Base → Base → Bool
-base_eq a b = year_of a == year_of b
 
 -- the identifiers sold to a meter under a base
 abbrev pub used : Office → List ℕ → Base → List ℕ

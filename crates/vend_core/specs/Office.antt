@@ -1,7 +1,9 @@
 -- The office: what it holds, and what all that it holds keeps.
 use Rattle.std.specs.Prelude.{◌≡◌, ◌≢◌, ℕ, ◌+◌, ◌^◌, ◌<◌, ◌≤◌, List, [], length, Option, Some, None, IsSome, IsNone, All, AllPairs, slice_get}
 use Rattle.sts_fields.specs.Amount.{IsRepresentable}
+use Rattle.sts_fields.specs.Moment.{IsMoment}
 use Rattle.sts_fields.specs.Tid.{last_tid}
+use Rattle.sts_fields.specs.Text.{Text}
 use Rattle.sts_token.specs.Token.{AreTwentyDigits}
 use Rattle.tariff.specs.Steps.{IsSteps}
 use Rattle.tariff.specs.Tender.{IsTender}
@@ -14,8 +16,8 @@ use Rattle.vend_core.specs.declared.shift.Shift.{Shift}
 -- tariffs by name, meters by number, shifts and sales in the order that they came; no totals, and
 -- no last identifier
 pub record Office : Type 0 where
-  pub tariffs : List ℕ → Option (List Step)
-  pub meters : List ℕ → Option Meter
+  pub tariffs : Text → Option (List Step)
+  pub meters : Text → Option Meter
   pub shifts : List Shift
   pub sales : List Sale
 
@@ -27,17 +29,13 @@ empty_office = record { tariffs = λ _. None; meters = λ _. None; shifts = []; 
 abbrev pub greatest_count : ℕ
 greatest_count = 10 ^ 9
 
--- a moment from 1993 to 2099, in Unix seconds
-abbrev pub IsMoment : ℕ → Type 0
-IsMoment secs = (725846400 ≤ secs) × (secs ≤ 4102444799)
-
 -- the values of a tariff under its name
-pub record IsTariffRow (name : List ℕ) (steps : List Step) : Type 0 where
+pub record IsTariffRow (name : Text) (steps : List Step) : Type 0 where
   pub named : IsName name
   pub priced : IsSteps steps
 
 -- the values of a meter under its number; its tariff is one of the office's
-pub record IsMeterRow (o : Office) (number : List ℕ) (m : Meter) : Type 0 where
+pub record IsMeterRow (o : Office) (number : Text) (m : Meter) : Type 0 where
   pub numbered : IsMeterNo number
   pub key : m.key < 2 ^ 64
   pub tariff : IsSome (o.tariffs m.tariff)
@@ -85,9 +83,9 @@ Rises a b = a.meter ≡ b.meter → a.base ≡ b.base → a.tid < b.tid
 
 -- what an office keeps
 pub record IsOffice (o : Office) : Type 0 where
-  pub tariffs : (name : List ℕ) (steps : List Step) → o.tariffs name ≡ Some steps
+  pub tariffs : (name : Text) (steps : List Step) → o.tariffs name ≡ Some steps
       → IsTariffRow name steps
-  pub meters : (number : List ℕ) (m : Meter) → o.meters number ≡ Some m → IsMeterRow o number m
+  pub meters : (number : Text) (m : Meter) → o.meters number ≡ Some m → IsMeterRow o number m
   pub shifts : All IsShiftRow o.shifts
   pub shift_numbers : AreNumbered (λ s. s.number) o.shifts
   pub one_open : AllPairs NotBothOpen o.shifts

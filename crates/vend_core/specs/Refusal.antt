@@ -1,5 +1,6 @@
 -- Why the office refuses a request: the numbers and names of the refusals.
-use Rattle.std.specs.Prelude.{ℕ, List, codes}
+use Rattle.std.specs.Prelude.{ℕ, codes}
+use Rattle.sts_fields.specs.Text.{Text}
 use Rattle.vend_core.specs.declared.refusal.Refusal.{Refusal}
 use Rattle.vend_core.specs.declared.refusal.Refusal.TheVariants.{RefReused, NoShift, ShiftOpen, NoMeter, NoTariff, Differs, BeforeBase, IdentifiersSpent, IdentifierAhead, TooLittle, OfficeFull, NoSale, NoSuchShift, ImportRow, Memory, Store, Stopped}
 
@@ -24,7 +25,7 @@ refusal_number Store = 16
 refusal_number Stopped = 17
 
 -- the name that a user meets
-abbrev pub refusal_name : Refusal → List ℕ
+abbrev pub refusal_name : Refusal → Text
 refusal_name RefReused = codes "RefReused"
 refusal_name NoShift = codes "NoShift"
 refusal_name ShiftOpen = codes "ShiftOpen"

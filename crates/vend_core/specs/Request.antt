@@ -1,9 +1,10 @@
 -- What the values of a request keep.
-use Rattle.std.specs.Prelude.{ℕ, ◌<◌, ◌^◌, List, All}
+use Rattle.std.specs.Prelude.{◌<◌, ◌^◌, All}
 use Rattle.tariff.specs.Steps.{IsSteps}
 use Rattle.tariff.specs.Tender.{IsTender}
 use Rattle.vend_core.specs.Names.{IsMeterNo, IsName, IsOperator}
-use Rattle.vend_core.specs.Office.{IsMoment}
+use Rattle.sts_fields.specs.Moment.{IsMoment}
+use Rattle.sts_fields.specs.Text.{Text}
 use Rattle.vend_core.specs.declared.meter.Meter.{Meter}
 use Rattle.vend_core.specs.declared.request.Order.{Order}
 use Rattle.vend_core.specs.declared.request.Request.{Request}
@@ -13,7 +14,7 @@ use Rattle.vend_core.specs.declared.row.Row.{Row}
 use Rattle.vend_core.specs.declared.row.Row.TheVariants as kinds
 
 -- a meter that may be stored
-pub record IsMeter (number : List ℕ) (m : Meter) : Type 0 where
+pub record IsMeter (number : Text) (m : Meter) : Type 0 where
   pub number_rule : IsMeterNo number
   pub tariff : IsName m.tariff
   pub key : m.key < 2 ^ 64

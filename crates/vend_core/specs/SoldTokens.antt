@@ -5,7 +5,7 @@ use Rattle.std.specs.List.{list_any}
 use Rattle.sts_fields.specs.declared.base.Base.{Base}
 use Rattle.sts_token.specs.Meter.{Entry, Reader, entered, is_among, taken_over}
 use Rattle.sts_token.specs.Reading.{reading_of}
-use Rattle.sts_token.specs.Token.{IsToken}
+use Rattle.sts_token.specs.Token.{IsToken, Way}
 use Rattle.sts_token.specs.Transform.{IsTransform}
 use Rattle.vend_core.specs.Life.{IsHanded, Life}
 use Rattle.vend_core.specs.NewSale.{fields_of}
@@ -24,8 +24,8 @@ pub record WasWritten (lives : List Life) (s : Sale) : Type 0 where
 pub record SimMeter : Type 0 where
   pub number : List ℕ
   pub base : Base
-  pub forward : ℕ → ℕ → ℕ
-  pub inverse : ℕ → ℕ → ℕ
+  pub forward : Way
+  pub inverse : Way
   pub key : ℕ
 
 -- how it reads texts

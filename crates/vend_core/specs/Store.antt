@@ -5,7 +5,8 @@ use Rattle.tariff.specs.Steps.{IsSteps}
 use Rattle.vend_core.specs.Edits.{with_row}
 use Rattle.vend_core.specs.Lookup.{open_shift, sale_of_ref, used}
 use Rattle.vend_core.specs.Names.{IsName}
-use Rattle.vend_core.specs.Office.{IsBefore, IsMoment, IsSaleRow, IsShiftRow, Office, greatest_count}
+use Rattle.sts_fields.specs.Moment.{IsMoment}
+use Rattle.vend_core.specs.Office.{IsBefore, IsSaleRow, IsShiftRow, Office, greatest_count}
 use Rattle.vend_core.specs.Request.{IsMeter}
 use Rattle.vend_core.specs.declared.change.Edit.{Edit}
 use Rattle.vend_core.specs.declared.change.Edit.TheVariants.{AddTariff, AddMeter, AddRows, SetTariff, OpenShift, CloseShift, AddSale}

@@ -1,5 +1,5 @@
 ghost use Rattle.std.specs.Prelude.{◌≡◌, ◌≢◌, ◌⊎◌, ◌↔◌, ◌++◌, ◌∷◌, [], ℕ, List, Result, Err, All, Contains, length};
-ghost use Rattle.sts_token.specs.Token.{KeepsRange};
+ghost use Rattle.sts_token.specs.Token.{KeepsRange, Way};
 ghost use Rattle.vend_core.specs.Fold.{after, replies_to, reply, step};
 ghost use Rattle.vend_core.specs.Growth.{HasGrown};
 ghost use Rattle.vend_core.specs.Handed.{sales_of};
@@ -21,7 +21,7 @@ use tariff::purchase_law;
 /// By it a store keeps a life: it begins when an office is opened, and each call adds an exchange.
 pub fn life_law()
     // An office is opened: a life begins that goes on.
-    ensures opens { (forward : ℕ → ℕ → ℕ) (o : Office)
+    ensures opens { (forward : Way) (o : Office)
         → KeepsRange forward → IsRunning (opened forward o) o }
     ensures running { (life : Life) (o p : Office)
         → IsRunning life o → (MayLeave life p ↔ (p ≡ o)) }

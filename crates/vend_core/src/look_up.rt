@@ -2,7 +2,8 @@ ghost use Rattle.std.specs.Prelude.{◌≡◌, ◌≤◌, ◌^◌, ◌&&◌, ◌
 ghost use Rattle.std.specs.Option.{ForSome, option_copied};
 ghost use Rattle.sts_fields.specs.Calendar.{month_at};
 ghost use Rattle.sts_fields.specs.Tid.{last_tid};
-ghost use Rattle.vend_core.specs.Lookup.{base_eq, greatest_of};
+ghost use Rattle.sts_fields.specs.Base.{base_eq};
+ghost use Rattle.vend_core.specs.Lookup.{greatest_of};
 ghost use Rattle.vend_core.specs.Office.{greatest_count};
 ghost use Rattle.vend_core.specs.PlainRows.{row_of};
 

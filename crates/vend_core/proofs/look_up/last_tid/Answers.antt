@@ -1,7 +1,7 @@
 use Rattle.std.proofs.Common.{◌≡◌, ◌≤◌, ◌&&◌, sym, ◌∙◌, ap, subst, arith, bytes_eq, max, unwrap_or, ℕ, Option, Some}
 use Rattle.std.specs.Option.{ForSome}
 use Rattle.sts_fields.specs.Tid.{last_tid}
-use Rattle.vend_core.specs.Lookup.{base_eq}
+use Rattle.sts_fields.specs.Base.{base_eq}
 use Rattle.vend_core.specs.declared.sale.Sale.{Sale}
 use Rattle.vend_core.proofs.LookUpLemmas.{greatest_more_in, greatest_more_out, greatest_within}
 use Rattle.vend_core.proofs.look_up.last_tid.Goals as goal

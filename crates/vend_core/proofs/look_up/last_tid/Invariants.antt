@@ -1,7 +1,8 @@
 use Rattle.std.proofs.Common.{◌≡◌, ◌≤◌, ◌&&◌, filter, map, take, bytes_eq}
 use Rattle.std.specs.Option.{ForSome}
 use Rattle.sts_fields.specs.Tid.{last_tid}
-use Rattle.vend_core.specs.Lookup.{base_eq, greatest_of}
+use Rattle.sts_fields.specs.Base.{base_eq}
+use Rattle.vend_core.specs.Lookup.{greatest_of}
 use Rattle.vend_core.proofs.look_up.last_tid.Given as goal
 
 abbrev pub invariant-loop-sale : goal.invariant-loop-sale
