@@ -1,5 +1,5 @@
 -- Statements that look up one record of the office's rows.
-use Rattle.std.proofs.Common.{◌≡◌, ℕ, List, [], map, Option, None, Some, Result, IfOk, IfErr, OnOk, IfSome, refl}
+use Rattle.std.proofs.Common.{sym, Ok, Err, subst, ◌≡◌, ℕ, List, [], map, Option, None, Some, Result, IfOk, IfErr, OnOk, IfSome, refl}
 use Rattle.std.specs.Prelude.{All}
 use Rattle.std.specs.Option.{option_to_list}
 use Rattle.std.proofs.lemmas.List.Elements.{All-cons, All-nil, All-same}
@@ -42,6 +42,15 @@ module _ {M : Type 0} {sql : List ℕ} {params : Row} {shown : M → Row} {keeps
       → OnOk r (IsUnchanged old new) → IfOk r (GivesFirst (IsShown shown keeps) sql values old new) → IfOk r (λ x. x ≡ found rows)
   gives old new rows has of_office =
       read.gives f.asks f.name f.stands shown keeps f.one old new rows has (found rows) (f.kept rows of_office) (λ answer held is. f.answers old.now rows held of_office answer is)
+
+  found_such : (P : Option M → Type 0) (x : Option M) → P x → (r : Result (Option M) TableError) → IfOk r (λ y. y ≡ x) → IfOk r P
+  found_such P x such (Err e) none = none
+  found_such P x such (Ok y) is = subst P (sym is) such
+
+  -- what holds of the record that is found holds of what a reader gives
+  pub gives_such : (old new : State) (rows : Rows) → HasRows old rows → AreOfOffice rows → (P : Option M → Type 0) → P (found rows) → (r : Result (Option M) TableError) (values : Row) → values ≡ params
+      → OnOk r (IsUnchanged old new) → IfOk r (GivesFirst (IsShown shown keeps) sql values old new) → IfOk r P
+  gives_such old new rows has of_office P such r values are same given = found_such P (found rows) such r (gives old new rows has of_office r values are same given)
 
   readable : (o : Option M) → IfSome o keeps → All (ShowsRecord shown keeps) (map shown (option_to_list o))
   readable None kept = All-nil (ShowsRecord shown keeps)

@@ -4,8 +4,15 @@ pub mod FoundLemmas
 pub mod HoldsLemmas
 pub mod KeptLemmas
 pub mod KeyTextLemmas
+pub mod LastLemmas
 pub mod ListLemmas
 pub mod MemberLemmas
+pub mod MeterLemmas
+pub mod TariffLemmas
+pub mod AboutLemmas
+pub mod OneRowTexts
+pub mod ShiftLemmas
+pub mod ShiftTexts
 pub mod PartLemmas
 pub mod ReadLemmas
 pub mod RowLemmas

@@ -1,14 +1,14 @@
 -- What each text over the table of sales means.
-use Rattle.std.proofs.Common.{ℕ, List, [], ◌∷◌, refl, codes}
-use Rattle.sqlite.specs.declared.types.Value.TheVariants.{Text}
+use Rattle.std.proofs.Common.{ℕ, List, [], ◌∷◌, refl, codes, pos}
+use Rattle.sqlite.specs.declared.types.Value.TheVariants.{Int, Text}
 use Rattle.sqlite_value.specs.declared.keys.Collation.TheVariants.{Binary}
 use Rattle.sqlite_sql.specs.Query.{Query}
-use Rattle.sqlite_sql.specs.Term.{Term, col, op2}
+use Rattle.sqlite_sql.specs.Term.{Term, lit, col, op2}
 use Rattle.sqlite_sql.specs.declared.ops.BinaryOp.TheVariants.{Compare}
 use Rattle.sqlite_sql.specs.declared.ops.CompareOp.TheVariants.{Eq}
 use Rattle.sqlite_tied.specs.Compute.{everything}
 use Rattle.sqlite_resolve.specs.Scope.{Name}
-use Rattle.one_table.specs.Listed.{query_on, no_limit}
+use Rattle.one_table.specs.Listed.{query_on, no_limit, falling}
 use Rattle.one_table.specs.Reading.{is_whole, meant, select_meant, text_meant}
 use Rattle.book_tables.specs.Rows.{number}
 use Rattle.book_tables.specs.Tables.{sales_table}
@@ -52,4 +52,15 @@ sale_of_ref_query tree = query_on tree has_operator_and_ref sale_terms [] no_lim
 pub sale_of_ref_asks : (operator order_ref : List ℕ) → Asks sales_table sale_of_ref_query sale_names sale_of_ref_text (Text operator ∷ Text order_ref ∷ [])
 unfolding everything is_whole meant select_meant text_meant
 sale_of_ref_asks operator order_ref =
+    record { is = λ tree. record { means = refl; from = refl }; bare = λ tree. refl; typed = λ tree. refl; whole = refl }
+
+abbrev pub last_sale_text : List ℕ
+last_sale_text = codes "SELECT number FROM sales ORDER BY number DESC LIMIT 1"
+
+abbrev pub last_sale_query : ℕ → Query
+last_sale_query tree = query_on tree [] (col 1 0 ∷ []) (falling 0) (lit (Int (pos 1)))
+
+pub last_sale_asks : Asks sales_table last_sale_query (codes "number" ∷ []) last_sale_text []
+unfolding everything is_whole meant select_meant text_meant
+last_sale_asks =
     record { is = λ tree. record { means = refl; from = refl }; bare = λ tree. refl; typed = λ tree. refl; whole = refl }

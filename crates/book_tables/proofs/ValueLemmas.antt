@@ -61,7 +61,7 @@ steps_keep o office name steps e i d below =
     let priced = (office.tariffs name steps e).priced in
     (priced.ends_fit i d below, priced.prices i d below)
 
-tariff_name : (o : Office) → IsOffice o → (name : List ℕ) (steps : Option (List Step)) → o.tariffs name ≡ steps → IsSome steps → IsName name
+pub tariff_name : (o : Office) → IsOffice o → (name : List ℕ) (steps : Option (List Step)) → o.tariffs name ≡ steps → IsSome steps → IsName name
 tariff_name o office name None e some = absurd (false≢true some)
 tariff_name o office name (Some steps) e some = (office.tariffs name steps e).named
 

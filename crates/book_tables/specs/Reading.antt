@@ -27,7 +27,8 @@ HasRows s rows = IsTrue s.is_open → Holds s.now rows
 abbrev pub AreOfOffice : Rows → Type 0
 AreOfOffice rows = (o : Office) × IsOffice o × AreMembersOf rows o
 
--- a row is no office's only where the rows are not those of an office; all else is the database's: want of memory, the disk, or a limit on steps that was set
+-- a row is no office's only where the rows are not those of an office
+-- an open connection fails else only for want of memory, by the disk, or at a limit on steps that was set
 abbrev pub FailsToRead : State → State → TableError → Type 0
 FailsToRead old new (Database e) =
     (IsTrue old.is_open → FailsPlainly old new e) ⊎ ((e ≡ SqliteFailure OutOfMemory) × IsUnchanged old new)

@@ -6,15 +6,23 @@
 pub use error::TableError;
 pub use laws::{members_law, stands_law};
 
+pub mod about;
 mod cells;
 mod error;
 mod laws;
+#[cfg(test)]
+mod list_tests;
 mod listed;
+#[cfg(test)]
+mod look_up_tests;
+pub mod meters;
 mod records;
 pub mod sale_lists;
 pub mod sales;
+pub mod shifts;
 mod shown;
 pub mod sold;
+pub mod tariffs;
 #[cfg(test)]
 mod tests;
 mod texts;

@@ -3,17 +3,18 @@
 //! Each function takes a row of the columns that it names, in this order. It gives `None` exactly
 //! where they are those of no record whose values keep their rules: such a row is no office's.
 
+ghost use Rattle.vend_core.specs.Names.{IsName};
 ghost use Rattle.vend_core.specs.Request.{IsOrder};
 ghost use Rattle.book_tables.specs.ReadBack.{ReadsBack};
 ghost use Rattle.book_tables.specs.Parts.{AreEntryValues, AreTokenValues, entry_columns, order_columns, shown_entry, shown_order, shown_token, token_columns};
-ghost use Rattle.book_tables.specs.Rows.{shown_meter, shown_number, shown_sale, shown_shift, shown_step};
+ghost use Rattle.book_tables.specs.Rows.{shown_meter, shown_number, shown_sale, shown_shift, shown_step, tariff_columns};
 ghost use Rattle.book_tables.specs.Values.{AreMeterValues, AreSaleValues, AreShiftValues, AreStepValues, IsNumber, IsSoldAmount, IsTid};
 
 use crate::cells;
 use sqlite::Row;
 use sts_fields::{Amount, Base, Moment};
 use tariff::Step;
-use vend_core::{Meter, Order, Sale, Shift};
+use vend_core::{Meter, Order, Sale, Shift, TariffName};
 
 /// The number of a shift or of a sale.
 pub(crate) fn number_of(row: &Row) -> Option<u32>
@@ -43,6 +44,16 @@ pub(crate) fn amount_of(row: &Row) -> Option<Amount>
         return None;
     }
     cells::amount_at(row, 0)
+}
+
+/// The name of a tariff.
+pub(crate) fn tariff_name_of(row: &Row) -> Option<TariffName>
+    ensures { ReadsBack tariff_columns IsName row.now result }
+{
+    if row.column_count() != 1 {
+        return None;
+    }
+    cells::tariff_at(row, 0)
 }
 
 /// A step of a tariff: ends, price.

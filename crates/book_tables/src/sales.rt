@@ -1,6 +1,7 @@
 //! The statements on the table of sales.
 
-ghost use Rattle.std.specs.Prelude.{◌≡◌, ◌&&◌, ◌==◌, bytes_eq, false, find, IfOk, IfErr, OnOk, OnErr};
+ghost use Rattle.std.specs.Prelude.{◌≡◌, ◌&&◌, ◌==◌, bytes_eq, false, find, length, option_map, unwrap_or, None, IfOk, IfErr, OnOk, OnErr};
+ghost use Rattle.std.specs.List.{last_or};
 ghost use Rattle.sqlite.specs.State.{HasCleanDisk, IsUnchanged, Survives};
 ghost use Rattle.sqlite.specs.Held.{state};
 ghost use Rattle.one_table.specs.Answer.{IsLeft};
@@ -9,7 +10,7 @@ ghost use Rattle.book_tables.specs.Rows.{Rows};
 
 use crate::error::TableError;
 use crate::shown::first_record;
-use crate::texts::{SALE_NUMBERED, SALE_OF_REF};
+use crate::texts::{LAST_SALE_NUMBER, SALE_NUMBERED, SALE_OF_REF};
 use crate::values::{number_values, ref_values};
 use sqlite::{Alter, Connection};
 use vend_core::{Operator, Ref, Sale};
@@ -68,4 +69,32 @@ pub fn sale_of_ref<S: Alter>(
         → Survives (state S.Store conn.old) (state S.Store conn.new) (λ _. ⊥) }
 {
     first_record(conn, SALE_OF_REF, &ref_values(operator, order_ref))
+}
+
+/// The number of the last sale, if there is one. It is how many sales there are, since they are
+/// numbered from 1 without a gap.
+///
+/// # Errors
+/// What the database refuses, and a row that is no office's.
+pub fn last_sale_number<S: Alter>(conn: &mut Connection<S>) -> Result<Option<u32>, TableError>
+    ensures given { HasCleanDisk (state S.Store conn.new)
+        → (rows : Rows) → HasRows (state S.Store conn.old) rows → AreOfOffice rows
+        → IfOk result (λ found. found ≡ option_map (λ s. s.number) (last_or None rows.sales)) }
+    ensures counted { HasCleanDisk (state S.Store conn.new)
+        → (rows : Rows) → HasRows (state S.Store conn.old) rows → AreOfOffice rows
+        → IfOk result (λ found. unwrap_or found 0 ≡ length rows.sales) }
+    ensures same { HasCleanDisk (state S.Store conn.new)
+        → HasTables (state S.Store conn.old)
+        → OnOk result (IsUnchanged (state S.Store conn.old) (state S.Store conn.new)) }
+    ensures kept { HasCleanDisk (state S.Store conn.new)
+        → HasTables (state S.Store conn.old)
+        → OnErr result (IsLeft (state S.Store conn.old) (state S.Store conn.new)) }
+    ensures mode { conn.old.in_transaction ≡ false → conn.new.in_transaction ≡ false }
+    ensures faults { HasCleanDisk (state S.Store conn.new)
+        → HasTables (state S.Store conn.old)
+        → IfErr result (FailsToRead (state S.Store conn.old) (state S.Store conn.new)) }
+    ensures survives { HasTables (state S.Store conn.old)
+        → Survives (state S.Store conn.old) (state S.Store conn.new) (λ _. ⊥) }
+{
+    first_record(conn, LAST_SALE_NUMBER, &[])
 }

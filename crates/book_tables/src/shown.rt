@@ -6,18 +6,18 @@ ghost use Rattle.sqlite.specs.Values.{bound};
 ghost use Rattle.sqlite.specs.State.{HasCleanDisk, IsUnchanged, Survives};
 ghost use Rattle.sqlite.specs.Held.{state};
 ghost use Rattle.one_table.specs.Answer.{GivesFirst, IsLeft, OnlyAsks};
-ghost use Rattle.vend_core.specs.declared.sale.Sale.{Sale};
 ghost use Rattle.book_tables.specs.ReadBack.{ReadsBack};
 ghost use Rattle.book_tables.specs.Reading.{FailsToShow, IsShown, ShowsRecord};
-ghost use Rattle.book_tables.specs.Rows.{shown_sale};
-ghost use Rattle.book_tables.specs.Values.{AreSaleValues};
+ghost use Rattle.book_tables.specs.Rows.{shown_meter, shown_number, shown_sale, shown_shift, tariff_columns};
+ghost use Rattle.book_tables.specs.Values.{AreMeterValues, AreSaleValues, AreShiftValues, IsNumber};
+ghost use Rattle.vend_core.specs.Names.{IsName};
 
 use crate::error::TableError;
 use crate::records;
 use one_table::{FromRow, ReadFault, read_row};
 use sqlite::types::ValueRef;
 use sqlite::{Alter, Connection, Row};
-use vend_core::Sale;
+use vend_core::{Meter, Sale, Shift, TariffName};
 
 /// A record that a row of an answer may show.
 pub(crate) trait Record: Sized {
@@ -88,5 +88,46 @@ impl Record for Sale {
 
     fn of_row(row: &Row) -> Option<Sale> {
         records::sale_of(row)
+    }
+}
+
+impl Record for Shift {
+    ghost shown = { shown_shift };
+
+    ghost keeps = { AreShiftValues };
+
+    fn of_row(row: &Row) -> Option<Shift> {
+        records::shift_of(row)
+    }
+}
+
+impl Record for Meter {
+    ghost shown = { shown_meter };
+
+    ghost keeps = { AreMeterValues };
+
+    fn of_row(row: &Row) -> Option<Meter> {
+        records::meter_of(row)
+    }
+}
+
+impl Record for TariffName {
+    ghost shown = { tariff_columns };
+
+    ghost keeps = { IsName };
+
+    fn of_row(row: &Row) -> Option<TariffName> {
+        records::tariff_name_of(row)
+    }
+}
+
+// A number from 1 on.
+impl Record for u32 {
+    ghost shown = { shown_number };
+
+    ghost keeps = { IsNumber };
+
+    fn of_row(row: &Row) -> Option<u32> {
+        records::number_of(row)
     }
 }

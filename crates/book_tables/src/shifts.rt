@@ -1,0 +1,99 @@
+//! The statements on the table of shifts.
+
+ghost use Rattle.std.specs.Prelude.{◌≡◌, ◌&&◌, ◌==◌, bytes_eq, false, find, is_none, length, option_map, unwrap_or, None, IfOk, IfErr, OnOk, OnErr};
+ghost use Rattle.std.specs.List.{last_or};
+ghost use Rattle.sqlite.specs.State.{HasCleanDisk, IsUnchanged, Survives};
+ghost use Rattle.sqlite.specs.Held.{state};
+ghost use Rattle.one_table.specs.Answer.{IsLeft};
+ghost use Rattle.book_tables.specs.Reading.{AreOfOffice, FailsToRead, HasRows, HasTables};
+ghost use Rattle.book_tables.specs.Rows.{Rows};
+
+use crate::error::TableError;
+use crate::shown::first_record;
+use crate::texts::{LAST_SHIFT_NUMBER, OPEN_SHIFT, SHIFT_NUMBERED};
+use crate::values::{number_values, operator_values};
+use sqlite::{Alter, Connection};
+use vend_core::{Operator, Shift};
+
+/// The shift of a number.
+///
+/// # Errors
+/// What the database refuses, and a row that is no office's.
+pub fn shift_numbered<S: Alter>(
+    conn: &mut Connection<S>,
+    number: u32,
+) -> Result<Option<Shift>, TableError>
+    ensures given { HasCleanDisk (state S.Store conn.new)
+        → (rows : Rows) → HasRows (state S.Store conn.old) rows → AreOfOffice rows
+        → IfOk result (λ found. found ≡ find (λ s. s.number == number) rows.shifts) }
+    ensures same { HasCleanDisk (state S.Store conn.new)
+        → HasTables (state S.Store conn.old)
+        → OnOk result (IsUnchanged (state S.Store conn.old) (state S.Store conn.new)) }
+    ensures kept { HasCleanDisk (state S.Store conn.new)
+        → HasTables (state S.Store conn.old)
+        → OnErr result (IsLeft (state S.Store conn.old) (state S.Store conn.new)) }
+    ensures mode { conn.old.in_transaction ≡ false → conn.new.in_transaction ≡ false }
+    ensures faults { HasCleanDisk (state S.Store conn.new)
+        → HasTables (state S.Store conn.old)
+        → IfErr result (FailsToRead (state S.Store conn.old) (state S.Store conn.new)) }
+    ensures survives { HasTables (state S.Store conn.old)
+        → Survives (state S.Store conn.old) (state S.Store conn.new) (λ _. ⊥) }
+{
+    first_record(conn, SHIFT_NUMBERED, &number_values(number))
+}
+
+/// The shift of an operator that is open, if there is one.
+///
+/// # Errors
+/// What the database refuses, and a row that is no office's.
+pub fn open_shift<S: Alter>(
+    conn: &mut Connection<S>,
+    operator: &Operator,
+) -> Result<Option<Shift>, TableError>
+    ensures given { HasCleanDisk (state S.Store conn.new)
+        → (rows : Rows) → HasRows (state S.Store conn.old) rows → AreOfOffice rows
+        → IfOk result (λ found. found ≡ find (λ s. bytes_eq s.operator operator.now
+        && is_none s.closed) rows.shifts) }
+    ensures same { HasCleanDisk (state S.Store conn.new)
+        → HasTables (state S.Store conn.old)
+        → OnOk result (IsUnchanged (state S.Store conn.old) (state S.Store conn.new)) }
+    ensures kept { HasCleanDisk (state S.Store conn.new)
+        → HasTables (state S.Store conn.old)
+        → OnErr result (IsLeft (state S.Store conn.old) (state S.Store conn.new)) }
+    ensures mode { conn.old.in_transaction ≡ false → conn.new.in_transaction ≡ false }
+    ensures faults { HasCleanDisk (state S.Store conn.new)
+        → HasTables (state S.Store conn.old)
+        → IfErr result (FailsToRead (state S.Store conn.old) (state S.Store conn.new)) }
+    ensures survives { HasTables (state S.Store conn.old)
+        → Survives (state S.Store conn.old) (state S.Store conn.new) (λ _. ⊥) }
+{
+    first_record(conn, OPEN_SHIFT, &operator_values(operator))
+}
+
+/// The number of the last shift, if there is one. It is how many shifts there are, since they are
+/// numbered from 1 without a gap.
+///
+/// # Errors
+/// What the database refuses, and a row that is no office's.
+pub fn last_shift_number<S: Alter>(conn: &mut Connection<S>) -> Result<Option<u32>, TableError>
+    ensures given { HasCleanDisk (state S.Store conn.new)
+        → (rows : Rows) → HasRows (state S.Store conn.old) rows → AreOfOffice rows
+        → IfOk result (λ found. found ≡ option_map (λ s. s.number) (last_or None rows.shifts)) }
+    ensures counted { HasCleanDisk (state S.Store conn.new)
+        → (rows : Rows) → HasRows (state S.Store conn.old) rows → AreOfOffice rows
+        → IfOk result (λ found. unwrap_or found 0 ≡ length rows.shifts) }
+    ensures same { HasCleanDisk (state S.Store conn.new)
+        → HasTables (state S.Store conn.old)
+        → OnOk result (IsUnchanged (state S.Store conn.old) (state S.Store conn.new)) }
+    ensures kept { HasCleanDisk (state S.Store conn.new)
+        → HasTables (state S.Store conn.old)
+        → OnErr result (IsLeft (state S.Store conn.old) (state S.Store conn.new)) }
+    ensures mode { conn.old.in_transaction ≡ false → conn.new.in_transaction ≡ false }
+    ensures faults { HasCleanDisk (state S.Store conn.new)
+        → HasTables (state S.Store conn.old)
+        → IfErr result (FailsToRead (state S.Store conn.old) (state S.Store conn.new)) }
+    ensures survives { HasTables (state S.Store conn.old)
+        → Survives (state S.Store conn.old) (state S.Store conn.new) (λ _. ⊥) }
+{
+    first_record(conn, LAST_SHIFT_NUMBER, &[])
+}
