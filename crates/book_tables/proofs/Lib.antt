@@ -26,3 +26,4 @@ pub mod SaleListLemmas
 pub mod GatherLemmas
 pub mod SoldTexts
 pub mod SoldLemmas
+pub mod StepLemmas

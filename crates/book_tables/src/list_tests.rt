@@ -14,13 +14,13 @@ fn lists_sales(rt: HostRuntime) -> Result<(), Fail> {
     batch(&mut conn, ROWS)?;
     let second = second_sale()?;
     let page = sale_lists::sales_after(rt.alloc(), &mut conn, 1, 10)?;
-    assert_eq!(rt; page.as_slice(), [second]);
+    assert_eq!(rt; page.as_slice(), [second].as_slice());
     let page = sale_lists::sales_after(rt.alloc(), &mut conn, 0, 1)?;
     assert_eq!(rt; page.len(), 1);
     let page = sale_lists::sales_after(rt.alloc(), &mut conn, 2, 10)?;
     assert_eq!(rt; page.len(), 0);
     let found = sale_lists::sales_of_shift(rt.alloc(), &mut conn, 3)?;
-    assert_eq!(rt; found.as_slice(), [second]);
+    assert_eq!(rt; found.as_slice(), [second].as_slice());
     let found = sale_lists::sales_of_shift(rt.alloc(), &mut conn, 2)?;
     assert_eq!(rt; found.len(), 0);
     Ok(())
