@@ -80,7 +80,7 @@ module _ (name : List ℕ) where
       sym (ap (λ (r : StepRow). r.tariff) same),
       omega (arith, ap (λ (r : StepRow). r.place) same),
       let at : 0 ≡ r.place - first = omega (arith, ap (λ (r : StepRow). r.place) same) in
-      subst (λ k. slice_get (s ∷ steps) k ≡ Some r.step) at (ap (λ (r : StepRow). let o : Option Step = Some r.step in o) same),
+          subst (λ k. slice_get (s ∷ steps) k ≡ Some r.step) at (ap (λ (r : StepRow). let o : Option Step = Some r.step in o) same),
     )
     | inr further ↦
         let rest = row_there (first + 1) steps r further in

@@ -1,11 +1,33 @@
 //! The statements that read many rows, over memory, beside other tables.
 
 use crate::look_up_tests::{ROWS, TABLES, batch, meter_no, second_sale};
-use crate::{sale_lists, sold};
-use sqlite::Connection;
+use crate::{TableError, sale_lists, sold};
+use sqlite::{Alter, Connection};
+use std::alloc::Global;
 use std::test::Fail;
 use sts_fields::Base;
-use vend_core::MeterNo;
+use vend_core::{MeterNo, Sale};
+
+// How many sales a page has, and the first of them.
+fn page<S: Alter>(
+    alloc: Global,
+    conn: &mut Connection<S>,
+    after: u32,
+    limit: u32,
+) -> Result<(usize, Option<Sale>), TableError> {
+    let sales = sale_lists::sales_after(alloc, conn, after, limit)?;
+    Ok((sales.len(), sales.first().copied()))
+}
+
+// The same of the sales of a shift.
+fn of_shift<S: Alter>(
+    alloc: Global,
+    conn: &mut Connection<S>,
+    shift: u32,
+) -> Result<(usize, Option<Sale>), TableError> {
+    let sales = sale_lists::sales_of_shift(alloc, conn, shift)?;
+    Ok((sales.len(), sales.first().copied()))
+}
 
 #[test]
 fn lists_sales(rt: HostRuntime) -> Result<(), Fail> {
@@ -13,16 +35,12 @@ fn lists_sales(rt: HostRuntime) -> Result<(), Fail> {
     batch(&mut conn, TABLES)?;
     batch(&mut conn, ROWS)?;
     let second = second_sale()?;
-    let page = sale_lists::sales_after(rt.alloc(), &mut conn, 1, 10)?;
-    assert_eq!(rt; page.as_slice(), [second].as_slice());
-    let page = sale_lists::sales_after(rt.alloc(), &mut conn, 0, 1)?;
-    assert_eq!(rt; page.len(), 1);
-    let page = sale_lists::sales_after(rt.alloc(), &mut conn, 2, 10)?;
-    assert_eq!(rt; page.len(), 0);
-    let found = sale_lists::sales_of_shift(rt.alloc(), &mut conn, 3)?;
-    assert_eq!(rt; found.as_slice(), [second].as_slice());
-    let found = sale_lists::sales_of_shift(rt.alloc(), &mut conn, 2)?;
-    assert_eq!(rt; found.len(), 0);
+    assert_eq!(rt; page(rt.alloc(), &mut conn, 1, 10)?, (1, Some(second)));
+    assert_eq!(rt; page(rt.alloc(), &mut conn, 0, 10)?.0, 2);
+    assert_eq!(rt; page(rt.alloc(), &mut conn, 0, 1)?.0, 1);
+    assert_eq!(rt; page(rt.alloc(), &mut conn, 2, 10)?, (0, None));
+    assert_eq!(rt; of_shift(rt.alloc(), &mut conn, 3)?, (1, Some(second)));
+    assert_eq!(rt; of_shift(rt.alloc(), &mut conn, 2)?, (0, None));
     Ok(())
 }
 
