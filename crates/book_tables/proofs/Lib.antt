@@ -27,6 +27,7 @@ pub mod ShiftLemmas
 pub mod ShiftTexts
 pub mod SoldLemmas
 pub mod SoldTexts
+pub mod StepLemmas
 pub mod TariffLemmas
 pub mod TariffWriteLemmas
 pub mod TextLemmas

@@ -89,10 +89,10 @@ pairs_map R f xs keeps pairs i j d before within =
     subst (λ a. R a (get_or (map f xs) j d)) (sym (get_or-map f xs i d d i_in))
     (subst (λ b. R (f (get_or xs i d)) b) (sym (get_or-map f xs j d d j_in)) (keeps (get_or xs i d) (get_or xs j d) (pairs i j d before j_in)))
 
-pairs_rest : {X : Type 0} (R : X → X → Type 0) (x : X) (xs : List X) → AllPairs R (x ∷ xs) → AllPairs R xs
+pub pairs_rest : {X : Type 0} (R : X → X → Type 0) (x : X) (xs : List X) → AllPairs R (x ∷ xs) → AllPairs R xs
 pairs_rest R x xs pairs i j d before within = pairs (suc i) (suc j) d (omega arith) (omega arith)
 
-pairs_first : {X : Type 0} (R : X → X → Type 0) (x y : X) (xs : List X) → AllPairs R (x ∷ xs) → Contains xs y → R x y
+pub pairs_first : {X : Type 0} (R : X → X → Type 0) (x y : X) (xs : List X) → AllPairs R (x ∷ xs) → Contains xs y → R x y
 pairs_first R x y xs pairs there = subst (R x) there.2 (pairs 0 (suc there.0) y (omega arith) (omega (arith, there.1)))
 
 -- ---- what passes a test

@@ -12,6 +12,8 @@ pub mod changing;
 mod error;
 pub mod format;
 mod laws;
+#[cfg(test)]
+mod list_tests;
 mod listed;
 #[cfg(test)]
 mod look_up_tests;

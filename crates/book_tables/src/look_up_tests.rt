@@ -8,7 +8,7 @@ use sts_fields::{Amount, Base, Moment};
 use tariff::Tender;
 use vend_core::{Meter, MeterNo, Operator, Ref, Sale, Shift, TariffName};
 
-const TABLES: &str = "\
+pub(crate) const TABLES: &str = "\
     CREATE TABLE before (id INTEGER PRIMARY KEY, number INTEGER NOT NULL) STRICT; \
     CREATE TABLE about (id INTEGER PRIMARY KEY, format INTEGER NOT NULL) STRICT; \
     CREATE TABLE tariffs (name TEXT NOT NULL PRIMARY KEY) STRICT; \
@@ -24,7 +24,7 @@ const TABLES: &str = "\
     UNIQUE (operator, ref), UNIQUE (meter, base, tid)) STRICT; \
     CREATE TABLE sales_after (number INTEGER PRIMARY KEY, shift INTEGER NOT NULL) STRICT";
 
-const ROWS: &str = "\
+pub(crate) const ROWS: &str = "\
     INSERT INTO before VALUES (7, 70); INSERT INTO sales_after VALUES (9, 1); \
     INSERT INTO about VALUES (1, 1); \
     INSERT INTO tariffs VALUES ('home'); INSERT INTO tariffs VALUES ('shop'); \
@@ -38,7 +38,7 @@ const ROWS: &str = "\
     5001, 4, 130, 1990, 2000, '00144115200960832043')";
 
 // These have no clause, so that the proof of a test does not carry the state of each call.
-fn batch<S: Alter>(conn: &mut Connection<S>, sql: &str) -> Result<(), Error> {
+pub(crate) fn batch<S: Alter>(conn: &mut Connection<S>, sql: &str) -> Result<(), Error> {
     conn.execute_batch(sql)
 }
 
@@ -46,11 +46,11 @@ fn ann() -> Result<Operator, Fail> {
     Ok(Operator::read(b"ann").ok_or("an operator")?)
 }
 
-fn meter_no() -> Result<MeterNo, Fail> {
+pub(crate) fn meter_no() -> Result<MeterNo, Fail> {
     Ok(MeterNo::read(b"01234567897").ok_or("a meter's number")?)
 }
 
-fn second_sale() -> Result<Sale, Fail> {
+pub(crate) fn second_sale() -> Result<Sale, Fail> {
     Ok(Sale {
         number: 2,
         moment: Moment::of_secs(1_700_030_100).ok_or("a moment")?,

@@ -75,6 +75,8 @@ pub(crate) const NEW_STEP: &str =
 
 pub(crate) const TARIFF_SET: &str = "UPDATE meters SET tariff = ?2 WHERE meter = ?1";
 
+pub(crate) const FORMAT_NUMBER: &str = "SELECT format FROM about";
+
 pub(crate) const SALES_AFTER: &str =
     "SELECT number, moment, shift, operator, ref, meter, base, tid, rnd, tenths, price, tender, \
     digits FROM sales WHERE number > ?1 ORDER BY number LIMIT ?2";
