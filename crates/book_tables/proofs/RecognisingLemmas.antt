@@ -1,16 +1,16 @@
 -- A schema that has the tables of an office is told at run time from one that does not.
-use Rattle.std.proofs.Common.{◌≡◌, ◌↔◌, ℕ, true, List, [], ◌∷◌, ◌++◌, Ok, refl, sym, subst, ◌∙◌}
-use Rattle.std.specs.Prelude.{◌&&◌, codes}
+use Rattle.std.proofs.Common.{◌≡◌, ℕ, true, List, [], ◌∷◌, Ok, refl, sym, subst, ◌∙◌}
+use Rattle.std.specs.Prelude.{codes}
 use Rattle.std.proofs.lemmas.Bool.{and_parts}
 use Rattle.sqlite.specs.Table.{Table}
 use Rattle.sqlite_resolve.specs.Compile.{table_defined_by}
 use Rattle.sqlite_resolve.specs.Lowering.{Checked}
 use Rattle.sqlite_schema.specs.declared.schema.Schema.{Schema}
 use Rattle.one_table.specs.Comparing.{IsPlainTable, StandsAs}
-use Rattle.one_table.specs.Referring.{AreUntaken, is_left_alone, is_unreferred}
+use Rattle.one_table.specs.Referring.{is_left_alone, is_unreferred}
 use Rattle.one_table.specs.Standing.{Stands, tree_in}
 use Rattle.std.specs.List.{AllByRecursion, list_all}
-use Rattle.book_tables.specs.Holds.{HasOffice, IsUntaken, table_names}
+use Rattle.book_tables.specs.Holds.{HasOffice, table_names}
 use Rattle.book_tables.specs.Tables.{about_table, meters_table, sales_table, shifts_table, tariff_steps_table, tariffs_table}
 use Rattle.book_tables.proofs.MakingLemmas.{office_texts}
 use Rattle.book_tables.proofs.TextLemmas.{about_defined, meters_defined, sales_defined, shifts_defined, tariff_steps_defined, tariffs_defined}

@@ -1,12 +1,10 @@
-use Rattle.std.proofs.Common.{rules, ◌≡◌, List, [], Result, Ok, Err, IfErr, OnErr, All, refl}
+use Rattle.std.proofs.Common.{rules, [], Result, Ok, Err, IfErr, OnErr, refl}
 use Rattle.std.specs.Prelude.{codes, ⊤}
 use Rattle.sqlite.specs.Held.{state}
-use Rattle.sqlite.specs.Order.{Row}
 use Rattle.sqlite.specs.State.{State}
-use Rattle.sqlite_sql.specs.Query.{IsAnswer}
-use Rattle.one_table.specs.Answer.{FailsToRead, GivesAll, OnlyAsks}
+use Rattle.one_table.specs.Answer.{OnlyAsks}
 use Rattle.book_tables.specs.Reading.{FailsToShow, HasTables}
-use Rattle.book_tables.proofs.FormatLemmas.{TellsOne, about_stands, format_asks, format_text, given_none, given_one, lone}
+use Rattle.book_tables.proofs.FormatLemmas.{about_stands, format_asks, format_text, given_none, given_one, lone}
 use Rattle.book_tables.proofs.ReadLemmas as read
 use Rattle.book_tables.proofs.format.format_number.Goals as goal
 

@@ -1,4 +1,4 @@
-use Rattle.std.proofs.Common.{rules, ◌≡◌, true, sym, ◌∙◌}
+use Rattle.std.proofs.Common.{rules, ◌≡◌, true}
 use Rattle.one_table.specs.Referring.{is_unreferred}
 use Rattle.book_tables.specs.Holds.{table_names}
 use Rattle.book_tables.proofs.RecognisingLemmas.{all_stand, are_calm, office_found}
