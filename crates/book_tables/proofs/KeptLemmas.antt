@@ -24,7 +24,7 @@ pub record ChangesOnly (name : List ℕ) (a b : Database) : Type 0 where
 pub names_differ : (a b : List ℕ) → bytes_eq a b ≡ false → a ≢ b
 names_differ a b apart same = false≢true (sym apart ∙ (bytes_eq-Decides a b).1 same)
 
-listed_holds : (P : Table → Type 0) (ts : List Table) (at : ℕ) (t : Table) → slice_get ts at ≡ Some t → AllByRecursion P ts → P t
+pub listed_holds : (P : Table → Type 0) (ts : List Table) (at : ℕ) (t : Table) → slice_get ts at ≡ Some t → AllByRecursion P ts → P t
 listed_holds P [] at t e all = cc
 listed_holds P (u ∷ ts) zero t e all = subst P (same_Some u t e) all.0
 listed_holds P (u ∷ ts) (suc at) t e all = listed_holds P ts at t e all.1

@@ -1,6 +1,7 @@
 //! The number of the format of the tables.
 
-ghost use Rattle.std.specs.Prelude.{◌≡◌, ◌<◌, ◌^◌, false, IfOk, IfErr, OnOk, OnErr};
+ghost use Rattle.std.specs.Prelude.{◌≡◌, ◌<◌, ◌^◌, false, IsTrue, IfOk, IfErr, OnOk, OnErr};
+ghost use Rattle.sqlite.specs.Effect.{IsDatabase};
 ghost use Rattle.sqlite.specs.State.{HasCleanDisk, IsUnchanged, Survives};
 ghost use Rattle.sqlite.specs.Held.{state};
 ghost use Rattle.one_table.specs.Answer.{IsLeft};
@@ -61,6 +62,7 @@ pub fn format_number<S: Alter>(
 ) -> Result<Option<u32>, TableError>
     ensures given { HasCleanDisk (state S.Store conn.new)
         → HasTables (state S.Store conn.old)
+        → (IsTrue (state S.Store conn.old).is_open → IsDatabase (state S.Store conn.old).now)
         → IfOk result (IsFormatOf (state S.Store conn.old).now) }
     ensures same { HasCleanDisk (state S.Store conn.new)
         → HasTables (state S.Store conn.old)

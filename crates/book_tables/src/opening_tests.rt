@@ -1,4 +1,5 @@
 use crate::TableError;
+use crate::format::format_number;
 use crate::making::make_tables;
 use crate::recognising::{Found, what_is_here};
 use crate::texts::TABLES;
@@ -63,6 +64,25 @@ fn an_office_is_made_beside_other_tables(rt: HostRuntime) -> Result<(), Fail> {
     assert!(rt; make(&mut conn).is_err(), "the names are taken");
     batch(&mut conn, AUDIT)?;
     assert_eq!(rt; what_is_here(rt.alloc(), conn.schema())?, Found::Another);
+    Ok(())
+}
+
+#[test]
+fn the_format_is_read(rt: HostRuntime) -> Result<(), Fail> {
+    let mut conn = Connection::open_in_memory(rt.alloc())?;
+    batch(&mut conn, BEFORE)?;
+    make(&mut conn)?;
+    assert_eq!(rt; format_number(rt.alloc(), &mut conn)?, Some(1));
+    batch(&mut conn, "UPDATE about SET format = 7")?;
+    assert_eq!(rt; format_number(rt.alloc(), &mut conn)?, Some(7));
+    batch(&mut conn, "UPDATE about SET format = -1")?;
+    assert_eq!(rt; format_number(rt.alloc(), &mut conn)?, None);
+    batch(&mut conn, "UPDATE about SET id = 2, format = 1")?;
+    assert_eq!(rt; format_number(rt.alloc(), &mut conn)?, None);
+    batch(&mut conn, "INSERT INTO about (id, format) VALUES (1, 1)")?;
+    assert_eq!(rt; format_number(rt.alloc(), &mut conn)?, None, "two rows");
+    batch(&mut conn, "DELETE FROM about")?;
+    assert_eq!(rt; format_number(rt.alloc(), &mut conn)?, None, "no row");
     Ok(())
 }
 

@@ -30,10 +30,10 @@ pub returns-in_err-told-clause-survives : goal.returns-in_err-told-clause-surviv
 returns-in_err-told-clause-survives g c has = c.read_rows.ensures.survives (only (state g.S.Store c.args.conn.now) has)
 
 pub returns-then-len-ne1-clause-given : goal.returns-then-len-ne1-clause-given
-returns-then-len-ne1-clause-given g c clean has =
+returns-then-len-ne1-clause-given g c clean has sound =
     let old = state g.S.Store c.args.conn.now in
     let new = state g.S.Store c.read_rows.new.conn in
-    given_none old new has c.in_ok-told.told.items (c.in_ok-told.ensures.given clean (only old has)) (c.in_ok-told.ensures.same clean (only old has)).0.was_open (search rules)
+    given_none old new has sound c.in_ok-told.told.items (c.in_ok-told.ensures.given clean (only old has)) (c.in_ok-told.ensures.same clean (only old has)).0.was_open (search rules)
 
 pub returns-then-len-ne1-clause-same : goal.returns-then-len-ne1-clause-same
 returns-then-len-ne1-clause-same g c clean has = c.in_ok-told.ensures.same clean (only (state g.S.Store c.args.conn.now) has)
@@ -42,10 +42,10 @@ pub returns-then-len-ne1-clause-survives : goal.returns-then-len-ne1-clause-surv
 returns-then-len-ne1-clause-survives g c has = c.read_rows.ensures.survives (only (state g.S.Store c.args.conn.now) has)
 
 pub returns-clause-given : goal.returns-clause-given
-returns-clause-given g c clean has =
+returns-clause-given g c clean has sound =
     let old = state g.S.Store c.args.conn.now in
     let new = state g.S.Store c.read_rows.new.conn in
-    given_one old new has c.in_ok-told.told.items _ (c.in_ok-told.ensures.given clean (only old has)) (c.in_ok-told.ensures.same clean (only old has)).0.was_open (lone c.in_ok-told.told.items _ (search rules) c.index.ensures)
+    given_one old new has sound c.in_ok-told.told.items _ (c.in_ok-told.ensures.given clean (only old has)) (c.in_ok-told.ensures.same clean (only old has)).0.was_open (lone c.in_ok-told.told.items _ (search rules) c.index.ensures)
 
 pub returns-clause-same : goal.returns-clause-same
 returns-clause-same g c clean has = c.in_ok-told.ensures.same clean (only (state g.S.Store c.args.conn.now) has)
