@@ -1,9 +1,5 @@
 -- What the table `about` tells of the format of the tables.
-<<<<<<< HEAD
-use Rattle.std.specs.Prelude.{◌≡◌, ◌↔◌, ◌<◌, ◌^◌, ℕ, [], ◌∷◌, codes, map, Option, Some}
-=======
 use Rattle.std.specs.Prelude.{◌≡◌, ◌↔◌, ◌<◌, ◌^◌, ℕ, [], ◌∷◌, codes, Option, Some}
->>>>>>> s4
 use Rattle.sqlite.specs.Effect.{Database}
 use Rattle.sqlite.specs.Order.{Row}
 use Rattle.book_tables.specs.Holds.{rows_in}

@@ -57,7 +57,7 @@ fn gathers_what_was_sold(rt: HostRuntime) -> Result<(), Fail> {
     );
     assert_eq!(rt; sold::greatest_tid(&mut conn, &meter, Base::Y1993)?, None);
     assert_eq!(rt; sold::greatest_tid(&mut conn, &other, Base::Y2014)?, None);
-    assert_eq!(rt; sold::tenths_in_month(&mut conn, &meter, 202_311)?, 250);
-    assert_eq!(rt; sold::tenths_in_month(&mut conn, &meter, 202_312)?, 0);
+    assert_eq!(rt; sold::tenths_in_month(&mut conn, &meter, 370)?, 250);
+    assert_eq!(rt; sold::tenths_in_month(&mut conn, &meter, 371)?, 0);
     Ok(())
 }
