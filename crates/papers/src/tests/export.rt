@@ -35,3 +35,20 @@ fn a_long_export(rt: HostRuntime) -> Result<(), Fail> {
     assert_eq!(rt; out[out.len() - RECORD.len()..], *RECORD.as_bytes());
     Ok(())
 }
+
+// What it prints `tools/check_export` has Python read.
+#[test]
+fn an_export_for_others(rt: HostRuntime) -> Result<(), Fail> {
+    let mut sales = Vec::new(rt.alloc());
+    for number in 1..=2003u32 {
+        sales.push(Sale {
+            number,
+            ..first_sale()?
+        })?;
+    }
+    assert_eq!(rt;
+        sales_csv(rt.alloc(), &sales, true, &mut rt.stdout()),
+        Ok(())
+    );
+    Ok(())
+}
