@@ -18,7 +18,8 @@ no_rows = record { tariffs = []; steps = []; meters = []; shifts = []; sales = [
 
 -- the rows of a tariff's steps, by place
 abbrev pub step_rows : List ℕ → List Step → List StepRow
-step_rows name steps = map (λ s. record { tariff = name; place = s.0; step = s.1 }) (enumerate_from 0 steps)
+step_rows name steps =
+    map (λ s. record { tariff = name; place = s.0; step = s.1 }) (enumerate_from 0 steps)
 
 -- a shift's row, closed where it has this number
 abbrev pub shift_closed : ℕ → ℕ → Shift → Shift
@@ -26,7 +27,8 @@ shift_closed number moment s = if s.number == number then closed_at moment s els
 
 -- the rows with a tariff and its steps, or with a meter, at the end
 abbrev pub row_added : Row → Rows → Rows
-row_added (kinds.Tariff name steps) rows = record rows { tariffs = rows.tariffs ++ name ∷ []; steps = rows.steps ++ step_rows name steps }
+row_added (kinds.Tariff name steps) rows =
+    record rows { tariffs = rows.tariffs ++ name ∷ []; steps = rows.steps ++ step_rows name steps }
 row_added (kinds.Meter number m) rows = record rows { meters = rows.meters ++ (number, m) ∷ [] }
 
 -- the rows with several of them, one after another
@@ -34,14 +36,17 @@ abbrev pub rows_added : List Row → Rows → Rows
 rows_added [] rows = rows
 rows_added (row ∷ new) rows = rows_added new (row_added row rows)
 
--- the rows after an edit: new ones stand at the end, and a meter or a shift that is changed stays in its place
+-- the rows after an edit: new ones stand at the end, and a meter or a shift that is changed stays
+-- in its place
 abbrev pub edited : Edit → Rows → Rows
 edited (AddTariff name steps) rows = row_added (kinds.Tariff name steps) rows
 edited (AddMeter number m) rows = row_added (kinds.Meter number m) rows
 edited (AddRows new) rows = rows_added new rows
-edited (SetTariff number name) rows = record rows { meters = map (row_with_tariff number name) rows.meters }
+edited (SetTariff number name) rows =
+    record rows { meters = map (row_with_tariff number name) rows.meters }
 edited (OpenShift s) rows = record rows { shifts = rows.shifts ++ s ∷ [] }
-edited (CloseShift number moment) rows = record rows { shifts = map (shift_closed number moment) rows.shifts }
+edited (CloseShift number moment) rows =
+    record rows { shifts = map (shift_closed number moment) rows.shifts }
 edited (AddSale s) rows = record rows { sales = rows.sales ++ s ∷ [] }
 
 -- the office has no tariff of the row's name, or no meter of its number

@@ -1,4 +1,5 @@
--- The office's tables in a database, and the office that a database stands for. Other tables do not count.
+-- The office's tables in a database, and the office that a database stands for. Other tables do not
+-- count.
 use Rattle.std.specs.Prelude.{◌≡◌, ◌⊎◌, ℕ, true, not, List, [], ◌∷◌, codes, drop, map}
 use Rattle.std.specs.List.{list_all}
 use Rattle.sqlite.specs.Effect.{Database}
@@ -15,14 +16,16 @@ use Rattle.book_tables.specs.Tables.{about_table, meters_table, sales_table, shi
 -- the names of the six tables
 abbrev pub table_names : List (List ℕ)
 table_names =
-    codes "about" ∷ codes "tariffs" ∷ codes "tariff_steps" ∷ codes "meters" ∷ codes "shifts" ∷ codes "sales" ∷ []
+    codes "about" ∷ codes "tariffs" ∷ codes "tariff_steps" ∷ codes "meters" ∷ codes "shifts"
+    ∷ codes "sales" ∷ []
 
 -- none of the names is taken, and no table refers to one of them
 pub record IsUntaken (s : Schema) : Type 0 where
   pub free : list_all (λ name. not (is_used s name)) table_names ≡ true
   pub unreferred : is_unreferred table_names s ≡ true
 
--- the six tables are there, each as its text defines it and with no index but its own; no other table refers to them,
+-- the six tables are there, each as its text defines it and with no index but its own; no other
+-- table refers to them,
 -- and no reference to a table whose rows are updated takes an action
 pub record HasOffice (s : Schema) : Type 0 where
   pub about : Stands s (about_table 0)
@@ -35,7 +38,8 @@ pub record HasOffice (s : Schema) : Type 0 where
   pub meters_alone : is_left_alone s (tree_in s (codes "meters")) ≡ true
   pub shifts_alone : is_left_alone s (tree_in s (codes "shifts")) ≡ true
 
--- the rows of the table of a name, as they are stored: the number of a row stands in front of its columns
+-- the rows of the table of a name, as they are stored: the number of a row stands in front of its
+-- columns
 abbrev pub rows_in : Database → List ℕ → List Row
 rows_in db name = db.trees (tree_in db.schema name)
 
@@ -57,7 +61,8 @@ pub record Holds (db : Database) (rows : Rows) : Type 0 where
 abbrev pub HoldsMembers : Database → Office → Type 0
 HoldsMembers db o = (rows : Rows) × Holds db rows × AreMembersOf rows o
 
--- the database stands for the office: it holds its members, or it has none of the tables and the office is empty
+-- the database stands for the office: it holds its members, or it has none of the tables and the
+-- office is empty
 pub record StandsFor (db : Database) (o : Office) : Type 0 where
   pub office : IsOffice o
   pub held : HoldsMembers db o ⊎ (IsUntaken db.schema × (o ≡ empty_office))

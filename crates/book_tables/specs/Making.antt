@@ -14,7 +14,8 @@ use Rattle.book_tables.specs.Tables.{about_table, meters_table, sales_table, shi
 -- the six tables, in the order in which they are made
 abbrev pub office_tables : List Table
 office_tables =
-    about_table 0 ∷ tariffs_table 0 ∷ tariff_steps_table 0 ∷ meters_table 0 ∷ shifts_table 0 ∷ sales_table 0 ∷ []
+    about_table 0 ∷ tariffs_table 0 ∷ tariff_steps_table 0 ∷ meters_table 0
+    ∷ shifts_table 0 ∷ sales_table 0 ∷ []
 
 -- while the connection is open, its database is sound and has room for the office's tables
 abbrev pub HasRoom : State → Type 0

@@ -15,10 +15,12 @@ abbrev pub shown_entry : Entry → Row
 shown_entry e = number e.number ∷ number e.moment ∷ number e.shift ∷ []
 
 abbrev pub shown_order : Order → Row
-shown_order order = Text order.operator ∷ Text order.order_ref ∷ Text order.meter ∷ number order.tender ∷ []
+shown_order order =
+    Text order.operator ∷ Text order.order_ref ∷ Text order.meter ∷ number order.tender ∷ []
 
 abbrev pub shown_token : Token → Row
-shown_token t = number (year_of t.base) ∷ number t.tid ∷ number t.rnd ∷ number t.tenths ∷ Text t.digits ∷ []
+shown_token t =
+    number (year_of t.base) ∷ number t.tid ∷ number t.rnd ∷ number t.tenths ∷ Text t.digits ∷ []
 
 pub record AreEntryValues (e : Entry) : Type 0 where
   pub number : IsNumber e.number

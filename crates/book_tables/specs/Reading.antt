@@ -28,11 +28,14 @@ abbrev pub AreOfOffice : Rows → Type 0
 AreOfOffice rows = (o : Office) × IsOffice o × AreMembersOf rows o
 
 -- a row is no office's only where the rows are not those of an office
--- an open connection fails else only for want of memory, by the disk, or at a limit on steps that was set
+-- an open connection fails else only for want of memory, by the disk, or at a limit on steps that
+-- was set
 abbrev pub FailsToRead : State → State → TableError → Type 0
 FailsToRead old new (Database e) =
-    (IsTrue old.is_open → FailsPlainly old new e) ⊎ ((e ≡ SqliteFailure OutOfMemory) × IsUnchanged old new)
-FailsToRead old new RowOfNoOffice = ((rows : Rows) → Holds old.now rows → ¬ AreOfOffice rows) × IsUnchanged old new
+    (IsTrue old.is_open → FailsPlainly old new e)
+    ⊎ ((e ≡ SqliteFailure OutOfMemory) × IsUnchanged old new)
+FailsToRead old new RowOfNoOffice =
+    ((rows : Rows) → Holds old.now rows → ¬ AreOfOffice rows) × IsUnchanged old new
 
 -- what is told of a reader's fault: rows that add up to too much are no office's either
 abbrev pub told : ReadFault → TableError
@@ -51,4 +54,5 @@ module _ {T : Type 0} (shown : T → Row) (keeps : T → Type 0) where
 
 -- it is told of a fault of the reader
 abbrev pub FailsToShow : (Row → Type 0) → List ℕ → Row → State → State → TableError → Type 0
-FailsToShow IsReadable sql params old new e = (why : ReadFault) × (e ≡ told why) × FailsToAnswer IsReadable sql params old new why
+FailsToShow IsReadable sql params old new e =
+    (why : ReadFault) × (e ≡ told why) × FailsToAnswer IsReadable sql params old new why

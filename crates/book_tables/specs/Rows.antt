@@ -1,4 +1,5 @@
--- The rows of the office's tables: the records that they are, and the values that are stored of each.
+-- The rows of the office's tables: the records that they are, and the values that are stored of
+-- each.
 use Rattle.std.specs.Prelude.{ℕ, pos, List, [], ◌∷◌, Option, Some, None}
 use Rattle.sqlite.specs.Order.{Row}
 use Rattle.sqlite.specs.declared.types.Value.{Value}
@@ -17,7 +18,8 @@ pub record StepRow : Type 0 where
   pub place : ℕ
   pub step : Step
 
--- all rows of the office's tables, in the order in which they stand; shifts and sales by their numbers
+-- all rows of the office's tables, in the order in which they stand; shifts and sales by their
+-- numbers
 pub record Rows : Type 0 where
   pub tariffs : List (List ℕ)
   pub steps : List StepRow
@@ -41,7 +43,8 @@ secret_of key = digits_text 16 16 key
 abbrev pub format : ℕ
 format = 1
 
--- what is stored of columns of which the first is the row's number: the number stands in front, and NULL in its column
+-- what is stored of columns of which the first is the row's number: the number stands in front, and
+-- NULL in its column
 abbrev pub keyed : Row → Row
 keyed [] = []
 keyed (n ∷ columns) = n ∷ Null ∷ columns
@@ -57,16 +60,17 @@ abbrev pub step_columns : StepRow → Row
 step_columns r = Text r.tariff ∷ number r.place ∷ optional r.step.ends ∷ number r.step.price ∷ []
 
 abbrev pub meter_columns : (List ℕ × Meter) → Row
-meter_columns m = Text m.0 ∷ number (year_of m.1.base) ∷ Text m.1.tariff ∷ Text (secret_of m.1.key) ∷ []
+meter_columns m =
+    Text m.0 ∷ number (year_of m.1.base) ∷ Text m.1.tariff ∷ Text (secret_of m.1.key) ∷ []
 
 abbrev pub shift_columns : Shift → Row
 shift_columns s = number s.number ∷ Text s.operator ∷ number s.opened ∷ optional s.closed ∷ []
 
 abbrev pub sale_columns : Sale → Row
 sale_columns s =
-    number s.number ∷ number s.moment ∷ number (month_at s.moment) ∷ number s.shift ∷ Text s.operator ∷ Text s.order_ref
-    ∷ Text s.meter ∷ number (year_of s.base) ∷ number s.tid ∷ number s.rnd ∷ number s.tenths ∷ number s.price
-    ∷ number s.tender ∷ Text s.digits ∷ []
+    number s.number ∷ number s.moment ∷ number (month_at s.moment) ∷ number s.shift
+    ∷ Text s.operator ∷ Text s.order_ref ∷ Text s.meter ∷ number (year_of s.base) ∷ number s.tid
+    ∷ number s.rnd ∷ number s.tenths ∷ number s.price ∷ number s.tender ∷ Text s.digits ∷ []
 
 -- what is stored of the rows that have a number
 abbrev pub about_row : Row
@@ -90,9 +94,9 @@ shown_shift s = shift_columns s
 
 abbrev pub shown_sale : Sale → Row
 shown_sale s =
-    number s.number ∷ number s.moment ∷ number s.shift ∷ Text s.operator ∷ Text s.order_ref ∷ Text s.meter
-    ∷ number (year_of s.base) ∷ number s.tid ∷ number s.rnd ∷ number s.tenths ∷ number s.price ∷ number s.tender
-    ∷ Text s.digits ∷ []
+    number s.number ∷ number s.moment ∷ number s.shift ∷ Text s.operator ∷ Text s.order_ref
+    ∷ Text s.meter ∷ number (year_of s.base) ∷ number s.tid ∷ number s.rnd ∷ number s.tenths
+    ∷ number s.price ∷ number s.tender ∷ Text s.digits ∷ []
 
 -- the one column that is a number
 abbrev pub shown_number : ℕ → Row

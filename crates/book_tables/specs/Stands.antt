@@ -7,7 +7,8 @@ use Rattle.vend_core.specs.declared.meter.Meter.{Meter}
 
 -- the tariff of the row's name has its step, at its place
 abbrev pub HasStep : Office → StepRow → Type 0
-HasStep o r = (steps : List Step) × (o.tariffs r.tariff ≡ Some steps) × (slice_get steps r.place ≡ Some r.step)
+HasStep o r =
+    (steps : List Step) × (o.tariffs r.tariff ≡ Some steps) × (slice_get steps r.place ≡ Some r.step)
 
 -- two rows of steps that are not at one place of one tariff
 abbrev pub AreApart : StepRow → StepRow → Type 0
@@ -17,7 +18,8 @@ AreApart a b = a.tariff ≡ b.tariff → a.place ≢ b.place
 pub record AreMembersOf (rows : Rows) (o : Office) : Type 0 where
   pub tariffs : (name : List ℕ) → IsSome (o.tariffs name) ↔ Contains rows.tariffs name
   pub steps : (r : StepRow) → HasStep o r ↔ Contains rows.steps r
-  pub meters : (number : List ℕ) (m : Meter) → (o.meters number ≡ Some m) ↔ Contains rows.meters (number, m)
+  pub meters : (number : List ℕ) (m : Meter)
+      → (o.meters number ≡ Some m) ↔ Contains rows.meters (number, m)
   pub shifts : rows.shifts ≡ o.shifts
   pub sales : rows.sales ≡ o.sales
   pub tariffs_once : AllPairs (λ a b. a ≢ b) rows.tariffs

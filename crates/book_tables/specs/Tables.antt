@@ -12,15 +12,39 @@ use Rattle.sqlite_value.specs.declared.keys.Order.{Order}
 -- a column of whole numbers, one of texts, and one of whole numbers that may be NULL
 abbrev pub number_column : List ℕ → Column
 number_column name =
-    record { name = name; kind = Integer; is_strict = true; not_null = true; default = Null; collation = Binary }
+    record {
+      name = name;
+      kind = Integer;
+      is_strict = true;
+      not_null = true;
+      default =
+          Null;
+      collation = Binary;
+    }
 
 abbrev pub text_column : List ℕ → Column
 text_column name =
-    record { name = name; kind = Text; is_strict = true; not_null = true; default = Null; collation = Binary }
+    record {
+      name = name;
+      kind = Text;
+      is_strict = true;
+      not_null = true;
+      default =
+          Null;
+      collation = Binary;
+    }
 
 abbrev pub optional_column : List ℕ → Column
 optional_column name =
-    record { name = name; kind = Integer; is_strict = true; not_null = false; default = Null; collation = Binary }
+    record {
+      name = name;
+      kind = Integer;
+      is_strict = true;
+      not_null = false;
+      default =
+          Null;
+      collation = Binary;
+    }
 
 -- the column that is the number of the row
 abbrev pub key_column : List ℕ → Column
@@ -42,7 +66,8 @@ reference_to place parent key = record {
 }
 
 -- a table of these columns: its number, if it has one, its keys and its references
-abbrev pub strict_table : List ℕ → ℕ → List Column → Option ℕ → List ℕ → List (List ℕ) → List Reference → Table
+abbrev pub strict_table : List ℕ → ℕ → List Column → Option ℕ → List ℕ → List (List ℕ)
+    → List Reference → Table
 strict_table name tree columns key primary uniques references = record {
   name = name;
   tree = tree;
@@ -60,12 +85,14 @@ strict_table name tree columns key primary uniques references = record {
 
 abbrev pub about_table : ℕ → Table
 about_table tree =
-    strict_table (codes "about") tree (key_column (codes "id") ∷ number_column (codes "format") ∷ [])
+    strict_table (codes "about") tree
+    (key_column (codes "id") ∷ number_column (codes "format") ∷ [])
     (Some 0) (0 ∷ []) [] []
 
 abbrev pub tariffs_table : ℕ → Table
 tariffs_table tree =
-    strict_table (codes "tariffs") tree (text_column (codes "name") ∷ []) None (1 ∷ []) ((1 ∷ []) ∷ []) []
+    strict_table (codes "tariffs") tree (text_column (codes "name") ∷ []) None (1 ∷ [])
+    ((1 ∷ []) ∷ []) []
 
 abbrev pub tariff_steps_table : ℕ → Table
 tariff_steps_table tree =
@@ -97,4 +124,5 @@ sales_table tree =
     ∷ number_column (codes "rnd") ∷ number_column (codes "tenths") ∷ number_column (codes "price")
     ∷ number_column (codes "tender") ∷ text_column (codes "digits") ∷ [])
     (Some 0) (0 ∷ []) ((5 ∷ 6 ∷ []) ∷ (7 ∷ 8 ∷ 9 ∷ []) ∷ [])
-    (reference_to 4 (codes "shifts") (codes "number") ∷ reference_to 7 (codes "meters") (codes "meter") ∷ [])
+    (reference_to 4 (codes "shifts") (codes "number") ∷ reference_to 7 (codes "meters")
+    (codes "meter") ∷ [])

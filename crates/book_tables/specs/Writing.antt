@@ -24,13 +24,16 @@ use Rattle.book_tables.specs.Rows.{Rows, StepRow}
 abbrev pub IsOfNone : Schema → List (List ℕ) → ℕ → Type 0
 IsOfNone s names tree = AllByRecursion (λ name. tree ≢ tree_in s name) names
 
--- Only the tables of these names may have other rows. The schema and the rows of every other table are as they were, and so is what SQL here does not understand. Nothing is committed.
+-- Only the tables of these names may have other rows. The schema and the rows of every other table
+-- are as they were, and so is what SQL here does not understand. Nothing is committed.
 pub record WritesOnly (names : List (List ℕ)) (old new : State) : Type 0 where
   pub inside : Shows old new new.now old.committed true
   pub marks : new.marks ≡ old.marks
   pub schema : new.now.schema ≡ old.now.schema
-  pub tables : AllByRecursion (λ u. IsOfNone old.now.schema names u.tree → new.now.trees u.tree ≡ old.now.trees u.tree) old.now.schema.tables
-  pub others : (tree : ℕ) → IsOfNone old.now.schema names tree → IsNoIndex old.now.schema tree → new.now.trees tree ≡ old.now.trees tree
+  pub tables : AllByRecursion (λ u. IsOfNone old.now.schema names u.tree
+      → new.now.trees u.tree ≡ old.now.trees u.tree) old.now.schema.tables
+  pub others : (tree : ℕ) → IsOfNone old.now.schema names tree → IsNoIndex old.now.schema tree
+      → new.now.trees tree ≡ old.now.trees tree
   pub sound : IsDatabase new.now
 
 -- a list with one value more, somewhere among those that it had
@@ -45,7 +48,8 @@ abbrev pub HasMore : {X : Type 0} → List X → List X → List X → Type 0
 HasMore [] old new = new ≡ old
 HasMore (x ∷ xs) old new = (mid : List _) × HasOneMore x old mid × HasMore xs mid new
 
--- The hidden numbers of the rows are whole and rise, as SQLite keeps every table. No clause of `sqlite` says it of a database that is found.
+-- The hidden numbers of the rows are whole and rise, as SQLite keeps every table. No clause of
+-- `sqlite` says it of a database that is found.
 pub record IsInOrder (rows : List Row) : Type 0 where
   pub rises : IsTable rows
   pub are_numbers : AllByRecursion (λ r. IsTrue (is_int (rowid r))) rows
@@ -58,46 +62,67 @@ pub record IsNext {X : Type 0} (number : X → ℕ) (rows : List X) (next : ℕ)
 -- a sale with the next number stands after the others
 pub record AddsSale (s : Sale) (old new : State) : Type 0 where
   pub only : WritesOnly (codes "sales" ∷ []) old new
-  pub rows : (rows : Rows) → Holds old.now rows → IsNext (λ s. s.number) rows.sales s.number → Holds new.now (record rows { sales = rows.sales ++ s ∷ [] })
+  pub rows : (rows : Rows) → Holds old.now rows → IsNext (λ s. s.number) rows.sales s.number
+      → Holds new.now (record rows { sales = rows.sales ++ s ∷ [] })
 
 -- a shift with the next number stands after the others
 pub record AddsShift (s : Shift) (old new : State) : Type 0 where
   pub only : WritesOnly (codes "shifts" ∷ []) old new
-  pub rows : (rows : Rows) → Holds old.now rows → IsNext (λ s. s.number) rows.shifts s.number → Holds new.now (record rows { shifts = rows.shifts ++ s ∷ [] })
+  pub rows : (rows : Rows) → Holds old.now rows → IsNext (λ s. s.number) rows.shifts s.number
+      → Holds new.now (record rows { shifts = rows.shifts ++ s ∷ [] })
 
 -- the shift of this number is closed at this moment, and stays in its place
 pub record ClosesShift (number moment : ℕ) (old new : State) : Type 0 where
   pub only : WritesOnly (codes "shifts" ∷ []) old new
-  pub rows : (rows : Rows) → Holds old.now rows → AreNumbered (λ s. s.number) rows.shifts → Holds new.now (record rows { shifts = map (shift_closed number moment) rows.shifts })
+  pub rows : (rows : Rows) → Holds old.now rows → AreNumbered (λ s. s.number) rows.shifts
+      → Holds new.now (record rows { shifts = map (shift_closed number moment) rows.shifts })
 
 -- a meter more, which stands after the others where their hidden numbers are in order
 pub record AddsMeter (number : List ℕ) (m : Meter) (old new : State) : Type 0 where
   pub only : WritesOnly (codes "meters" ∷ []) old new
-  pub rows : (rows : Rows) → Holds old.now rows → (meters : List (List ℕ × Meter)) × HasOneMore (number, m) rows.meters meters × Holds new.now (record rows { meters = meters })
-  pub last : (rows : Rows) → Holds old.now rows → IsInOrder (rows_in old.now (codes "meters")) → Holds new.now (record rows { meters = rows.meters ++ (number, m) ∷ [] }) × IsInOrder (rows_in new.now (codes "meters"))
+  pub rows : (rows : Rows) → Holds old.now rows
+      → (meters : List (List ℕ × Meter)) × HasOneMore (number, m) rows.meters meters × Holds new.now
+      (record rows { meters = meters })
+  pub last : (rows : Rows) → Holds old.now rows → IsInOrder (rows_in old.now (codes "meters"))
+      → Holds new.now (record rows { meters = rows.meters ++ (number, m) ∷ [] }) × IsInOrder
+      (rows_in new.now (codes "meters"))
 
 -- the name of a tariff more
 pub record AddsName (name : List ℕ) (old new : State) : Type 0 where
   pub only : WritesOnly (codes "tariffs" ∷ []) old new
-  pub rows : (rows : Rows) → Holds old.now rows → (tariffs : List (List ℕ)) × HasOneMore name rows.tariffs tariffs × Holds new.now (record rows { tariffs = tariffs })
-  pub last : (rows : Rows) → Holds old.now rows → IsInOrder (rows_in old.now (codes "tariffs")) → Holds new.now (record rows { tariffs = rows.tariffs ++ name ∷ [] }) × IsInOrder (rows_in new.now (codes "tariffs"))
+  pub rows : (rows : Rows) → Holds old.now rows
+      → (tariffs : List (List ℕ)) × HasOneMore name rows.tariffs tariffs × Holds new.now
+      (record rows { tariffs = tariffs })
+  pub last : (rows : Rows) → Holds old.now rows → IsInOrder (rows_in old.now (codes "tariffs"))
+      → Holds new.now (record rows { tariffs = rows.tariffs ++ name ∷ [] }) × IsInOrder
+      (rows_in new.now (codes "tariffs"))
 
 -- the row of a step more
 pub record AddsStep (r : StepRow) (old new : State) : Type 0 where
   pub only : WritesOnly (codes "tariff_steps" ∷ []) old new
-  pub rows : (rows : Rows) → Holds old.now rows → (steps : List StepRow) × HasOneMore r rows.steps steps × Holds new.now (record rows { steps = steps })
-  pub last : (rows : Rows) → Holds old.now rows → IsInOrder (rows_in old.now (codes "tariff_steps")) → Holds new.now (record rows { steps = rows.steps ++ r ∷ [] }) × IsInOrder (rows_in new.now (codes "tariff_steps"))
+  pub rows : (rows : Rows) → Holds old.now rows
+      → (steps : List StepRow) × HasOneMore r rows.steps steps × Holds new.now
+      (record rows { steps = steps })
+  pub last : (rows : Rows) → Holds old.now rows → IsInOrder (rows_in old.now (codes "tariff_steps"))
+      → Holds new.now (record rows { steps = rows.steps ++ r ∷ [] }) × IsInOrder
+      (rows_in new.now (codes "tariff_steps"))
 
 -- the meter of this number has this tariff, and stays in its place
 pub record SetsTariff (number name : List ℕ) (old new : State) : Type 0 where
   pub only : WritesOnly (codes "meters" ∷ []) old new
-  pub rows : (rows : Rows) → Holds old.now rows → IsInOrder (rows_in old.now (codes "meters")) → AllPairs (λ a b. a.0 ≢ b.0) rows.meters
-      → Holds new.now (record rows { meters = map (row_with_tariff number name) rows.meters }) × IsInOrder (rows_in new.now (codes "meters"))
+  pub rows : (rows : Rows) → Holds old.now rows → IsInOrder (rows_in old.now (codes "meters"))
+      → AllPairs (λ a b. a.0 ≢ b.0) rows.meters
+      → Holds new.now (record rows { meters = map (row_with_tariff number name) rows.meters })
+      × IsInOrder (rows_in new.now (codes "meters"))
 
 -- a tariff more: its name, and its steps at their places
 pub record AddsTariff (name : List ℕ) (added : List Step) (old new : State) : Type 0 where
   pub only : WritesOnly (codes "tariffs" ∷ codes "tariff_steps" ∷ []) old new
   pub rows : (rows : Rows) → Holds old.now rows
-      → (tariffs : List (List ℕ)) × (steps : List StepRow) × HasOneMore name rows.tariffs tariffs × HasMore (step_rows name added) rows.steps steps × Holds new.now (record rows { tariffs = tariffs; steps = steps })
-  pub last : (rows : Rows) → Holds old.now rows → IsInOrder (rows_in old.now (codes "tariffs")) → IsInOrder (rows_in old.now (codes "tariff_steps"))
-      → Holds new.now (edited (AddTariff name added) rows) × IsInOrder (rows_in new.now (codes "tariffs")) × IsInOrder (rows_in new.now (codes "tariff_steps"))
+      → (tariffs : List (List ℕ)) × (steps : List StepRow) × HasOneMore name rows.tariffs
+      tariffs × HasMore (step_rows name added) rows.steps steps × Holds new.now
+      (record rows { tariffs = tariffs; steps = steps })
+  pub last : (rows : Rows) → Holds old.now rows → IsInOrder (rows_in old.now (codes "tariffs"))
+      → IsInOrder (rows_in old.now (codes "tariff_steps"))
+      → Holds new.now (edited (AddTariff name added) rows) × IsInOrder
+      (rows_in new.now (codes "tariffs")) × IsInOrder (rows_in new.now (codes "tariff_steps"))

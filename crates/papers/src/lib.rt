@@ -1,4 +1,4 @@
-//! The papers of a vending office: receipts, shift reports, exports, and the files that it imports.
+//! What a vending office prints and reads: receipts, shift reports, exports, and files of imports.
 //!
 //! `docs/TEXTS.md` has each text and file with an example, and `specs/` has them as definitions.
 #![tactic(auto)]
