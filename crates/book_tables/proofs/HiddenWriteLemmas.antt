@@ -1,18 +1,15 @@
 -- What the rows of the tariffs, their steps and the meters are after a write. SQLite chooses the numbers of these rows.
-use Rattle.std.proofs.Common.{◌≡◌, ◌≢◌, ℕ, pos, Bool, false, List, [], ◌∷◌, ◌++◌, length, map, filter, find, drop, Ordering, Less, Equal, Greater, ◌≤◌, codes, refl, sym, ap, ◌∙◌, subst}
+use Rattle.std.proofs.Common.{◌≡◌, ◌≢◌, ℕ, pos, Bool, List, [], ◌∷◌, ◌++◌, length, map, filter, find, drop, ◌≤◌, codes, refl, sym, ap, ◌∙◌, subst}
 use Rattle.std.specs.Prelude.{AllPairs, bytes_eq}
-use Rattle.std.proofs.lemmas.Bool.{false≢true}
 use Rattle.std.proofs.lemmas.List.{map-append}
 use Rattle.std.proofs.lemmas.Slice.Eq.{bytes_eq-Decides}
 use Rattle.sqlite.specs.Order.{Row}
 use Rattle.sqlite.specs.State.{State}
-use Rattle.sqlite_value.specs.Order.{value_cmp}
 use Rattle.sqlite_value.specs.declared.value.Value.TheVariants.{Null, Text}
-use Rattle.sqlite_trees.specs.Tree.{put_row, rowid}
+use Rattle.sqlite_trees.specs.Tree.{put_row}
 use Rattle.sqlite_sql.specs.Term.{Term}
 use Rattle.sqlite_rules.specs.declared.error.Rowids.TheVariants.{Chosen}
-use Rattle.sqlite_rules.specs.Edit.{is_taken, with_rowid}
-use Rattle.sqlite_schema.specs.declared.schema.Schema.{Schema}
+use Rattle.sqlite_rules.specs.Edit.{with_rowid}
 use Rattle.sqlite_schema.specs.declared.schema.Table.{Table}
 use Rattle.sqlite_typed.proofs.TestLemmas.{last_term}
 use Rattle.one_table.specs.InTransaction.{PutsRow, SetsRows}
@@ -27,42 +24,16 @@ use Rattle.sts_fields.specs.Base.{year_of}
 use Rattle.vend_core.specs.Fold.{with_tariff}
 use Rattle.vend_core.specs.PlainRows.{row_with_tariff}
 use Rattle.vend_core.specs.declared.meter.Meter.{Meter}
-use Rattle.book_tables.specs.Holds.{rows_in}
+use Rattle.book_tables.specs.Holds.{IsInOrder}
 use Rattle.book_tables.specs.Rows.{StepRow, meter_columns, step_columns, tariff_columns}
 use Rattle.book_tables.specs.Tables.{meters_table, tariff_steps_table, tariffs_table}
-use Rattle.book_tables.specs.Writing.{AddsMeter, AddsName, AddsStep, HasOneMore, IsInOrder, SetsTariff}
+use Rattle.book_tables.specs.Writing.{AddsMeter, AddsName, AddsStep, SetsTariff}
 use Rattle.book_tables.proofs.KeptLemmas.{meters_changed, steps_changed, tariffs_changed}
 use Rattle.book_tables.proofs.ListLemmas.{NotBothPass, first_is_all, pairs_weaker}
 use Rattle.book_tables.proofs.WriteLemmas.{cast_optional, changes_only, few, only_one}
 use Rattle.book_tables.proofs.WriteTexts.{four_terms, is_that_meter, one_term, tariff_set_query, tariff_set_terms}
 
 -- ---- one row more
-
-module _ {X : Type 0} (stored : X → Row) (r : Row) (x : X) (is : drop 1 r ≡ stored x) where
-  record IsAmong (rows : List Row) (xs : List X) : Type 0 where
-    ys : List X
-    more : HasOneMore x xs ys
-    holds : map (drop 1) (put_row r rows) ≡ map stored ys
-
-  put_among : (rows : List Row) (xs : List X) → map (drop 1) rows ≡ map stored xs → is_taken rows r ≡ false → IsAmong rows xs
-  put_among [] [] e fresh = record { ys = x ∷ []; more = record { before = []; after = []; old_is = refl; new_is = refl }; holds = ap (λ c. c ∷ []) is }
-  put_among [] (y ∷ xs) e fresh = cc
-  put_among (q ∷ rows) [] e fresh = cc
-  put_among (q ∷ rows) (y ∷ xs) e fresh =
-      let first : drop 1 q ≡ stored y = cc in
-      let others : map (drop 1) rows ≡ map stored xs = cc in
-      by_order (value_cmp (rowid q) (rowid r)) refl first others (λ less. put_among rows xs others (rw less at fresh))
-    where
-      by_order : (o : Ordering) → value_cmp (rowid q) (rowid r) ≡ o → drop 1 q ≡ stored y → map (drop 1) rows ≡ map stored xs → (value_cmp (rowid q) (rowid r) ≡ Less → IsAmong rows xs) → IsAmong (q ∷ rows) (y ∷ xs)
-      by_order Less is_less first others more =
-          let rest = more is_less in
-          record {
-            ys = y ∷ rest.ys;
-            more = record { before = y ∷ rest.more.before; after = rest.more.after; old_is = ap (λ l. y ∷ l) rest.more.old_is; new_is = ap (λ l. y ∷ l) rest.more.new_is };
-            holds = rw (is_less, first, rest.holds) refl;
-          }
-      by_order Equal is_equal first others more = absurd (false≢true (sym (rw is_equal at fresh)))
-      by_order Greater is_greater first others more = record { ys = x ∷ y ∷ xs; more = record { before = []; after = y ∷ xs; old_is = refl; new_is = refl }; holds = rw (is_greater, is, first, others) refl }
 
 -- the rows of a table after a row of it was put in
 module _ {X : Type 0} (stored : X → Row) (t : Table) (terms : List Term) (params : Row) (x : X) (source : source_row t terms params ≡ Null ∷ stored x) (old new : State)
@@ -73,11 +44,6 @@ module _ {X : Type 0} (stored : X → Row) (t : Table) (terms : List Term) (para
   row_is : new_row t terms params rows ≡ with_rowid Chosen rows (Null ∷ stored x)
   row_is = ap (with_rowid Chosen rows) source
 
-  pub stands_among : (xs : List X) → map (drop 1) rows ≡ map stored xs → (ys : List X) × HasOneMore x xs ys × (map (drop 1) (new.now.trees t.tree) ≡ map stored ys)
-  stands_among xs holds =
-      let among = put_among stored (new_row t terms params rows) x (ap (drop 1) row_is) rows xs holds h.fresh in
-      (among.ys, among.more, ap (map (drop 1)) h.changed.rows_are ∙ among.holds)
-
   pub stands_after : (xs : List X) → map (drop 1) rows ≡ map stored xs → IsInOrder rows → (map (drop 1) (new.now.trees t.tree) ≡ map stored (xs ++ x ∷ [])) × IsInOrder (new.now.trees t.tree)
   stands_after xs holds order =
       let last = stands_last (Null ∷ stored x) refl rows order.rises order.are_numbers in
@@ -85,10 +51,6 @@ module _ {X : Type 0} (stored : X → Row) (t : Table) (terms : List Term) (para
         ap (map (drop 1)) put ∙ last.columns ∙ ap (λ (l : List Row). l ++ stored x ∷ []) holds ∙ sym (map-append stored xs (x ∷ [])),
         subst IsInOrder (sym put) (record { rises = last.rises; are_numbers = last.are_numbers }),
       )
-
--- the rows of a name, where the schema stays
-order_there : (name : List ℕ) (old new : State) → new.now.schema ≡ old.now.schema → IsInOrder (new.now.trees (tree_in old.now.schema name)) → IsInOrder (rows_in new.now name)
-order_there name old new same order = subst (λ (s : Schema). IsInOrder (new.now.trees (tree_in s name))) (sym same) order
 
 -- ---- a meter
 
@@ -107,11 +69,8 @@ module _ (old new : State) where
       record {
         only = only;
         rows = λ rows held.
-            let it = stands_among meter_columns meters four_terms (meter_columns (number, m)) (number, m) (meter_source number m) old new h rows.meters held.meters in
-            (it.0, it.1, meters_changed old.now new.now rows held it.0 kept it.2);
-        last = λ rows held order.
-            let it = stands_after meter_columns meters four_terms (meter_columns (number, m)) (number, m) (meter_source number m) old new h rows.meters held.meters order in
-            (meters_changed old.now new.now rows held (rows.meters ++ (number, m) ∷ []) kept it.0, order_there (codes "meters") old new only.schema it.1);
+            let it = stands_after meter_columns meters four_terms (meter_columns (number, m)) (number, m) (meter_source number m) old new h rows.meters held.meters held.meters_in_order in
+            meters_changed old.now new.now rows held (rows.meters ++ (number, m) ∷ []) kept it.0 it.1;
       }
 
   -- ---- the name of a tariff
@@ -130,11 +89,8 @@ module _ (old new : State) where
       record {
         only = only;
         rows = λ rows held.
-            let it = stands_among tariff_columns tariffs one_term (tariff_columns name) name (name_source name) old new h rows.tariffs held.tariffs in
-            (it.0, it.1, tariffs_changed old.now new.now rows held it.0 kept it.2);
-        last = λ rows held order.
-            let it = stands_after tariff_columns tariffs one_term (tariff_columns name) name (name_source name) old new h rows.tariffs held.tariffs order in
-            (tariffs_changed old.now new.now rows held (rows.tariffs ++ name ∷ []) kept it.0, order_there (codes "tariffs") old new only.schema it.1);
+            let it = stands_after tariff_columns tariffs one_term (tariff_columns name) name (name_source name) old new h rows.tariffs held.tariffs held.tariffs_in_order in
+            tariffs_changed old.now new.now rows held (rows.tariffs ++ name ∷ []) kept it.0 it.1;
       }
 
   -- ---- a step
@@ -153,11 +109,8 @@ module _ (old new : State) where
       record {
         only = only;
         rows = λ rows held.
-            let it = stands_among step_columns steps four_terms (step_columns r) r (step_source r) old new h rows.steps held.steps in
-            (it.0, it.1, steps_changed old.now new.now rows held it.0 kept it.2);
-        last = λ rows held order.
-            let it = stands_after step_columns steps four_terms (step_columns r) r (step_source r) old new h rows.steps held.steps order in
-            (steps_changed old.now new.now rows held (rows.steps ++ r ∷ []) kept it.0, order_there (codes "tariff_steps") old new only.schema it.1);
+            let it = stands_after step_columns steps four_terms (step_columns r) r (step_source r) old new h rows.steps held.steps held.steps_in_order in
+            steps_changed old.now new.now rows held (rows.steps ++ r ∷ []) kept it.0 it.1;
       }
 
   -- ---- the tariff of a meter
@@ -186,11 +139,11 @@ module _ (old new : State) where
       let only = only_one (codes "meters") meters _ old new refl h.changed in
       record {
         only = only;
-        rows = λ rows held order apart.
+        rows = λ rows held apart.
+            let order = held.meters_in_order in
             let set = sets_hidden meter_columns (is_that number) (renamed name) meters is_that_meter tariff_set_terms (Text number ∷ Text name ∷ []) (setting number name) (λ r none. cc)
             old new rows.meters h held.meters order.rises order.are_numbers (one_at_most number rows.meters apart) in
-            let in_order : IsInOrder set.rows = record { rises = set.rises; are_numbers = set.are_numbers } in (
-              meters_changed old.now new.now rows held (map (row_with_tariff number name) rows.meters) (changes_only (codes "meters") old new only) (ap (map (drop 1)) set.changed.rows_are ∙ set.holds),
-              order_there (codes "meters") old new only.schema (subst IsInOrder (sym set.changed.rows_are) in_order),
-            );
+            let in_order : IsInOrder set.rows = record { rises = set.rises; are_numbers = set.are_numbers } in
+            meters_changed old.now new.now rows held (map (row_with_tariff number name) rows.meters) (changes_only (codes "meters") old new only)
+            (ap (map (drop 1)) set.changed.rows_are ∙ set.holds) (subst IsInOrder (sym set.changed.rows_are) in_order);
       }

@@ -28,6 +28,8 @@ pub mod ShiftTexts
 pub mod SoldLemmas
 pub mod SoldTexts
 pub mod StepLemmas
+pub mod StepListLemmas
+pub mod StepTexts
 pub mod TariffLemmas
 pub mod TariffWriteLemmas
 pub mod TextLemmas

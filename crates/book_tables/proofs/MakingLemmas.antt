@@ -30,13 +30,13 @@ use Rattle.one_table.proofs.MakingLemmas.{all_grow}
 use Rattle.one_table.proofs.ReferenceLemmas.{untaken_harmless}
 use Rattle.vend_core.proofs.OfficeLemmas.{empty_is_office}
 use Rattle.book_tables.specs.Edited.{no_rows}
-use Rattle.book_tables.specs.Holds.{HasOffice, Holds, IsUntaken, rows_in, table_names}
+use Rattle.book_tables.specs.Holds.{HasOffice, Holds, IsInOrder, IsUntaken, rows_in, table_names}
 use Rattle.book_tables.specs.Making.{HasRoom, MakesOffice, office_tables}
 use Rattle.book_tables.specs.Rows.{about_row, number}
 use Rattle.book_tables.specs.Tables.{about_table, meters_table, sales_table, shifts_table, tariff_steps_table, tariffs_table}
 use Rattle.book_tables.specs.Texts.{about_text, meters_text, sales_text, shifts_text, tariff_steps_text, tariffs_text}
 use Rattle.book_tables.proofs.EditLemmas.{no_members}
-use Rattle.book_tables.proofs.KeptLemmas.{ChangesOnly, rows_kept, names_differ}
+use Rattle.book_tables.proofs.KeptLemmas.{ChangesOnly, names_differ, rows_kept, shows_more}
 use Rattle.book_tables.proofs.TextLemmas.{about_defined, meters_defined, sales_defined, shifts_defined, tariff_steps_defined, tariffs_defined}
 
 abbrev pub office_texts : List (List ℕ)
@@ -90,6 +90,9 @@ format_is : (tree : ℕ) (rows : List Row) → rows ≡ [] → put_row (new_row 
 format_is tree rows none = rw (none, cast_int (pos 1), cast_no_int) refl
 
 -- ---- the others
+
+none_in_order : (rows : List Row) → rows ≡ [] → IsInOrder rows
+none_in_order rows none = let order : IsInOrder [] = record { rises = tt; are_numbers = tt } in subst IsInOrder (sym none) order
 
 not_found : {X : Type 0} (p : X → Bool) (xs : List X) (x : X) → find p xs ≡ None → Member xs x → p x ≡ false
 not_found p [] x none there = absurd there
@@ -151,6 +154,9 @@ module _ (old mid new : State) (room : HasRoom old) (shows : StaysInside old mid
     meters = ap (map (drop 1)) (still_empty (meters_table 0) m.new.1.1.1.0.0 m.new.1.1.1.0.1 (names_differ _ _ refl));
     shifts = still_empty (shifts_table 0) m.new.1.1.1.1.0.0 m.new.1.1.1.1.0.1 (names_differ _ _ refl);
     sales = still_empty (sales_table 0) m.new.1.1.1.1.1.0.0 m.new.1.1.1.1.1.0.1 (names_differ _ _ refl);
+    tariffs_in_order = none_in_order (rows_in new.now (codes "tariffs")) (still_empty (tariffs_table 0) m.new.1.0.0 m.new.1.0.1 (names_differ _ _ refl));
+    steps_in_order = none_in_order (rows_in new.now (codes "tariff_steps")) (still_empty (tariff_steps_table 0) m.new.1.1.0.0 m.new.1.1.0.1 (names_differ _ _ refl));
+    meters_in_order = none_in_order (rows_in new.now (codes "meters")) (still_empty (meters_table 0) m.new.1.1.1.0.0 m.new.1.1.1.0.1 (names_differ _ _ refl));
   }
 
   rows_stay : KeepsRows old.now.schema.tables old.now.trees new.now.trees
@@ -162,7 +168,7 @@ module _ (old mid new : State) (room : HasRoom old) (shows : StaysInside old mid
 
   pub makes_office : MakesOffice old new
   makes_office = record {
-    inside = record { was_open = shows.was_open; is_open = put.changed.inside.is_open; now_is = refl; committed_is = put.changed.inside.committed_is ∙ shows.committed_is; mode = put.changed.inside.mode };
+    inside = shows_more old mid new shows put.changed.inside;
     empty = holds;
     stands = record { office = empty_is_office; held = inl (no_rows, holds, no_members) };
     schema = put.changed.schema ∙ m.schema;

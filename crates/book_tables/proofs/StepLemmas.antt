@@ -1,20 +1,21 @@
 -- The steps of a tariff, in the order of their places.
-use Rattle.std.proofs.Common.{◌≡◌, ◌≢◌, ◌++◌, cond, ◌+◌, ◌-◌, ◌<◌, ◌≤◌, ◌<ℤ◌, ◌⊎◌, inl, inr, ℕ, suc, true, false, List, [], ◌∷◌, filter, map, not, pos, slice_get, Option, Some, zero, arith, refl, sym, ap, subst, ◌∙◌, eq-eqb, IsPermutation}
+use Rattle.std.proofs.Common.{◌≡◌, ◌≢◌, ◌++◌, cond, get_or, ◌+◌, ◌-◌, ◌<◌, ◌≤◌, ◌<ℤ◌, ◌⊎◌, inl, inr, ℕ, suc, true, false, List, [], ◌∷◌, filter, map, not, pos, slice_get, Option, Some, zero, arith, refl, sym, ap, subst, ◌∙◌, eq-eqb, IsPermutation}
 use Rattle.std.specs.Prelude.{◌==◌, AllPairs, Bool, Contains}
 use Rattle.std.specs.List.{AllByRecursion, enumerate_from}
 use Rattle.std.proofs.lemmas.Bool.{false≢true}
 use Rattle.std.proofs.lemmas.Bool.Decides.{nat_tests}
 use Rattle.std.proofs.lemmas.Int.{ints}
+use Rattle.std.proofs.lemmas.List.Elements.{Contains-get_or}
 use Rattle.std.proofs.lemmas.List.Kept.{AllPairs-filter}
 use Rattle.std.proofs.lemmas.List.Sorted.{IsPermutation-cons, IsPermutation-filter_both, IsPermutation-refl, IsPermutation-trans}
 use Rattle.tariff.specs.declared.step.Step.{Step}
 use Rattle.book_tables.specs.Rows.{StepRow}
 use Rattle.book_tables.proofs.SaleListLemmas.{IsRising}
-use Rattle.book_tables.proofs.ListLemmas.{NotBothPass, contains_cases, contains_first, contains_further, contains_none, one_passes, pairs_first, pairs_rest, pairs_weaker}
+use Rattle.book_tables.proofs.ListLemmas.{NotBothPass, contains_cases, contains_first, contains_further, contains_none, no_pairs, one_passes, pairs_cons, pairs_first, pairs_rest, pairs_weaker}
 
 -- ---- what passes a test stands in a list
 
-passes_there : {X : Type 0} (p : X → Bool) (xs : List X) (x : X) → Contains xs x → p x ≡ true → Contains (filter p xs) x
+pub passes_there : {X : Type 0} (p : X → Bool) (xs : List X) (x : X) → Contains xs x → p x ≡ true → Contains (filter p xs) x
 passes_there p [] x there passes = absurd (contains_none x there)
 passes_there {X} p (y ∷ ys) x there passes = by_test (p y) refl (contains_cases y x ys there) (λ further. passes_there p ys x further passes)
   where
@@ -24,7 +25,7 @@ passes_there {X} p (y ∷ ys) x there passes = by_test (p y) refl (contains_case
     by_test false is (inl same) more = absurd (false≢true (sym is ∙ ap p same ∙ passes))
     by_test false is (inr further) more = more further
 
-there_passes : {X : Type 0} (p : X → Bool) (xs : List X) (x : X) → Contains (filter p xs) x → Contains xs x × (p x ≡ true)
+pub there_passes : {X : Type 0} (p : X → Bool) (xs : List X) (x : X) → Contains (filter p xs) x → Contains xs x × (p x ≡ true)
 there_passes p [] x there = absurd (contains_none x there)
 there_passes {X} p (y ∷ ys) x there = by_test (p y) refl there (λ further. let rest = there_passes p ys x further in (contains_further y x ys rest.0, rest.1))
   where
@@ -35,10 +36,18 @@ there_passes {X} p (y ∷ ys) x there = by_test (p y) refl there (λ further. le
     ]
     by_test false is there more = more there
 
+-- a relation of all pairs, and what it says of two that pass
+pub pairs_that_pass : {X : Type 0} (R S : X → X → Type 0) (p : X → Bool) (xs : List X) → ((a b : X) → p a ≡ true → p b ≡ true → R a b → S a b) → AllPairs R xs → AllPairs S (filter p xs)
+pairs_that_pass R S p xs weaker pairs i j d before within =
+    let ys = filter p xs in
+    let left = there_passes p xs (get_or ys i d) (Contains-get_or ys i d (omega (arith, before, within))) in
+    let right = there_passes p xs (get_or ys j d) (Contains-get_or ys j d within) in
+    weaker (get_or ys i d) (get_or ys j d) left.1 right.1 (AllPairs-filter R p xs pairs i j d before within)
+
 -- ---- lists of the same elements, of which no two have one key
 
 module _ {X : Type 0} (key : X → ℕ) where
-  abbrev DifferInKey : X → X → Type 0
+  abbrev pub DifferInKey : X → X → Type 0
   DifferInKey a b = key a ≢ key b
 
   pub permuted : (xs ys : List X) → AllPairs DifferInKey xs → AllPairs DifferInKey ys → ((x : X) → Contains xs x → Contains ys x) → ((x : X) → Contains ys x → Contains xs x) → IsPermutation xs ys
@@ -73,7 +82,7 @@ module _ (name : List ℕ) where
   rows_rise first (s ∷ steps) = (rows_above first (first + 1) (omega arith) steps, rows_rise (first + 1) steps)
 
   -- a row of the list has its step at its place
-  row_there : (first : ℕ) (steps : List Step) (r : StepRow) → Contains (rows_from first steps) r → (r.tariff ≡ name) × (first ≤ r.place) × (slice_get steps (r.place - first) ≡ Some r.step)
+  pub row_there : (first : ℕ) (steps : List Step) (r : StepRow) → Contains (rows_from first steps) r → (r.tariff ≡ name) × (first ≤ r.place) × (slice_get steps (r.place - first) ≡ Some r.step)
   row_there first [] r there = absurd (contains_none r there)
   row_there first (s ∷ steps) r there = elim (contains_cases (record { tariff = name; place = first; step = s }) r (rows_from (first + 1) steps) there) [
     | inl same ↦ (
@@ -88,7 +97,7 @@ module _ (name : List ℕ) where
         (rest.0, omega (arith, rest.1), subst (λ k. slice_get (s ∷ steps) k ≡ Some r.step) at rest.2)
   ]
 
-  there_row : (first : ℕ) (steps : List Step) (i : ℕ) (s : Step) → slice_get steps i ≡ Some s → Contains (rows_from first steps) (record { tariff = name; place = first + i; step = s })
+  pub there_row : (first : ℕ) (steps : List Step) (i : ℕ) (s : Step) → slice_get steps i ≡ Some s → Contains (rows_from first steps) (record { tariff = name; place = first + i; step = s })
   there_row first [] i s there = absurd (let e = there in cc)
   there_row first (x ∷ steps) zero s there =
       let same : x ≡ s = cc in
@@ -99,3 +108,10 @@ module _ (name : List ℕ) where
       let at : first + 1 + i ≡ first + suc i = omega arith in
       subst (λ k. Contains (rows_from first (x ∷ steps)) (record { tariff = name; place = k; step = s })) at
       (contains_further (record { tariff = name; place = first; step = x }) (record { tariff = name; place = first + 1 + i; step = s }) (rows_from (first + 1) steps) (there_row (first + 1) steps i s there))
+
+  -- no two of them are at one place
+  pub rows_differ : (first : ℕ) (steps : List Step) → AllPairs (DifferInKey (λ (r : StepRow). r.place)) (rows_from first steps)
+  rows_differ first [] = no_pairs (DifferInKey (λ (r : StepRow). r.place))
+  rows_differ first (s ∷ steps) =
+      pairs_cons (DifferInKey (λ (r : StepRow). r.place)) (record { tariff = name; place = first; step = s }) (rows_from (first + 1) steps) (rows_differ (first + 1) steps)
+      (λ r there same. let at = (row_there (first + 1) steps r there).1 in omega (arith, at, same))

@@ -1,11 +1,13 @@
 -- The office's tables in a database, and the office that a database stands for. Other tables do not
 -- count.
-use Rattle.std.specs.Prelude.{◌≡◌, ◌⊎◌, ℕ, true, not, List, [], ◌∷◌, codes, drop, map}
-use Rattle.std.specs.List.{list_all}
+use Rattle.std.specs.Prelude.{◌≡◌, ◌⊎◌, ℕ, true, not, List, [], ◌∷◌, codes, drop, map, IsTrue}
+use Rattle.std.specs.List.{AllByRecursion, list_all}
 use Rattle.sqlite.specs.Effect.{Database}
 use Rattle.sqlite.specs.Order.{Row}
 use Rattle.sqlite_catalog.specs.Change.{is_used}
 use Rattle.sqlite_schema.specs.declared.schema.Schema.{Schema}
+use Rattle.sqlite_trees.specs.Tree.{IsTable, rowid}
+use Rattle.sqlite_trees.specs.View.{is_int}
 use Rattle.one_table.specs.Referring.{is_left_alone, is_unreferred}
 use Rattle.one_table.specs.Standing.{Stands, tree_in}
 use Rattle.vend_core.specs.Office.{IsOffice, Office, empty_office}
@@ -47,7 +49,14 @@ rows_in db name = db.trees (tree_in db.schema name)
 abbrev pub columns_in : Database → List ℕ → List Row
 columns_in db name = map (drop 1) (rows_in db name)
 
--- the database has the office's tables, and exactly these rows in them
+-- the numbers of the rows, which stand in front of their columns, are whole and rise
+pub record IsInOrder (rows : List Row) : Type 0 where
+  pub rises : IsTable rows
+  pub are_numbers : AllByRecursion (λ r. IsTrue (is_int (rowid r))) rows
+
+-- The database has the office's tables, and exactly these rows in them. The rows of tariffs, steps
+-- and meters have hidden numbers, in whose order SQLite keeps them. No clause of `sqlite` says that
+-- of a database that is found, so it is said here: then a new row stands last.
 pub record Holds (db : Database) (rows : Rows) : Type 0 where
   pub has : HasOffice db.schema
   pub about : rows_in db (codes "about") ≡ about_row ∷ []
@@ -56,6 +65,9 @@ pub record Holds (db : Database) (rows : Rows) : Type 0 where
   pub meters : columns_in db (codes "meters") ≡ map meter_columns rows.meters
   pub shifts : rows_in db (codes "shifts") ≡ map shift_row rows.shifts
   pub sales : rows_in db (codes "sales") ≡ map sale_row rows.sales
+  pub tariffs_in_order : IsInOrder (rows_in db (codes "tariffs"))
+  pub steps_in_order : IsInOrder (rows_in db (codes "tariff_steps"))
+  pub meters_in_order : IsInOrder (rows_in db (codes "meters"))
 
 -- the database holds the members of the office
 abbrev pub HoldsMembers : Database → Office → Type 0

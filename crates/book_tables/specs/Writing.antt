@@ -1,11 +1,8 @@
 -- What a write inside a transaction makes of the rows, and what it leaves as it was.
-use Rattle.std.specs.Prelude.{◌≡◌, ◌≢◌, ℕ, ◌+◌, true, List, [], ◌∷◌, ◌++◌, codes, length, map, AllPairs, IsTrue}
+use Rattle.std.specs.Prelude.{◌≡◌, ◌≢◌, ℕ, ◌+◌, true, List, [], ◌∷◌, ◌++◌, codes, length, map, AllPairs}
 use Rattle.std.specs.List.{AllByRecursion}
 use Rattle.sqlite.specs.Effect.{IsDatabase}
-use Rattle.sqlite.specs.Order.{Row}
 use Rattle.sqlite.specs.State.{Shows, State}
-use Rattle.sqlite_trees.specs.Tree.{IsTable, rowid}
-use Rattle.sqlite_trees.specs.View.{is_int}
 use Rattle.vend_core.specs.PlainRows.{row_with_tariff}
 use Rattle.tariff.specs.declared.step.Step.{Step}
 use Rattle.vend_core.specs.declared.change.Edit.TheVariants.{AddTariff}
@@ -16,8 +13,8 @@ use Rattle.one_table.specs.Standing.{tree_in}
 use Rattle.vend_core.specs.Office.{AreNumbered}
 use Rattle.vend_core.specs.declared.sale.Sale.{Sale}
 use Rattle.vend_core.specs.declared.shift.Shift.{Shift}
-use Rattle.book_tables.specs.Edited.{edited, shift_closed, step_rows}
-use Rattle.book_tables.specs.Holds.{Holds, rows_in}
+use Rattle.book_tables.specs.Edited.{edited, shift_closed}
+use Rattle.book_tables.specs.Holds.{Holds}
 use Rattle.book_tables.specs.Rows.{Rows, StepRow}
 
 -- the tree is of no table of these names
@@ -35,24 +32,6 @@ pub record WritesOnly (names : List (List ℕ)) (old new : State) : Type 0 where
   pub others : (tree : ℕ) → IsOfNone old.now.schema names tree → IsNoIndex old.now.schema tree
       → new.now.trees tree ≡ old.now.trees tree
   pub sound : IsDatabase new.now
-
--- a list with one value more, somewhere among those that it had
-pub record HasOneMore {X : Type 0} (x : X) (old new : List X) : Type 0 where
-  pub before : List X
-  pub after : List X
-  pub old_is : old ≡ before ++ after
-  pub new_is : new ≡ before ++ x ∷ after
-
--- a list with each of these values more, one after the other
-abbrev pub HasMore : {X : Type 0} → List X → List X → List X → Type 0
-HasMore [] old new = new ≡ old
-HasMore (x ∷ xs) old new = (mid : List _) × HasOneMore x old mid × HasMore xs mid new
-
--- The hidden numbers of the rows are whole and rise, as SQLite keeps every table. No clause of
--- `sqlite` says it of a database that is found.
-pub record IsInOrder (rows : List Row) : Type 0 where
-  pub rises : IsTable rows
-  pub are_numbers : AllByRecursion (λ r. IsTrue (is_int (rowid r))) rows
 
 -- the rows are numbered from 1, and this is the next number
 pub record IsNext {X : Type 0} (number : X → ℕ) (rows : List X) (next : ℕ) : Type 0 where
@@ -77,52 +56,32 @@ pub record ClosesShift (number moment : ℕ) (old new : State) : Type 0 where
   pub rows : (rows : Rows) → Holds old.now rows → AreNumbered (λ s. s.number) rows.shifts
       → Holds new.now (record rows { shifts = map (shift_closed number moment) rows.shifts })
 
--- a meter more, which stands after the others where their hidden numbers are in order
+-- a meter more, which stands after the others
 pub record AddsMeter (number : List ℕ) (m : Meter) (old new : State) : Type 0 where
   pub only : WritesOnly (codes "meters" ∷ []) old new
   pub rows : (rows : Rows) → Holds old.now rows
-      → (meters : List (List ℕ × Meter)) × HasOneMore (number, m) rows.meters meters × Holds new.now
-      (record rows { meters = meters })
-  pub last : (rows : Rows) → Holds old.now rows → IsInOrder (rows_in old.now (codes "meters"))
-      → Holds new.now (record rows { meters = rows.meters ++ (number, m) ∷ [] }) × IsInOrder
-      (rows_in new.now (codes "meters"))
+      → Holds new.now (record rows { meters = rows.meters ++ (number, m) ∷ [] })
 
--- the name of a tariff more
+-- the name of a tariff more, which stands after the others
 pub record AddsName (name : List ℕ) (old new : State) : Type 0 where
   pub only : WritesOnly (codes "tariffs" ∷ []) old new
   pub rows : (rows : Rows) → Holds old.now rows
-      → (tariffs : List (List ℕ)) × HasOneMore name rows.tariffs tariffs × Holds new.now
-      (record rows { tariffs = tariffs })
-  pub last : (rows : Rows) → Holds old.now rows → IsInOrder (rows_in old.now (codes "tariffs"))
-      → Holds new.now (record rows { tariffs = rows.tariffs ++ name ∷ [] }) × IsInOrder
-      (rows_in new.now (codes "tariffs"))
+      → Holds new.now (record rows { tariffs = rows.tariffs ++ name ∷ [] })
 
--- the row of a step more
+-- the row of a step more, which stands after the others
 pub record AddsStep (r : StepRow) (old new : State) : Type 0 where
   pub only : WritesOnly (codes "tariff_steps" ∷ []) old new
   pub rows : (rows : Rows) → Holds old.now rows
-      → (steps : List StepRow) × HasOneMore r rows.steps steps × Holds new.now
-      (record rows { steps = steps })
-  pub last : (rows : Rows) → Holds old.now rows → IsInOrder (rows_in old.now (codes "tariff_steps"))
-      → Holds new.now (record rows { steps = rows.steps ++ r ∷ [] }) × IsInOrder
-      (rows_in new.now (codes "tariff_steps"))
+      → Holds new.now (record rows { steps = rows.steps ++ r ∷ [] })
 
 -- the meter of this number has this tariff, and stays in its place
 pub record SetsTariff (number name : List ℕ) (old new : State) : Type 0 where
   pub only : WritesOnly (codes "meters" ∷ []) old new
-  pub rows : (rows : Rows) → Holds old.now rows → IsInOrder (rows_in old.now (codes "meters"))
-      → AllPairs (λ a b. a.0 ≢ b.0) rows.meters
+  pub rows : (rows : Rows) → Holds old.now rows → AllPairs (λ a b. a.0 ≢ b.0) rows.meters
       → Holds new.now (record rows { meters = map (row_with_tariff number name) rows.meters })
-      × IsInOrder (rows_in new.now (codes "meters"))
 
--- a tariff more: its name, and its steps at their places
+-- a tariff more: its name, and its steps at their places, stand after the others
 pub record AddsTariff (name : List ℕ) (added : List Step) (old new : State) : Type 0 where
   pub only : WritesOnly (codes "tariffs" ∷ codes "tariff_steps" ∷ []) old new
   pub rows : (rows : Rows) → Holds old.now rows
-      → (tariffs : List (List ℕ)) × (steps : List StepRow) × HasOneMore name rows.tariffs
-      tariffs × HasMore (step_rows name added) rows.steps steps × Holds new.now
-      (record rows { tariffs = tariffs; steps = steps })
-  pub last : (rows : Rows) → Holds old.now rows → IsInOrder (rows_in old.now (codes "tariffs"))
-      → IsInOrder (rows_in old.now (codes "tariff_steps"))
-      → Holds new.now (edited (AddTariff name added) rows) × IsInOrder
-      (rows_in new.now (codes "tariffs")) × IsInOrder (rows_in new.now (codes "tariff_steps"))
+      → Holds new.now (edited (AddTariff name added) rows)

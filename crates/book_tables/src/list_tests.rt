@@ -1,12 +1,30 @@
 //! The statements that read many rows, over memory, beside other tables.
 
 use crate::look_up_tests::{ROWS, TABLES, batch, meter_no, second_sale};
-use crate::{TableError, sale_lists, sold};
+use crate::{TableError, sale_lists, sold, tariffs};
 use sqlite::{Alter, Connection};
 use std::alloc::Global;
 use std::test::Fail;
 use sts_fields::Base;
-use vend_core::{MeterNo, Sale};
+use tariff::{Step, Steps};
+use vend_core::{MeterNo, Sale, TariffName};
+
+const STEP_TABLE: &str = "\
+    CREATE TABLE tariff_steps (tariff TEXT NOT NULL REFERENCES tariffs (name), \
+    place INTEGER NOT NULL, ends INTEGER, price INTEGER NOT NULL, UNIQUE (tariff, place)) STRICT";
+
+// The rows stand neither by place nor by price, those of the other tariff between them.
+const STEP_ROWS: &str = "\
+    INSERT INTO tariff_steps VALUES ('home', 7, NULL, 50); \
+    INSERT INTO tariff_steps VALUES ('home', 3, 400, 20); \
+    INSERT INTO tariff_steps VALUES ('shop', 1, NULL, 95); \
+    INSERT INTO tariff_steps VALUES ('home', 0, 100, 30); \
+    INSERT INTO tariff_steps VALUES ('home', 5, 600, 40); \
+    INSERT INTO tariff_steps VALUES ('home', 1, 200, 10); \
+    INSERT INTO tariff_steps VALUES ('shop', 0, 150, 90); \
+    INSERT INTO tariff_steps VALUES ('home', 6, 4294967295, 60); \
+    INSERT INTO tariff_steps VALUES ('home', 2, 300, 1000000); \
+    INSERT INTO tariff_steps VALUES ('home', 4, 500, 70)";
 
 // How many sales a page has, and the first of them.
 fn page<S: Alter>(
@@ -59,5 +77,75 @@ fn gathers_what_was_sold(rt: HostRuntime) -> Result<(), Fail> {
     assert_eq!(rt; sold::greatest_tid(&mut conn, &other, Base::Y2014)?, None);
     assert_eq!(rt; sold::tenths_in_month(&mut conn, &meter, 370)?, 250);
     assert_eq!(rt; sold::tenths_in_month(&mut conn, &meter, 371)?, 0);
+    Ok(())
+}
+
+fn step(ends: Option<u32>, price: u32) -> Step {
+    Step { ends, price }
+}
+
+fn steps_of_home(alloc: Global) -> Result<Steps, Fail> {
+    let list = [
+        step(Some(100), 30),
+        step(Some(200), 10),
+        step(Some(300), 1_000_000),
+        step(Some(400), 20),
+        step(Some(500), 70),
+        step(Some(600), 40),
+        step(Some(4_294_967_295), 60),
+        step(None, 50),
+    ];
+    Ok(Steps::read(alloc, &list)?)
+}
+
+#[test]
+fn lists_the_steps_of_a_tariff(rt: HostRuntime) -> Result<(), Fail> {
+    let mut conn = Connection::open_in_memory(rt.alloc())?;
+    batch(&mut conn, TABLES)?;
+    batch(&mut conn, STEP_TABLE)?;
+    batch(&mut conn, ROWS)?;
+    let home = TariffName::read(b"home").ok_or("a name")?;
+    let shop = TariffName::read(b"shop").ok_or("a name")?;
+    assert_eq!(rt; tariffs::steps_of(rt.alloc(), &mut conn, &home)?, None);
+    batch(&mut conn, STEP_ROWS)?;
+    let found = tariffs::steps_of(rt.alloc(), &mut conn, &home)?;
+    assert_eq!(rt; found, Some(steps_of_home(rt.alloc())?));
+    let others = Steps::read(rt.alloc(), &[step(Some(150), 90), step(None, 95)])?;
+    let found = tariffs::steps_of(rt.alloc(), &mut conn, &shop)?;
+    assert_eq!(rt; found, Some(others));
+    let farm = TariffName::read(b"farm").ok_or("a name")?;
+    assert_eq!(rt; tariffs::steps_of(rt.alloc(), &mut conn, &farm)?, None);
+    Ok(())
+}
+
+#[test]
+fn rows_that_are_no_steps_together(rt: HostRuntime) -> Result<(), Fail> {
+    let mut conn = Connection::open_in_memory(rt.alloc())?;
+    batch(&mut conn, TABLES)?;
+    batch(&mut conn, STEP_TABLE)?;
+    batch(&mut conn, ROWS)?;
+    batch(&mut conn, STEP_ROWS)?;
+    let home = TariffName::read(b"home").ok_or("a name")?;
+    let wrong = [
+        "UPDATE tariff_steps SET ends = NULL WHERE tariff = 'home' AND place = 3",
+        "UPDATE tariff_steps SET ends = 300 WHERE tariff = 'home' AND place = 3",
+        "UPDATE tariff_steps SET ends = 4294967296 WHERE tariff = 'home' AND place = 3",
+    ];
+    for sql in wrong {
+        batch(&mut conn, sql)?;
+        let found = tariffs::steps_of(rt.alloc(), &mut conn, &home);
+        assert_eq!(rt; found, Err(TableError::RowOfNoOffice));
+    }
+    // The connection and the rows are as they were.
+    batch(
+        &mut conn,
+        "UPDATE tariff_steps SET ends = 400 WHERE tariff = 'home' AND place = 3",
+    )?;
+    let found = tariffs::steps_of(rt.alloc(), &mut conn, &home)?;
+    assert_eq!(rt; found, Some(steps_of_home(rt.alloc())?));
+    let ninth = "INSERT INTO tariff_steps VALUES ('home', 8, NULL, 1)";
+    batch(&mut conn, ninth)?;
+    let found = tariffs::steps_of(rt.alloc(), &mut conn, &home);
+    assert_eq!(rt; found, Err(TableError::RowOfNoOffice));
     Ok(())
 }

@@ -1,7 +1,7 @@
 //! The making of the office's tables.
 
-ghost use Rattle.std.specs.Prelude.{◌≡◌, OnOk, OnErr};
-ghost use Rattle.sqlite.specs.State.{HasCleanDisk, KeepsCommit, Survives};
+ghost use Rattle.std.specs.Prelude.{◌≡◌, true, OnOk};
+ghost use Rattle.sqlite.specs.State.{HasCleanDisk, KeepsCommit, Shows, Survives};
 ghost use Rattle.sqlite.specs.Held.{state};
 ghost use Rattle.book_tables.specs.Making.{HasRoom, MakesOffice};
 
@@ -24,9 +24,11 @@ pub fn make_tables<S: Alter>(tx: &mut Transaction<'_, S>) -> Result<(), TableErr
         → HasRoom (state S.Store tx.old.conn.now)
         → OnOk result (MakesOffice
         (state S.Store tx.old.conn.now) (state S.Store tx.new.conn.now)) }
-    ensures refused { HasCleanDisk (state S.Store tx.new.conn.now)
-        → OnErr result (KeepsCommit
-        (state S.Store tx.old.conn.now) (state S.Store tx.new.conn.now)) }
+    ensures inside { HasCleanDisk (state S.Store tx.new.conn.now)
+        → OnOk result (Shows (state S.Store tx.old.conn.now) (state S.Store tx.new.conn.now)
+        (state S.Store tx.new.conn.now).now (state S.Store tx.old.conn.now).committed true) }
+    ensures kept { HasCleanDisk (state S.Store tx.new.conn.now)
+        → KeepsCommit (state S.Store tx.old.conn.now) (state S.Store tx.new.conn.now) }
     ensures survives { Survives
         (state S.Store tx.old.conn.now) (state S.Store tx.new.conn.now) (λ _. ⊥) }
 {

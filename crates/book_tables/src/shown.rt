@@ -8,8 +8,8 @@ ghost use Rattle.sqlite.specs.Held.{state};
 ghost use Rattle.one_table.specs.Answer.{GivesFirst, IsLeft, OnlyAsks};
 ghost use Rattle.book_tables.specs.ReadBack.{ReadsBack};
 ghost use Rattle.book_tables.specs.Reading.{FailsToShow, IsShown, ShowsRecord};
-ghost use Rattle.book_tables.specs.Rows.{shown_meter, shown_number, shown_sale, shown_shift, tariff_columns};
-ghost use Rattle.book_tables.specs.Values.{AreMeterValues, AreSaleValues, AreShiftValues, IsNumber};
+ghost use Rattle.book_tables.specs.Rows.{shown_meter, shown_number, shown_sale, shown_shift, shown_step, tariff_columns};
+ghost use Rattle.book_tables.specs.Values.{AreMeterValues, AreSaleValues, AreShiftValues, AreStepValues, IsNumber};
 ghost use Rattle.vend_core.specs.Names.{IsName};
 
 use crate::error::TableError;
@@ -17,6 +17,7 @@ use crate::records;
 use one_table::{FromRow, ReadFault, read_row};
 use sqlite::types::ValueRef;
 use sqlite::{Alter, Connection, Row};
+use tariff::Step;
 use vend_core::{Meter, Sale, Shift, TariffName};
 
 /// A record that a row of an answer may show.
@@ -108,6 +109,16 @@ impl Record for Meter {
 
     fn of_row(row: &Row) -> Option<Meter> {
         records::meter_of(row)
+    }
+}
+
+impl Record for Step {
+    ghost shown = { shown_step };
+
+    ghost keeps = { AreStepValues };
+
+    fn of_row(row: &Row) -> Option<Step> {
+        records::step_of(row)
     }
 }
 

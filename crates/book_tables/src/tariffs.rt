@@ -1,17 +1,23 @@
 //! The statements on the tables of tariffs.
 
-ghost use Rattle.std.specs.Prelude.{◌≡◌, ◌↔◌, false, Contains, IsTrue, IfOk, IfErr, OnOk, OnErr};
+ghost use Rattle.std.specs.Prelude.{◌≡◌, ◌≢◌, ◌↔◌, ◌⊎◌, [], false, unwrap_or, Contains, IsTrue, IfOk, IfErr, IfSome, OnOk, OnErr};
 ghost use Rattle.sqlite.specs.State.{HasCleanDisk, IsUnchanged, Survives};
 ghost use Rattle.sqlite.specs.Held.{state};
+ghost use Rattle.tariff.specs.Steps.{IsSteps};
+ghost use Rattle.vend_core.specs.Office.{IsOffice, Office};
 ghost use Rattle.one_table.specs.Answer.{IsLeft};
 ghost use Rattle.book_tables.specs.Reading.{AreOfOffice, FailsToRead, HasRows, HasTables};
 ghost use Rattle.book_tables.specs.Rows.{Rows};
+ghost use Rattle.book_tables.specs.Stands.{AreMembersOf};
 
 use crate::error::TableError;
+use crate::listed::all_records;
 use crate::shown::first_record;
-use crate::texts::TARIFF_NAMED;
+use crate::texts::{STEPS_OF, TARIFF_NAMED};
 use crate::values::tariff_values;
-use sqlite::{Alter, Connection};
+use sqlite::{Alter, Connection, Error, ErrorCode};
+use std::alloc::Global;
+use tariff::{Step, Steps, StepsFault};
 use vend_core::TariffName;
 
 /// Whether there is a tariff of a name.
@@ -37,4 +43,55 @@ pub fn has_tariff<S: Alter>(conn: &mut Connection<S>, name: &TariffName) -> Resu
 {
     let found: Option<TariffName> = first_record(conn, TARIFF_NAMED, &tariff_values(name))?;
     Ok(found.is_some())
+}
+
+// A tariff with these steps, or none where there is no step: each tariff of an office has one.
+fn tariff_of(alloc: Global, shown: &[Step]) -> Result<Option<Steps>, TableError>
+    ensures steps { IfOk result (λ found. unwrap_or found [] ≡ shown.now) }
+    ensures kept { IfOk result (λ found. IfSome found IsSteps) }
+    ensures faults { IfErr result (λ e.
+        (e ≡ TableError.Database (Error.SqliteFailure ErrorCode.OutOfMemory))
+        ⊎ ((e ≡ TableError.RowOfNoOffice) × (shown.now ≢ []) × ¬ IsSteps shown.now)) }
+{
+    if shown.is_empty() {
+        return Ok(None);
+    }
+    match Steps::read(alloc, shown) {
+        Ok(steps) => Ok(Some(steps)),
+        Err(StepsFault::Memory) => Err(TableError::Database(Error::SqliteFailure(
+            ErrorCode::OutOfMemory,
+        ))),
+        Err(_) => Err(TableError::RowOfNoOffice),
+    }
+}
+
+/// The steps of the tariff of a name, in the order of their places; `None` where there is none.
+///
+/// # Errors
+/// What the database refuses, want of memory, and rows that are no office's: also those that are
+/// no steps of a tariff together.
+pub fn steps_of<S: Alter>(
+    alloc: Global,
+    conn: &mut Connection<S>,
+    name: &TariffName,
+) -> Result<Option<Steps>, TableError>
+    ensures given { HasCleanDisk (state S.Store conn.new)
+        → (rows : Rows) (o : Office) → HasRows (state S.Store conn.old) rows
+        → IsOffice o → AreMembersOf rows o
+        → IfOk result (λ found. found ≡ o.tariffs name.now) }
+    ensures same { HasCleanDisk (state S.Store conn.new)
+        → HasTables (state S.Store conn.old)
+        → OnOk result (IsUnchanged (state S.Store conn.old) (state S.Store conn.new)) }
+    ensures kept { HasCleanDisk (state S.Store conn.new)
+        → HasTables (state S.Store conn.old)
+        → OnErr result (IsLeft (state S.Store conn.old) (state S.Store conn.new)) }
+    ensures mode { conn.old.in_transaction ≡ false → conn.new.in_transaction ≡ false }
+    ensures faults { HasCleanDisk (state S.Store conn.new)
+        → HasTables (state S.Store conn.old)
+        → IfErr result (FailsToRead (state S.Store conn.old) (state S.Store conn.new)) }
+    ensures survives { HasTables (state S.Store conn.old)
+        → Survives (state S.Store conn.old) (state S.Store conn.new) (λ _. ⊥) }
+{
+    let shown: Vec<Step> = all_records(alloc, conn, STEPS_OF, &tariff_values(name))?;
+    tariff_of(alloc, &shown)
 }

@@ -55,6 +55,9 @@ pub(crate) const METER_NUMBERED: &str = "SELECT base, tariff, secret FROM meters
 
 pub(crate) const TARIFF_NAMED: &str = "SELECT name FROM tariffs WHERE name = ?1";
 
+pub(crate) const STEPS_OF: &str =
+    "SELECT ends, price FROM tariff_steps WHERE tariff = ?1 ORDER BY place";
+
 pub(crate) const NEW_SALE: &str =
     "INSERT INTO sales (number, moment, month, shift, operator, ref, meter, base, tid, rnd, \
     tenths, price, tender, digits) \

@@ -3,8 +3,10 @@ use Rattle.sqlite.specs.Held.{state}
 use Rattle.sqlite.specs.State.{HasCleanDisk}
 use Rattle.std.proofs.lemmas.List.{length-take-le, take_all, take_more}
 use Rattle.tariff.specs.declared.step.Step.{Step}
+use Rattle.one_table.proofs.ChangeLemmas.{keeps_inside, keeps_then}
 use Rattle.book_tables.specs.Writing.{AddsTariff}
-use Rattle.book_tables.proofs.TariffWriteLemmas.{on_err, adds_keeps, adds_next, adds_none, keeps_more, refused_keeps, still_has}
+use Rattle.book_tables.proofs.KeptLemmas.{shows_more}
+use Rattle.book_tables.proofs.TariffWriteLemmas.{adds_next, adds_none, still_has}
 use Rattle.book_tables.proofs.adding.add_tariff.Goals as goal
 
 pub steps-init : goal.steps-init
@@ -12,6 +14,7 @@ steps-init g c = record {
   same = search rules;
   place = search rules;
   survives = search rules;
+  inside = search rules;
   added = λ clean has. adds_none c.args.name.now (state g.S.Store c.args.tx.now.conn.now) (state g.S.Store c.add_name.new.tx.conn.now) (c.in_ok-add_name.ensures.added clean has);
 }
 
@@ -20,6 +23,9 @@ steps-preserved g c = record {
   same = search rules;
   place = search rules;
   survives = search rules;
+  inside = λ clean.
+      let early : HasCleanDisk (state g.S.Store c.steps.tx.conn.now) = omega (arith, c.add_step.ensures.survives.clean) in
+      shows_more (state g.S.Store c.args.tx.now.conn.now) (state g.S.Store c.steps.tx.conn.now) (state g.S.Store c.add_step.new.tx.conn.now) (c.steps.invariant.inside early) (c.in_ok-add_step.ensures.inside clean);
   added = λ clean has.
       let old = state g.S.Store c.args.tx.now.conn.now in
       let mid = state g.S.Store c.steps.tx.conn.now in
@@ -33,16 +39,15 @@ steps-preserved g c = record {
       (adds_next c.args.name.now (take c.steps.step-index c.args.steps.now) c.steps.place step old mid new (c.steps.invariant.place ∙ sym count) so_far last);
 }
 
-pub returns-in_err-add_step-clause-refused : goal.returns-in_err-add_step-clause-refused
-returns-in_err-add_step-clause-refused g c clean has =
-    let old = state g.S.Store c.args.tx.now.conn.now in
-    let mid = state g.S.Store c.steps.tx.conn.now in
-    let new = state g.S.Store c.add_step.new.tx.conn.now in
-    let early : HasCleanDisk mid = omega (arith, c.add_step.ensures.survives.clean) in
-    on_err c.from_residual-in_err-add_step.result
-    (keeps_more old mid new (adds_keeps c.args.name.now _ old mid (c.steps.invariant.added early has)) (refused_keeps g.S.Store c.steps.tx.conn.now c.add_step.new.tx.conn.now (c.in_err-add_step.ensures.refused clean)))
-
 pub returns-clause-added : goal.returns-clause-added
 returns-clause-added g c clean has =
     subst (λ (l : List Step). AddsTariff c.args.name.now l (state g.S.Store c.args.tx.now.conn.now) (state g.S.Store c.steps.tx.conn.now)) (take_all c.steps.step-index c.args.steps.now c.steps-test.false)
     (c.steps.invariant.added clean has)
+
+pub returns-in_err-add_step-clause-kept : goal.returns-in_err-add_step-clause-kept
+returns-in_err-add_step-clause-kept g c clean =
+    let old = state g.S.Store c.args.tx.now.conn.now in
+    let mid = state g.S.Store c.steps.tx.conn.now in
+    let new = state g.S.Store c.add_step.new.tx.conn.now in
+    let early : HasCleanDisk mid = omega (arith, c.add_step.ensures.survives.clean) in
+    keeps_then old mid new (keeps_inside old mid (c.steps.invariant.inside early)) (c.add_step.ensures.kept clean)
