@@ -1,0 +1,159 @@
+-- What reads of the tables tell of the office whose members these hold.
+use Rattle.std.proofs.Common.{◌≡◌, ◌↔◌, ◌⊎◌, ◌&&◌, ℕ, suc, ◌+◌, ◌<◌, ◌≤◌, ◌++◌, Bool, true, false, cond, List, [], ◌∷◌, filter, find, is_none, is_some, map, Option, None, Some, option_map, Result, Ok, Err, IfOk, IsNone, add-one, append_assoc, arith, drop, drop-cons, get_or, refl, sym, ◌∙◌, ap, subst, IsTrue, IsSome}
+use Rattle.std.specs.Prelude.{All, Contains, bytes_eq, length, unwrap_or}
+use Rattle.std.specs.Option.{option_to_list}
+use Rattle.std.proofs.lemmas.Bool.{false≢true}
+use Rattle.std.proofs.lemmas.List.Elements.{All-head, All-tail}
+use Rattle.sqlite.specs.Effect.{Database}
+use Rattle.sqlite.specs.State.{HasCleanDisk, State, Survives}
+use Rattle.sts_fields.specs.Calendar.{month_at}
+use Rattle.tariff.specs.declared.step.Step.{Step}
+use Rattle.vend_core.specs.Decision.{Buyer, buyer_of, row_decision}
+use Rattle.vend_core.specs.Facts.{AreNewSaleFacts, AreRowsFacts, AreSaleFacts, row_facts}
+use Rattle.vend_core.specs.Lookup.{greatest_of, open_shift, prior, sale_of_ref, steps_for, used}
+use Rattle.vend_core.specs.Office.{IsOffice, Office}
+use Rattle.vend_core.specs.declared.facts.Facts.{Facts}
+use Rattle.vend_core.specs.declared.meter.Meter.{Meter}
+use Rattle.vend_core.specs.declared.refusal.Refusal.TheVariants.{Differs}
+use Rattle.vend_core.specs.declared.request.Order.{Order}
+use Rattle.vend_core.specs.declared.row.Row.{Row}
+use Rattle.vend_core.specs.declared.row_facts.RowFacts.{RowFacts}
+use Rattle.vend_core.specs.declared.sale.Sale.{Sale}
+use Rattle.vend_core.specs.declared.shift.Shift.{Shift}
+use Rattle.book_tables.specs.Found.{meters_numbered}
+use Rattle.book_tables.specs.Holds.{Holds, HoldsMembers}
+use Rattle.book_tables.specs.Reading.{AreOfOffice, FailsToRead, HasRows, HasTables}
+use Rattle.book_tables.specs.Rows.{Rows}
+use Rattle.book_tables.specs.Stands.{AreMembersOf}
+use Rattle.book_tables.specs.declared.error.TableError.TheVariants.{RowOfNoOffice}
+use Rattle.books.specs.Members.{HasMembers}
+use Rattle.books.proofs.PassedLemmas.{HasPassed, HasRead, clean_before, earlier, read_after, tables_after}
+
+pub tables_of : (s : State) (o : Office) → HasMembers s o → HasTables s
+tables_of s o members is_open = (members is_open).1.has
+
+-- the first that passes, where what passes is one element or none
+first_of_one : {X Y : Type 0} (f : X → Y) (p : X → Bool) (xs : List X) (o : Option Y) → map f (filter p xs) ≡ option_to_list o → option_map f (find p xs) ≡ o
+first_of_one f p [] None one = refl
+first_of_one f p [] (Some y) one = absurd (let e = one in cc)
+first_of_one {X} {Y} f p (x ∷ xs) o one = by_test (p x) o (first_of_one f p xs o) one
+  where
+    by_test : (b : Bool) (o : Option Y) → (map f (filter p xs) ≡ option_to_list o → option_map f (find p xs) ≡ o) → map f (cond b (x ∷ filter p xs) (filter p xs)) ≡ option_to_list o
+        → option_map f (cond b (Some x) (find p xs)) ≡ o
+    by_test true None rest one = absurd (let e = one in cc)
+    by_test true (Some y) rest one = cc
+    by_test false o rest one = rest one
+
+-- a test that holds exactly where something is there
+test_is : {X : Type 0} (b : Bool) (o : Option X) (P : Type 0) → (IsTrue b ↔ P) → (IsSome o ↔ P) → b ≡ is_some o
+test_is true None P b_is o_is = sym (o_is.1 (b_is.0 refl))
+test_is true (Some x) P b_is o_is = refl
+test_is false None P b_is o_is = refl
+test_is false (Some x) P b_is o_is = b_is.1 (o_is.0 refl)
+
+-- reads leave an open connection its members
+pub members_after : (o : Office) {old mid new : State} → HasMembers old o → HasPassed old mid → (HasTables mid → Survives mid new (λ _. ⊥)) → HasCleanDisk new → HasMembers mid o
+members_after o {old} {mid} {new} members before survives clean is_open =
+    let so_far = earlier old mid new before survives (tables_of old o members) clean in
+    subst (λ (db : Database). HoldsMembers db o) (sym so_far.now_is) (members (sym so_far.is_open ∙ is_open))
+
+module _ {o : Office} {old mid new : State} (office : IsOffice o) (members : HasMembers old o) (before : HasPassed old mid) (this : HasRead mid new) (clean : HasCleanDisk new) where
+  -- a read tells it of rows that are the office's
+  told : (Says : Rows → Type 0) → ((rows : Rows) → HasRows mid rows → AreOfOffice rows → Says rows) → (rows : Rows) × AreMembersOf rows o × Says rows
+  told Says given =
+      let tables = tables_of old o members in
+      let so_far = earlier old mid new before this.survives tables clean in
+      let same = this.same clean (tables_after before tables) in
+      let held = members (sym so_far.is_open ∙ same.0.was_open) in
+      (held.0, held.2, given held.0 (λ _. subst (λ (db : Database). Holds db held.0) (sym so_far.now_is) held.1) (o, office, held.2))
+
+  -- the disk was clean before
+  pub was_clean : HasCleanDisk mid
+  was_clean = clean_before before this.survives (tables_of old o members) clean
+
+  pub shifts_told : {X : Type 0} (f : List Shift → X) (x : X) → ((rows : Rows) → HasRows mid rows → AreOfOffice rows → x ≡ f rows.shifts) → x ≡ f o.shifts
+  shifts_told f x given = let it = told (λ rows. x ≡ f rows.shifts) given in it.2 ∙ ap f it.1.shifts
+
+  pub sales_told : {X : Type 0} (f : List Sale → X) (x : X) → ((rows : Rows) → HasRows mid rows → AreOfOffice rows → x ≡ f rows.sales) → x ≡ f o.sales
+  sales_told f x given = let it = told (λ rows. x ≡ f rows.sales) given in it.2 ∙ ap f it.1.sales
+
+  pub open_shift_told : (operator : List ℕ) (found : Option Shift)
+      → ((rows : Rows) → HasRows mid rows → AreOfOffice rows → found ≡ find (λ s. bytes_eq s.operator operator && is_none s.closed) rows.shifts) → found ≡ open_shift o operator
+  open_shift_told operator = shifts_told (find (λ s. bytes_eq s.operator operator && is_none s.closed))
+
+  pub tariff_told : (name : List ℕ) (there : Bool) → ((rows : Rows) → HasRows mid rows → AreOfOffice rows → IsTrue there ↔ Contains rows.tariffs name) → there ≡ is_some (o.tariffs name)
+  tariff_told name there given =
+      let it = told (λ rows. IsTrue there ↔ Contains rows.tariffs name) given in
+      test_is there (o.tariffs name) (Contains it.0.tariffs name) it.2 (it.1.tariffs name)
+
+  pub meter_told : ((rows : Rows) (o : Office) (number : List ℕ) → AreMembersOf rows o → map (λ r. r.1) (meters_numbered rows number) ≡ option_to_list (o.meters number)) → (number : List ℕ) (found : Option Meter)
+      → ((rows : Rows) → HasRows mid rows → AreOfOffice rows → found ≡ option_map (λ r. r.1) (find (λ r. bytes_eq r.0 number) rows.meters)) → found ≡ o.meters number
+  meter_told law number found given =
+      let it = told (λ rows. found ≡ option_map (λ r. r.1) (find (λ r. bytes_eq r.0 number) rows.meters)) given in
+      it.2 ∙ first_of_one (λ (r : List ℕ × Meter). r.1) (λ r. bytes_eq r.0 number) it.0.meters (o.meters number) (law it.0 o number it.1)
+
+  pub steps_told : (name : List ℕ) (found : Option (List Step)) → ((rows : Rows) (o : Office) → HasRows mid rows → IsOffice o → AreMembersOf rows o → found ≡ o.tariffs name) → found ≡ o.tariffs name
+  steps_told name found given =
+      let it = told (λ rows. (o : Office) → IsOffice o → AreMembersOf rows o → found ≡ o.tariffs name) (λ rows has _ p office_p members_p. given rows p has office_p members_p) in
+      it.2 o office it.1
+
+-- what was read, and is that of no office
+pub of_no_office : {old mid new : State} → HasPassed old mid → HasRead mid new → HasCleanDisk new → HasTables old → ((o : Office) → IsOffice o → HasMembers old o → ⊥) → FailsToRead old new RowOfNoOffice
+of_no_office before this clean has none =
+    (λ rows held of_office. none of_office.0 of_office.1 (λ _. (rows, held, of_office.2)), (read_after before this).same clean has)
+
+-- ---- a buyer
+
+-- a greatest number is within the bound of all
+greatest_within : (bound : ℕ) (ns : List ℕ) → All (λ n. n ≤ bound) ns → unwrap_or (greatest_of ns) 0 ≤ bound
+greatest_within bound [] all = omega arith
+greatest_within bound (n ∷ ns) all =
+    let first : n ≤ bound = All-head (λ k. k ≤ bound) n ns all in
+    let rest : unwrap_or (greatest_of ns) 0 ≤ bound = greatest_within bound ns (All-tail (λ k. k ≤ bound) n ns all) in
+    omega arith
+
+pub last_within : (bound : ℕ) (last : Option ℕ) (ns : List ℕ) → last ≡ greatest_of ns → All (λ n. n ≤ bound) ns → unwrap_or last 0 ≤ bound
+last_within bound last ns is all = rw is (greatest_within bound ns all)
+
+-- an office has the tariff of each of its meters
+pub has_steps : (o : Office) → IsOffice o → (number : List ℕ) (there : Option Meter) (m : Meter) (found : Option (List Step)) → there ≡ o.meters number → there ≡ Some m → found ≡ o.tariffs m.tariff → found ≡ None → ⊥
+has_steps o office number there m found there_is here found_is gone =
+    let some : is_some (o.tariffs m.tariff) ≡ true = (office.meters number m (sym there_is ∙ here)).tariff in
+    false≢true (ap is_some (sym gone ∙ found_is) ∙ some)
+
+-- the buyer of a meter with its steps
+pub buyer_is : (o : Office) (number : List ℕ) (moment : ℕ) (there : Option Meter) (m : Meter) (found : Option (List Step)) (steps : List Step) (b : Buyer)
+    → there ≡ o.meters number → there ≡ Some m → found ≡ o.tariffs m.tariff → found ≡ Some steps
+    → b ≡ record { meter = m; steps = steps; last = greatest_of (used o number m.base); prior = prior o number (month_at moment) }
+    → Some b ≡ buyer_of o number moment
+buyer_is o number moment there m found steps b there_is here found_is known is =
+    let steps_are : steps ≡ steps_for o m = ap (λ (s : Option (List Step)). unwrap_or s []) (sym known ∙ found_is) in
+    ap (λ (b : Buyer). let some : Option Buyer = Some b in some)
+    (is ∙ ap (λ (s : List Step). let b : Buyer = record { meter = m; steps = s; last = greatest_of (used o number m.base); prior = prior o number (month_at moment) } in b) steps_are)
+    ∙ ap (λ (there : Option Meter). option_map (buyer_with o number moment) there) (sym here ∙ there_is)
+  where
+    buyer_with : Office → List ℕ → ℕ → Meter → Buyer
+    buyer_with o number moment m = record { meter = m; steps = steps_for o m; last = greatest_of (used o number m.base); prior = prior o number (month_at moment) }
+
+-- the facts of a sale under a new ref
+pub new_sale_is : {E : Type 0} (o : Office) (moment : ℕ) (order : Order) (first : Option Sale) (r : Result Facts E) → first ≡ sale_of_ref o order.operator order.order_ref → is_some first ≡ false
+    → IfOk r (λ f. IsNone f.first_sale) → IfOk r (AreNewSaleFacts o moment order) → IfOk r (AreSaleFacts o moment order)
+new_sale_is o moment order first (Err e) first_is gone none new = tt
+new_sale_is o moment order first (Ok f) first_is gone none new =
+    let same : f.first_sale ≡ first = both_none f.first_sale first none gone in
+    record { first_sale = same ∙ first_is; new_sale = λ _. new }
+  where
+    both_none : (a b : Option Sale) → is_some a ≡ false → is_some b ≡ false → a ≡ b
+    both_none None None p q = refl
+    both_none None (Some y) p q = absurd (false≢true (sym q))
+    both_none (Some x) b p q = absurd (false≢true (sym p))
+
+-- ---- the rows of an import
+
+-- one row more: the last one that is looked at, or with what is found for the others
+pub rows_more : (o : Office) (rows : List Row) (i : ℕ) (row : Row) (found more : List RowFacts) (f : RowFacts) → i < length rows → row ≡ get_or rows i row → f ≡ row_facts o row
+    → (row_decision o row ≡ Err Differs) ⊎ AreRowsFacts o (drop (i + 1) rows) more
+    → ((more : List RowFacts) → AreRowsFacts o (drop i rows) more → AreRowsFacts o rows (found ++ more)) → AreRowsFacts o rows (found ++ f ∷ [] ++ more)
+rows_more o rows i row found more f within read is rest so_far =
+    let next : drop i rows ≡ row ∷ drop (i + 1) rows = (let e = drop-cons rows i row in rw (add-one, e) (ap (λ (r : Row). r ∷ drop (suc i) rows) (sym read))) in
+    rw append_assoc (so_far (f ∷ more) (rw next (is, rest)))

@@ -1,0 +1,40 @@
+use Rattle.sqlite.specs.Held.{state}
+use Rattle.books.specs.Headline.{with_last}
+use Rattle.books.specs.Keeps.{seen}
+use Rattle.vend_core.specs.Life.{present}
+use Rattle.books.proofs.HeadlineLemmas.{lead_on, leave}
+use Rattle.books.proofs.headline.headline_law.Goals as goal
+
+pub returns-clause-left : goal.returns-clause-left
+returns-clause-left g c = λ lives life books trees h left. leave c.history_law.ensures.goes_on lives life (seen g.S.Store g.T.BlockTransform.forwards books) h trees left
+
+pub returns-clause-opens_again : goal.returns-clause-opens_again
+returns-clause-opens_again g c = λ lives life books again h left opens live.
+    let p = leave c.history_law.ensures.goes_on lives life (seen g.S.Store g.T.BlockTransform.forwards books) h (state g.S.Store again).committed.trees left in
+    (p.0, c.opening_law.ensures.opens_again again p.0 opens live p.1, p.2)
+
+pub returns-clause-stands : goal.returns-clause-stands
+returns-clause-stands g c = λ lives life books trees s h left handed.
+    let p = leave c.history_law.ensures.goes_on lives life (seen g.S.Store g.T.BlockTransform.forwards books) h trees left in
+    (p.0, p.1, c.history_law.ensures.stands (with_last lives life) p.0 s p.2 handed)
+
+pub returns-clause-one_identifier : goal.returns-clause-one_identifier
+returns-clause-one_identifier g c = λ lives life books a b h. c.history_law.ensures.one_identifier (with_last lives life) (present life) a b (lead_on c.history_law.ensures.goes_on lives life (seen g.S.Store g.T.BlockTransform.forwards books) h)
+
+pub returns-clause-one_number : goal.returns-clause-one_number
+returns-clause-one_number g c = λ lives life books a b h. c.history_law.ensures.one_number (with_last lives life) (present life) a b (lead_on c.history_law.ensures.goes_on lives life (seen g.S.Store g.T.BlockTransform.forwards books) h)
+
+pub returns-clause-one_ref : goal.returns-clause-one_ref
+returns-clause-one_ref g c = λ lives life books a b h. c.history_law.ensures.one_ref (with_last lives life) (present life) a b (lead_on c.history_law.ensures.goes_on lives life (seen g.S.Store g.T.BlockTransform.forwards books) h)
+
+pub returns-clause-reprint : goal.returns-clause-reprint
+returns-clause-reprint g c = λ lives life books first again h. c.history_law.ensures.reprint (with_last lives life) (present life) first again (lead_on c.history_law.ensures.goes_on lives life (seen g.S.Store g.T.BlockTransform.forwards books) h)
+
+pub returns-clause-first_entry : goal.returns-clause-first_entry
+returns-clause-first_entry g c = λ lives life books m sales came s h. c.history_law.ensures.first_entry (with_last lives life) (present life) m sales came s (lead_on c.history_law.ensures.goes_on lives life (seen g.S.Store g.T.BlockTransform.forwards books) h)
+
+pub returns-clause-credit : goal.returns-clause-credit
+returns-clause-credit g c = λ lives life books m sales came h. c.history_law.ensures.credit (with_last lives life) (present life) m sales came (lead_on c.history_law.ensures.goes_on lives life (seen g.S.Store g.T.BlockTransform.forwards books) h)
+
+pub returns-clause-at_most_sold : goal.returns-clause-at_most_sold
+returns-clause-at_most_sold g c = λ lives life books m sales came h. c.history_law.ensures.at_most_sold (with_last lives life) (present life) m sales came (lead_on c.history_law.ensures.goes_on lives life (seen g.S.Store g.T.BlockTransform.forwards books) h)

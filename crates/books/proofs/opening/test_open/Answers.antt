@@ -1,0 +1,10 @@
+use Rattle.std.proofs.Common.{[]}
+use Rattle.books.proofs.OpeningLemmas.{not_run_left}
+use Rattle.books.proofs.opening.test_open.Goals as goal
+use Rattle.books.proofs.opening.test_open.Goals.{in-Ok, in-Err}
+
+pub returns-clause-kept : goal.returns-clause-kept
+returns-clause-kept g c = λ clean. elim c.match-prepare.branch [
+  | in-Ok w ↦ rw w.result-is tt
+  | in-Err w ↦ rw w.result-is (not_run_left _ [] _ _ _ (w.in-Err.ensures.err clean []))
+]

@@ -1,0 +1,11 @@
+pub mod Changing
+pub mod Fault
+pub mod Headline
+pub mod Keeps
+pub mod Members
+pub mod Opening
+pub mod Others
+pub mod Path
+pub mod Same
+pub mod Serving
+pub mod Stopping

@@ -1,0 +1,31 @@
+ghost use Rattle.std.specs.Prelude.{◌≡◌, false};
+
+use sqlite::{Alter, Connection};
+use std::alloc::Global;
+
+mod attempt;
+mod close;
+mod commit;
+mod failing;
+mod memory;
+mod open;
+#[cfg(test)]
+mod open_tests;
+mod pages;
+mod path;
+mod serve;
+mod serve_all;
+
+/// An office that is kept in the tables of a database (`docs/LIVES.md`).
+///
+/// It holds nothing of the office itself but the number of the next sale. After a failure of the
+/// store it is stopped: it answers every request so until the office is opened again.
+#[derive(Drop)]
+pub struct Books<S: Alter, T> {
+    alloc: Global,
+    conn: Connection<S>,
+    transform: T,
+    next_number: u64,
+    stopped: bool,
+    ghost outside: { conn.in_transaction ≡ false },
+}

@@ -1,0 +1,80 @@
+//! One request: it is decided by what the tables hold, and what it changes is committed before the
+//! answer.
+
+ghost use Rattle.std.specs.Prelude.{◌≡◌, ◌≢◌, ◌+◌, Err, false, length};
+ghost use Rattle.sqlite.specs.State.{HasCleanDisk};
+ghost use Rattle.sqlite.specs.Held.{state};
+ghost use Rattle.vend_core.specs.Edits.{applied};
+ghost use Rattle.vend_core.specs.Office.{Office};
+ghost use Rattle.vend_core.specs.Store.{Meets};
+ghost use Rattle.books.specs.Keeps.{IsAt, seen};
+ghost use Rattle.books.specs.Serving.{Attempts, Decides, HoldsOffice};
+
+use super::Books;
+use super::commit::commit;
+use super::failing::refusal_of;
+use crate::facts::facts_of;
+use sqlite::{Alter, Connection};
+use std::alloc::Global;
+use sts_token::BlockTransform;
+use vend_core::{Change, Edit, Refusal, Reply, Stamped, decide, office_law, store_law};
+
+impl<S: Alter, T: BlockTransform> Books<S, T> {
+    // Serves a request at books that are not stopped.
+    pub(super) fn attempt(&mut self, at: &Stamped) -> Reply
+        ensures attempts { HasCleanDisk (seen S.Store T.forwards self.new).state
+            → (o : Office) → HoldsOffice o (seen S.Store T.forwards self.old)
+            → Attempts (T.forwards self.old.transform) o at.now result
+            (seen S.Store T.forwards self.old) (seen S.Store T.forwards self.new) }
+        ensures clean { HasCleanDisk (seen S.Store T.forwards self.new).state
+            → HasCleanDisk (seen S.Store T.forwards self.old).state }
+        ensures never_stopped { result ≢ Err Refusal.Stopped }
+        ensures transform { self.new.transform ≡ self.old.transform }
+        ensures stopped { self.new.stopped ≡ self.old.stopped }
+    {
+        office_law();
+        store_law();
+        at.keeps_ranges();
+        let Change { edit, answer } = decided(self.alloc, &mut self.conn, &self.transform, at)?;
+        if let Some(edit) = &edit {
+            commit(&mut self.conn, edit)?;
+            self.next_number = next_after(edit, self.next_number);
+        }
+        Ok(answer)
+    }
+}
+
+// The number of the next sale after an edit.
+fn next_after(edit: &Edit, next_number: u64) -> u64
+    ensures { (o : Office) → Meets edit.now o → next_number ≡ length o.sales + 1
+        → result ≡ length (applied edit.now o).sales + 1 }
+{
+    match edit {
+        Edit::AddSale(sale) => u64::from(sale.number) + 1,
+        _ => next_number,
+    }
+}
+
+// What a request changes and its answer, by what the tables hold. Nothing is changed yet.
+fn decided<S: Alter, T: BlockTransform>(
+    alloc: Global,
+    conn: &mut Connection<S>,
+    transform: &T,
+    at: &Stamped,
+) -> Result<Change, Refusal>
+    requires { conn.old.in_transaction ≡ false }
+    ensures decides { HasCleanDisk (state S.Store conn.new)
+        → (o : Office) → IsAt (state S.Store conn.old) o
+        → Decides (T.forwards transform.now) o at.now result
+        (state S.Store conn.old) (state S.Store conn.new) }
+    ensures clean { HasCleanDisk (state S.Store conn.new) → HasCleanDisk (state S.Store conn.old) }
+    ensures never_stopped { result ≢ Err Refusal.Stopped }
+    ensures outside { conn.new.in_transaction ≡ false }
+{
+    // Outside a transaction an open connection has what was committed last.
+    let _settled = conn.is_autocommit();
+    match facts_of(alloc, conn, at) {
+        Ok(facts) => decide(alloc, transform, &facts, at),
+        Err(error) => Err(refusal_of(error)),
+    }
+}

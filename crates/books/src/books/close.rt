@@ -1,0 +1,40 @@
+//! The end of a life: the connection comes back.
+
+ghost use Rattle.std.specs.Prelude.{◌≡◌, false};
+ghost use Rattle.sqlite_trees.specs.Tree.{Trees};
+ghost use Rattle.sqlite.specs.State.{HasCleanDisk};
+ghost use Rattle.sqlite.specs.Held.{state};
+ghost use Rattle.vend_core.specs.Life.{Life, MayLeave, present};
+ghost use Rattle.vend_core.specs.Office.{Office};
+ghost use Rattle.books.specs.Keeps.{Keeps, LeftFor, StandsAt, seen};
+
+use crate::books::Books;
+use sqlite::{Alter, Connection};
+use sts_token::BlockTransform;
+
+impl<S: Alter, T: BlockTransform + Drop> Books<S, T> {
+    /// The connection to the database that has the office. It is in no transaction. Unless the books
+    /// are stopped, the store stands for the present office of each life that they keep.
+    ///
+    /// It takes no memory.
+    pub fn into_connection(self) -> Connection<S>
+        ensures same { result ≡ self.conn }
+        ensures rests { result.in_transaction ≡ false }
+        ensures left { (life : Life) → Keeps life (seen S.Store T.forwards self)
+            → HasCleanDisk (state S.Store result)
+            → (trees : Trees) → (state S.Store result).may_leave trees
+            → (o : Office) × MayLeave life o × LeftFor trees o }
+        ensures holds { (life : Life) → Keeps life (seen S.Store T.forwards self)
+            → HasCleanDisk (state S.Store result) → self.stopped ≡ false
+            → StandsAt (state S.Store result) (present life) }
+    {
+        let Books {
+            alloc: _,
+            conn,
+            transform: _,
+            next_number: _,
+            stopped: _,
+        } = self;
+        conn
+    }
+}

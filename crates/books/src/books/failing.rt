@@ -1,0 +1,28 @@
+//! What is answered where the store fails.
+
+ghost use Rattle.std.specs.Prelude.{◌≡◌, ◌↔◌, ◌⊎◌, Err, IsTrue};
+
+use book_tables::TableError;
+use sqlite::{Error, ErrorCode};
+use vend_core::Refusal;
+
+/// What a request is answered where its tables gave this error before a commit: the store failed,
+/// unless it only found no memory.
+pub(crate) fn refusal_of(error: TableError) -> Refusal
+    ensures memory { result ≡ Refusal.Memory
+        ↔ (error ≡ TableError.Database (Error.SqliteFailure ErrorCode.OutOfMemory)) }
+    ensures either { (result ≡ Refusal.Memory) ⊎ (result ≡ Refusal.Store) }
+{
+    if error.is_memory() {
+        Refusal::Memory
+    } else {
+        Refusal::Store
+    }
+}
+
+/// Whether the store failed.
+pub(crate) fn has_failed<X>(answer: &Result<X, Refusal>) -> bool
+    ensures { IsTrue result ↔ (answer.now ≡ Err Refusal.Store) }
+{
+    matches!(answer, Err(Refusal::Store))
+}

@@ -1,0 +1,37 @@
+//! An office in memory.
+
+ghost use Rattle.std.specs.Prelude.{◌≡◌, ◌⊎◌, false, IfOk, IfErr};
+ghost use Rattle.sqlite.specs.Steps.{over_memory};
+ghost use Rattle.vend_core.specs.LifeLaws.{opened};
+ghost use Rattle.vend_core.specs.Office.{empty_office};
+ghost use Rattle.books.specs.Keeps.{Keeps, seen};
+
+use crate::books::Books;
+use crate::fault::OpenFault;
+use book_tables::stands_law;
+use sqlite::{Connection, MemStore};
+use std::alloc::Global;
+use sts_token::BlockTransform;
+
+impl<T: BlockTransform + Drop> Books<MemStore, T> {
+    /// Begins the empty office in memory, which is gone with the books.
+    ///
+    /// # Errors
+    /// `Store` and `Memory`.
+    pub fn in_memory(alloc: Global, transform: T) -> Result<Books<MemStore, T>, OpenFault>
+        ensures opens { IfOk result (λ books. Keeps
+            (opened (T.forwards transform) empty_office) (seen over_memory T.forwards books)) }
+        ensures running { IfOk result (λ books. books.stopped ≡ false) }
+        ensures faults { IfErr result
+            (λ fault. (fault ≡ OpenFault.Store) ⊎ (fault ≡ OpenFault.Memory)) }
+    {
+        stands_law();
+        let Ok(conn) = Connection::open_in_memory(alloc) else {
+            return Err(OpenFault::Memory);
+        };
+        match Books::open_from(alloc, conn, transform) {
+            Ok(books) => Ok(books),
+            Err((fault, _)) => Err(fault),
+        }
+    }
+}

@@ -1,0 +1,93 @@
+//! The sales, a page at a time, and the number of the next one.
+
+ghost use Rattle.std.specs.Prelude.{◌≡◌, ◌≤◌, ◌+◌, ◌⊎◌, ◌↔◌, Err, IfErr, IfOk, false, length, true};
+ghost use Rattle.sqlite.specs.State.{HasCleanDisk};
+ghost use Rattle.sqlite.specs.Held.{state};
+ghost use Rattle.vend_core.specs.Life.{Life, present};
+ghost use Rattle.vend_core.specs.Office.{Office};
+ghost use Rattle.vend_core.specs.Store.{sales_above};
+ghost use Rattle.books.specs.Keeps.{IsAt, Keeps, seen};
+ghost use Rattle.books.specs.Others.{LeavesOthers};
+ghost use Rattle.books.specs.Serving.{Stays};
+
+use super::Books;
+use super::failing::{has_failed, refusal_of};
+use book_tables::sale_lists;
+use sqlite::{Alter, Connection};
+use std::alloc::Global;
+use sts_token::BlockTransform;
+use vend_core::{Refusal, Sale};
+
+impl<S: Alter, T: BlockTransform> Books<S, T> {
+    /// A page: the first sales above a number, by number, at most so many (1 to 1000).
+    ///
+    /// # Errors
+    /// `Memory`; `Stopped`; and `Store`, after which the books are stopped too. It puts nothing in
+    /// doubt.
+    pub fn sales_after(&mut self, number: u32, limit: u32) -> Result<Vec<Sale>, Refusal>
+        requires some { 1 ≤ limit }
+        requires few { limit ≤ 1000 }
+        ensures given { HasCleanDisk (seen S.Store T.forwards self.new).state
+            → (life : Life) → Keeps life (seen S.Store T.forwards self.old)
+            → IfOk result (λ sales. sales.items ≡ sales_above (present life) number limit) }
+        ensures keeps { (life : Life) → Keeps life (seen S.Store T.forwards self.old)
+            → Keeps life (seen S.Store T.forwards self.new) }
+        ensures others { HasCleanDisk (seen S.Store T.forwards self.new).state
+            → (life : Life) → Keeps life (seen S.Store T.forwards self.old)
+            → LeavesOthers (seen S.Store T.forwards self.old).state
+            (seen S.Store T.forwards self.new).state }
+        ensures clean { HasCleanDisk (seen S.Store T.forwards self.new).state
+            → HasCleanDisk (seen S.Store T.forwards self.old).state }
+        ensures stopped { (result ≡ Err Refusal.Stopped) ↔ (self.old.stopped ≡ true) }
+        ensures stops { (self.new.stopped ≡ true)
+            ↔ ((result ≡ Err Refusal.Store) ⊎ (result ≡ Err Refusal.Stopped)) }
+        ensures refusals { IfErr result (λ refusal. (refusal ≡ Refusal.Memory)
+            ⊎ ((refusal ≡ Refusal.Store) ⊎ (refusal ≡ Refusal.Stopped))) }
+        ensures idle { self.old.stopped ≡ true → self.new ≡ self.old }
+    {
+        if self.stopped {
+            return Err(Refusal::Stopped);
+        }
+        let sales = page(self.alloc, &mut self.conn, number, limit);
+        self.stopped = has_failed(&sales);
+        sales
+    }
+
+    /// The number of the next sale: how many there are, plus 1.
+    ///
+    /// After a failure of the store it may be too small by one.
+    pub fn next_number(&self) -> u64
+        ensures { HasCleanDisk (seen S.Store T.forwards self.now).state
+            → (life : Life) → Keeps life (seen S.Store T.forwards self.now)
+            → self.now.stopped ≡ false → result ≡ length (present life).sales + 1 }
+    {
+        self.next_number
+    }
+}
+
+// A page of the tables' sales.
+fn page<S: Alter>(
+    alloc: Global,
+    conn: &mut Connection<S>,
+    number: u32,
+    limit: u32,
+) -> Result<Vec<Sale>, Refusal>
+    requires { conn.old.in_transaction ≡ false }
+    ensures given { HasCleanDisk (state S.Store conn.new)
+        → (o : Office) → IsAt (state S.Store conn.old) o
+        → IfOk result (λ sales. sales.items ≡ sales_above o number limit) }
+    ensures stays { HasCleanDisk (state S.Store conn.new)
+        → (o : Office) → IsAt (state S.Store conn.old) o
+        → Stays o (state S.Store conn.old) (state S.Store conn.new) }
+    ensures clean { HasCleanDisk (state S.Store conn.new) → HasCleanDisk (state S.Store conn.old) }
+    ensures refusals { IfErr result (λ refusal.
+        (refusal ≡ Refusal.Memory) ⊎ (refusal ≡ Refusal.Store)) }
+    ensures outside { conn.new.in_transaction ≡ false }
+{
+    // Outside a transaction an open connection has what was committed last.
+    let _settled = conn.is_autocommit();
+    match sale_lists::sales_after(alloc, conn, number, limit) {
+        Ok(sales) => Ok(sales),
+        Err(error) => Err(refusal_of(error)),
+    }
+}

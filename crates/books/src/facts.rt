@@ -1,0 +1,60 @@
+//! What the tests of a request look at, read from the tables.
+
+ghost use Rattle.std.specs.Prelude.{◌≡◌, false, IfOk, IfErr, OnOk, OnErr};
+ghost use Rattle.sqlite.specs.State.{HasCleanDisk, Survives};
+ghost use Rattle.sqlite.specs.Held.{state};
+ghost use Rattle.one_table.specs.Answer.{IsLeft};
+ghost use Rattle.vend_core.specs.Facts.{AreFacts};
+ghost use Rattle.vend_core.specs.Office.{IsOffice, Office};
+ghost use Rattle.book_tables.specs.Reading.{FailsToRead, HasTables};
+ghost use Rattle.books.specs.Members.{HasMembers};
+ghost use Rattle.books.specs.Same.{IsSame};
+
+use book_tables::TableError;
+use sqlite::{Alter, Connection};
+use std::alloc::Global;
+use vend_core::{Facts, Request, Stamped};
+
+mod buyers;
+mod imports;
+mod meters;
+mod sales;
+mod shifts;
+
+/// What the tests of a request look at, as far as they do and no further.
+///
+/// # Errors
+/// What the database refuses, want of memory, and a row that is no office's.
+pub(crate) fn facts_of<S: Alter>(
+    alloc: Global,
+    conn: &mut Connection<S>,
+    at: &Stamped,
+) -> Result<Facts, TableError>
+    ensures facts { HasCleanDisk (state S.Store conn.new)
+        → (o : Office) → IsOffice o → HasMembers (state S.Store conn.old) o
+        → IfOk result (AreFacts o at.now) }
+    ensures same { HasCleanDisk (state S.Store conn.new)
+        → HasTables (state S.Store conn.old)
+        → OnOk result (IsSame (state S.Store conn.old) (state S.Store conn.new)) }
+    ensures kept { HasCleanDisk (state S.Store conn.new)
+        → HasTables (state S.Store conn.old)
+        → OnErr result (IsLeft (state S.Store conn.old) (state S.Store conn.new)) }
+    ensures mode { conn.old.in_transaction ≡ false → conn.new.in_transaction ≡ false }
+    ensures faults { HasCleanDisk (state S.Store conn.new)
+        → HasTables (state S.Store conn.old)
+        → IfErr result (FailsToRead (state S.Store conn.old) (state S.Store conn.new)) }
+    ensures survives { HasTables (state S.Store conn.old)
+        → Survives (state S.Store conn.old) (state S.Store conn.new) (λ _. ⊥) }
+{
+    match &at.request {
+        Request::AddTariff(name, _) => meters::tariff_facts(alloc, conn, name),
+        Request::AddMeter(number, meter) => meters::meter_facts(conn, number, meter),
+        Request::Import(rows) => imports::import_facts(alloc, conn, rows),
+        Request::SetTariff(number, name) => meters::setting_facts(conn, number, name),
+        Request::OpenShift(operator) => shifts::opening_facts(conn, operator),
+        Request::CloseShift(operator) => shifts::closing_facts(conn, operator),
+        Request::Sell(order) => sales::sale_facts(alloc, conn, at.moment, order),
+        Request::Reprint(number) => sales::reprint_facts(conn, *number),
+        Request::ShiftReport(number) => shifts::report_facts(alloc, conn, *number),
+    }
+}

@@ -1,0 +1,101 @@
+//! What a sale looks at of its meter.
+
+ghost use Rattle.std.specs.Prelude.{◌≡◌, ◌<◌, ◌^◌, false, IfOk, IfErr, OnOk, OnErr};
+ghost use Rattle.sqlite.specs.State.{HasCleanDisk, IsUnchanged, Survives};
+ghost use Rattle.sqlite.specs.Held.{state};
+ghost use Rattle.one_table.specs.Answer.{IsLeft};
+ghost use Rattle.sts_fields.specs.Calendar.{month_at};
+ghost use Rattle.vend_core.specs.Decision.{buyer_of};
+ghost use Rattle.vend_core.specs.Lookup.{greatest_of, prior, used};
+ghost use Rattle.vend_core.specs.Office.{IsOffice, Office};
+ghost use Rattle.book_tables.specs.Reading.{FailsToRead, HasTables};
+ghost use Rattle.books.specs.Members.{HasMembers};
+
+use book_tables::{TableError, members_law, meters, sold, tariffs};
+use sqlite::{Alter, Connection};
+use std::alloc::Global;
+use sts_fields::{LAST_TID, month_of};
+use tariff::{MAX_PRIOR, Steps};
+use vend_core::{Buyer, Meter, MeterNo, Moment, store_law};
+
+/// What a sale at a moment looks at of the meter of a number.
+pub(crate) fn buyer_numbered<S: Alter>(
+    alloc: Global,
+    conn: &mut Connection<S>,
+    number: &MeterNo,
+    moment: Moment,
+) -> Result<Option<Buyer>, TableError>
+    ensures facts { HasCleanDisk (state S.Store conn.new)
+        → (o : Office) → IsOffice o → HasMembers (state S.Store conn.old) o
+        → IfOk result (λ found. found ≡ buyer_of o number.now moment) }
+    ensures same { HasCleanDisk (state S.Store conn.new)
+        → HasTables (state S.Store conn.old)
+        → OnOk result (IsUnchanged (state S.Store conn.old) (state S.Store conn.new)) }
+    ensures kept { HasCleanDisk (state S.Store conn.new)
+        → HasTables (state S.Store conn.old)
+        → OnErr result (IsLeft (state S.Store conn.old) (state S.Store conn.new)) }
+    ensures mode { conn.old.in_transaction ≡ false → conn.new.in_transaction ≡ false }
+    ensures faults { HasCleanDisk (state S.Store conn.new)
+        → HasTables (state S.Store conn.old)
+        → IfErr result (FailsToRead (state S.Store conn.old) (state S.Store conn.new)) }
+    ensures survives { HasTables (state S.Store conn.old)
+        → Survives (state S.Store conn.old) (state S.Store conn.new) (λ _. ⊥) }
+{
+    members_law();
+    let there = meters::meter_numbered(conn, number)?;
+    let Some(meter) = there else {
+        return Ok(None);
+    };
+    let found = tariffs::steps_of(alloc, conn, &meter.tariff)?;
+    let Some(steps) = found else {
+        // An office has the tariff of each of its meters.
+        return Err(TableError::RowOfNoOffice);
+    };
+    let buyer = buyer_at(conn, number, moment, meter, steps)?;
+    Ok(Some(buyer))
+}
+
+// What was sold to the meter of a number, as a sale at a moment looks at it.
+fn buyer_at<S: Alter>(
+    conn: &mut Connection<S>,
+    number: &MeterNo,
+    moment: Moment,
+    meter: Meter,
+    steps: Steps,
+) -> Result<Buyer, TableError>
+    ensures facts { HasCleanDisk (state S.Store conn.new)
+        → (o : Office) → IsOffice o → HasMembers (state S.Store conn.old) o
+        → IfOk result (λ b. b ≡ record {
+          meter = meter;
+          steps = steps;
+          last = greatest_of (used o number.now meter.base);
+          prior = prior o number.now (month_at moment);
+        }) }
+    ensures same { HasCleanDisk (state S.Store conn.new)
+        → HasTables (state S.Store conn.old)
+        → OnOk result (IsUnchanged (state S.Store conn.old) (state S.Store conn.new)) }
+    ensures kept { HasCleanDisk (state S.Store conn.new)
+        → HasTables (state S.Store conn.old)
+        → OnErr result (IsLeft (state S.Store conn.old) (state S.Store conn.new)) }
+    ensures mode { conn.old.in_transaction ≡ false → conn.new.in_transaction ≡ false }
+    ensures faults { HasCleanDisk (state S.Store conn.new)
+        → HasTables (state S.Store conn.old)
+        → IfErr result (FailsToRead (state S.Store conn.old) (state S.Store conn.new)) }
+    ensures survives { HasTables (state S.Store conn.old)
+        → Survives (state S.Store conn.old) (state S.Store conn.new) (λ _. ⊥) }
+{
+    store_law();
+    let last = sold::greatest_tid(conn, number, meter.base)?;
+    let month = month_of(moment).unwrap();
+    let prior = sold::tenths_in_month(conn, number, month)?;
+    if last.unwrap_or(0) > LAST_TID || prior > MAX_PRIOR {
+        // What an office sold to a meter is within both.
+        return Err(TableError::RowOfNoOffice);
+    }
+    Ok(Buyer {
+        meter,
+        steps,
+        last,
+        prior,
+    })
+}

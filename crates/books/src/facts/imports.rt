@@ -1,0 +1,154 @@
+//! What an import looks at.
+
+ghost use Rattle.std.specs.Prelude.{◌≡◌, false, true, Err, IfOk, IfErr, List, OnOk, OnErr, Some};
+ghost use Rattle.sqlite.specs.State.{HasCleanDisk, IsUnchanged, Survives};
+ghost use Rattle.sqlite.specs.Held.{state};
+ghost use Rattle.one_table.specs.Answer.{IsLeft};
+ghost use Rattle.vend_core.specs.Decision.{row_decision};
+ghost use Rattle.vend_core.specs.Facts.{AreRowsFacts, row_facts};
+ghost use Rattle.vend_core.specs.Office.{IsOffice, Office};
+ghost use Rattle.vend_core.specs.declared.row_facts.RowFacts.{RowFacts};
+ghost use Rattle.book_tables.specs.Reading.{FailsToRead, HasTables};
+ghost use Rattle.books.specs.Members.{HasMembers};
+ghost use Rattle.books.specs.Same.{IsSame};
+
+use book_tables::{TableError, members_law, meters, tariffs};
+use sqlite::{Alter, Connection};
+use std::alloc::{AllocError, Global};
+use vend_core::{Facts, ImportFacts, Meter, MeterNo, Refusal, Row, RowFacts, Rows};
+
+/// What an import looks at: what is under the names of its rows, up to the first row that differs
+/// from it.
+pub(crate) fn import_facts<S: Alter>(
+    alloc: Global,
+    conn: &mut Connection<S>,
+    rows: &Rows,
+) -> Result<Facts, TableError>
+    ensures facts { HasCleanDisk (state S.Store conn.new)
+        → (o : Office) → IsOffice o → HasMembers (state S.Store conn.old) o
+        → IfOk result (λ f. (fs : List RowFacts) × (f.rows ≡ Some fs)
+        × AreRowsFacts o rows.now fs) }
+    ensures same { HasCleanDisk (state S.Store conn.new)
+        → HasTables (state S.Store conn.old)
+        → OnOk result (IsSame (state S.Store conn.old) (state S.Store conn.new)) }
+    ensures kept { HasCleanDisk (state S.Store conn.new)
+        → HasTables (state S.Store conn.old)
+        → OnErr result (IsLeft (state S.Store conn.old) (state S.Store conn.new)) }
+    ensures mode { conn.old.in_transaction ≡ false → conn.new.in_transaction ≡ false }
+    ensures faults { HasCleanDisk (state S.Store conn.new)
+        → HasTables (state S.Store conn.old)
+        → IfErr result (FailsToRead (state S.Store conn.old) (state S.Store conn.new)) }
+    ensures survives { HasTables (state S.Store conn.old)
+        → Survives (state S.Store conn.old) (state S.Store conn.new) (λ _. ⊥) }
+{
+    let found = found_of(alloc, conn, rows.as_slice())?;
+    Ok(Facts {
+        rows: Some(ImportFacts::of(found)),
+        ..Facts::none()
+    })
+}
+
+fn found_of<S: Alter>(
+    alloc: Global,
+    conn: &mut Connection<S>,
+    rows: &[Row],
+) -> Result<Vec<RowFacts>, TableError>
+    ensures facts { HasCleanDisk (state S.Store conn.new)
+        → (o : Office) → IsOffice o → HasMembers (state S.Store conn.old) o
+        → IfOk result (λ found. AreRowsFacts o rows.now found.items) }
+    ensures same { HasCleanDisk (state S.Store conn.new)
+        → HasTables (state S.Store conn.old)
+        → OnOk result (IsSame (state S.Store conn.old) (state S.Store conn.new)) }
+    ensures kept { HasCleanDisk (state S.Store conn.new)
+        → HasTables (state S.Store conn.old)
+        → OnErr result (IsLeft (state S.Store conn.old) (state S.Store conn.new)) }
+    ensures mode { conn.old.in_transaction ≡ false → conn.new.in_transaction ≡ false }
+    ensures faults { HasCleanDisk (state S.Store conn.new)
+        → HasTables (state S.Store conn.old)
+        → IfErr result (FailsToRead (state S.Store conn.old) (state S.Store conn.new)) }
+    ensures survives { HasTables (state S.Store conn.old)
+        → Survives (state S.Store conn.old) (state S.Store conn.new) (λ _. ⊥) }
+{
+    let mut found = Vec::new(alloc);
+    for row in rows {
+        let facts = row_facts(alloc, conn, row)?;
+        let differs = differs(row, &facts);
+        found.push(facts).map_err(AllocError::from)?;
+        if differs {
+            return Ok(found);
+        }
+    }
+    Ok(found)
+}
+
+fn row_facts<S: Alter>(
+    alloc: Global,
+    conn: &mut Connection<S>,
+    row: &Row,
+) -> Result<RowFacts, TableError>
+    ensures facts { HasCleanDisk (state S.Store conn.new)
+        → (o : Office) → IsOffice o → HasMembers (state S.Store conn.old) o
+        → IfOk result (λ found. found ≡ row_facts o row.now) }
+    ensures same { HasCleanDisk (state S.Store conn.new)
+        → HasTables (state S.Store conn.old)
+        → OnOk result (IsUnchanged (state S.Store conn.old) (state S.Store conn.new)) }
+    ensures kept { HasCleanDisk (state S.Store conn.new)
+        → HasTables (state S.Store conn.old)
+        → OnErr result (IsLeft (state S.Store conn.old) (state S.Store conn.new)) }
+    ensures mode { conn.old.in_transaction ≡ false → conn.new.in_transaction ≡ false }
+    ensures faults { HasCleanDisk (state S.Store conn.new)
+        → HasTables (state S.Store conn.old)
+        → IfErr result (FailsToRead (state S.Store conn.old) (state S.Store conn.new)) }
+    ensures survives { HasTables (state S.Store conn.old)
+        → Survives (state S.Store conn.old) (state S.Store conn.new) (λ _. ⊥) }
+{
+    match row {
+        Row::Tariff(name, _) => {
+            let steps = tariffs::steps_of(alloc, conn, name)?;
+            Ok(RowFacts::Tariff(steps))
+        }
+        Row::Meter(number, meter) => meter_row_facts(conn, number, meter),
+    }
+}
+
+fn meter_row_facts<S: Alter>(
+    conn: &mut Connection<S>,
+    number: &MeterNo,
+    meter: &Meter,
+) -> Result<RowFacts, TableError>
+    ensures facts { HasCleanDisk (state S.Store conn.new)
+        → (o : Office) → IsOffice o → HasMembers (state S.Store conn.old) o
+        → IfOk result (λ found. found ≡ row_facts o (Row.Meter number.now meter.now)) }
+    ensures same { HasCleanDisk (state S.Store conn.new)
+        → HasTables (state S.Store conn.old)
+        → OnOk result (IsUnchanged (state S.Store conn.old) (state S.Store conn.new)) }
+    ensures kept { HasCleanDisk (state S.Store conn.new)
+        → HasTables (state S.Store conn.old)
+        → OnErr result (IsLeft (state S.Store conn.old) (state S.Store conn.new)) }
+    ensures mode { conn.old.in_transaction ≡ false → conn.new.in_transaction ≡ false }
+    ensures faults { HasCleanDisk (state S.Store conn.new)
+        → HasTables (state S.Store conn.old)
+        → IfErr result (FailsToRead (state S.Store conn.old) (state S.Store conn.new)) }
+    ensures survives { HasTables (state S.Store conn.old)
+        → Survives (state S.Store conn.old) (state S.Store conn.new) (λ _. ⊥) }
+{
+    members_law();
+    let there = meters::meter_numbered(conn, number)?;
+    if let Some(there) = there {
+        return Ok(RowFacts::Meter(there));
+    }
+    let has_tariff = tariffs::has_tariff(conn, &meter.tariff)?;
+    Ok(RowFacts::NoMeter(has_tariff))
+}
+
+// Whether something else is there under the row's name.
+fn differs(row: &Row, found: &RowFacts) -> bool
+    ensures { (o : Office) → found.now ≡ row_facts o row.now
+        → result ≡ true → row_decision o row.now ≡ Err Refusal.Differs }
+{
+    match (row, found) {
+        (Row::Tariff(_, steps), RowFacts::Tariff(Some(there))) => there != steps,
+        (Row::Meter(_, meter), RowFacts::Meter(there)) => there != meter,
+        _ => false,
+    }
+}

@@ -1,0 +1,117 @@
+//! What requests on tariffs and meters look at.
+
+ghost use Rattle.std.specs.Prelude.{◌≡◌, false, IfOk, IfErr, OnOk, OnErr};
+ghost use Rattle.sqlite.specs.State.{HasCleanDisk, IsUnchanged, Survives};
+ghost use Rattle.sqlite.specs.Held.{state};
+ghost use Rattle.one_table.specs.Answer.{IsLeft};
+ghost use Rattle.vend_core.specs.Facts.{AreMeterFacts, AreSettingFacts};
+ghost use Rattle.vend_core.specs.Office.{IsOffice, Office};
+ghost use Rattle.book_tables.specs.Reading.{FailsToRead, HasTables};
+ghost use Rattle.books.specs.Members.{HasMembers};
+
+use book_tables::{TableError, members_law, meters, tariffs};
+use sqlite::{Alter, Connection};
+use std::alloc::Global;
+use vend_core::{Facts, Meter, MeterNo, TariffName};
+
+/// What AddTariff looks at: the steps under its name.
+pub(crate) fn tariff_facts<S: Alter>(
+    alloc: Global,
+    conn: &mut Connection<S>,
+    name: &TariffName,
+) -> Result<Facts, TableError>
+    ensures facts { HasCleanDisk (state S.Store conn.new)
+        → (o : Office) → IsOffice o → HasMembers (state S.Store conn.old) o
+        → IfOk result (λ f. f.tariff ≡ o.tariffs name.now) }
+    ensures same { HasCleanDisk (state S.Store conn.new)
+        → HasTables (state S.Store conn.old)
+        → OnOk result (IsUnchanged (state S.Store conn.old) (state S.Store conn.new)) }
+    ensures kept { HasCleanDisk (state S.Store conn.new)
+        → HasTables (state S.Store conn.old)
+        → OnErr result (IsLeft (state S.Store conn.old) (state S.Store conn.new)) }
+    ensures mode { conn.old.in_transaction ≡ false → conn.new.in_transaction ≡ false }
+    ensures faults { HasCleanDisk (state S.Store conn.new)
+        → HasTables (state S.Store conn.old)
+        → IfErr result (FailsToRead (state S.Store conn.old) (state S.Store conn.new)) }
+    ensures survives { HasTables (state S.Store conn.old)
+        → Survives (state S.Store conn.old) (state S.Store conn.new) (λ _. ⊥) }
+{
+    let steps = tariffs::steps_of(alloc, conn, name)?;
+    Ok(Facts {
+        tariff: steps,
+        ..Facts::none()
+    })
+}
+
+/// What AddMeter looks at: the tariff only where there is no meter of the number.
+pub(crate) fn meter_facts<S: Alter>(
+    conn: &mut Connection<S>,
+    number: &MeterNo,
+    meter: &Meter,
+) -> Result<Facts, TableError>
+    ensures facts { HasCleanDisk (state S.Store conn.new)
+        → (o : Office) → IsOffice o → HasMembers (state S.Store conn.old) o
+        → IfOk result (AreMeterFacts o number.now meter.now) }
+    ensures same { HasCleanDisk (state S.Store conn.new)
+        → HasTables (state S.Store conn.old)
+        → OnOk result (IsUnchanged (state S.Store conn.old) (state S.Store conn.new)) }
+    ensures kept { HasCleanDisk (state S.Store conn.new)
+        → HasTables (state S.Store conn.old)
+        → OnErr result (IsLeft (state S.Store conn.old) (state S.Store conn.new)) }
+    ensures mode { conn.old.in_transaction ≡ false → conn.new.in_transaction ≡ false }
+    ensures faults { HasCleanDisk (state S.Store conn.new)
+        → HasTables (state S.Store conn.old)
+        → IfErr result (FailsToRead (state S.Store conn.old) (state S.Store conn.new)) }
+    ensures survives { HasTables (state S.Store conn.old)
+        → Survives (state S.Store conn.old) (state S.Store conn.new) (λ _. ⊥) }
+{
+    members_law();
+    let there = meters::meter_numbered(conn, number)?;
+    if there.is_some() {
+        return Ok(Facts {
+            meter: there,
+            ..Facts::none()
+        });
+    }
+    let has_tariff = tariffs::has_tariff(conn, &meter.tariff)?;
+    Ok(Facts {
+        meter: there,
+        has_tariff,
+        ..Facts::none()
+    })
+}
+
+/// What SetTariff looks at: the tariff only where there is a meter of the number.
+pub(crate) fn setting_facts<S: Alter>(
+    conn: &mut Connection<S>,
+    number: &MeterNo,
+    name: &TariffName,
+) -> Result<Facts, TableError>
+    ensures facts { HasCleanDisk (state S.Store conn.new)
+        → (o : Office) → IsOffice o → HasMembers (state S.Store conn.old) o
+        → IfOk result (AreSettingFacts o number.now name.now) }
+    ensures same { HasCleanDisk (state S.Store conn.new)
+        → HasTables (state S.Store conn.old)
+        → OnOk result (IsUnchanged (state S.Store conn.old) (state S.Store conn.new)) }
+    ensures kept { HasCleanDisk (state S.Store conn.new)
+        → HasTables (state S.Store conn.old)
+        → OnErr result (IsLeft (state S.Store conn.old) (state S.Store conn.new)) }
+    ensures mode { conn.old.in_transaction ≡ false → conn.new.in_transaction ≡ false }
+    ensures faults { HasCleanDisk (state S.Store conn.new)
+        → HasTables (state S.Store conn.old)
+        → IfErr result (FailsToRead (state S.Store conn.old) (state S.Store conn.new)) }
+    ensures survives { HasTables (state S.Store conn.old)
+        → Survives (state S.Store conn.old) (state S.Store conn.new) (λ _. ⊥) }
+{
+    members_law();
+    let there = meters::meter_numbered(conn, number)?;
+    if there.is_none() {
+        return Ok(Facts::none());
+    }
+    let has_tariff = tariffs::has_tariff(conn, name)?;
+    Ok(Facts {
+        meter: there,
+        has_tariff,
+        ..Facts::none()
+    })
+}

@@ -1,0 +1,123 @@
+//! What requests on sales look at.
+
+ghost use Rattle.std.specs.Prelude.{◌≡◌, false, IfOk, IfErr, IsNone, OnOk, OnErr};
+ghost use Rattle.sqlite.specs.State.{HasCleanDisk, IsUnchanged, Survives};
+ghost use Rattle.sqlite.specs.Held.{state};
+ghost use Rattle.one_table.specs.Answer.{IsLeft};
+ghost use Rattle.vend_core.specs.Facts.{AreNewSaleFacts, AreSaleFacts};
+ghost use Rattle.vend_core.specs.Lookup.{sale_numbered};
+ghost use Rattle.vend_core.specs.Office.{IsOffice, Office};
+ghost use Rattle.book_tables.specs.Reading.{FailsToRead, HasTables};
+ghost use Rattle.books.specs.Members.{HasMembers};
+
+use crate::facts::buyers::buyer_numbered;
+use book_tables::{TableError, sales, shifts};
+use sqlite::{Alter, Connection};
+use std::alloc::Global;
+use vend_core::{Facts, Moment, Order};
+
+/// What Sell looks at: the rest only where no sale was made under the order's ref.
+pub(crate) fn sale_facts<S: Alter>(
+    alloc: Global,
+    conn: &mut Connection<S>,
+    moment: Moment,
+    order: &Order,
+) -> Result<Facts, TableError>
+    ensures facts { HasCleanDisk (state S.Store conn.new)
+        → (o : Office) → IsOffice o → HasMembers (state S.Store conn.old) o
+        → IfOk result (AreSaleFacts o moment order.now) }
+    ensures same { HasCleanDisk (state S.Store conn.new)
+        → HasTables (state S.Store conn.old)
+        → OnOk result (IsUnchanged (state S.Store conn.old) (state S.Store conn.new)) }
+    ensures kept { HasCleanDisk (state S.Store conn.new)
+        → HasTables (state S.Store conn.old)
+        → OnErr result (IsLeft (state S.Store conn.old) (state S.Store conn.new)) }
+    ensures mode { conn.old.in_transaction ≡ false → conn.new.in_transaction ≡ false }
+    ensures faults { HasCleanDisk (state S.Store conn.new)
+        → HasTables (state S.Store conn.old)
+        → IfErr result (FailsToRead (state S.Store conn.old) (state S.Store conn.new)) }
+    ensures survives { HasTables (state S.Store conn.old)
+        → Survives (state S.Store conn.old) (state S.Store conn.new) (λ _. ⊥) }
+{
+    let first_sale = sales::sale_of_ref(conn, &order.operator, &order.order_ref)?;
+    if first_sale.is_some() {
+        return Ok(Facts {
+            first_sale,
+            ..Facts::none()
+        });
+    }
+    new_sale_facts(alloc, conn, moment, order)
+}
+
+// What a new sale looks at: the meter only where there is an open shift, and how many sales there
+// are only where there is a meter.
+fn new_sale_facts<S: Alter>(
+    alloc: Global,
+    conn: &mut Connection<S>,
+    moment: Moment,
+    order: &Order,
+) -> Result<Facts, TableError>
+    ensures none { IfOk result (λ f. IsNone f.first_sale) }
+    ensures facts { HasCleanDisk (state S.Store conn.new)
+        → (o : Office) → IsOffice o → HasMembers (state S.Store conn.old) o
+        → IfOk result (AreNewSaleFacts o moment order.now) }
+    ensures same { HasCleanDisk (state S.Store conn.new)
+        → HasTables (state S.Store conn.old)
+        → OnOk result (IsUnchanged (state S.Store conn.old) (state S.Store conn.new)) }
+    ensures kept { HasCleanDisk (state S.Store conn.new)
+        → HasTables (state S.Store conn.old)
+        → OnErr result (IsLeft (state S.Store conn.old) (state S.Store conn.new)) }
+    ensures mode { conn.old.in_transaction ≡ false → conn.new.in_transaction ≡ false }
+    ensures faults { HasCleanDisk (state S.Store conn.new)
+        → HasTables (state S.Store conn.old)
+        → IfErr result (FailsToRead (state S.Store conn.old) (state S.Store conn.new)) }
+    ensures survives { HasTables (state S.Store conn.old)
+        → Survives (state S.Store conn.old) (state S.Store conn.new) (λ _. ⊥) }
+{
+    let open_shift = shifts::open_shift(conn, &order.operator)?;
+    if open_shift.is_none() {
+        return Ok(Facts::none());
+    }
+    let buyer = buyer_numbered(alloc, conn, &order.meter, moment)?;
+    if buyer.is_none() {
+        return Ok(Facts {
+            open_shift,
+            ..Facts::none()
+        });
+    }
+    let last = sales::last_sale_number(conn)?;
+    Ok(Facts {
+        open_shift,
+        buyer,
+        sale_count: u64::from(last.unwrap_or(0)),
+        ..Facts::none()
+    })
+}
+
+/// What Reprint looks at.
+pub(crate) fn reprint_facts<S: Alter>(
+    conn: &mut Connection<S>,
+    number: u32,
+) -> Result<Facts, TableError>
+    ensures facts { HasCleanDisk (state S.Store conn.new)
+        → (o : Office) → IsOffice o → HasMembers (state S.Store conn.old) o
+        → IfOk result (λ f. f.sale ≡ sale_numbered o number) }
+    ensures same { HasCleanDisk (state S.Store conn.new)
+        → HasTables (state S.Store conn.old)
+        → OnOk result (IsUnchanged (state S.Store conn.old) (state S.Store conn.new)) }
+    ensures kept { HasCleanDisk (state S.Store conn.new)
+        → HasTables (state S.Store conn.old)
+        → OnErr result (IsLeft (state S.Store conn.old) (state S.Store conn.new)) }
+    ensures mode { conn.old.in_transaction ≡ false → conn.new.in_transaction ≡ false }
+    ensures faults { HasCleanDisk (state S.Store conn.new)
+        → HasTables (state S.Store conn.old)
+        → IfErr result (FailsToRead (state S.Store conn.old) (state S.Store conn.new)) }
+    ensures survives { HasTables (state S.Store conn.old)
+        → Survives (state S.Store conn.old) (state S.Store conn.new) (λ _. ⊥) }
+{
+    let sale = sales::sale_numbered(conn, number)?;
+    Ok(Facts {
+        sale,
+        ..Facts::none()
+    })
+}

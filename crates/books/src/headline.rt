@@ -1,0 +1,103 @@
+ghost use Rattle.std.specs.Prelude.{◌≡◌, ◌<◌, ◌≤◌, ◌↔◌, ◌++◌, ◌∷◌, List, Ok, All, Contains, sum_by};
+ghost use Rattle.sqlite.specs.Held.{Held, state};
+ghost use Rattle.sqlite.specs.State.{IsLive, Opens};
+ghost use Rattle.sqlite_trees.specs.Tree.{Trees};
+ghost use Rattle.sts_token.specs.Meter.{Accepts, credit_of};
+ghost use Rattle.vend_core.specs.Life.{Answered, AreLives, IsHanded, Life, present};
+ghost use Rattle.vend_core.specs.NewSale.{fields_of};
+ghost use Rattle.vend_core.specs.Office.{Office};
+ghost use Rattle.vend_core.specs.SoldTokens.{AreSalesTo, SimMeter, accepted_of, later_sales_come, reads_by, tokens_of};
+ghost use Rattle.vend_core.specs.declared.answer.Answer.{Answer};
+ghost use Rattle.vend_core.specs.declared.sale.Sale.{Sale};
+ghost use Rattle.books.specs.Headline.{KeepTheLast, with_last};
+ghost use Rattle.books.specs.Keeps.{LeftFor, StandsAt, seen};
+ghost use Rattle.books.specs.declared.books.Books.{Books};
+
+use crate::reopening::opening_law;
+use sqlite::Alter;
+use sts_token::BlockTransform;
+use vend_core::{history_law, life_law};
+
+/// What holds of an office in a file over all its lives, wherever each of them stopped.
+///
+/// While nobody else writes the file and the disk returns what was written (`HasCleanDisk`), what a
+/// stop between two calls or within one leaves is the office of a beginning of the requests, which
+/// holds every acknowledged sale. No two sales to a meter under one base date share an identifier,
+/// a reprint is the first token, and the simulated meter credits each token at most once.
+///
+/// `Books::open_from` begins a life for the office that the file stands for, `Books::serve` adds to
+/// it, and each keeps the relation `Keeps` that is the premise here.
+pub fn headline_law<S: Alter, T: BlockTransform>()
+    // The lives of which books keep the last one are lives of one office.
+    ensures lives { (lives : List Life) (life : Life) (books : Books S T S.Store)
+        → KeepTheLast lives life (seen S.Store T.forwards books) → AreLives (with_last lives life) (present life) }
+
+    // All that a stop may leave stands for an office that these lives may leave: it is that of the
+    // acknowledged requests, or of these and the one in doubt.
+    ensures left { (lives : List Life) (life : Life) (books : Books S T S.Store) (trees : Trees)
+        → KeepTheLast lives life (seen S.Store T.forwards books) → (state S.Store books.conn).may_leave trees
+        → (o : Office) × LeftFor trees o × AreLives (with_last lives life) o }
+
+    // A connection that is opened on it stands for that office, which is the one that the next life
+    // begins with; and what is left stands for no other.
+    ensures opens_again { (lives : List Life) (life : Life) (books : Books S T S.Store)
+        (again : Held S)
+        → KeepTheLast lives life (seen S.Store T.forwards books)
+        → (state S.Store books.conn).may_leave (state S.Store again).committed.trees
+        → Opens (state S.Store again) → IsLive (state S.Store again)
+        → (o : Office) × StandsAt (state S.Store again) o × AreLives (with_last lives life) o }
+    ensures one_office { (trees : Trees) (o p : Office)
+        → LeftFor trees o → LeftFor trees p → o ≡ p }
+
+    // Each sale that was handed out in any of the lives stands there, unchanged.
+    ensures stands { (lives : List Life) (life : Life) (books : Books S T S.Store) (trees : Trees) (s : Sale)
+        → KeepTheLast lives life (seen S.Store T.forwards books) → (state S.Store books.conn).may_leave trees
+        → IsHanded (with_last lives life) s
+        → (o : Office) × LeftFor trees o × Contains o.sales s }
+
+    // No two of them share an identifier of a meter under a base, a number, or an operator's ref.
+    ensures one_identifier { (lives : List Life) (life : Life) (books : Books S T S.Store) (a b : Sale)
+        → KeepTheLast lives life (seen S.Store T.forwards books)
+        → IsHanded (with_last lives life) a → IsHanded (with_last lives life) b
+        → a.meter ≡ b.meter → a.base ≡ b.base → a.tid ≡ b.tid → a ≡ b }
+    ensures one_number { (lives : List Life) (life : Life) (books : Books S T S.Store) (a b : Sale)
+        → KeepTheLast lives life (seen S.Store T.forwards books)
+        → IsHanded (with_last lives life) a → IsHanded (with_last lives life) b
+        → a.number ≡ b.number → a ≡ b }
+    ensures one_ref { (lives : List Life) (life : Life) (books : Books S T S.Store) (a b : Sale)
+        → KeepTheLast lives life (seen S.Store T.forwards books)
+        → IsHanded (with_last lives life) a → IsHanded (with_last lives life) b
+        → a.operator ≡ b.operator → a.order_ref ≡ b.order_ref → a ≡ b }
+
+    // A reprint is the first token, whatever transforms the lives have.
+    ensures reprint { (lives : List Life) (life : Life) (books : Books S T S.Store) (first again : Sale)
+        → KeepTheLast lives life (seen S.Store T.forwards books)
+        → Answered (with_last lives life) (Answer.Sold first)
+        → Answered (with_last lives life) (Answer.Reprinted again)
+        → again.number ≡ first.number → again.digits ≡ first.digits }
+
+    // The tokens of one meter's sales under one base, entered into a new meter in any order and
+    // with repeats: each is accepted at its first entry exactly if those of fewer than fifty later
+    // sales came before it, and the credit is the sum of the distinct ones accepted.
+    ensures first_entry { (lives : List Life) (life : Life) (books : Books S T S.Store) (m : SimMeter)
+        (sales came : List Sale) (s : Sale)
+        → KeepTheLast lives life (seen S.Store T.forwards books) → AreSalesTo (with_last lives life) m sales
+        → All (Contains sales) came → Contains sales s → ¬ Contains came s
+        → (Accepts (reads_by m) (tokens_of came) s.digits (fields_of s)
+        ↔ (later_sales_come sales came s < 50)) }
+    ensures credit { (lives : List Life) (life : Life) (books : Books S T S.Store) (m : SimMeter)
+        (sales came : List Sale)
+        → KeepTheLast lives life (seen S.Store T.forwards books) → AreSalesTo (with_last lives life) m sales
+        → All (Contains sales) came
+        → credit_of (reads_by m) (tokens_of came)
+        ≡ sum_by (λ s. s.tenths) (accepted_of (reads_by m) (tokens_of came) sales) }
+    ensures at_most_sold { (lives : List Life) (life : Life) (books : Books S T S.Store) (m : SimMeter)
+        (sales came : List Sale)
+        → KeepTheLast lives life (seen S.Store T.forwards books) → AreSalesTo (with_last lives life) m sales
+        → All (Contains sales) came
+        → credit_of (reads_by m) (tokens_of came) ≤ sum_by (λ s. s.tenths) sales }
+{
+    life_law();
+    history_law();
+    opening_law::<S>();
+}

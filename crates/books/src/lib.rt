@@ -1,0 +1,20 @@
+//! The office in one SQLite file: the requests that change it are each one commit, made before the
+//! answer.
+//!
+//! `docs/LIVES.md` says what a stop may leave. `specs/Keeps.antt` has the relation between books
+//! and a life that the contracts speak of.
+#![tactic(auto)]
+
+pub use books::Books;
+pub use fault::OpenFault;
+pub use headline::headline_law;
+pub use reopening::opening_law;
+
+mod beginning;
+mod books;
+mod changing;
+mod facts;
+mod fault;
+mod headline;
+mod opening;
+mod reopening;

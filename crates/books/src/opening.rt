@@ -1,0 +1,206 @@
+//! What an opening does with the connection that it is given.
+
+ghost use Rattle.std.specs.Prelude.{◌≡◌, ◌≢◌, ◌+◌, ◌⊎◌, false, length, Err, IsTrue, IfOk, IfErr, OnOk, OnErr};
+ghost use Rattle.sqlite.specs.Effect.{IsDatabase};
+ghost use Rattle.sqlite.specs.State.{HasCleanDisk, IsUnchanged, Survives};
+ghost use Rattle.sqlite.specs.Held.{state};
+ghost use Rattle.vend_core.specs.Office.{Office};
+ghost use Rattle.one_table.specs.Answer.{IsLeft};
+ghost use Rattle.book_tables.specs.Format.{HasFormat};
+ghost use Rattle.book_tables.specs.Reading.{HasTables};
+ghost use Rattle.books.specs.Keeps.{IsAt, StandsAt};
+ghost use Rattle.books.specs.Opening.{LeavesBegun, LeavesRefused, OpensAs, OpensAt, Refuses, ShowsNoOffice, fault_of, fault_of_table};
+ghost use Rattle.books.specs.Same.{IsSame};
+
+use crate::beginning::first_of_office;
+use crate::fault::OpenFault;
+use book_tables::TableError;
+use book_tables::format::format_number;
+use book_tables::recognising::{Found, what_is_here};
+use book_tables::sales::last_sale_number;
+use sqlite::{Alter, Connection, Error, ErrorCode};
+use std::alloc::Global;
+
+// The number of the format of the tables.
+const FORMAT: u32 = 1;
+
+/// What an error of the database is answered as.
+pub(crate) fn fault_of(error: Error) -> OpenFault
+    ensures value { result ≡ fault_of error }
+    ensures kind { (result ≡ OpenFault.Store) ⊎ (result ≡ OpenFault.Memory) }
+{
+    match error {
+        Error::SqliteFailure(ErrorCode::OutOfMemory) => OpenFault::Memory,
+        _ => OpenFault::Store,
+    }
+}
+
+// A row that is no office's shows that there is none.
+fn fault_of_table(error: TableError) -> OpenFault
+    ensures value { result ≡ fault_of_table error }
+    ensures never_old { result ≢ OpenFault.OldOffice }
+{
+    match error {
+        TableError::Database(error) => fault_of(error),
+        TableError::RowOfNoOffice => OpenFault::NotAnOffice,
+    }
+}
+
+// A connection that is shut tells nothing of its database: each table seems to be missing.
+fn test_open<S: Alter>(conn: &mut Connection<S>) -> Result<(), OpenFault>
+    ensures same { HasCleanDisk (state S.Store conn.new)
+        → OnOk result (IsUnchanged (state S.Store conn.old) (state S.Store conn.new)) }
+    ensures kept { HasCleanDisk (state S.Store conn.new)
+        → OnErr result (IsLeft (state S.Store conn.old) (state S.Store conn.new)) }
+    ensures mode { conn.old.in_transaction ≡ false → conn.new.in_transaction ≡ false }
+    ensures faults { IfErr result
+        (λ fault. (fault ≡ OpenFault.Store) ⊎ (fault ≡ OpenFault.Memory)) }
+    ensures survives { Survives (state S.Store conn.old) (state S.Store conn.new) (λ _. ⊥) }
+{
+    match conn.prepare("SELECT 1") {
+        Ok(_) => Ok(()),
+        Err(error) => Err(fault_of(error)),
+    }
+}
+
+fn test_format<S: Alter>(alloc: Global, conn: &mut Connection<S>) -> Result<(), OpenFault>
+    ensures format { HasCleanDisk (state S.Store conn.new)
+        → HasTables (state S.Store conn.old)
+        → (IsTrue (state S.Store conn.old).is_open → IsDatabase (state S.Store conn.old).now)
+        → OnOk result (HasFormat (state S.Store conn.old).now 1) }
+    ensures same { HasCleanDisk (state S.Store conn.new)
+        → HasTables (state S.Store conn.old)
+        → OnOk result (IsUnchanged (state S.Store conn.old) (state S.Store conn.new)) }
+    ensures kept { HasCleanDisk (state S.Store conn.new)
+        → HasTables (state S.Store conn.old)
+        → OnErr result (IsLeft (state S.Store conn.old) (state S.Store conn.new)) }
+    ensures mode { conn.old.in_transaction ≡ false → conn.new.in_transaction ≡ false }
+    ensures other { HasCleanDisk (state S.Store conn.new)
+        → HasTables (state S.Store conn.old)
+        → (IsTrue (state S.Store conn.old).is_open → IsDatabase (state S.Store conn.old).now)
+        → IfErr result (ShowsNoOffice (state S.Store conn.old)) }
+    ensures never_old { IfErr result (λ fault. fault ≢ OpenFault.OldOffice) }
+    ensures survives { HasTables (state S.Store conn.old)
+        → Survives (state S.Store conn.old) (state S.Store conn.new) (λ _. ⊥) }
+{
+    let format = match format_number(alloc, conn) {
+        Ok(format) => format,
+        Err(error) => return Err(fault_of_table(error)),
+    };
+    if format == Some(FORMAT) {
+        Ok(())
+    } else {
+        Err(OpenFault::NotAnOffice)
+    }
+}
+
+// The number of the next sale, by the one that was made last.
+fn next_by_sales<S: Alter>(conn: &mut Connection<S>) -> Result<u64, OpenFault>
+    ensures next { HasCleanDisk (state S.Store conn.new)
+        → HasTables (state S.Store conn.old)
+        → (o : Office) → StandsAt (state S.Store conn.old) o
+        → IfOk result (λ next. next ≡ length o.sales + 1) }
+    ensures same { HasCleanDisk (state S.Store conn.new)
+        → HasTables (state S.Store conn.old)
+        → OnOk result (IsUnchanged (state S.Store conn.old) (state S.Store conn.new)) }
+    ensures kept { HasCleanDisk (state S.Store conn.new)
+        → HasTables (state S.Store conn.old)
+        → OnErr result (IsLeft (state S.Store conn.old) (state S.Store conn.new)) }
+    ensures mode { conn.old.in_transaction ≡ false → conn.new.in_transaction ≡ false }
+    ensures other { HasCleanDisk (state S.Store conn.new)
+        → HasTables (state S.Store conn.old)
+        → IfErr result (ShowsNoOffice (state S.Store conn.old)) }
+    ensures never_old { IfErr result (λ fault. fault ≢ OpenFault.OldOffice) }
+    ensures survives { HasTables (state S.Store conn.old)
+        → Survives (state S.Store conn.old) (state S.Store conn.new) (λ _. ⊥) }
+{
+    match last_sale_number(conn) {
+        Ok(last) => Ok(u64::from(last.unwrap_or(0)) + 1),
+        Err(error) => Err(fault_of_table(error)),
+    }
+}
+
+fn next_of_office<S: Alter>(alloc: Global, conn: &mut Connection<S>) -> Result<u64, OpenFault>
+    ensures next { HasCleanDisk (state S.Store conn.new)
+        → HasTables (state S.Store conn.old)
+        → (o : Office) → StandsAt (state S.Store conn.old) o
+        → IfOk result (λ next. next ≡ length o.sales + 1) }
+    ensures format { HasCleanDisk (state S.Store conn.new)
+        → HasTables (state S.Store conn.old)
+        → (IsTrue (state S.Store conn.old).is_open → IsDatabase (state S.Store conn.old).now)
+        → OnOk result (HasFormat (state S.Store conn.old).now 1) }
+    ensures same { HasCleanDisk (state S.Store conn.new)
+        → HasTables (state S.Store conn.old)
+        → OnOk result (IsUnchanged (state S.Store conn.old) (state S.Store conn.new)) }
+    ensures kept { HasCleanDisk (state S.Store conn.new)
+        → HasTables (state S.Store conn.old)
+        → OnErr result (IsLeft (state S.Store conn.old) (state S.Store conn.new)) }
+    ensures mode { conn.old.in_transaction ≡ false → conn.new.in_transaction ≡ false }
+    ensures other { HasCleanDisk (state S.Store conn.new)
+        → HasTables (state S.Store conn.old)
+        → (IsTrue (state S.Store conn.old).is_open → IsDatabase (state S.Store conn.old).now)
+        → IfErr result (ShowsNoOffice (state S.Store conn.old)) }
+    ensures never_old { IfErr result (λ fault. fault ≢ OpenFault.OldOffice) }
+    ensures survives { HasTables (state S.Store conn.old)
+        → Survives (state S.Store conn.old) (state S.Store conn.new) (λ _. ⊥) }
+{
+    test_format(alloc, conn)?;
+    next_by_sales(conn)
+}
+
+// Begins an office where there is none, and refuses what is none.
+fn next_by_schema<S: Alter>(alloc: Global, conn: &mut Connection<S>) -> Result<u64, OpenFault>
+    requires outside { conn.old.in_transaction ≡ false }
+    ensures opens { HasCleanDisk (state S.Store conn.new)
+        → IsTrue (state S.Store conn.old).is_open
+        → IfOk result (OpensAt (state S.Store conn.old) (state S.Store conn.new)) }
+    ensures refused { HasCleanDisk (state S.Store conn.new)
+        → IsTrue (state S.Store conn.old).is_open
+        → IfErr result (Refuses (state S.Store conn.old) (state S.Store conn.new)) }
+    ensures never_old { IfErr result (λ fault. fault ≢ OpenFault.OldOffice) }
+    ensures finds { HasCleanDisk (state S.Store conn.new)
+        → IsTrue (state S.Store conn.old).is_open
+        → OnOk result (OpensAs (state S.Store conn.old) (state S.Store conn.new)) }
+    ensures survives { (HasCleanDisk (state S.Store conn.old)
+        → IsTrue (state S.Store conn.old).is_open)
+        → Survives (state S.Store conn.old) (state S.Store conn.new)
+        (LeavesBegun (state S.Store conn.old)) }
+    ensures risks { (HasCleanDisk (state S.Store conn.old)
+        → IsTrue (state S.Store conn.old).is_open)
+        → IfErr result (λ fault. Survives (state S.Store conn.old) (state S.Store conn.new)
+        (LeavesRefused (state S.Store conn.old) fault)) }
+    ensures mode { conn.new.in_transaction ≡ false }
+{
+    let outside = conn.is_autocommit();
+    prove!(outside);
+    match what_is_here(alloc, conn.schema()) {
+        Ok(Found::Office) => next_of_office(alloc, conn),
+        Ok(Found::Nothing) => first_of_office(conn),
+        Ok(Found::Another) => Err(OpenFault::NotAnOffice),
+        Err(_) => Err(OpenFault::Memory),
+    }
+}
+
+/// The number of the next sale of the office that the store stands for. An office is begun where
+/// there is none.
+pub(crate) fn next_here<S: Alter>(alloc: Global, conn: &mut Connection<S>) -> Result<u64, OpenFault>
+    requires outside { conn.old.in_transaction ≡ false }
+    ensures opens { HasCleanDisk (state S.Store conn.new)
+        → IfOk result (OpensAt (state S.Store conn.old) (state S.Store conn.new)) }
+    ensures refused { HasCleanDisk (state S.Store conn.new)
+        → IfErr result (Refuses (state S.Store conn.old) (state S.Store conn.new)) }
+    ensures never_old { IfErr result (λ fault. fault ≢ OpenFault.OldOffice) }
+    ensures finds { HasCleanDisk (state S.Store conn.new)
+        → OnOk result (OpensAs (state S.Store conn.old) (state S.Store conn.new)) }
+    ensures survives { Survives (state S.Store conn.old) (state S.Store conn.new)
+        (LeavesBegun (state S.Store conn.old)) }
+    ensures risks { IfErr result
+        (λ fault. Survives (state S.Store conn.old) (state S.Store conn.new)
+        (LeavesRefused (state S.Store conn.old) fault)) }
+    ensures mode { conn.new.in_transaction ≡ false }
+{
+    let outside = conn.is_autocommit();
+    prove!(outside);
+    test_open(conn)?;
+    next_by_schema(alloc, conn)
+}
