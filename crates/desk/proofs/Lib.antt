@@ -1,0 +1,9 @@
+pub mod EndLemmas
+pub mod FieldLemmas
+pub mod FramingLemmas
+pub mod HeadLemmas
+pub mod MessageLemmas
+pub mod ProgressLemmas
+pub mod ReadingLemmas
+pub mod RunLemmas
+pub mod WritingLemmas

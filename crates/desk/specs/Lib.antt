@@ -1,0 +1,13 @@
+pub mod Clock
+pub mod Conversation
+pub mod Ends
+pub mod Exchanges
+pub mod Fields
+pub mod Framing
+pub mod Front
+pub mod Heads
+pub mod MessageFault
+pub mod Messages
+pub mod Next
+pub mod Run
+pub mod Wants

@@ -1,0 +1,16 @@
+/// How a conversation ended.
+#[derive(Clone, Copy, Debug, PartialEq, Eq, Hash)]
+pub enum End {
+    /// The input ended, or a message closed the conversation: all replies were written.
+    Closed,
+    /// A message was refused: all replies were written, and the refusal last.
+    BadMessage,
+    /// A read failed: the replies to all whole messages before it were written.
+    ReadFault,
+    /// A write failed or took no byte: a beginning of the replies was written. No message after the
+    /// one that was being answered was served.
+    WriteFault,
+    /// Want of memory: the replies before it were written. The message that was being answered has
+    /// no reply, and may have been served.
+    Memory,
+}

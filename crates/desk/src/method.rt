@@ -1,0 +1,6 @@
+/// The methods that the desk answers.
+#[derive(Clone, Copy, Debug, PartialEq, Eq, Hash)]
+pub enum Method {
+    Get,
+    Post,
+}
