@@ -8,6 +8,7 @@ pub use fault::TextFault;
 pub use file_kind::FileKind;
 pub use imports::{read_meters, read_tariffs};
 pub use laws::{export_law, import_law};
+pub use output::write_whole;
 pub use receipts::{receipt, receipt_text};
 pub use reports::{report_law, shift_report, shift_text};
 pub use row_fault::RowFault;

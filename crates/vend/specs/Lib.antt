@@ -1,2 +1,15 @@
+pub mod Asked
+pub mod Commands
+pub mod Line
+pub mod Metered
+pub mod Printed
+pub mod Quoted
+pub mod Run
+pub mod Said
+pub mod Status
+pub mod Told
 pub mod Trial
-pub mod Words
+pub mod Tried
+pub mod Unread
+pub mod Values
+pub mod Ways

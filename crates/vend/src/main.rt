@@ -2,28 +2,31 @@
 //! prints.
 #![tactic(auto)]
 
-use crate::run::{refused_words, run};
+use crate::run::{refuse, run};
 use crate::words::BadWords;
-use std::env;
-use std::io::{self, Write};
 use std::process::ExitCode;
 use std::rt::Env;
+use std::{env, io};
 
-mod enter;
-mod quote;
-mod refused;
+mod asked;
+mod clock;
+mod commands;
+mod end;
+mod line;
+mod options;
+mod printed;
 mod run;
-mod sell;
-mod shipped;
-#[cfg(test)]
-mod tests;
+mod said;
+mod told;
+mod transform;
 mod trial;
+mod values;
 mod words;
 
 fn main(rt: HostRuntime) -> ExitCode {
     let status = match words_given(&rt) {
         Ok(words) => run_given(&rt, &words),
-        Err(fault) => refused_words(&mut rt.stderr(), fault),
+        Err(fault) => refuse(fault, &mut rt.stderr()).status(),
     };
     ExitCode::from(status)
 }
@@ -36,10 +39,10 @@ fn words_given<R: Env + AllocGlobal>(rt: &R) -> Result<Vec<String>, BadWords> {
         .map_err(|_| BadWords::Memory)
 }
 
-// A word that is no text is none of a command's.
+// A word that is no text is no command's.
 fn unreadable(error: io::Error) -> BadWords {
     if error.kind() == io::ErrorKind::InvalidData {
-        BadWords::Shape
+        BadWords::Value
     } else {
         BadWords::Memory
     }
@@ -48,7 +51,7 @@ fn unreadable(error: io::Error) -> BadWords {
 fn run_given(rt: &HostRuntime, given: &[String]) -> u8 {
     let words: Result<Vec<&str>, _> = given.iter().map(|word| word.as_str()).collect(rt.alloc());
     match words {
-        Ok(words) => run(rt.alloc(), &words, &mut rt.stdout(), &mut rt.stderr()),
-        Err(_) => refused_words(&mut rt.stderr(), BadWords::Memory),
+        Ok(words) => run(rt, &words, &mut rt.stdout(), &mut rt.stderr()),
+        Err(_) => refuse(BadWords::Memory, &mut rt.stderr()).status(),
     }
 }

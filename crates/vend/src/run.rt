@@ -1,106 +1,113 @@
-ghost use Rattle.std.specs.Prelude.{◌≡◌, ◌≢◌, ◌≤◌, IsOk, IfOk};
-ghost use Rattle.vend.specs.Words.{AreEntryWords, AreLeft, AskToEnter, IsCommand, Words, status_of, text_at};
+ghost use Rattle.std.specs.Prelude.{◌≡◌, ◌≤◌, map};
+ghost use Rattle.clap.specs.Values.{kind_of};
+ghost use Rattle.vend.specs.Asked.{AskFor};
+ghost use Rattle.vend.specs.Run.{IsAnswered, IsExplained, IsRun, IsTimed};
+ghost use Rattle.vend.specs.Status.{status_of};
+ghost use Rattle.vend.specs.Told.{HasBeginning, outputs};
+ghost use Rattle.vend.specs.Tried.{IsTried};
+ghost use Rattle.vend.specs.Unread.{bad_words_end, bad_words_line};
+ghost use Rattle.vend.specs.declared.asked.Asked.{Asked};
+ghost use Rattle.vend.specs.declared.end.End.{End};
 
-use crate::enter::Enter;
-use crate::quote::Quote;
-use crate::refused::write_refusal;
-use crate::sell::Sell;
-use crate::shipped::Shipped;
+use crate::asked::Asked;
+use crate::clock::moment_or_now;
+use crate::commands::trial::TrialWords;
+use crate::end::End;
+use crate::line::parse;
+use crate::told::{tell, tell_refusal};
 use crate::words::BadWords;
-use std::alloc::Global;
+use clap::Error;
+use clap::error::ErrorKind;
 use std::io::Write;
-use sts_token::{Demo, Plain};
 use vend_core::Refusal;
-
-/// How a command ended; the numbers are the exit statuses.
-#[derive(Clone, Copy, Debug, PartialEq, Eq)]
-pub enum End {
-    /// It did what was asked.
-    Done = 0,
-    /// It was refused, or its output failed.
-    Refused = 1,
-    /// The words were not those of a command.
-    BadWords = 2,
-}
 
 /// Runs the command that some words give, the program's own name left out, and answers the exit
 /// status.
 ///
-/// Any other words print `bad words`, a value outside its rule `bad word`; both end with 2.
-pub fn run<O: Write, E: Write>(alloc: Global, words: &[&str], out: &mut O, err: &mut E) -> u8
-    ensures status { result ≤ 2 }
-    ensures unknown { ¬ IsCommand (text_at words.now 0) → result ≡ 2 }
-    ensures entered { AskToEnter words.now → result ≤ 1 }
+/// A value outside its rule is told as `bad word`; of words that are no command's `clap` tells what
+/// is wrong, or shows its help.
+pub fn run<O: Write, E: Write>(rt: &HostRuntime, words: &[&str], out: &mut O, err: &mut E) -> u8
+    ensures run { (end : End) × IsRun (map (λ w. w.now) words.now)
+        (outputs (O.contents out.old) (O.contents out.new)
+        (E.contents err.old) (E.contents err.new)) end × (result ≡ status_of end) }
+    ensures asked { (asked : Asked) → AskFor (map (λ w. w.now) words.now) asked → result ≤ 1 }
 {
-    let end = match words {
-        ["sell", rest @ ..] => sell(alloc, rest, out, err),
-        ["meter", rest @ ..] => meter(rest, out),
-        ["quote", rest @ ..] => quote(alloc, rest, out, err),
-        _ => Err(BadWords::Shape),
-    };
-    match end {
-        Ok(end) => end as u8,
-        Err(fault) => refused_words(err, fault),
+    carry_out(rt, words, out, err).status()
+}
+
+// Does what the words ask for, or says why not.
+fn carry_out<O: Write, E: Write>(rt: &HostRuntime, words: &[&str], out: &mut O, err: &mut E) -> End
+    ensures { IsRun (map (λ w. w.now) words.now)
+        (outputs (O.contents out.old) (O.contents out.new)
+        (E.contents err.old) (E.contents err.new)) result }
+{
+    match parse(rt.alloc(), words) {
+        Ok(matches) => match Asked::read(rt.alloc(), &matches) {
+            Ok(asked) => answer(rt, &asked, out, err),
+            Err(fault) => refuse(fault, err),
+        },
+        Err(error) => explain(&error, out, err),
     }
 }
 
-/// Says what is wrong with the words, and answers the exit status.
-pub(crate) fn refused_words<E: Write>(err: &mut E, fault: BadWords) -> u8
-    ensures { result ≡ status_of fault }
+// Does what is asked.
+fn answer<O: Write, E: Write>(rt: &HostRuntime, asked: &Asked, out: &mut O, err: &mut E) -> End
+    ensures { IsAnswered asked.now (outputs (O.contents out.old) (O.contents out.new)
+        (E.contents err.old) (E.contents err.new)) result }
 {
-    // Where the error output fails there is nowhere left to say so: the status tells.
-    let _ = match fault {
-        BadWords::Shape => err.write_all(b"bad words\n"),
-        BadWords::Value => err.write_all(b"bad word\n"),
-        BadWords::Memory => write_refusal(err, Refusal::Memory),
-    };
+    match asked {
+        Asked::Trial(words) => trial(rt, words, out, err),
+        Asked::Meter(words) => words.run(out),
+        Asked::Quote(words) => words.run(out, err),
+    }
+}
+
+fn trial<O: Write, E: Write>(rt: &HostRuntime, words: &TrialWords, out: &mut O, err: &mut E) -> End
+    ensures { let o = outputs (O.contents out.old) (O.contents out.new)
+        (E.contents err.old) (E.contents err.new) in
+        IsTimed words.now.at (λ moment. IsTried words.now moment o result) o result }
+{
+    match moment_or_now(rt, words.at) {
+        Some(moment) => words.run(rt.alloc(), moment, out, err),
+        None => {
+            tell(&[b"refused", b"clock"], err);
+            End::Refused
+        }
+    }
+}
+
+/// Tells why words were not read.
+pub(crate) fn refuse<E: Write>(fault: BadWords, err: &mut E) -> End
+    ensures told { HasBeginning (E.contents err.old) (E.contents err.new) (bad_words_line fault) }
+    ensures end { result ≡ bad_words_end fault }
+{
     match fault {
-        BadWords::Shape | BadWords::Value => End::BadWords as u8,
-        BadWords::Memory => End::Refused as u8,
+        BadWords::Value => {
+            tell(&[b"bad", b"word"], err);
+            End::BadWords
+        }
+        BadWords::Memory => {
+            tell_refusal(Refusal::Memory, err);
+            End::Refused
+        }
     }
 }
 
-fn sell<O: Write, E: Write>(
-    alloc: Global,
-    words: &[&str],
-    out: &mut O,
-    err: &mut E,
-) -> Result<End, BadWords> {
-    let (transform, words) = Shipped::take(words)?;
-    let sell = Sell::read(alloc, words)?;
-    let ended = match transform {
-        Shipped::Plain => sell.run(alloc, &Plain, out, err),
-        Shipped::Demo => sell.run(alloc, &Demo, out, err),
-    };
-    match ended {
-        Ok(None) => Ok(End::Done),
-        Ok(Some(_)) | Err(_) => Ok(End::Refused),
-    }
-}
-
-fn meter<O: Write>(words: &[&str], out: &mut O) -> Result<End, BadWords>
-    ensures entered { (rest : Words) → AreLeft words.now rest → AreEntryWords rest → IsOk result }
-    ensures known { IfOk result (λ end. end ≢ End.BadWords) }
+// Says what `clap` says of words that are no command's, which stands in no contract.
+fn explain<O: Write, E: Write>(error: &Error, out: &mut O, err: &mut E) -> End
+    ensures { IsExplained (kind_of error.now) (outputs (O.contents out.old) (O.contents out.new)
+        (E.contents err.old) (E.contents err.new)) result }
 {
-    let (transform, words) = Shipped::take(words)?;
-    let enter = Enter::read(words)?;
-    match enter.run(transform, out) {
-        Ok(()) => Ok(End::Done),
-        Err(_) => Ok(End::Refused),
+    if error.kind() == ErrorKind::OutOfMemory {
+        tell_refusal(Refusal::Memory, err);
+        return End::Refused;
     }
-}
-
-fn quote<O: Write, E: Write>(
-    alloc: Global,
-    words: &[&str],
-    out: &mut O,
-    err: &mut E,
-) -> Result<End, BadWords> {
-    // No token is written or read here, so the transform does not matter.
-    let (_, words) = Shipped::take(words)?;
-    let quote = Quote::read(alloc, words)?;
-    match quote.run(out, err) {
-        Ok(true) => Ok(End::Done),
-        Ok(false) | Err(_) => Ok(End::Refused),
+    if error.use_stderr() {
+        let _ = write!(err, "{error}");
+        return End::BadWords;
+    }
+    match write!(out, "{error}") {
+        Ok(()) => End::Done,
+        Err(_) => End::Refused,
     }
 }

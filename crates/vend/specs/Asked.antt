@@ -1,0 +1,30 @@
+-- What words ask for.
+use Rattle.std.specs.Prelude.{◌≡◌, List, [], Option, Some, None, codes}
+use Rattle.clap.specs.Walk.{Row}
+use Rattle.sts_fields.specs.Text.{Text}
+use Rattle.vend.specs.Commands.{SaysMeter, SaysQuote, SaysTrial}
+use Rattle.vend.specs.Line.{command_in, faults_in}
+use Rattle.vend.specs.declared.asked.Asked.{Asked}
+use Rattle.vend.specs.declared.asked.Asked.TheVariants.{Trial, Meter, Quote}
+
+-- the name of the command
+abbrev pub name_of : Asked → Text
+name_of (Trial words) = codes "trial"
+name_of (Meter words) = codes "meter"
+name_of (Quote words) = codes "quote"
+
+-- its rows say this
+abbrev pub Says : List Row → Asked → Type 0
+Says rows (Trial words) = SaysTrial rows words
+Says rows (Meter words) = SaysMeter rows words
+Says rows (Quote words) = SaysQuote rows words
+
+-- the command of this name and these rows asks for this
+abbrev pub Asks : Option (Text × List Row) → Asked → Type 0
+Asks None asked = ⊥
+Asks (Some (name, rows)) asked = (name ≡ name_of asked) × Says rows asked
+
+-- the words ask for this: they are those of its command, and say each value
+pub record AskFor (words : List Text) (asked : Asked) : Type 0 where
+  pub no_fault : faults_in words ≡ []
+  pub asks : Asks (command_in words) asked

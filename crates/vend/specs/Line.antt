@@ -1,0 +1,114 @@
+-- The command line: the options and the words of each command, as `clap` has them.
+use Rattle.std.specs.Prelude.{◌≡◌, Bool, true, false, List, [], ◌∷◌, Option, Some, codes}
+use Rattle.clap.specs.Lexer.{usize_max}
+use Rattle.clap.specs.Walk.{Row, Rule}
+use Rattle.clap.specs.Simple.{App, Shape, app_of, new_rule, new_shape, subcommand_of}
+use Rattle.clap.specs.Faults.{fault_of}
+use Rattle.clap.specs.Kinds.{Kinds}
+use Rattle.clap.specs.declared.builder.command.Command.{Command}
+use Rattle.clap.specs.declared.builder.command.Command.TheViews.{out-Command as fields_of}
+use Rattle.sts_fields.specs.Text.{Text}
+
+-- ---- arguments
+
+-- --NAME VALUE, which may be left out
+abbrev pub option_named : Text → Rule
+option_named name = record (new_rule name) { long = Some name; value_names = 1 }
+
+-- the same, where it has to be there
+abbrev pub needed : Text → Rule
+needed name = record (option_named name) { required = true }
+
+-- the same, where it has this value if it is left out
+abbrev pub with_default : Text → Text → Rule
+with_default name text = record (option_named name) { defaults = text ∷ [] }
+
+-- a word at its place
+abbrev pub word_named : Text → Rule
+word_named name = record (new_rule name) { value_names = 1; required = true }
+
+-- one word or more, to the end
+abbrev pub words_named : Text → Rule
+words_named name = record (word_named name) {
+  range = Some (record { start_inclusive = 1; end_inclusive = usize_max });
+}
+
+abbrev pub transform_option : Rule
+transform_option = with_default (codes "transform") (codes "plain")
+
+abbrev pub at_option : Rule
+at_option = option_named (codes "at")
+
+-- ---- commands
+
+abbrev pub command_named : Text → List Rule → Shape
+command_named name rules = record (new_shape name) { rules = rules }
+
+abbrev pub trial_command : Shape
+trial_command = command_named (codes "trial") (transform_option ∷ needed (codes "base")
+    ∷ needed (codes "key") ∷ at_option ∷ words_named (codes "amounts") ∷ [])
+
+abbrev pub import_command : Shape
+import_command = command_named (codes "import") (transform_option ∷ needed (codes "file")
+    ∷ at_option ∷ word_named (codes "kind") ∷ word_named (codes "csv") ∷ [])
+
+abbrev pub shift_command : Shape
+shift_command = command_named (codes "shift") (transform_option ∷ needed (codes "file")
+    ∷ needed (codes "operator") ∷ at_option ∷ word_named (codes "act") ∷ [])
+
+abbrev pub sell_command : Shape
+sell_command = command_named (codes "sell") (transform_option ∷ needed (codes "file")
+    ∷ needed (codes "operator") ∷ needed (codes "ref") ∷ needed (codes "meter")
+    ∷ needed (codes "tender") ∷ at_option ∷ [])
+
+abbrev pub report_command : Shape
+report_command = command_named (codes "report") (needed (codes "file") ∷ needed (codes "kind")
+    ∷ with_default (codes "number") (codes "1") ∷ [])
+
+abbrev pub meter_command : Shape
+meter_command = command_named (codes "meter")
+    (transform_option ∷ needed (codes "key") ∷ words_named (codes "tokens") ∷ [])
+
+abbrev pub quote_command : Shape
+quote_command = command_named (codes "quote") (transform_option ∷ word_named (codes "steps")
+    ∷ word_named (codes "prior") ∷ word_named (codes "tender") ∷ [])
+
+-- ---- the line
+
+-- the commands, each of which has one level of words
+abbrev pub commands : List Shape
+commands = trial_command ∷ meter_command ∷ quote_command ∷ []
+
+abbrev pub has_none : List Shape → Bool
+has_none [] = true
+has_none (shape ∷ shapes) = false
+
+-- the words begin with one of the commands; the program's own name is not among them
+abbrev pub line_of_commands : List Shape → App
+line_of_commands shapes = record {
+  top = record (new_shape (codes "vend")) {
+    is_leaf = has_none shapes;
+    no_binary_name = true;
+    subcommand_required = true;
+    arg_required_else_help = true;
+  };
+  subs = shapes;
+}
+
+abbrev pub vend_line : App
+vend_line = line_of_commands commands
+
+-- the faults that `clap` finds in the words; none where they are those of a command
+unfoldable pub faults_in : List Text → Kinds
+faults_in words = fault_of vend_line words
+
+-- the name of the command, and its rows
+unfoldable pub command_in : List Text → Option (Text × List Row)
+command_in words = subcommand_of vend_line words
+
+-- ---- what is described
+
+-- a command without commands of its own is described as this
+pub record IsDescribed (shape : Shape) (command : Command) : Type 0 where
+  pub app : app_of command ≡ record { top = shape; subs = [] }
+  pub no_globals : (fields_of command).has_globals ≡ false

@@ -1,0 +1,50 @@
+-- A run of the program: how what its words ask for is answered.
+use Rattle.std.specs.Prelude.{◌≡◌, ◌≢◌, ◌⊎◌, ℕ, List, [], Option, Some, None}
+use Rattle.std.specs.Io.KnownBytes.{Keeps}
+use Rattle.clap.specs.Kinds.{IsAmong}
+use Rattle.clap.specs.declared.error.kind.ErrorKind.{ErrorKind}
+use Rattle.clap.specs.declared.error.kind.ErrorKind.TheVariants.{DisplayHelp, DisplayVersion, OutOfMemory}
+use Rattle.sts_fields.specs.Text.{Text}
+use Rattle.vend_core.specs.declared.refusal.Refusal.TheVariants.{Memory}
+use Rattle.vend.specs.Asked.{AskFor}
+use Rattle.vend.specs.Line.{faults_in}
+use Rattle.vend.specs.Metered.{IsMetered}
+use Rattle.vend.specs.Printed.{bad_word_line, clock_line, refusal_line}
+use Rattle.vend.specs.Quoted.{IsQuoted}
+use Rattle.vend.specs.Told.{Outputs, IsTold}
+use Rattle.vend.specs.Tried.{IsTried}
+use Rattle.vend.specs.declared.asked.Asked.{Asked}
+use Rattle.vend.specs.declared.asked.Asked.TheVariants.{Trial, Meter, Quote}
+use Rattle.vend.specs.declared.end.End.{End}
+use Rattle.vend.specs.declared.end.End.TheVariants.{Refused, BadWords}
+
+-- what needs a moment is done at the one that is given, or else at one of the machine's clock;
+-- where the clock has none that is told
+abbrev pub IsTimed : Option ℕ → (ℕ → Type 0) → Outputs → End → Type 0
+IsTimed (Some moment) At o end = At moment
+IsTimed None At o end = ((moment : ℕ) × At moment) ⊎ IsTold o [] clock_line Refused end
+
+-- what is asked for is done
+abbrev pub IsAnswered : Asked → Outputs → End → Type 0
+IsAnswered (Trial words) o end = IsTimed words.at (λ moment. IsTried words moment o end) o end
+IsAnswered (Meter words) o end = IsMetered words o end
+IsAnswered (Quote words) o end = IsQuoted words o end
+
+-- `clap` has a fault of this kind: no room to read the words, which is told; a call for help, which
+-- goes to the output and is done where the output took it; or what is wrong with the words, which
+-- goes to the error output. What goes to one output leaves the other as it was.
+abbrev pub IsExplained : ErrorKind → Outputs → End → Type 0
+IsExplained OutOfMemory o end = IsTold o [] (refusal_line Memory) Refused end
+IsExplained DisplayHelp o end = Keeps o.err_old o.err_new × (end ≢ BadWords)
+IsExplained DisplayVersion o end = Keeps o.err_old o.err_new × (end ≢ BadWords)
+IsExplained kind o end = Keeps o.old o.new × (end ≡ BadWords)
+
+-- the words ask for something, and that is done; or they are a command's, and a value is outside
+-- its rule; or `clap` has a fault of theirs; or there was no room to read them
+pub data IsRun (words : List Text) (o : Outputs) (end : End) : Type 0 where
+  answered : (asked : Asked) → AskFor words asked → IsAnswered asked o end → IsRun words o end
+  bad_word : faults_in words ≡ [] → ((asked : Asked) → ¬ AskFor words asked)
+      → IsTold o [] bad_word_line BadWords end → IsRun words o end
+  explained : (kind : ErrorKind) → IsAmong kind (faults_in words) → IsExplained kind o end
+      → IsRun words o end
+  no_room : IsTold o [] (refusal_line Memory) Refused end → IsRun words o end

@@ -1,0 +1,46 @@
+ghost use Rattle.clap.specs.Simple.{subcommand_rows_of};
+ghost use Rattle.vend.specs.Asked.{Asks};
+ghost use Rattle.vend.specs.Said.{ReadsOrFull};
+
+use crate::commands::meter::MeterWords;
+use crate::commands::quote::QuoteWords;
+use crate::commands::trial::TrialWords;
+use crate::said;
+use crate::words::BadWords;
+use clap::ArgMatches;
+use std::alloc::Global;
+
+/// What the words of a command ask for.
+#[derive(Drop)]
+pub enum Asked<'m, 'a> {
+    Trial(TrialWords),
+    Meter(MeterWords<'m, 'a>),
+    Quote(QuoteWords),
+}
+
+impl<'m, 'a> Asked<'m, 'a> {
+    /// Reads the words of the command that the matches have.
+    pub(crate) fn read(
+        alloc: Global,
+        matches: &'m ArgMatches<'a>,
+    ) -> Result<Asked<'m, 'a>, BadWords>
+        ensures { ReadsOrFull result (Asks (subcommand_rows_of matches.now)) }
+    {
+        match said::command(matches) {
+            Some(("trial", words)) => match TrialWords::read(alloc, words) {
+                Ok(words) => Ok(Asked::Trial(words)),
+                Err(fault) => Err(fault),
+            },
+            Some(("meter", words)) => match MeterWords::read(words) {
+                Some(words) => Ok(Asked::Meter(words)),
+                None => Err(BadWords::Value),
+            },
+            Some(("quote", words)) => match QuoteWords::read(alloc, words) {
+                Ok(words) => Ok(Asked::Quote(words)),
+                Err(fault) => Err(fault),
+            },
+            // The line has no other command.
+            _ => Err(BadWords::Value),
+        }
+    }
+}

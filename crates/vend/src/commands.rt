@@ -1,0 +1,8 @@
+//! The commands: how each is described, what its words say, and what it does.
+pub mod import;
+pub mod meter;
+pub mod quote;
+pub mod report;
+pub mod sell;
+pub mod shift;
+pub mod trial;

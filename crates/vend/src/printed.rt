@@ -1,0 +1,126 @@
+//! The lines that the program prints (`specs/Printed.antt`).
+ghost use Rattle.std.specs.Prelude.{◌≡◌, ◌≢◌, ℕ, Err, map};
+ghost use Rattle.vend_core.specs.RowCause.{cause_text};
+ghost use Rattle.papers.specs.Output.{IsWritten};
+ghost use Rattle.vend.specs.Printed.{answer_line, credit_line, line_of};
+ghost use Rattle.vend.specs.Printed.{quote_line, refusal_line, token_line};
+
+use itoa::Buffer;
+use papers::{TextFault, write_whole};
+use sim_meter::Answer;
+use std::io::Write;
+use tariff::Buy;
+use vend_core::{Refusal, RowCause};
+
+/// Writes words on a line of their own, with a space between them.
+pub(crate) fn write_line<W: Write>(words: &[&[u8]], out: &mut W) -> Result<(), TextFault>
+    ensures written { IsWritten (W.contents out.old) (W.contents out.new)
+        (line_of (map (λ word. word.now) words.now)) result }
+    ensures never_memory { result ≢ Err TextFault.Memory }
+{
+    let mut separator: &[u8] = b"";
+    for word in words {
+        write_whole(separator, out)?;
+        write_whole(word, out)?;
+        separator = b" ";
+    }
+    write_whole(b"\n", out)
+}
+
+/// Writes a token.
+pub(crate) fn write_token<W: Write>(token: &[u8; 20], out: &mut W) -> Result<(), TextFault>
+    ensures written { IsWritten (W.contents out.old) (W.contents out.new)
+        (token_line token.now) result }
+    ensures never_memory { result ≢ Err TextFault.Memory }
+{
+    write_line(&[token], out)
+}
+
+/// Writes what a meter answers to a token.
+pub(crate) fn write_answer<W: Write>(answer: Answer, out: &mut W) -> Result<(), TextFault>
+    ensures written { IsWritten (W.contents out.old) (W.contents out.new)
+        (answer_line answer) result }
+    ensures never_memory { result ≢ Err TextFault.Memory }
+{
+    let mut number = Buffer::new();
+    match answer {
+        Answer::Accepted(amount) => {
+            let tenths = number.format(amount.tenths());
+            write_line(&[b"accepted", tenths.as_bytes()], out)
+        }
+        Answer::Used => write_line(&[b"used"], out),
+        Answer::Old => write_line(&[b"old"], out),
+        Answer::Refused(fault) => {
+            let number = number.format(fault.number());
+            write_line(
+                &[b"refused", number.as_bytes(), fault.name().as_bytes()],
+                out,
+            )
+        }
+    }
+}
+
+/// Writes the credit of a meter, in tenths of a kWh.
+pub(crate) fn write_credit<W: Write>(tenths: u64, out: &mut W) -> Result<(), TextFault>
+    ensures written { IsWritten (W.contents out.old) (W.contents out.new)
+        (credit_line tenths) result }
+    ensures never_memory { result ≢ Err TextFault.Memory }
+{
+    let mut number = Buffer::new();
+    write_line(&[b"credit", number.format(tenths).as_bytes()], out)
+}
+
+/// Writes what a tender buys.
+pub(crate) fn write_quote<W: Write>(bought: &Buy, out: &mut W) -> Result<(), TextFault>
+    ensures written { IsWritten (W.contents out.old) (W.contents out.new)
+        (quote_line bought.now) result }
+    ensures never_memory { result ≢ Err TextFault.Memory }
+{
+    let mut tenths = Buffer::new();
+    let mut price = Buffer::new();
+    let mut change = Buffer::new();
+    let tenths = tenths.format(bought.tenths.tenths()).as_bytes();
+    let price = price.format(bought.price).as_bytes();
+    let change = change.format(bought.change).as_bytes();
+    write_line(&[tenths, price, change], out)
+}
+
+/// Writes a refusal of the office.
+pub(crate) fn write_refusal<W: Write>(refusal: Refusal, err: &mut W) -> Result<(), TextFault>
+    ensures written { IsWritten (W.contents err.old) (W.contents err.new)
+        (refusal_line refusal) result }
+    ensures never_memory { result ≢ Err TextFault.Memory }
+{
+    let mut number = Buffer::new();
+    let number = number.format(refusal.number()).as_bytes();
+    let name = refusal.name().as_bytes();
+    match refusal {
+        Refusal::ImportRow(row, RowCause::Field(field)) => {
+            let mut place = Buffer::new();
+            let mut which = Buffer::new();
+            let row = place.format(row).as_bytes();
+            let field = which.format(field).as_bytes();
+            write_line(&[b"refused", number, name, row, b"Field", field], err)
+        }
+        Refusal::ImportRow(row, cause) => {
+            let mut place = Buffer::new();
+            let row = place.format(row).as_bytes();
+            write_line(&[b"refused", number, name, row, cause_name(cause)], err)
+        }
+        _ => write_line(&[b"refused", number, name], err),
+    }
+}
+
+// Why a row is refused, but for the number of its field.
+fn cause_name(cause: RowCause) -> &'static [u8]
+    ensures { ((field : ℕ) → cause ≢ RowCause.Field field) → result.now ≡ cause_text cause }
+{
+    match cause {
+        RowCause::Header => b"Header",
+        RowCause::Columns => b"Columns",
+        RowCause::Field(_) => b"Field",
+        RowCause::TooManyRows => b"TooManyRows",
+        RowCause::Differs => b"Differs",
+        RowCause::NoTariff => b"NoTariff",
+    }
+}
