@@ -1,17 +1,15 @@
 -- What looks at the store leave, and what they tell of it.
-use Rattle.std.proofs.Common.{◌≡◌, ℕ, false, true, OnOk, OnErr, IfErr, List, None, Some, Option, Result, Ok, Err, ◌∙◌, codes, sym, ap, subst, inl, inr, arith, nat_eq}
+use Rattle.std.proofs.Common.{◌≡◌, ℕ, false, true, OnOk, OnErr, IfErr, None, Some, Option, Result, Ok, Err, ◌∙◌, codes, sym, ap, subst, inl, inr, arith, nat_eq}
 use Rattle.std.proofs.lemmas.Bool.{both_ways, cases_Bool}
 use Rattle.std.proofs.lemmas.Bool.Decides.{nat_tests}
 use Rattle.std.specs.Option.{option_eq}
 use Rattle.std.proofs.lemmas.Result.{IfErr-weaker, on_err_weaker, on_ok_weaker}
 use Rattle.sqlite.proofs.StateLemmas.{survives_then}
 use Rattle.sqlite_trees.proofs.Doubt.{no_doubt}
-use Rattle.sqlite.specs.Order.{Row}
 use Rattle.sqlite_schema.specs.Names.{table_named}
 use Rattle.one_table.specs.Standing.{place_in}
 use Rattle.sqlite.specs.Effect.{Database}
-use Rattle.sqlite.specs.State.{HasCleanDisk, IsNotRun, IsUnchanged, State, Survives}
-use Rattle.sqlite.specs.declared.error.Error.{Error}
+use Rattle.sqlite.specs.State.{HasCleanDisk, IsUnchanged, State, Survives}
 use Rattle.sqlite.proofs.Callers.{unchanged_then}
 use Rattle.one_table.specs.Answer.{IsLeft}
 use Rattle.vend_core.specs.Office.{Office}
@@ -23,12 +21,6 @@ use Rattle.books.specs.Opening.{ShowsNoOffice}
 use Rattle.books.specs.Same.{IsSame}
 use Rattle.books.specs.declared.fault.OpenFault.{OpenFault}
 use Rattle.books.specs.declared.fault.OpenFault.TheVariants.{NotAnOffice, OldOffice, Store, Memory}
-
--- a text that was not run leaves the connection as it was, or undoes its transaction
-pub not_run_left : (sql : List ℕ) (params : Row) (old new : State) (e : Error) → IsNotRun old new sql params e → IsLeft old new
-unfolding IsNotRun
-not_run_left sql params old new e (inl h) = inl h.1
-not_run_left sql params old new e (inr h) = inr h.3
 
 pub same_unchanged : (old new : State) → IsUnchanged old new → IsSame old new
 same_unchanged old new h = record { was_open = λ _. h.0.was_open; now_is = λ _. h.0.now_is }

@@ -1,3 +1,4 @@
+pub mod Asking
 pub mod Changing
 pub mod Fault
 pub mod Headline

@@ -3,14 +3,13 @@ ghost use Rattle.std.specs.Prelude.{◌≡◌, false};
 use sqlite::{Alter, Connection};
 use std::alloc::Global;
 
+mod ask;
 mod attempt;
 mod close;
 mod commit;
 mod failing;
 mod memory;
 mod open;
-#[cfg(test)]
-mod open_tests;
 mod pages;
 mod path;
 mod serve;

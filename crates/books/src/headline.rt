@@ -1,13 +1,17 @@
-ghost use Rattle.std.specs.Prelude.{◌≡◌, ◌<◌, ◌≤◌, ◌↔◌, ◌++◌, ◌∷◌, List, Ok, All, Contains, sum_by};
+ghost use Rattle.std.specs.Prelude.{◌≡◌, ◌<◌, ◌≤◌, ◌↔◌, ◌++◌, ◌∷◌, ℕ, List, Ok, All, Contains, sum_by};
 ghost use Rattle.sqlite.specs.Held.{Held, state};
 ghost use Rattle.sqlite.specs.State.{IsLive, Opens};
 ghost use Rattle.sqlite_trees.specs.Tree.{Trees};
 ghost use Rattle.sts_token.specs.Meter.{Accepts, credit_of};
-ghost use Rattle.vend_core.specs.Life.{Answered, AreLives, IsHanded, Life, present};
+ghost use Rattle.vend_core.specs.Imports.{AsksNoSetTariff, ImportsNothing};
+ghost use Rattle.vend_core.specs.Life.{Answered, AreLives, Exchange, IsHanded, Life, present};
 ghost use Rattle.vend_core.specs.NewSale.{fields_of};
 ghost use Rattle.vend_core.specs.Office.{Office};
 ghost use Rattle.vend_core.specs.SoldTokens.{AreSalesTo, SimMeter, accepted_of, later_sales_come, reads_by, tokens_of};
 ghost use Rattle.vend_core.specs.declared.answer.Answer.{Answer};
+ghost use Rattle.vend_core.specs.declared.request.Request.{Request};
+ghost use Rattle.vend_core.specs.declared.request.Stamped.{Stamped};
+ghost use Rattle.vend_core.specs.declared.row.Row.{Row};
 ghost use Rattle.vend_core.specs.declared.sale.Sale.{Sale};
 ghost use Rattle.books.specs.Headline.{KeepTheLast, with_last};
 ghost use Rattle.books.specs.Keeps.{LeftFor, StandsAt, seen};
@@ -96,6 +100,19 @@ pub fn headline_law<S: Alter, T: BlockTransform>()
         → KeepTheLast lives life (seen S.Store T.forwards books) → AreSalesTo (with_last lives life) m sales
         → All (Contains sales) came
         → credit_of (reads_by m) (tokens_of came) ≤ sum_by (λ s. s.tenths) sales }
+
+    // An import that was granted in one of the lives, and comes again with no SetTariff in between,
+    // changes nothing.
+    ensures imported_again { (lives earlier later : List Life) (life last : Life)
+        (books : Books S T S.Store) (before between : List Exchange) (e : Exchange)
+        (rows : List Row) (new : ℕ) (again : Stamped)
+        → KeepTheLast lives last (seen S.Store T.forwards books)
+        → (earlier ++ life ∷ later) ≡ with_last lives last
+        → life.exchanges ≡ before ++ e ∷ between
+        → e.request.request ≡ Request.Import rows → e.reply ≡ Ok (Answer.Imported new)
+        → All AsksNoSetTariff between → All (λ l. All AsksNoSetTariff l.exchanges) later
+        → again.request ≡ Request.Import rows
+        → ImportsNothing (T.forwards books.transform) (present last) again }
 {
     life_law();
     history_law();

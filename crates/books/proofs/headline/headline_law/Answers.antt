@@ -38,3 +38,7 @@ returns-clause-credit g c = λ lives life books m sales came h. c.history_law.en
 
 pub returns-clause-at_most_sold : goal.returns-clause-at_most_sold
 returns-clause-at_most_sold g c = λ lives life books m sales came h. c.history_law.ensures.at_most_sold (with_last lives life) (present life) m sales came (lead_on c.history_law.ensures.goes_on lives life (seen g.S.Store g.T.BlockTransform.forwards books) h)
+
+pub returns-clause-imported_again : goal.returns-clause-imported_again
+returns-clause-imported_again g c = λ lives earlier later life last books before between e rows new again h is.
+    c.history_law.ensures.imported_again earlier later life (present last) before between e rows new (g.T.BlockTransform.forwards books.transform) again (rw is (lead_on c.history_law.ensures.goes_on lives last (seen g.S.Store g.T.BlockTransform.forwards books) h))

@@ -1,7 +1,7 @@
 use Rattle.std.proofs.Common.{[]}
-use Rattle.books.proofs.OpeningLemmas.{not_run_left}
-use Rattle.books.proofs.opening.test_open.Goals as goal
-use Rattle.books.proofs.opening.test_open.Goals.{in-Ok, in-Err}
+use Rattle.one_table.proofs.AnswerLemmas.{not_run_left}
+use Rattle.one_table.proofs.probing.test_open.Goals as goal
+use Rattle.one_table.proofs.probing.test_open.Goals.{in-Ok, in-Err}
 
 pub returns-clause-kept : goal.returns-clause-kept
 returns-clause-kept g c = λ clean. elim c.match-prepare.branch [

@@ -1,0 +1,34 @@
+//! A request that is asked at a moment.
+
+ghost use Rattle.std.specs.Prelude.{◌≡◌, true};
+ghost use Rattle.books.specs.Asking.{IsAsked, ReplyAt};
+ghost use Rattle.books.specs.Keeps.{seen};
+
+use super::Books;
+use sqlite::Alter;
+use sts_token::BlockTransform;
+use vend_core::{Moment, Reply, Request, Stamped};
+
+impl<S: Alter, T: BlockTransform> Books<S, T> {
+    /// Serves a request at a moment, with the nibble of the next sale's number: that number modulo
+    /// 16.
+    pub fn ask(&mut self, moment: Moment, request: Request) -> Reply
+        ensures replies { ReplyAt moment request result
+            (seen S.Store T.forwards self.old) (seen S.Store T.forwards self.new) }
+        ensures idle { self.old.stopped ≡ true → self.new ≡ self.old }
+    {
+        let at = self.stamp(moment, request);
+        self.serve(&at)
+    }
+
+    // The request with its moment and its nibble.
+    fn stamp(&self, moment: Moment, request: Request) -> Stamped
+        ensures { IsAsked moment request (seen S.Store T.forwards self.now) result }
+    {
+        Stamped {
+            moment,
+            nibble: (self.next_number % 16) as u8,
+            request,
+        }
+    }
+}
