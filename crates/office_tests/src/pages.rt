@@ -1,0 +1,146 @@
+//! Many requests at once, the sales a page at a time, and books whose connection is given back.
+
+use crate::both::{Both, agree, in_memory, is_same, office, serve, serve_all, sold};
+use crate::values::{FIRST_DAY, METER, OTHER_METER, flat, order, stamped};
+use books::{Books, OpenFault};
+use sqlite::{Connection, MemStore};
+use std::alloc::Global;
+use std::process::Abort;
+use std::test::Fail;
+use sts_fields::Base;
+use sts_token::Plain;
+use vend_core::{Refusal, Sale, Stamped};
+
+type Office = Both<MemStore, Plain>;
+
+// So many orders of a tenth, by turns for one of two meters.
+fn orders(alloc: Global, many: u32) -> Result<Vec<Stamped>, Fail> {
+    let mut orders = Vec::new(alloc);
+    for number in 1..=many {
+        let text = format!(in alloc; "A-{number}")?;
+        let meter = if number % 2 == 0 { METER } else { OTHER_METER };
+        let request = order(text.as_bytes(), meter, 10)?;
+        orders.push(stamped(FIRST_DAY, (number % 16) as u8, request)?)?;
+    }
+    Ok(orders)
+}
+
+// Serves them all in one call, and compares each reply.
+fn serve_orders(rt: &impl Abort, both: &mut Office, orders: &[Stamped]) -> Result<(), Fail> {
+    let replies = serve_all(&mut both.books, orders)?;
+    assert_eq!(rt; replies.len(), orders.len());
+    for (reply, at) in replies.iter().zip(orders) {
+        let expected = both.lists.serve(at);
+        assert!(rt;
+            reply.is_ok() && is_same(reply, &expected),
+            "{reply:?}, not {expected:?}"
+        );
+    }
+    Ok(())
+}
+
+fn page(both: &mut Office, number: u32, few: bool) -> Result<Vec<Sale>, Refusal> {
+    let limit = if few { 1 } else { 1000 };
+    both.books.sales_after(number, limit)
+}
+
+// A page has these sales of the lists, by their places.
+fn has_page(
+    rt: &impl Abort,
+    both: &mut Office,
+    number: u32,
+    few: bool,
+    end: usize,
+) -> Result<(), Fail> {
+    let sales = page(both, number, few)?;
+    let expected = both.lists.sales().get(number as usize..end);
+    assert!(rt; expected == Some(sales.as_slice()), "sales after {number}");
+    Ok(())
+}
+
+#[test]
+fn a_thousand_sales_and_three(rt: HostRuntime) -> Result<(), Fail> {
+    let alloc = rt.alloc();
+    let mut both = office(&rt, alloc, Base::Y2014, flat(alloc, 100)?)?;
+    serve_orders(&rt, &mut both, &orders(alloc, 1_003)?)?;
+    assert_eq!(rt; both.books.next_number(), 1_004);
+    has_page(&rt, &mut both, 0, false, 1_000)?;
+    has_page(&rt, &mut both, 1_000, false, 1_003)?;
+    has_page(&rt, &mut both, 3, false, 1_003)?;
+    has_page(&rt, &mut both, 0, true, 1)?;
+    has_page(&rt, &mut both, 1_002, true, 1_003)?;
+    assert!(rt; page(&mut both, 1_003, false)?.is_empty());
+    assert!(rt; page(&mut both, u32::MAX, true)?.is_empty());
+    // Sent again, they are answered with the same sales, and add none.
+    serve_orders(&rt, &mut both, &orders(alloc, 20)?)?;
+    agree(&rt, &mut both)
+}
+
+#[test]
+fn no_requests_and_no_sales(rt: HostRuntime) -> Result<(), Fail> {
+    let mut both = in_memory(rt.alloc())?;
+    serve_orders(&rt, &mut both, &[])?;
+    assert_eq!(rt; both.books.next_number(), 1);
+    assert!(rt; page(&mut both, 0, true)?.is_empty());
+    agree(&rt, &mut both)
+}
+
+fn reopened(
+    alloc: Global,
+    conn: Connection<MemStore>,
+) -> Result<Books<MemStore, Plain>, OpenFault> {
+    if !conn.is_autocommit() {
+        return Err(OpenFault::Store);
+    }
+    match Books::open_from(alloc, conn, Plain) {
+        Ok(books) => Ok(books),
+        Err((fault, _)) => Err(fault),
+    }
+}
+
+#[test]
+fn books_over_the_same_connection(rt: HostRuntime) -> Result<(), Fail> {
+    let alloc = rt.alloc();
+    let mut both = office(&rt, alloc, Base::Y2014, flat(alloc, 100)?)?;
+    serve_orders(&rt, &mut both, &orders(alloc, 5)?)?;
+    let Both { books, lists } = both;
+    let mut conn = books.into_connection();
+    let last: i64 = conn
+        .query_row("SELECT max(number) FROM sales", &[])?
+        .get(0)?;
+    assert_eq!(rt; last, 5);
+    let books = reopened(alloc, conn)?;
+    let mut both = Both { books, lists };
+    agree(&rt, &mut both)?;
+    let sale = sold(&rt, &mut both, FIRST_DAY, order(b"B-1", METER, 10)?)?;
+    assert_eq!(rt; (sale.number, sale.tid), (6, 4));
+    agree(&rt, &mut both)
+}
+
+// A request that meets a row which is no office's: the books stop, until they are opened again.
+#[test]
+fn a_row_that_is_no_offices(rt: HostRuntime) -> Result<(), Fail> {
+    let alloc = rt.alloc();
+    let both = office(&rt, alloc, Base::Y2014, flat(alloc, 100)?)?;
+    let mut conn = both.books.into_connection();
+    let spoil = "UPDATE meters SET secret = 'xyz' WHERE meter = '10000000009'";
+    conn.execute_batch(spoil)?;
+    let mut books = match reopened(alloc, conn) {
+        Ok(books) => books,
+        Err(fault) => {
+            assert_eq!(rt; fault, OpenFault::NotAnOffice);
+            return Ok(());
+        }
+    };
+    let sound = stamped(FIRST_DAY, 1, order(b"A-1", METER, 10)?)?;
+    assert!(rt; serve(&mut books, &sound).is_ok());
+    let spoiled = stamped(FIRST_DAY, 2, order(b"A-2", OTHER_METER, 10)?)?;
+    let store = serve(&mut books, &spoiled);
+    assert!(rt; matches!(&store, Err(Refusal::Store)));
+    let stopped = serve(&mut books, &sound);
+    assert!(rt; matches!(&stopped, Err(Refusal::Stopped)));
+    let mut books = reopened(alloc, books.into_connection())?;
+    assert!(rt; serve(&mut books, &sound).is_ok());
+    assert_eq!(rt; books.next_number(), 2);
+    Ok(())
+}

@@ -1,0 +1,86 @@
+//! What requests are made of, by their texts.
+
+use std::alloc::Global;
+use std::test::Fail;
+use sts_fields::{Base, Moment};
+use tariff::{Step, Steps, Tender};
+use vend_core::{Meter, MeterNo, Operator, Order, Ref, Request, Row, Rows, Stamped, TariffName};
+
+/// 2014-01-01T00:00:30Z
+pub(crate) const FIRST_DAY: i64 = 1_388_534_430;
+
+pub(crate) const METER: &[u8] = b"12345678903";
+
+pub(crate) const OTHER_METER: &[u8] = b"10000000009";
+
+/// No office has it.
+pub(crate) const NO_METER: &[u8] = b"00000000000";
+
+pub(crate) fn tariff_name(text: &[u8]) -> Result<TariffName, Fail> {
+    Ok(TariffName::read(text).ok_or("no tariff's name")?)
+}
+
+pub(crate) fn meter_no(text: &[u8]) -> Result<MeterNo, Fail> {
+    Ok(MeterNo::read(text).ok_or("no meter's number")?)
+}
+
+pub(crate) fn operator(text: &[u8]) -> Result<Operator, Fail> {
+    Ok(Operator::read(text).ok_or("no operator")?)
+}
+
+pub(crate) fn moment(seconds: i64) -> Result<Moment, Fail> {
+    Ok(Moment::of_secs(seconds).ok_or("no moment")?)
+}
+
+/// One step without an end.
+pub(crate) fn flat(alloc: Global, price: u32) -> Result<Steps, Fail> {
+    Ok(Steps::read(alloc, &[Step { ends: None, price }])?)
+}
+
+/// 500 tenths a month cost 100 cents a kWh, the others 200.
+pub(crate) fn block(alloc: Global) -> Result<Steps, Fail> {
+    Ok(Steps::of_text(alloc, b"500:100;:200")?)
+}
+
+/// A meter of the key 0.
+pub(crate) fn meter(base: Base, tariff: &[u8]) -> Result<Meter, Fail> {
+    Ok(Meter {
+        base,
+        tariff: tariff_name(tariff)?,
+        key: 0,
+    })
+}
+
+/// An order of ann's.
+pub(crate) fn order(order_ref: &[u8], meter: &[u8], cents: u64) -> Result<Request, Fail> {
+    order_of(b"ann", order_ref, meter, cents)
+}
+
+pub(crate) fn order_of(
+    who: &[u8],
+    order_ref: &[u8],
+    meter: &[u8],
+    cents: u64,
+) -> Result<Request, Fail> {
+    Ok(Request::Sell(Order {
+        operator: operator(who)?,
+        order_ref: Ref::read(order_ref).ok_or("no ref")?,
+        meter: meter_no(meter)?,
+        tender: Tender::read(cents).ok_or("no tender")?,
+    }))
+}
+
+pub(crate) fn import(rows: Vec<Row>) -> Result<Request, Fail> {
+    match Rows::of(rows) {
+        Ok(rows) => Ok(Request::Import(rows)),
+        Err(_) => Ok(None.ok_or("too many rows")?),
+    }
+}
+
+pub(crate) fn stamped(seconds: i64, nibble: u8, request: Request) -> Result<Stamped, Fail> {
+    Ok(Stamped {
+        moment: moment(seconds)?,
+        nibble: nibble % 16,
+        request,
+    })
+}
