@@ -4,28 +4,62 @@
 //! that `httparse` states.
 #![tactic(auto)]
 
+pub use along::desk_law;
+pub use asking::{asking_law, request_of};
+pub use body_fault::BodyFault;
 pub use clock::{Clock, Script};
 pub use conversation::run;
+pub use desk::Desk;
+pub use desk_fault::DeskFault;
 pub use end::End;
+pub use endpoint::Endpoint;
+pub use form::Form;
 pub use framing::{Framing, MAX_BODY};
 pub use head::{Front, MAX_FIELDS, MAX_HEAD, front_of};
+pub use laws::reply_law;
+pub use machine_clock::MachineClock;
 pub use message::{Next, message_law, next_of};
 pub use message_fault::MessageFault;
 pub use method::Method;
+pub use outcome::Outcome;
 pub use received::Received;
+pub use replies::reply_bytes;
+pub use route::Route;
+pub use routes::{Routes, route_law};
 pub use service::Service;
 
+mod along;
+mod asking;
+mod body_fault;
 mod clock;
 mod conversation;
+mod desk;
+mod desk_fault;
 mod end;
+mod endpoint;
 mod fields;
+mod form;
 mod framing;
 mod head;
+mod json_body;
+mod json_names;
+mod json_requests;
+mod laws;
+mod machine_clock;
+mod meaning;
+mod members;
 mod message;
 mod message_fault;
 mod method;
+mod outcome;
+mod parameter;
 mod reading;
 mod received;
+mod replies;
+mod reply_body;
+mod reply_head;
+mod route;
+mod routes;
 mod sending;
 mod service;
 #[cfg(test)]

@@ -10,7 +10,12 @@ fn first(input: &[u8], count: usize) -> &[u8] {
     &input[..count]
 }
 
+mod answers;
+mod bodies;
 mod conversation;
 mod faults;
 mod limits;
 mod messages;
+mod replies;
+mod routes;
+mod serving;

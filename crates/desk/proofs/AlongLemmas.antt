@@ -1,0 +1,62 @@
+-- The life of an office along a conversation.
+use Rattle.std.proofs.Common.{◌≡◌, ◌∙◌, ℕ, ℤ, inl, inr, List, [], ◌∷◌, Option, Result, refl, ap, sym, append_assoc, append-nil}
+use Rattle.vend_core.specs.Life.{Life}
+use Rattle.vend_core.specs.Life as lives
+use Rattle.vend_core.specs.LifeLaws.{exchanges_of, extended_along, extended_by}
+use Rattle.vend_core.specs.declared.answer.Answer.{Answer}
+use Rattle.vend_core.specs.declared.refusal.Refusal.{Refusal}
+use Rattle.vend_core.specs.declared.request.Request.{Request}
+use Rattle.vend_core.specs.declared.request.Stamped.{Stamped}
+use Rattle.desk.specs.Along.{AreAsked}
+use Rattle.desk.specs.Answering.{answers_by, life_serves}
+use Rattle.desk.specs.Exchanges.{Exchange, Served, Timed, timed}
+use Rattle.desk.specs.Meaning.{Asks}
+use Rattle.desk.specs.Messages.{Message}
+use Rattle.desk.specs.Replies.{reply_of}
+use Rattle.desk.specs.declared.form.Form.{Form}
+
+along_none : (life : Life) → life ≡ extended_along life [] []
+along_none life = sym (ap (λ es. record life { exchanges = es }) (append-nil life.exchanges))
+
+along_more : (life : Life) (at : Stamped) (reply : Result Answer Refusal) (ats : List Stamped) (replies : List (Result Answer Refusal))
+    → extended_along (extended_by life at reply) ats replies ≡ extended_along life (at ∷ ats) (reply ∷ replies)
+along_more life at reply ats replies =
+    let one : List lives.Exchange = record { request = at; reply = reply } ∷ [] in
+    ap (λ es. record life { exchanges = es }) (append_assoc life.exchanges one (exchanges_of ats replies))
+
+-- what was asked at this moment is what the stamped request is
+asks_stamped : (m : Message) (now : Option ℤ) (form : Form) (at : Stamped) (moment : ℕ) (request : Request) → at.moment ≡ moment → at.request ≡ request
+    → Asks m now form moment request → Asks m now form at.moment at.request
+asks_stamped m now form at moment request same_moment same_request asks = rw (same_moment, same_request) asks
+
+-- a life goes along with what the exchanges asked, and nothing else
+pub goes_along : (old : Timed Life) (xs : List Exchange) (new : Timed Life) → Served (timed (answers_by life_serves)) old xs new
+    → (ats : List Stamped) × (replies : List (Result Answer Refusal)) × AreAsked xs ats replies × (new.0 ≡ extended_along old.0 ats replies)
+goes_along old [] new same = ([], [], (refl, refl), ap (λ (o : Timed Life). o.0) same ∙ along_none old.0)
+goes_along old (x ∷ xs) new (mid, ((outcome, inl (idle, same), told), reads), later) =
+    let more = goes_along mid xs new later in (
+      more.0,
+      more.1,
+      inl (record { outcome = outcome; idle = idle; told = told }, more.2),
+      more.3 ∙ ap (λ (l : Life). extended_along l more.0 more.1) same,
+    )
+goes_along old (x ∷ xs) new (mid, ((outcome, inr (form, moment, request, reply, is, asks, (at, stamped, same)), told), reads), later) =
+    let more = goes_along mid xs new later in (
+      at ∷ more.0,
+      reply ∷ more.1,
+      inr (
+        at,
+        reply,
+        record {
+          form = form;
+          asks = asks_stamped x.message x.now form at moment request stamped.at_moment stamped.for_request asks;
+          told = told ∙ ap (λ o. reply_of o x.message.closes) is;
+        },
+        more.0,
+        more.1,
+        refl,
+        refl,
+        more.2,
+      ),
+      more.3 ∙ ap (λ (l : Life). extended_along l more.0 more.1) same ∙ along_more old.0 at reply more.0 more.1,
+    )

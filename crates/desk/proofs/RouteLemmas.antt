@@ -1,0 +1,106 @@
+-- The table of a router, endpoint by endpoint, and the one route that a target leads to.
+use Rattle.std.proofs.Common.{◌≡◌, ◌≢◌, ℕ, ◌+◌, ◌<◌, List, [], ◌++◌, get_or, take, inl, inr, false, Result, Ok, Err, Some, refl, ap, sym, ◌∙◌, arith}
+use Rattle.std.specs.List.{fold}
+use Rattle.std.specs.Prelude.{codes, decimal, is_err}
+use Rattle.std.proofs.lemmas.List.{append_cancel_left, append_cancel_right}
+use Rattle.std.proofs.lemmas.List.Sums.{fold_more}
+use Rattle.matchit.specs.Route.{Scan, parse_route}
+use Rattle.matchit.specs.Router.{InsertsRead}
+use Rattle.matchit.specs.declared.error.InsertError.{InsertError}
+use Rattle.desk.specs.declared.desk_fault.DeskFault.{DeskFault}
+use Rattle.desk.specs.declared.desk_fault.DeskFault.TheVariants as faults
+use Rattle.desk.specs.declared.endpoint.Endpoint.{Endpoint}
+use Rattle.desk.specs.declared.endpoint.Endpoint.TheVariants.{Tariffs}
+use Rattle.desk.specs.declared.method.Method.{Method}
+use Rattle.desk.specs.declared.route.Route.{Route}
+use Rattle.desk.specs.declared.route.Route.TheVariants.{AddTariff, AddMeter, SetTariff, OpenShift, CloseShift, ShiftReport, Sell, Reprint, Receipt, ImportMeters, ImportTariffs}
+use Rattle.desk.specs.Endpoint.{Table, endpoints, method_of, pattern_of, with_endpoint, with_pattern}
+use Rattle.desk.specs.Route.{Finds, IsRouted, LeadsTo, Names, endpoint_of}
+use Rattle.desk.proofs.ParameterLemmas.{same_number}
+
+-- what `insert` leaves where it succeeds
+pub inserted : (read : Result Scan InsertError) (endpoint : Endpoint) (old new : Table)
+    (r : Result (Unit {0}) InsertError) → InsertsRead read endpoint old new r → is_err r ≡ false
+    → new ≡ with_pattern old read endpoint
+inserted (Ok scan) endpoint old new (Ok u) is clean = is.1
+inserted (Err error) endpoint old new (Ok u) (same, inl e) clean = absurd (cc)
+inserted (Err error) endpoint old new (Ok u) (same, inr e) clean = absurd (cc)
+inserted read endpoint old new (Err error) is clean = absurd (cc)
+
+-- the table with the endpoint at a place, after those before it
+pub next_rows : (old new : Table) (i : ℕ) (pattern : List ℕ) → i < 11
+    → old ≡ fold with_endpoint [] (take i endpoints)
+    → pattern ≡ pattern_of (get_or endpoints i Tariffs)
+    → new ≡ with_pattern old (parse_route pattern) (get_or endpoints i Tariffs)
+    → new ≡ fold with_endpoint [] (take (i + 1) endpoints)
+next_rows old new i pattern there before written one =
+    let rows = fold with_endpoint [] (take i endpoints) in
+    let endpoint = get_or endpoints i Tariffs in
+    one ∙ ap (λ rs. with_pattern rs (parse_route pattern) endpoint) before
+    ∙ ap (λ p. with_pattern rows (parse_route p) endpoint) written
+    ∙ sym (fold_more with_endpoint [] endpoints i Tariffs there)
+
+-- a target has one endpoint
+pub one_endpoint : (target : List ℕ) (a b : Endpoint) → Finds target a → Finds target b → a ≡ b
+one_endpoint target a b one other =
+    let e : Some a ≡ Some b = sym one.found ∙ other.found in cc
+
+-- a target is that of one route
+same_route : (target : List ℕ) (a b : Route) → endpoint_of a ≡ endpoint_of b → Names target a
+    → Names target b → a ≡ b
+same_route target AddTariff AddTariff e m n = refl
+same_route target AddMeter AddMeter e m n = refl
+same_route target (SetTariff x) (SetTariff y) e m n =
+    let fronts = append_cancel_right (codes "/meters/" ++ x) (codes "/meters/" ++ y) (codes "/tariff") (sym m.0 ∙ n.0) in
+    ap SetTariff (append_cancel_left (codes "/meters/") x y fronts)
+same_route target OpenShift OpenShift e m n = refl
+same_route target CloseShift CloseShift e m n = refl
+same_route target (ShiftReport x) (ShiftReport y) e m n =
+    ap ShiftReport (same_number x y (omega (arith, m.1.most)) n.1 (append_cancel_left (codes "/shifts/") (decimal x) (decimal y) (sym m.0 ∙ n.0)))
+same_route target Sell Sell e m n = refl
+same_route target (Reprint x) (Reprint y) e m n =
+    ap Reprint (same_number x y (omega (arith, m.1.most)) n.1 (append_cancel_left (codes "/sales/") (decimal x) (decimal y) (sym m.0 ∙ n.0)))
+same_route target (Receipt x) (Receipt y) e m n =
+    let fronts = append_cancel_right (codes "/sales/" ++ decimal x) (codes "/sales/" ++ decimal y) (codes "/receipt") (sym m.0 ∙ n.0) in
+    ap Receipt (same_number x y (omega (arith, m.1.most)) n.1 (append_cancel_left (codes "/sales/") (decimal x) (decimal y) fronts))
+same_route target ImportMeters ImportMeters e m n = refl
+same_route target ImportTariffs ImportTariffs e m n = refl
+same_route target a b e m n = absurd (cc)
+
+pub one_route : (target : List ℕ) (a b : Route) → LeadsTo target a → LeadsTo target b → a ≡ b
+one_route target a b one other =
+    same_route target a b (one_endpoint target (endpoint_of a) (endpoint_of b) one.finds other.finds) one.names other.names
+
+-- the method of a route that was found is not one that another reading refuses
+not_both : (target : List ℕ) (method : Method) (a b : Route) (allowed : Method) → LeadsTo target a
+    → method_of (endpoint_of a) ≡ method → LeadsTo target b → method_of (endpoint_of b) ≡ allowed
+    → allowed ≢ method → ⊥
+not_both target method a b allowed one own other others apart =
+    apart (sym others ∙ ap (λ route. method_of (endpoint_of route)) (one_route target b a other one) ∙ own)
+
+-- a target and a method ask for one route, or have one fault
+pub one_routing : (target : List ℕ) (method : Method) (a b : Result Route DeskFault)
+    → IsRouted target method a → IsRouted target method b → a ≡ b
+one_routing target method (Ok a) (Ok b) x y = ap Ok (one_route target a b x.0 y.0)
+one_routing target method (Ok a) (Err faults.NoRoute) x y = absurd (y a x.0)
+one_routing target method (Ok a) (Err (faults.Method allowed)) x y =
+    absurd (not_both target method a y.0 allowed x.0 x.1 y.1 y.2 y.3)
+one_routing target method (Ok a) (Err faults.Clock) x y = absurd y
+one_routing target method (Ok a) (Err faults.Body) x y = absurd y
+one_routing target method (Err faults.NoRoute) (Ok b) x y = absurd (x b y.0)
+one_routing target method (Err faults.NoRoute) (Err faults.NoRoute) x y = refl
+one_routing target method (Err faults.NoRoute) (Err (faults.Method allowed)) x y = absurd (x y.0 y.1)
+one_routing target method (Err faults.NoRoute) (Err faults.Clock) x y = absurd y
+one_routing target method (Err faults.NoRoute) (Err faults.Body) x y = absurd y
+one_routing target method (Err (faults.Method allowed)) (Ok b) x y =
+    absurd (not_both target method b x.0 allowed y.0 y.1 x.1 x.2 x.3)
+one_routing target method (Err (faults.Method allowed)) (Err faults.NoRoute) x y = absurd (y x.0 x.1)
+one_routing target method (Err (faults.Method allowed)) (Err (faults.Method other)) x y =
+    let same = one_route target x.0 y.0 x.1 y.1 in
+    let methods : allowed ≡ other =
+    sym x.2 ∙ ap (λ route. method_of (endpoint_of route)) same ∙ y.2 in
+    ap (λ m. Err (faults.Method m)) methods
+one_routing target method (Err (faults.Method allowed)) (Err faults.Clock) x y = absurd y
+one_routing target method (Err (faults.Method allowed)) (Err faults.Body) x y = absurd y
+one_routing target method (Err faults.Clock) b x y = absurd x
+one_routing target method (Err faults.Body) b x y = absurd x

@@ -1,0 +1,101 @@
+-- The lives that books keep, by the messages that they answer.
+use Rattle.std.proofs.Common.{◌≡◌, ◌∙◌, ℕ, ℤ, ◌+◌, ◌%◌, inl, inr, Bool, true, false, List, length, Option, Result, Ok, Err, refl, ap, sym, subst}
+use Rattle.std.specs.Prelude.{IfOk, OnErr}
+use Rattle.sqlite.specs.State.{HasCleanDisk}
+use Rattle.vend_core.specs.Life.{Life, present}
+use Rattle.vend_core.specs.LifeLaws.{extended_by}
+use Rattle.vend_core.specs.declared.answer.Answer.{Answer}
+use Rattle.vend_core.specs.declared.refusal.Refusal.{Refusal}
+use Rattle.vend_core.specs.declared.refusal.Refusal.TheVariants.{Stopped}
+use Rattle.vend_core.specs.declared.request.Request.{Request}
+use Rattle.vend_core.specs.declared.request.Stamped.{Stamped}
+use Rattle.books.specs.Asking.{IsAsked, Replies, ReplyAt}
+use Rattle.books.specs.Keeps.{Keeps, Seen}
+use Rattle.desk.specs.Answering.{Comes, Serving, answers_by, books_serve, life_serves}
+use Rattle.desk.specs.Exchanges.{Exchange, GaveUp, Reads, Timed, timed}
+use Rattle.desk.specs.Meaning.{IsIdle, IsMeaning}
+use Rattle.desk.specs.Messages.{Message}
+use Rattle.desk.specs.Replies.{reply_of}
+use Rattle.desk.specs.declared.form.Form.{Form}
+use Rattle.desk.specs.declared.meaning.Meaning.{Meaning}
+use Rattle.desk.specs.declared.meaning.Meaning.TheVariants as meanings
+use Rattle.desk.specs.declared.outcome.Outcome.{Outcome}
+use Rattle.desk.specs.declared.outcome.Outcome.TheVariants.{Served}
+use Rattle.desk.proofs.FollowLemmas.{Follows}
+
+-- a message asks something, which is served
+pub comes_asked : {O : Type 0} (serves : Serving O) (m : Message) (now : Option ℤ) (meaning : Meaning) (form : Form) (moment : ℕ) (request : Request) (reply : Result Answer Refusal)
+    (outcome : Outcome) (old new office : O) → IsMeaning m now meaning → meaning ≡ meanings.Asks form moment request → outcome ≡ Served form reply → office ≡ new
+    → serves moment request reply old new → Comes serves m now outcome old office
+comes_asked serves m now meaning form moment request reply outcome old new office is means told same served =
+    inr (form, moment, request, reply, told, subst (λ x. IsMeaning m now x) means is, subst (λ o. serves moment request reply old o) (sym same) served)
+
+-- a message asks nothing, and the office is as before
+pub comes_told : {O : Type 0} (serves : Serving O) (m : Message) (now : Option ℤ) (meaning : Meaning) (told outcome : Outcome) (old office : O)
+    → IsMeaning m now meaning → meaning ≡ meanings.Told told → outcome ≡ told → office ≡ old → Comes serves m now outcome old office
+comes_told serves m now meaning told outcome old office is means same kept =
+    inl (subst (λ o. IsIdle m now o) (sym same) (subst (λ x. IsMeaning m now x) means is), kept)
+
+-- a message was answered, by the text that a result has
+pub was_answered : {O A E : Type 0} (serves : Serving O) (items : A → List ℕ) (old new : Timed O) (m : Message) (now : Option ℤ) (outcome : Outcome) (r : Result A E)
+    → Reads old.1 now new.1 → Comes serves m now outcome old.0 new.0 → IfOk r (λ text. items text ≡ reply_of outcome m.closes)
+    → IfOk r (λ reply. (x : Exchange) × (x.message ≡ m) × (x.reply ≡ items reply) × timed (answers_by serves) old x new)
+was_answered serves items old new m now outcome (Ok reply) reads comes text =
+    (record { message = m; now = now; reply = items reply }, refl, refl, ((outcome, comes, text), reads))
+was_answered serves items old new m now outcome (Err error) reads comes text = tt
+
+-- a message was answered, and there was no memory for the text
+pub was_given_up : {O A E : Type 0} (serves : Serving O) (old new : Timed O) (m : Message) (now : Option ℤ) (outcome : Outcome) (r : Result A E)
+    → Reads old.1 now new.1 → Comes serves m now outcome old.0 new.0 → OnErr r (GaveUp (answers_by serves) old m new)
+was_given_up serves old new m now outcome (Ok reply) reads comes = tt
+was_given_up serves old new m now outcome (Err error) reads comes =
+    (now, reads, inr (reply_of outcome m.closes, (outcome, comes, refl)))
+
+unless_true : (b : Bool) → ¬ (b ≡ true) → b ≡ false
+unless_true true not = absurd (not refl)
+unless_true false not = refl
+
+-- the number that books count with is that of their life
+by_number : (life : Life) (moment : ℕ) (request : Request) (reply : Result Answer Refusal) (at : Stamped) (old new : Seen) → Keeps life old
+    → HasCleanDisk old.state → IsAsked moment request old at → Replies at reply old new
+    → ¬ (reply ≡ Err Stopped) → at.nibble ≡ (length (present life).sales + 1) % 16
+by_number life moment request reply at old new keeps clean asked replies unstopped =
+    let present_is = (keeps clean).running (unless_true old.stopped (λ was. unstopped (replies.stopped.1 was))) in
+    asked.by_number ∙ ap (λ n. n % 16) (present_is.next ∙ ap (λ o. length o.sales + 1) (sym present_is.running.present))
+
+-- a life goes on by what the books that keep it reply
+served_life : (life : Life) (moment : ℕ) (request : Request) (reply : Result Answer Refusal) (old new : Seen) → Keeps life old
+    → ReplyAt moment request reply old new → HasCleanDisk new.state
+    → (after : Life) × life_serves moment request reply life after × Keeps after new
+served_life life moment request reply old new keeps (at, asked, replies) clean = (
+  extended_by life at reply,
+  (
+    at,
+    record {
+      at_moment = asked.at_moment;
+      for_request = asked.for_request;
+      by_number = by_number life moment request reply at old new keeps (replies.clean clean) asked replies;
+    },
+    refl,
+  ),
+  replies.keeps life keeps,
+)
+
+pub books_follow : {B : Type 0} (see : B → Seen)
+    → Follows (answers_by (books_serve see)) (answers_by life_serves) (λ life books. Keeps life (see books)) (λ books. HasCleanDisk (see books).state)
+books_follow {B} see = record { back = back; next = next }
+  where
+    step : B → Exchange → B → Type 0
+    step = answers_by (books_serve see)
+
+    back : (old : B) (x : Exchange) (new : B) → step old x new → HasCleanDisk (see new).state → HasCleanDisk (see old).state
+    back old x new (outcome, inl (idle, same), text) clean = subst (λ b. HasCleanDisk (see b).state) same clean
+    back old x new (outcome, inr (form, moment, request, reply, is, asks, (at, asked, replies)), text) clean = replies.clean clean
+
+    next : (life : Life) (old : B) (x : Exchange) (new : B) → Keeps life (see old) → step old x new → HasCleanDisk (see new).state
+        → (after : Life) × answers_by life_serves life x after × Keeps after (see new)
+    next life old x new keeps (outcome, inl (idle, same), text) clean =
+        (life, (outcome, inl (idle, refl), text), subst (λ b. Keeps life (see b)) (sym same) keeps)
+    next life old x new keeps (outcome, inr (form, moment, request, reply, is, asks, served), text) clean =
+        let goes = served_life life moment request reply (see old) (see new) keeps served clean in
+        (goes.0, (outcome, inr (form, moment, request, reply, is, asks, goes.1), text), goes.2)

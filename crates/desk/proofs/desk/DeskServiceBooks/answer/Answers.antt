@@ -1,0 +1,36 @@
+use Rattle.books.specs.Keeps.{seen}
+use Rattle.desk.specs.Answering.{Comes, books_serve}
+use Rattle.desk.specs.Next.{message_of}
+use Rattle.desk.proofs.ServingLemmas.{comes_asked, comes_told, was_answered, was_given_up}
+use Rattle.desk.proofs.desk.DeskServiceBooks.answer.Goals.{in-Asks, in-Told}
+use Rattle.desk.proofs.desk.DeskServiceBooks.answer.Goals as goal
+
+pub returns-clause-ok : goal.returns-clause-ok
+returns-clause-ok g c =
+    let serves = books_serve (seen g.S.Store g.T.BlockTransform.forwards) in
+    let m = message_of c.args.message.now in
+    let now = c.meaning_of.ensures.0 in
+    let means = c.meaning_of.ensures.2 in
+    let outcome = c.match-meaning_of.outcome in
+    let comes : Comes serves m now outcome c.args.office.now c.match-meaning_of.office =
+    elim c.match-meaning_of.branch [
+      | in-Asks w ↦ comes_asked serves m now _ w.in-Asks.form w.in-Asks.moment w.in-Asks.request w.ask.result outcome _ w.ask.new.self _ means w.in-Asks.is w.outcome-is w.office-is w.ask.ensures.replies
+      | in-Told w ↦ comes_told serves m now _ w.in-Told.outcome outcome _ _ means w.in-Told.is w.outcome-is w.office-is
+    ] in
+    was_answered serves (λ v. v.items) (c.args.office.now, g.C.Clock.answers c.args.clock.now) (c.match-meaning_of.office, g.C.Clock.answers c.meaning_of.new.clock) m
+    now outcome c.reply_bytes.result c.meaning_of.ensures.1 comes c.reply_bytes.ensures
+
+pub returns-clause-err : goal.returns-clause-err
+returns-clause-err g c =
+    let serves = books_serve (seen g.S.Store g.T.BlockTransform.forwards) in
+    let m = message_of c.args.message.now in
+    let now = c.meaning_of.ensures.0 in
+    let means = c.meaning_of.ensures.2 in
+    let outcome = c.match-meaning_of.outcome in
+    let comes : Comes serves m now outcome c.args.office.now c.match-meaning_of.office =
+    elim c.match-meaning_of.branch [
+      | in-Asks w ↦ comes_asked serves m now _ w.in-Asks.form w.in-Asks.moment w.in-Asks.request w.ask.result outcome _ w.ask.new.self _ means w.in-Asks.is w.outcome-is w.office-is w.ask.ensures.replies
+      | in-Told w ↦ comes_told serves m now _ w.in-Told.outcome outcome _ _ means w.in-Told.is w.outcome-is w.office-is
+    ] in
+    was_given_up serves (c.args.office.now, g.C.Clock.answers c.args.clock.now) (c.match-meaning_of.office, g.C.Clock.answers c.meaning_of.new.clock) m
+    now outcome c.reply_bytes.result c.meaning_of.ensures.1 comes

@@ -1,0 +1,10 @@
+use Rattle.serde_json.specs.View.{view}
+use Rattle.desk.proofs.BodyLemmas.{no_tariff}
+use Rattle.desk.proofs.json_requests.said.Goals as goal
+
+pub returns-in-Err : goal.returns-in-Err
+returns-in-Err c =
+    no_tariff c.args.route (view c.args.value.now) c.in-Err.fault c.in-AddTariff.is c.in-Err.ensures
+
+pub returns-in-None : goal.returns-in-None
+returns-in-None c = rw c.in-AddMeter.is (λ request says. c.in-None.ensures (says.0, says.1) says.3)

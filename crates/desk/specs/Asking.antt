@@ -1,0 +1,44 @@
+-- The request that a body asks of a route, or why it asks none.
+use Rattle.std.specs.Prelude.{◌≡◌, ℕ, List, Result, Ok, Err}
+use Rattle.papers.specs.File.{AreFileRecords, Fields}
+use Rattle.papers.specs.Import.{IsReading}
+use Rattle.papers.specs.declared.file_kind.FileKind.{FileKind}
+use Rattle.papers.specs.declared.file_kind.FileKind.TheVariants.{Meters, Tariffs}
+use Rattle.papers.specs.declared.row_fault.RowFault.{RowFault}
+use Rattle.papers.specs.declared.row_fault.RowFault.TheVariants as row_faults
+use Rattle.serde_json.specs.Data.{Data}
+use Rattle.vend_core.specs.declared.request.Request.{Request}
+use Rattle.vend_core.specs.declared.request.Request.TheVariants as requests
+use Rattle.vend_core.specs.declared.row.Row.{Row}
+use Rattle.desk.specs.declared.body_fault.BodyFault.{BodyFault}
+use Rattle.desk.specs.declared.body_fault.BodyFault.TheVariants as faults
+use Rattle.desk.specs.declared.route.Route.{Route}
+use Rattle.desk.specs.declared.route.Route.TheVariants.{ShiftReport, Reprint, Receipt, ImportMeters, ImportTariffs}
+use Rattle.desk.specs.JsonBody.{IsJson, Says}
+use Rattle.desk.specs.Reads.{IsFoundIn}
+
+-- the body is JSON that says this request to a route
+abbrev pub SaysJson : Route → List ℕ → Request → Type 0
+SaysJson route body request = (json : Data) × IsJson body json × Says route json request
+
+-- what reading a file of rows answers, as a request or as why there is none
+abbrev pub import_of : Result (List Row) RowFault → Result Request BodyFault
+import_of (Ok rows) = Ok (requests.Import rows)
+import_of (Err (row_faults.At row cause)) = Err (faults.Row row cause)
+import_of (Err row_faults.Memory) = Err faults.Memory
+
+-- the body is a file, and this answers its rows or its first fault
+abbrev pub AsksImport : FileKind → List ℕ → Result Request BodyFault → Type 0
+AsksImport kind body result =
+    (records : List Fields) × AreFileRecords body records
+    × (read : Result (List Row) RowFault) × IsReading kind records read × (result ≡ import_of read)
+
+-- what a body asks of a route: a request, or why there is none. A route that is asked by GET doesn't
+-- look at the body, two are asked by files of rows, and the others by JSON
+abbrev pub IsAsked : Route → List ℕ → Result Request BodyFault → Type 0
+IsAsked (ShiftReport shift) body result = result ≡ Ok (requests.ShiftReport shift)
+IsAsked (Reprint sale) body result = result ≡ Ok (requests.Reprint sale)
+IsAsked (Receipt sale) body result = result ≡ Ok (requests.Reprint sale)
+IsAsked ImportMeters body result = AsksImport Meters body result
+IsAsked ImportTariffs body result = AsksImport Tariffs body result
+IsAsked route body result = IsFoundIn (SaysJson route body) result

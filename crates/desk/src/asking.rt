@@ -1,0 +1,60 @@
+ghost use Rattle.std.specs.Prelude.{◌≡◌, ◌≢◌, ℕ, List, Result, Err};
+ghost use Rattle.desk.specs.Asking.{IsAsked, SaysJson, import_of};
+ghost use Rattle.desk.specs.Reads.{IsFoundIn};
+ghost use Rattle.desk.specs.declared.body_fault.BodyFault.{BodyFault};
+ghost use Rattle.desk.specs.declared.route.Route.{Route};
+ghost use Rattle.vend_core.specs.declared.request.Request.{Request};
+
+use crate::body_fault::BodyFault;
+use crate::json_body::read_value;
+use crate::json_requests::said;
+use crate::route::Route;
+use papers::{RowFault, import_law, read_meters, read_tariffs};
+use std::alloc::Global;
+use tariff::steps_text_law;
+use vend_core::{Request, Rows};
+
+/// The request that a body asks of a route, or why it asks none. A route that is asked by GET
+/// doesn't look at the body, and takes no memory.
+pub fn request_of(alloc: Global, route: Route, body: &[u8]) -> Result<Request, BodyFault>
+    ensures { IsAsked route body.now result }
+{
+    match route {
+        Route::ShiftReport(number) => Ok(Request::ShiftReport(number)),
+        Route::Reprint(number) | Route::Receipt(number) => Ok(Request::Reprint(number)),
+        Route::ImportMeters => import_of(read_meters(alloc, body)),
+        Route::ImportTariffs => import_of(read_tariffs(alloc, body)),
+        _ => said_by(alloc, route, body),
+    }
+}
+
+/// What a body asks of a route is one wherever memory isn't short: one request, or one fault.
+pub fn asking_law()
+    ensures { (route : Route) (body : List ℕ) (a b : Result Request BodyFault)
+        → IsAsked route body a → IsAsked route body b
+        → a ≢ Err BodyFault.Memory → b ≢ Err BodyFault.Memory → a ≡ b }
+{
+    import_law();
+    steps_text_law();
+}
+
+// The request that JSON says to a route.
+fn said_by(alloc: Global, route: Route, body: &[u8]) -> Result<Request, BodyFault>
+    ensures { IsFoundIn (SaysJson route body.now) result }
+{
+    match read_value(alloc, body) {
+        Ok(value) => said(alloc, route, &value),
+        Err(fault) => Err(fault),
+    }
+}
+
+// The import of the rows that were read.
+fn import_of(rows: Result<Rows, RowFault>) -> Result<Request, BodyFault>
+    ensures { result ≡ import_of rows }
+{
+    match rows {
+        Ok(rows) => Ok(Request::Import(rows)),
+        Err(RowFault::At(row, cause)) => Err(BodyFault::Row(row, cause)),
+        Err(RowFault::Memory) => Err(BodyFault::Memory),
+    }
+}

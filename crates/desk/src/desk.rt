@@ -1,0 +1,110 @@
+ghost use Rattle.std.specs.Prelude.{◌≡◌, ℤ, Option};
+ghost use Rattle.sqlite.specs.State.{HasCleanDisk};
+ghost use Rattle.vend_core.specs.Life.{Life};
+ghost use Rattle.books.specs.Keeps.{Keeps, seen};
+ghost use Rattle.desk.specs.Answering.{answers_by, books_serve, life_serves, refusal_of};
+ghost use Rattle.desk.specs.Exchanges.{Reads};
+ghost use Rattle.desk.specs.Meaning.{IsMeaning};
+ghost use Rattle.desk.specs.Next.{message_of};
+ghost use Rattle.desk.specs.Run.{IsRun};
+
+use crate::clock::Clock;
+use crate::conversation::run;
+use crate::end::End;
+use crate::meaning::{Meaning, meaning_at};
+use crate::message_fault::MessageFault;
+use crate::outcome::Outcome;
+use crate::received::Received;
+use crate::replies::reply_bytes;
+use crate::routes::Routes;
+use crate::service::Service;
+use books::Books;
+use sqlite::Alter;
+use std::alloc::{AllocError, Global};
+use std::io::{Read, Write};
+use sts_token::BlockTransform;
+
+/// The desk of an office: it answers the messages of a conversation by what the office replies to
+/// their requests (`docs/DESK.md`). It keeps nothing between conversations but its routes.
+#[derive(Drop)]
+pub struct Desk {
+    routes: Routes,
+}
+
+impl Desk {
+    /// The desk, or none for want of memory.
+    pub fn new(alloc: Global) -> Result<Desk, AllocError> {
+        match Routes::new(alloc) {
+            Ok(routes) => Ok(Desk { routes }),
+            Err(error) => Err(error),
+        }
+    }
+
+    /// Holds the conversation of a reader and a writer over these books: each message that is read
+    /// is answered in order, and its request served once, before more is asked for. A request comes
+    /// at the moment that the clock gives for it. See `End` for what was written and served by the
+    /// end; `specs/Answering.antt` says how books and their lives answer.
+    pub fn run<S: Alter, T: BlockTransform, R: Read, W: Write, C: Clock>(
+        &self,
+        alloc: Global,
+        reader: &mut R,
+        writer: &mut W,
+        books: &mut Books<S, T>,
+        clock: &mut C,
+    ) -> End
+        ensures run { IsRun (answers_by (books_serve (seen S.Store T.forwards))) refusal_of
+            (books.old, C.answers clock.old) (books.new, C.answers clock.new)
+            (R.remaining reader.old) (R.remaining reader.new)
+            (W.contents writer.old) (W.contents writer.new) result }
+        ensures lives { HasCleanDisk (seen S.Store T.forwards books.new).state → (life : Life)
+            → Keeps life (seen S.Store T.forwards books.old)
+            → (after : Life) × IsRun (answers_by life_serves) refusal_of
+            (life, C.answers clock.old) (after, C.answers clock.new)
+            (R.remaining reader.old) (R.remaining reader.new)
+            (W.contents writer.old) (W.contents writer.new) result
+            × Keeps after (seen S.Store T.forwards books.new) }
+    {
+        run(self, alloc, reader, writer, books, clock)
+    }
+
+    // What a message means. The clock is read once where it has a route, and else not.
+    fn meaning_of<C: Clock>(&self, alloc: Global, clock: &mut C, message: &Received<'_>) -> Meaning
+        ensures { (now : Option ℤ) × Reads (C.answers clock.old) now (C.answers clock.new)
+            × IsMeaning (message_of message.now) now result }
+    {
+        match self.routes.route_of(message.target, message.method) {
+            Ok(route) => meaning_at(alloc, route, clock.now(), message),
+            Err(fault) => Meaning::Told(Outcome::Faulty(fault)),
+        }
+    }
+}
+
+impl<S: Alter, T: BlockTransform> Service<Books<S, T>> for Desk {
+    ghost use Rattle.books.specs.Keeps.{seen};
+    ghost use Rattle.desk.specs.Answering.{answers_by, books_serve, refusal_of};
+
+    ghost step = { answers_by (books_serve (seen S.Store T.forwards)) };
+
+    ghost refusal = { refusal_of };
+
+    fn answer<C: Clock>(
+        &self,
+        alloc: Global,
+        office: &mut Books<S, T>,
+        clock: &mut C,
+        message: &Received<'_>,
+    ) -> Result<Vec<u8>, AllocError> {
+        let outcome = match self.meaning_of(alloc, clock, message) {
+            Meaning::Asks(form, moment, request) => {
+                Outcome::Served(form, office.ask(moment, request))
+            }
+            Meaning::Told(outcome) => outcome,
+            Meaning::Memory => return Err(AllocError),
+        };
+        reply_bytes(alloc, &outcome, message.closes)
+    }
+
+    fn refuse(&self, alloc: Global, fault: MessageFault) -> Result<Vec<u8>, AllocError> {
+        reply_bytes(alloc, &Outcome::Refused(fault), true)
+    }
+}

@@ -1,0 +1,51 @@
+ghost use Rattle.std.specs.Prelude.{◌≡◌};
+ghost use Rattle.desk.specs.Endpoint.{method_of, pattern_of};
+
+use crate::method::Method;
+
+/// A kind of target that the desk serves, with one method (`docs/DESK.md`).
+#[derive(Clone, Copy, Debug, PartialEq, Eq, Hash)]
+pub enum Endpoint {
+    Tariffs,
+    Meters,
+    MeterTariff,
+    Shifts,
+    ShiftClosing,
+    Shift,
+    Sales,
+    Sale,
+    SaleReceipt,
+    MeterImports,
+    TariffImports,
+}
+
+impl Endpoint {
+    /// The method that it is asked by.
+    pub fn method(self) -> Method
+        ensures { result ≡ method_of self }
+    {
+        match self {
+            Endpoint::Shift | Endpoint::Sale | Endpoint::SaleReceipt => Method::Get,
+            _ => Method::Post,
+        }
+    }
+
+    /// The pattern of its targets, in the syntax of `matchit`.
+    pub fn pattern(self) -> &'static str
+        ensures { result.now ≡ pattern_of self }
+    {
+        match self {
+            Endpoint::Tariffs => "/tariffs",
+            Endpoint::Meters => "/meters",
+            Endpoint::MeterTariff => "/meters/{meter}/tariff",
+            Endpoint::Shifts => "/shifts",
+            Endpoint::ShiftClosing => "/shifts/close",
+            Endpoint::Shift => "/shifts/{number}",
+            Endpoint::Sales => "/sales",
+            Endpoint::Sale => "/sales/{number}",
+            Endpoint::SaleReceipt => "/sales/{number}/receipt",
+            Endpoint::MeterImports => "/imports/meters",
+            Endpoint::TariffImports => "/imports/tariffs",
+        }
+    }
+}

@@ -1,0 +1,70 @@
+//! What a message means, before the office is asked.
+
+ghost use Rattle.std.specs.Prelude.{◌≡◌, Some, Ok, pos};
+ghost use Rattle.desk.specs.Meaning.{IsFor, IsMeaning, form_of};
+ghost use Rattle.desk.specs.Next.{message_of};
+
+use crate::asking::request_of;
+use crate::body_fault::BodyFault;
+use crate::desk_fault::DeskFault;
+use crate::form::Form;
+use crate::outcome::Outcome;
+use crate::received::Received;
+use crate::route::Route;
+use std::alloc::Global;
+use vend_core::{Moment, Refusal, Request};
+
+/// What a message means.
+#[derive(Drop)]
+pub(crate) enum Meaning {
+    /// It asks this of the office at this moment, and is to be told a sale in this form.
+    Asks(Form, Moment, Request),
+    /// It asks nothing of the office, and this comes of it.
+    Told(Outcome),
+    /// There was no memory to read it.
+    Memory,
+}
+
+impl Route {
+    // The form in which a sale is told.
+    pub(crate) fn form(&self) -> Form
+        ensures { result ≡ form_of self.now }
+    {
+        match self {
+            Route::Receipt(_) => Form::Paper,
+            _ => Form::Json,
+        }
+    }
+}
+
+/// What a message for this route means at this second, which the clock gave for it.
+pub(crate) fn meaning_at(
+    alloc: Global,
+    route: Route,
+    second: i64,
+    message: &Received<'_>,
+) -> Meaning
+    requires { IsFor (message_of message.now) route }
+    ensures { IsMeaning (message_of message.now) (Some second) result }
+{
+    match Moment::of_secs(second) {
+        Some(moment) => meaning_of(alloc, route, moment, message),
+        None => Meaning::Told(Outcome::Faulty(DeskFault::Clock)),
+    }
+}
+
+// What a message for this route means at this moment.
+fn meaning_of(alloc: Global, route: Route, moment: Moment, message: &Received<'_>) -> Meaning
+    requires { IsFor (message_of message.now) route }
+    ensures { IsMeaning (message_of message.now) (Some (pos moment)) result }
+{
+    let form = route.form();
+    match request_of(alloc, route, message.body) {
+        Ok(request) => Meaning::Asks(form, moment, request),
+        Err(BodyFault::OutsideRule) => Meaning::Told(Outcome::Faulty(DeskFault::Body)),
+        Err(BodyFault::Row(row, cause)) => {
+            Meaning::Told(Outcome::Served(Form::Json, Err(Refusal::ImportRow(row, cause))))
+        }
+        Err(BodyFault::Memory) => Meaning::Memory,
+    }
+}

@@ -1,0 +1,81 @@
+ghost use Rattle.std.specs.Prelude.{◌++◌, ◌≤◌, ◌↔◌, IsTrue, decimal, slice_index};
+ghost use Rattle.desk.specs.Reads.{Reads};
+ghost use Rattle.desk.specs.Route.{IsNumber};
+ghost use Rattle.vend_core.specs.Names.{IsMeterNo};
+
+use std::str;
+use vend_core::MeterNo;
+
+// The greatest number that a target may name.
+const GREATEST: u32 = 1_000_000_000;
+
+// The number that stands behind this front.
+pub(crate) fn number_after(text: &[u8], front: &[u8]) -> Option<u32>
+    ensures { Reads IsNumber (λ number. front.now ++ decimal number) text.now result }
+{
+    match text.strip_prefix(front) {
+        Some(digits) => read_number(digits),
+        None => None,
+    }
+}
+
+// The number that stands between a front and an end.
+pub(crate) fn number_between(text: &[u8], front: &[u8], end: &[u8]) -> Option<u32>
+    ensures { Reads IsNumber
+        (λ number. (front.now ++ decimal number) ++ end.now) text.now result }
+{
+    match text.strip_suffix(end) {
+        Some(text) => number_after(text, front),
+        None => None,
+    }
+}
+
+// The number of a meter that stands between a front and an end.
+pub(crate) fn meter_between(text: &[u8], front: &[u8], end: &[u8]) -> Option<MeterNo>
+    ensures { Reads IsMeterNo (λ meter. (front.now ++ meter) ++ end.now) text.now result }
+{
+    match text.strip_suffix(end) {
+        Some(text) => meter_after(text, front),
+        None => None,
+    }
+}
+
+// The number of a meter that stands behind this front.
+fn meter_after(text: &[u8], front: &[u8]) -> Option<MeterNo>
+    ensures { Reads IsMeterNo (λ meter. front.now ++ meter) text.now result }
+{
+    match text.strip_prefix(front) {
+        Some(digits) => MeterNo::read(digits),
+        None => None,
+    }
+}
+
+// The number that digits without leading zeros write.
+fn read_number(digits: &[u8]) -> Option<u32>
+    ensures { Reads IsNumber decimal digits.now result }
+{
+    match str::from_utf8(digits) {
+        Ok(digits) => parse_number(digits),
+        Err(_) => None,
+    }
+}
+
+// The same, of text. `parse` alone would take a plus and leading zeros.
+fn parse_number(digits: &str) -> Option<u32>
+    ensures { Reads IsNumber decimal digits.now result }
+{
+    if !has_lead(digits) {
+        return None;
+    }
+    match digits.parse() {
+        Ok(number) if number <= GREATEST => Some(number),
+        _ => None,
+    }
+}
+
+// Whether a digit other than 0 stands first.
+fn has_lead(digits: &str) -> bool
+    ensures { IsTrue result ↔ ((49 ≤ slice_index digits.now 0) × (slice_index digits.now 0 ≤ 57)) }
+{
+    matches!(digits.as_bytes().first(), Some(b'1'..=b'9'))
+}

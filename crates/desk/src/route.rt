@@ -1,0 +1,20 @@
+use vend_core::MeterNo;
+
+/// What a target asks for, with the meter or the number that it names.
+#[derive(Clone, Copy, Debug, PartialEq, Eq)]
+pub enum Route {
+    AddTariff,
+    AddMeter,
+    SetTariff(MeterNo),
+    OpenShift,
+    CloseShift,
+    /// A shift by its number, 1 to 1000000000.
+    ShiftReport(u32),
+    Sell,
+    /// A sale by its number, 1 to 1000000000.
+    Reprint(u32),
+    /// The receipt of a sale, by its number, 1 to 1000000000.
+    Receipt(u32),
+    ImportMeters,
+    ImportTariffs,
+}

@@ -1,0 +1,173 @@
+use crate::{BodyFault, Route, request_of};
+use std::alloc::{AllocError, Global};
+use std::process::Abort;
+use std::test::Fail;
+use sts_fields::Base;
+use vend_core::{Request, RowCause};
+
+// A body asks a route for nothing.
+fn fails(rt: &(impl Abort + AllocGlobal), route: Route, body: &[u8], fault: BodyFault) {
+    let found = request_of(rt.alloc(), route, body).err();
+    assert_eq!(rt; found, Some(fault), "{body:?}");
+}
+
+// A body has JSON that its route doesn't ask for.
+fn is_outside(rt: &(impl Abort + AllocGlobal), route: Route, body: &[u8]) {
+    fails(rt, route, body, BodyFault::OutsideRule);
+}
+
+#[test]
+fn tariffs_and_meters(rt: HostRuntime) -> Result<(), Fail> {
+    let body = b"{\"name\":\"flat\",\"steps\":\"500:100;:200\"}";
+    let Request::AddTariff(name, steps) = request_of(rt.alloc(), Route::AddTariff, body)? else {
+        return Err(Fail::new("no tariff"));
+    };
+    assert_eq!(rt; name.as_bytes(), b"flat".as_slice());
+    assert_eq!(rt; steps.as_slice().len(), 2);
+    let body = b" {\"meter\": \"12345678903\", \"key\": \"0123456789abcdef\",\r\n\
+        \"tariff\": \"fl\\u0061t\", \"base\": 2014} ";
+    let Request::AddMeter(number, meter) = request_of(rt.alloc(), Route::AddMeter, body)? else {
+        return Err(Fail::new("no meter"));
+    };
+    assert_eq!(rt; number.as_bytes(), b"12345678903".as_slice());
+    assert_eq!(rt; meter.base, Base::Y2014);
+    assert_eq!(rt; meter.tariff.as_bytes(), b"flat".as_slice());
+    assert_eq!(rt; meter.key, 0x0123_4567_89ab_cdef);
+    let body = b"{\"tariff\":\"flat\"}";
+    let route = Route::SetTariff(number);
+    let Request::SetTariff(other, name) = request_of(rt.alloc(), route, body)? else {
+        return Err(Fail::new("no tariff of a meter"));
+    };
+    assert_eq!(rt; other, number);
+    assert_eq!(rt; name.as_bytes(), b"flat".as_slice());
+    Ok(())
+}
+
+#[test]
+fn shifts_and_sales(rt: HostRuntime) -> Result<(), Fail> {
+    let body = b"{\"operator\":\"ann\"}";
+    let Request::OpenShift(opening) = request_of(rt.alloc(), Route::OpenShift, body)? else {
+        return Err(Fail::new("no opening"));
+    };
+    let Request::CloseShift(closing) = request_of(rt.alloc(), Route::CloseShift, body)? else {
+        return Err(Fail::new("no closing"));
+    };
+    assert_eq!(rt; opening.as_bytes(), b"ann".as_slice());
+    assert_eq!(rt; closing, opening);
+    // The last one of two members of one name stands.
+    let body = b"{\"tender\":9,\"meter\":\"12345678903\",\"operator\":\"ann\",\"ref\":\"A-1\",\
+        \"tender\":10}";
+    let Request::Sell(order) = request_of(rt.alloc(), Route::Sell, body)? else {
+        return Err(Fail::new("no order"));
+    };
+    assert_eq!(rt; order.operator, opening);
+    assert_eq!(rt; order.order_ref.as_bytes(), b"A-1".as_slice());
+    assert_eq!(rt; order.meter.as_bytes(), b"12345678903".as_slice());
+    assert_eq!(rt; order.tender.cents(), 10);
+    Ok(())
+}
+
+// What is asked for by GET doesn't look at the body.
+#[test]
+fn bodies_not_looked_at(rt: HostRuntime) {
+    for body in [b"".as_slice(), b"\xff", b"{}"] {
+        let asked = request_of(rt.alloc(), Route::ShiftReport(3), body);
+        assert!(rt; matches!(asked, Ok(Request::ShiftReport(3))));
+        let asked = request_of(rt.alloc(), Route::Reprint(4), body);
+        assert!(rt; matches!(asked, Ok(Request::Reprint(4))));
+        let asked = request_of(rt.alloc(), Route::Receipt(5), body);
+        assert!(rt; matches!(asked, Ok(Request::Reprint(5))));
+    }
+}
+
+#[test]
+fn orders_outside_their_rule(rt: HostRuntime) {
+    let bodies: [&[u8]; 16] = [
+        b"",
+        b"null",
+        b"[]",
+        b"{}",
+        b"{\"meter\":\"12345678903\",\"operator\":\"ann\",\"tender\":10}",
+        b"{\"meter\":\"12345678903\",\"operator\":\"ann\",\"ref\":\"A-1\",\"tender\":10,\"x\":0}",
+        b"{\"meter\":\"12345678903\",\"operator\":\"ann\",\"Ref\":\"A-1\",\"tender\":10}",
+        b"{\"meter\":12345678903,\"operator\":\"ann\",\"ref\":\"A-1\",\"tender\":10}",
+        b"{\"meter\":\"12345678904\",\"operator\":\"ann\",\"ref\":\"A-1\",\"tender\":10}",
+        b"{\"meter\":\"12345678903\",\"operator\":\"a b\",\"ref\":\"A-1\",\"tender\":10}",
+        b"{\"meter\":\"12345678903\",\"operator\":\"ann\",\"ref\":\"A_1\",\"tender\":10}",
+        b"{\"meter\":\"12345678903\",\"operator\":\"ann\",\"ref\":\"A-1\",\"tender\":0}",
+        b"{\"meter\":\"12345678903\",\"operator\":\"ann\",\"ref\":\"A-1\",\"tender\":100000001}",
+        b"{\"meter\":\"12345678903\",\"operator\":\"ann\",\"ref\":\"A-1\",\"tender\":\"10\"}",
+        b"{\"meter\":\"12345678903\",\"operator\":\"ann\",\"ref\":\"A-1\",\"tender\":10.0}",
+        b"{\"meter\":\"12345678903\",\"operator\":\"ann\",\"ref\":\"A-1\",\"tender\":10}}",
+    ];
+    for body in bodies {
+        is_outside(&rt, Route::Sell, body);
+    }
+}
+
+#[test]
+fn others_outside_their_rule(rt: HostRuntime) {
+    let rows: [(Route, &[u8]); 10] = [
+        (Route::OpenShift, b"{\"operator\":\"\"}"),
+        (Route::OpenShift, b"{\"operator\":\"ann\xff\"}"),
+        (Route::CloseShift, b"{\"operator\":null}"),
+        (Route::CloseShift, b"{\"tariff\":\"flat\"}"),
+        (Route::AddTariff, b"{\"name\":\"flat\",\"steps\":\":0\"}"),
+        (Route::AddTariff, b"{\"name\":\"flat\",\"steps\":[]}"),
+        (Route::AddTariff, b"{\"name\":\"\",\"steps\":\":100\"}"),
+        (
+            Route::AddMeter,
+            b"{\"base\":2015,\"key\":\"0000000000000000\",\"meter\":\"12345678903\",\"tariff\":\"f\"}",
+        ),
+        (
+            Route::AddMeter,
+            b"{\"base\":\"2014\",\"key\":\"0000000000000000\",\"meter\":\"12345678903\",\
+              \"tariff\":\"f\"}",
+        ),
+        (
+            Route::AddMeter,
+            b"{\"base\":2014,\"key\":\"000000000000000A\",\"meter\":\"12345678903\",\"tariff\":\"f\"}",
+        ),
+    ];
+    for (route, body) in rows {
+        is_outside(&rt, route, body);
+    }
+}
+
+// So many brackets.
+fn brackets(alloc: Global, count: usize) -> Result<Vec<u8>, AllocError> {
+    let mut body = Vec::new(alloc);
+    for _ in 0..count {
+        body.push(b'[')?;
+    }
+    Ok(body)
+}
+
+#[test]
+fn deep_bodies(rt: HostRuntime) -> Result<(), Fail> {
+    is_outside(&rt, Route::Sell, &brackets(rt.alloc(), 200)?);
+    is_outside(&rt, Route::Sell, &brackets(rt.alloc(), 1_048_576)?);
+    Ok(())
+}
+
+#[test]
+fn files(rt: HostRuntime) -> Result<(), Fail> {
+    let meters = b"meter,base,tariff,key\n12345678903,2014,flat,0000000000000000\n";
+    let tariffs = b"name,steps\nflat,:100\nhome,500:100;:200\n";
+    let Request::Import(rows) = request_of(rt.alloc(), Route::ImportMeters, meters)? else {
+        return Err(Fail::new("no import"));
+    };
+    assert_eq!(rt; rows.as_slice().len(), 1);
+    let Request::Import(rows) = request_of(rt.alloc(), Route::ImportTariffs, tariffs)? else {
+        return Err(Fail::new("no import"));
+    };
+    assert_eq!(rt; rows.as_slice().len(), 2);
+    let header = BodyFault::Row(0, RowCause::Header);
+    fails(&rt, Route::ImportTariffs, meters, header);
+    fails(&rt, Route::ImportMeters, tariffs, header);
+    fails(&rt, Route::ImportMeters, b"", header);
+    let short = b"meter,base,tariff,key\n12345678904,2014,flat,0000000000000000\n";
+    let field = BodyFault::Row(1, RowCause::Field(1));
+    fails(&rt, Route::ImportMeters, short, field);
+    Ok(())
+}
