@@ -1,3 +1,4 @@
+pub mod ExportLemmas
 pub mod LineLemmas
 pub mod MeteringLemmas
 pub mod PutLemmas

@@ -2,20 +2,28 @@
 use Rattle.std.specs.Prelude.{◌≡◌, List, [], Option, Some, None, codes}
 use Rattle.clap.specs.Walk.{Row}
 use Rattle.sts_fields.specs.Text.{Text}
-use Rattle.vend.specs.Commands.{SaysMeter, SaysQuote, SaysTrial}
+use Rattle.vend.specs.Commands.{SaysImport, SaysMeter, SaysQuote, SaysReport, SaysSell, SaysShift, SaysTrial}
 use Rattle.vend.specs.Line.{command_in, faults_in}
 use Rattle.vend.specs.declared.asked.Asked.{Asked}
-use Rattle.vend.specs.declared.asked.Asked.TheVariants.{Trial, Meter, Quote}
+use Rattle.vend.specs.declared.asked.Asked.TheVariants.{Trial, Import, Shift, Sell, Report, Meter, Quote}
 
 -- the name of the command
 abbrev pub name_of : Asked → Text
 name_of (Trial words) = codes "trial"
+name_of (Import words) = codes "import"
+name_of (Shift words) = codes "shift"
+name_of (Sell words) = codes "sell"
+name_of (Report words) = codes "report"
 name_of (Meter words) = codes "meter"
 name_of (Quote words) = codes "quote"
 
 -- its rows say this
 abbrev pub Says : List Row → Asked → Type 0
 Says rows (Trial words) = SaysTrial rows words
+Says rows (Import words) = SaysImport rows words
+Says rows (Shift words) = SaysShift rows words
+Says rows (Sell words) = SaysSell rows words
+Says rows (Report words) = SaysReport rows words
 Says rows (Meter words) = SaysMeter rows words
 Says rows (Quote words) = SaysQuote rows words
 

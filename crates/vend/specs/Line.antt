@@ -77,7 +77,8 @@ quote_command = command_named (codes "quote") (transform_option ∷ word_named (
 
 -- the commands, each of which has one level of words
 abbrev pub commands : List Shape
-commands = trial_command ∷ meter_command ∷ quote_command ∷ []
+commands = trial_command ∷ import_command ∷ shift_command ∷ sell_command ∷ report_command
+    ∷ meter_command ∷ quote_command ∷ []
 
 abbrev pub has_none : List Shape → Bool
 has_none [] = true

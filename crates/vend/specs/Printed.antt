@@ -1,6 +1,8 @@
 -- What the program prints, a definition a line.
 use Rattle.std.specs.Prelude.{ℕ, List, [], ◌∷◌, ◌++◌, codes, decimal}
 use Rattle.std.specs.List.{join_with_byte}
+use Rattle.books.specs.Fault as open_fault
+use Rattle.books.specs.declared.fault.OpenFault.{OpenFault}
 use Rattle.sim_meter.specs.declared.answer.Answer.{Answer}
 use Rattle.sim_meter.specs.declared.answer.Answer.TheVariants.{Accepted, Used, Old, Refused}
 use Rattle.sts_fields.specs.Text.{Text}
@@ -50,8 +52,9 @@ abbrev pub clock_line : Text
 clock_line = line_of (codes "refused" ∷ codes "clock" ∷ [])
 
 -- a fault of opening, by its number and its name
-abbrev pub opening_line : ℕ → Text → Text
-opening_line number name = line_of (codes "open" ∷ decimal number ∷ name ∷ [])
+abbrev pub opening_line : OpenFault → Text
+opening_line fault =
+    line_of (codes "open" ∷ decimal (open_fault.fault_number fault) ∷ open_fault.fault_name fault ∷ [])
 
 -- how many rows an import added, and the number of a shift
 abbrev pub added_line : ℕ → Text

@@ -8,13 +8,15 @@ use Rattle.sts_fields.specs.Text.{Text}
 use Rattle.vend_core.specs.declared.refusal.Refusal.TheVariants.{Memory}
 use Rattle.vend.specs.Asked.{AskFor}
 use Rattle.vend.specs.Line.{faults_in}
+use Rattle.vend.specs.Imported.{IsFileImported}
 use Rattle.vend.specs.Metered.{IsMetered}
 use Rattle.vend.specs.Printed.{bad_word_line, clock_line, refusal_line}
 use Rattle.vend.specs.Quoted.{IsQuoted}
+use Rattle.vend.specs.Tasks.{IsReported, IsShifted, IsSold}
 use Rattle.vend.specs.Told.{Outputs, IsTold}
 use Rattle.vend.specs.Tried.{IsTried}
 use Rattle.vend.specs.declared.asked.Asked.{Asked}
-use Rattle.vend.specs.declared.asked.Asked.TheVariants.{Trial, Meter, Quote}
+use Rattle.vend.specs.declared.asked.Asked.TheVariants.{Trial, Import, Shift, Sell, Report, Meter, Quote}
 use Rattle.vend.specs.declared.end.End.{End}
 use Rattle.vend.specs.declared.end.End.TheVariants.{Refused, BadWords}
 
@@ -27,6 +29,11 @@ IsTimed None At o end = ((moment : ℕ) × At moment) ⊎ IsTold o [] clock_line
 -- what is asked for is done
 abbrev pub IsAnswered : Asked → Outputs → End → Type 0
 IsAnswered (Trial words) o end = IsTimed words.at (λ moment. IsTried words moment o end) o end
+IsAnswered (Import words) o end =
+    IsTimed words.at (λ moment. IsFileImported words moment o end) o end
+IsAnswered (Shift words) o end = IsTimed words.at (λ moment. IsShifted words moment o end) o end
+IsAnswered (Sell words) o end = IsTimed words.at (λ moment. IsSold words moment o end) o end
+IsAnswered (Report words) o end = IsReported words o end
 IsAnswered (Meter words) o end = IsMetered words o end
 IsAnswered (Quote words) o end = IsQuoted words o end
 

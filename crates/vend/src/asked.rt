@@ -2,8 +2,12 @@ ghost use Rattle.clap.specs.Simple.{subcommand_rows_of};
 ghost use Rattle.vend.specs.Asked.{Asks};
 ghost use Rattle.vend.specs.Said.{ReadsOrFull};
 
+use crate::commands::import::ImportWords;
 use crate::commands::meter::MeterWords;
 use crate::commands::quote::QuoteWords;
+use crate::commands::report::ReportWords;
+use crate::commands::sell::SellWords;
+use crate::commands::shift::ShiftWords;
 use crate::commands::trial::TrialWords;
 use crate::said;
 use crate::words::BadWords;
@@ -14,6 +18,10 @@ use std::alloc::Global;
 #[derive(Drop)]
 pub enum Asked<'m, 'a> {
     Trial(TrialWords),
+    Import(ImportWords<'a>),
+    Shift(ShiftWords<'a>),
+    Sell(SellWords<'a>),
+    Report(ReportWords<'a>),
     Meter(MeterWords<'m, 'a>),
     Quote(QuoteWords),
 }
@@ -30,6 +38,22 @@ impl<'m, 'a> Asked<'m, 'a> {
             Some(("trial", words)) => match TrialWords::read(alloc, words) {
                 Ok(words) => Ok(Asked::Trial(words)),
                 Err(fault) => Err(fault),
+            },
+            Some(("import", words)) => match ImportWords::read(words) {
+                Some(words) => Ok(Asked::Import(words)),
+                None => Err(BadWords::Value),
+            },
+            Some(("shift", words)) => match ShiftWords::read(words) {
+                Some(words) => Ok(Asked::Shift(words)),
+                None => Err(BadWords::Value),
+            },
+            Some(("sell", words)) => match SellWords::read(words) {
+                Some(words) => Ok(Asked::Sell(words)),
+                None => Err(BadWords::Value),
+            },
+            Some(("report", words)) => match ReportWords::read(words) {
+                Some(words) => Ok(Asked::Report(words)),
+                None => Err(BadWords::Value),
             },
             Some(("meter", words)) => match MeterWords::read(words) {
                 Some(words) => Ok(Asked::Meter(words)),

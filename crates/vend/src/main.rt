@@ -12,11 +12,18 @@ mod asked;
 mod clock;
 mod commands;
 mod end;
+mod exporting;
+mod file_books;
 mod line;
+mod opening;
 mod options;
 mod printed;
 mod run;
 mod said;
+mod serving;
+mod task;
+#[cfg(test)]
+mod tests;
 mod told;
 mod transform;
 mod trial;

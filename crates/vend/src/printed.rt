@@ -2,9 +2,10 @@
 ghost use Rattle.std.specs.Prelude.{◌≡◌, ◌≢◌, ℕ, Err, map};
 ghost use Rattle.vend_core.specs.RowCause.{cause_text};
 ghost use Rattle.papers.specs.Output.{IsWritten};
-ghost use Rattle.vend.specs.Printed.{answer_line, credit_line, line_of};
-ghost use Rattle.vend.specs.Printed.{quote_line, refusal_line, token_line};
+ghost use Rattle.vend.specs.Printed.{added_line, answer_line, credit_line, opening_line, line_of};
+ghost use Rattle.vend.specs.Printed.{quote_line, refusal_line, shift_line, token_line};
 
+use books::OpenFault;
 use itoa::Buffer;
 use papers::{TextFault, write_whole};
 use sim_meter::Answer;
@@ -83,6 +84,37 @@ pub(crate) fn write_quote<W: Write>(bought: &Buy, out: &mut W) -> Result<(), Tex
     let price = price.format(bought.price).as_bytes();
     let change = change.format(bought.change).as_bytes();
     write_line(&[tenths, price, change], out)
+}
+
+/// Writes how many rows an import added.
+pub(crate) fn write_added<W: Write>(count: u32, out: &mut W) -> Result<(), TextFault>
+    ensures written { IsWritten (W.contents out.old) (W.contents out.new)
+        (added_line count) result }
+    ensures never_memory { result ≢ Err TextFault.Memory }
+{
+    let mut number = Buffer::new();
+    write_line(&[b"added", number.format(count).as_bytes()], out)
+}
+
+/// Writes the number of a shift.
+pub(crate) fn write_shift<W: Write>(shift: u32, out: &mut W) -> Result<(), TextFault>
+    ensures written { IsWritten (W.contents out.old) (W.contents out.new)
+        (shift_line shift) result }
+    ensures never_memory { result ≢ Err TextFault.Memory }
+{
+    let mut number = Buffer::new();
+    write_line(&[b"shift", number.format(shift).as_bytes()], out)
+}
+
+/// Writes why an office is not opened.
+pub(crate) fn write_opening<W: Write>(fault: OpenFault, err: &mut W) -> Result<(), TextFault>
+    ensures written { IsWritten (W.contents err.old) (W.contents err.new)
+        (opening_line fault) result }
+    ensures never_memory { result ≢ Err TextFault.Memory }
+{
+    let mut number = Buffer::new();
+    let number = number.format(fault.number()).as_bytes();
+    write_line(&[b"open", number, fault.name().as_bytes()], err)
 }
 
 /// Writes a refusal of the office.

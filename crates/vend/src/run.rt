@@ -1,8 +1,11 @@
 ghost use Rattle.std.specs.Prelude.{◌≡◌, ◌≤◌, map};
 ghost use Rattle.clap.specs.Values.{kind_of};
 ghost use Rattle.vend.specs.Asked.{AskFor};
+ghost use Rattle.vend.specs.Imported.{IsFileImported};
+ghost use Rattle.vend.specs.Printed.{clock_line};
 ghost use Rattle.vend.specs.Run.{IsAnswered, IsExplained, IsRun, IsTimed};
 ghost use Rattle.vend.specs.Status.{status_of};
+ghost use Rattle.vend.specs.Tasks.{IsShifted, IsSold};
 ghost use Rattle.vend.specs.Told.{HasBeginning, outputs};
 ghost use Rattle.vend.specs.Tried.{IsTried};
 ghost use Rattle.vend.specs.Unread.{bad_words_end, bad_words_line};
@@ -11,6 +14,9 @@ ghost use Rattle.vend.specs.declared.end.End.{End};
 
 use crate::asked::Asked;
 use crate::clock::moment_or_now;
+use crate::commands::import::ImportWords;
+use crate::commands::sell::SellWords;
+use crate::commands::shift::ShiftWords;
 use crate::commands::trial::TrialWords;
 use crate::end::End;
 use crate::line::parse;
@@ -57,6 +63,10 @@ fn answer<O: Write, E: Write>(rt: &HostRuntime, asked: &Asked, out: &mut O, err:
 {
     match asked {
         Asked::Trial(words) => trial(rt, words, out, err),
+        Asked::Import(words) => import(rt, words, out, err),
+        Asked::Shift(words) => shift(rt, words, out, err),
+        Asked::Sell(words) => sell(rt, words, out, err),
+        Asked::Report(words) => words.run(rt, out, err),
         Asked::Meter(words) => words.run(out),
         Asked::Quote(words) => words.run(out, err),
     }
@@ -69,11 +79,55 @@ fn trial<O: Write, E: Write>(rt: &HostRuntime, words: &TrialWords, out: &mut O, 
 {
     match moment_or_now(rt, words.at) {
         Some(moment) => words.run(rt.alloc(), moment, out, err),
-        None => {
-            tell(&[b"refused", b"clock"], err);
-            End::Refused
-        }
+        None => no_moment(err),
     }
+}
+
+fn import<O: Write, E: Write>(
+    rt: &HostRuntime,
+    words: &ImportWords,
+    out: &mut O,
+    err: &mut E,
+) -> End
+    ensures { let o = outputs (O.contents out.old) (O.contents out.new)
+        (E.contents err.old) (E.contents err.new) in
+        IsTimed words.now.at (λ moment. IsFileImported words.now moment o result) o result }
+{
+    match moment_or_now(rt, words.at) {
+        Some(moment) => words.run(rt, moment, out, err),
+        None => no_moment(err),
+    }
+}
+
+fn shift<O: Write, E: Write>(rt: &HostRuntime, words: &ShiftWords, out: &mut O, err: &mut E) -> End
+    ensures { let o = outputs (O.contents out.old) (O.contents out.new)
+        (E.contents err.old) (E.contents err.new) in
+        IsTimed words.now.at (λ moment. IsShifted words.now moment o result) o result }
+{
+    match moment_or_now(rt, words.at) {
+        Some(moment) => words.run(rt, moment, out, err),
+        None => no_moment(err),
+    }
+}
+
+fn sell<O: Write, E: Write>(rt: &HostRuntime, words: &SellWords, out: &mut O, err: &mut E) -> End
+    ensures { let o = outputs (O.contents out.old) (O.contents out.new)
+        (E.contents err.old) (E.contents err.new) in
+        IsTimed words.now.at (λ moment. IsSold words.now moment o result) o result }
+{
+    match moment_or_now(rt, words.at) {
+        Some(moment) => words.run(rt, moment, out, err),
+        None => no_moment(err),
+    }
+}
+
+// Tells that the clock has no moment.
+fn no_moment<E: Write>(err: &mut E) -> End
+    ensures told { HasBeginning (E.contents err.old) (E.contents err.new) clock_line }
+    ensures end { result ≡ End.Refused }
+{
+    tell(&[b"refused", b"clock"], err);
+    End::Refused
 }
 
 /// Tells why words were not read.

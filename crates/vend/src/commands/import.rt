@@ -1,16 +1,27 @@
-ghost use Rattle.std.specs.Prelude.{codes, IfOk};
+ghost use Rattle.std.specs.Prelude.{◌≡◌, codes, IfOk, List};
+ghost use Rattle.papers.specs.File.{AreFileRecords, Fields};
+ghost use Rattle.papers.specs.Import.{IsReading};
 ghost use Rattle.vend.specs.Commands.{SaysImport, SaysKind};
+ghost use Rattle.vend.specs.Imported.{IsFileImported, IsImported, refusal_of_rows};
 ghost use Rattle.vend.specs.Line.{IsDescribed, import_command};
 ghost use Rattle.vend.specs.Said.{IsSaid, ReadsWhat, rows_in, said};
+ghost use Rattle.vend.specs.Told.{outputs};
 ghost use Rattle.vend.specs.Values.{SaysText};
 
+use crate::end::End;
+use crate::opening::visit;
 use crate::options::{self, with};
 use crate::said;
+use crate::task::Task;
+use crate::told::{tell, tell_refusal};
 use crate::transform::Shipped;
 use clap::{ArgMatches, Command};
-use papers::FileKind;
+use papers::{FileKind, RowFault, read_meters, read_tariffs};
 use std::alloc::{AllocError, Global};
+use std::fs;
+use std::io::{ErrorKind, Write};
 use sts_fields::Moment;
+use vend_core::{Refusal, Request, Rows};
 
 /// What `import` is asked to do: the rows of a file of tariffs or meters, added to an office.
 #[derive(Clone, Copy)]
@@ -53,6 +64,76 @@ impl<'a> ImportWords<'a> {
             kind: read_kind(matches)?,
             csv: read_csv(matches)?,
         })
+    }
+
+    /// Reads the file of rows, adds them to the office, and prints how many were new.
+    pub(crate) fn run<O: Write, E: Write>(
+        &self,
+        rt: &HostRuntime,
+        moment: Moment,
+        out: &mut O,
+        err: &mut E,
+    ) -> End
+        ensures { IsFileImported self.now moment (outputs (O.contents out.old) (O.contents out.new)
+            (E.contents err.old) (E.contents err.new)) result }
+    {
+        match fs::read(rt, self.csv) {
+            Ok(bytes) => self.add(rt, moment, &bytes, out, err),
+            Err(error) => {
+                if error.kind() == ErrorKind::OutOfMemory {
+                    tell_refusal(Refusal::Memory, err);
+                } else {
+                    tell(&[b"file"], err);
+                }
+                End::Refused
+            }
+        }
+    }
+
+    // Adds the rows that these bytes have.
+    fn add<O: Write, E: Write>(
+        &self,
+        rt: &HostRuntime,
+        moment: Moment,
+        bytes: &[u8],
+        out: &mut O,
+        err: &mut E,
+    ) -> End
+        ensures { IsImported self.now moment bytes.now
+            (outputs (O.contents out.old) (O.contents out.new)
+            (E.contents err.old) (E.contents err.new)) result }
+    {
+        match self.rows_of(rt.alloc(), bytes) {
+            Ok(rows) => {
+                let task = Task::Ask(moment, Request::Import(rows));
+                visit(rt, self.transform, self.file, task, out, err)
+            }
+            Err(fault) => {
+                tell_refusal(refusal_of(fault), err);
+                End::Refused
+            }
+        }
+    }
+
+    // The rows that these bytes have, or their first fault.
+    fn rows_of(&self, alloc: Global, bytes: &[u8]) -> Result<Rows, RowFault>
+        ensures { (records : List Fields) × AreFileRecords bytes.now records
+            × IsReading self.now.kind records result }
+    {
+        match self.kind {
+            FileKind::Meters => read_meters(alloc, bytes),
+            FileKind::Tariffs => read_tariffs(alloc, bytes),
+        }
+    }
+}
+
+// The refusal of a file that is not read.
+fn refusal_of(fault: RowFault) -> Refusal
+    ensures { result ≡ refusal_of_rows fault }
+{
+    match fault {
+        RowFault::At(row, cause) => Refusal::ImportRow(row, cause),
+        RowFault::Memory => Refusal::Memory,
     }
 }
 

@@ -1,13 +1,22 @@
-ghost use Rattle.std.specs.Prelude.{codes, IfOk};
+ghost use Rattle.std.specs.Prelude.{◌≡◌, codes, IfOk};
 ghost use Rattle.vend.specs.Commands.{SaysPaper, SaysReport};
 ghost use Rattle.vend.specs.Line.{IsDescribed, report_command};
 ghost use Rattle.vend.specs.Said.{IsSaid, ReadsWhat, rows_in, said};
+ghost use Rattle.vend.specs.Tasks.{IsReported, report_task};
+ghost use Rattle.vend.specs.Told.{outputs};
 ghost use Rattle.vend.specs.Values.{SaysItem};
 
+use crate::end::End;
+use crate::opening::visit;
 use crate::options::{self, needed, with};
+use crate::task::Task;
+use crate::transform::Shipped;
 use crate::{said, values};
 use clap::{ArgMatches, Command};
 use std::alloc::{AllocError, Global};
+use std::io::Write;
+use sts_fields::Moment;
+use vend_core::Request;
 
 /// What is printed from an office's books.
 #[derive(Clone, Copy, Debug, PartialEq, Eq)]
@@ -51,6 +60,28 @@ impl<'a> ReportWords<'a> {
             file: options::read_file(matches)?,
             paper: read_paper(matches)?,
         })
+    }
+
+    /// Prints the paper. It writes no token, so any transform serves, and any moment.
+    pub(crate) fn run<O: Write, E: Write>(&self, rt: &HostRuntime, out: &mut O, err: &mut E) -> End
+        ensures { IsReported self.now (outputs (O.contents out.old) (O.contents out.new)
+            (E.contents err.old) (E.contents err.new)) result }
+    {
+        visit(rt, Shipped::Plain, self.file, self.paper.task(), out, err)
+    }
+}
+
+impl Paper {
+    // What is asked of the office for it.
+    fn task(self) -> Task
+        ensures { result ≡ report_task self }
+    {
+        let moment = Moment::of_secs(Moment::FIRST).unwrap();
+        match self {
+            Paper::Shift(number) => Task::Ask(moment, Request::ShiftReport(number)),
+            Paper::Receipt(number) => Task::Ask(moment, Request::Reprint(number)),
+            Paper::Sales => Task::Export,
+        }
     }
 }
 

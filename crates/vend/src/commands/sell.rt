@@ -2,15 +2,21 @@ ghost use Rattle.std.specs.Prelude.{codes, IfOk};
 ghost use Rattle.vend.specs.Commands.{SaysSell};
 ghost use Rattle.vend.specs.Line.{IsDescribed, sell_command};
 ghost use Rattle.vend.specs.Said.{IsSaid, ReadsWhat, rows_in, said};
+ghost use Rattle.vend.specs.Tasks.{IsSold};
+ghost use Rattle.vend.specs.Told.{outputs};
 ghost use Rattle.vend.specs.Values.{SaysMeterNo, SaysRef};
 
+use crate::end::End;
+use crate::opening::visit;
 use crate::options::{self, needed, with};
 use crate::said;
+use crate::task::Task;
 use crate::transform::Shipped;
 use clap::{ArgMatches, Command};
 use std::alloc::{AllocError, Global};
+use std::io::Write;
 use sts_fields::Moment;
-use vend_core::{MeterNo, Order, Ref};
+use vend_core::{MeterNo, Order, Ref, Request};
 
 /// What `sell` is asked to do: an order, sold from an office.
 #[derive(Clone, Copy)]
@@ -60,6 +66,21 @@ impl<'a> SellWords<'a> {
             order,
             at: options::read_at(matches)?,
         })
+    }
+
+    /// Sells what is ordered, and prints the receipt.
+    pub(crate) fn run<O: Write, E: Write>(
+        &self,
+        rt: &HostRuntime,
+        moment: Moment,
+        out: &mut O,
+        err: &mut E,
+    ) -> End
+        ensures { IsSold self.now moment (outputs (O.contents out.old) (O.contents out.new)
+            (E.contents err.old) (E.contents err.new)) result }
+    {
+        let task = Task::Ask(moment, Request::Sell(self.order));
+        visit(rt, self.transform, self.file, task, out, err)
     }
 }
 

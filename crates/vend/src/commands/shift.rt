@@ -1,15 +1,21 @@
-ghost use Rattle.std.specs.Prelude.{codes, IfOk};
+ghost use Rattle.std.specs.Prelude.{◌≡◌, codes, IfOk};
 ghost use Rattle.vend.specs.Commands.{SaysAct, SaysShift};
 ghost use Rattle.vend.specs.Line.{IsDescribed, shift_command};
 ghost use Rattle.vend.specs.Said.{IsSaid, ReadsWhat, rows_in, said};
+ghost use Rattle.vend.specs.Tasks.{IsShifted, shift_request};
+ghost use Rattle.vend.specs.Told.{outputs};
 
+use crate::end::End;
+use crate::opening::visit;
 use crate::options::{self, with};
 use crate::said;
+use crate::task::Task;
 use crate::transform::Shipped;
 use clap::{ArgMatches, Command};
 use std::alloc::{AllocError, Global};
+use std::io::Write;
 use sts_fields::Moment;
-use vend_core::Operator;
+use vend_core::{Operator, Request};
 
 /// What is done to a shift.
 #[derive(Clone, Copy, Debug, PartialEq, Eq)]
@@ -55,6 +61,30 @@ impl<'a> ShiftWords<'a> {
             at: options::read_at(matches)?,
             act: read_act(matches)?,
         })
+    }
+
+    /// Opens or closes the shift, and prints its number.
+    pub(crate) fn run<O: Write, E: Write>(
+        &self,
+        rt: &HostRuntime,
+        moment: Moment,
+        out: &mut O,
+        err: &mut E,
+    ) -> End
+        ensures { IsShifted self.now moment (outputs (O.contents out.old) (O.contents out.new)
+            (E.contents err.old) (E.contents err.new)) result }
+    {
+        let task = Task::Ask(moment, self.request());
+        visit(rt, self.transform, self.file, task, out, err)
+    }
+
+    fn request(&self) -> Request
+        ensures { result ≡ shift_request self.now }
+    {
+        match self.act {
+            Act::Open => Request::OpenShift(self.operator),
+            Act::Close => Request::CloseShift(self.operator),
+        }
     }
 }
 

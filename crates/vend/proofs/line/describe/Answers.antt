@@ -5,4 +5,8 @@ pub returns : goal.returns
 returns c =
     let after1 = c.in_ok-line-2.ensures [] _ c.in_ok-line.ensures c.in_ok-describe.ensures in
     let after2 = c.in_ok-line-3.ensures _ _ after1 c.in_ok-describe-2.ensures in
-    c.with-3.ensures _ _ after2 c.in_ok-describe-3.ensures
+    let after3 = c.in_ok-line-4.ensures _ _ after2 c.in_ok-describe-3.ensures in
+    let after4 = c.in_ok-line-5.ensures _ _ after3 c.in_ok-describe-4.ensures in
+    let after5 = c.in_ok-line-6.ensures _ _ after4 c.in_ok-describe-5.ensures in
+    let after6 = c.in_ok-line-7.ensures _ _ after5 c.in_ok-describe-6.ensures in
+    c.with-7.ensures _ _ after6 c.in_ok-describe-7.ensures
