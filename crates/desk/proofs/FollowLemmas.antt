@@ -148,3 +148,19 @@ module _ {O L : Type 0} (step : Step O) (live : Step L) (IsOf : L → O → Type
   run_along refusal life old new unread left held holds Memory is (input, all, text, written, given) well =
       let goes = given_up_along life input old text new is given well in
       (goes.0, (input, all, text, written, goes.1), goes.2)
+
+  -- a run that is well after it began where all was well
+  pub run_well : (refusal : MessageFault → List ℕ) (old new : Timed O) (unread left held holds : Option (List ℕ)) (end : End)
+      → IsRun step refusal old new unread left held holds end → Well new.0 → Well old.0
+  run_well refusal old new unread left held holds Closed (input, all, inl said) well =
+      well_before old said.conversation.exchanges new said.conversation.served well
+  run_well refusal old new unread left held holds Closed (input, all, inr said) well =
+      well_before old said.conversation.exchanges new said.conversation.served well
+  run_well refusal old new unread left held holds BadMessage (input, all, fault, said) well =
+      well_before old said.conversation.exchanges new said.conversation.served well
+  run_well refusal old new unread left held holds ReadFault (input, read, said) well =
+      well_before old said.conversation.exchanges new said.conversation.served well
+  run_well refusal old new unread left held holds WriteFault (input, all, text, written, cut) well =
+      well_before old cut.before.exchanges cut.mid cut.before.served (well_before_last refusal cut.rest cut.mid cut.last new cut.is_last well)
+  run_well refusal old new unread left held holds Memory (input, all, text, written, given) well =
+      well_before old given.before.exchanges given.mid given.before.served (well_before_giving_up given.rest given.mid new given.after well)

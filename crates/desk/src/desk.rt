@@ -56,6 +56,8 @@ impl Desk {
             (books.old, C.answers clock.old) (books.new, C.answers clock.new)
             (R.remaining reader.old) (R.remaining reader.new)
             (W.contents writer.old) (W.contents writer.new) result }
+        ensures clean { HasCleanDisk (seen S.Store T.forwards books.new).state
+            → HasCleanDisk (seen S.Store T.forwards books.old).state }
         ensures lives { HasCleanDisk (seen S.Store T.forwards books.new).state → (life : Life)
             → Keeps life (seen S.Store T.forwards books.old)
             → (after : Life) × IsRun (answers_by life_serves) refusal_of
