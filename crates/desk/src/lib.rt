@@ -62,6 +62,4 @@ mod route;
 mod routes;
 mod sending;
 mod service;
-#[cfg(test)]
-mod tests;
 mod wants;

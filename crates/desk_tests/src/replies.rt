@@ -1,5 +1,5 @@
 //! Replies, byte for byte.
-use crate::{DeskFault, Form, MessageFault, Method, Outcome, reply_bytes};
+use desk::{DeskFault, Form, MessageFault, Method, Outcome, reply_bytes};
 use std::alloc::{AllocError, Global};
 use std::test::Fail;
 use sts_fields::{Amount, Base};

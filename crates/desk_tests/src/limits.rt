@@ -1,5 +1,6 @@
-use super::first;
-use crate::{MAX_BODY, MAX_FIELDS, MAX_HEAD, MessageFault, Next, next_of};
+//! Heads and bodies at their greatest size, and one byte or field above it.
+use crate::inputs::first;
+use desk::{MAX_BODY, MAX_FIELDS, MAX_HEAD, MessageFault, Next, next_of};
 use std::alloc::{AllocError, Global};
 use std::test::Fail;
 

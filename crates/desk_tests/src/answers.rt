@@ -1,6 +1,6 @@
 //! Each route and each status once, in one conversation.
-use crate::{Desk, End, Script};
 use books::Books;
+use desk::{Desk, End, Script};
 use sqlite::MemStore;
 use std::alloc::{AllocError, Global};
 use std::test::Fail;

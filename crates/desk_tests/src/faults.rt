@@ -1,4 +1,5 @@
-use crate::{MessageFault, Next, next_of};
+//! Messages that are refused, and the status and word of each fault.
+use desk::{MessageFault, Next, next_of};
 
 #[test]
 fn each_fault(rt: HostRuntime) {

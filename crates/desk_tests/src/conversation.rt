@@ -1,6 +1,6 @@
 //! Whole conversations with a service that answers each message by its target and its moment.
-use super::SALE;
-use crate::{Clock, End, MessageFault, Received, Script, Service, run};
+use crate::inputs::{SALE, first};
+use desk::{Clock, End, MessageFault, Received, Script, Service, run};
 use std::alloc::{AllocError, Global};
 use std::cell::Cell;
 use std::io::{self, Read, Write};
@@ -292,7 +292,7 @@ fn a_reply_leaves_before_more_is_asked_for(rt: HostRuntime) {
     let late = Cell::new(false);
     let get: &[u8] = b"GET /b HTTP/1.1\r\nHost: d\r\n\r\nGET /c HTTP/1.1\r\nHost: d\r\n\r\nGET";
     let pieces = [
-        (0, super::first(SALE, 53)),
+        (0, first(SALE, 53)),
         (0, SALE.get(53..).unwrap_or(b"")),
         (8, get),
         (16, b"".as_slice()),

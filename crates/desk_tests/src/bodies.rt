@@ -1,4 +1,5 @@
-use crate::{BodyFault, Route, request_of};
+//! Bodies, and what each asks for or why it is refused.
+use desk::{BodyFault, Route, request_of};
 use std::alloc::{AllocError, Global};
 use std::process::Abort;
 use std::test::Fail;

@@ -1,4 +1,5 @@
-use crate::{DeskFault, Endpoint, Method, Route, Routes};
+//! Which route a target and a method stand for.
+use desk::{DeskFault, Endpoint, Method, Route, Routes};
 use std::test::Fail;
 use vend_core::MeterNo;
 

@@ -1,7 +1,7 @@
 //! Whole conversations with an office in memory: the replies byte for byte.
-use super::{SALE, first};
-use crate::{Clock, Desk, End, Script};
+use crate::inputs::{SALE, first};
 use books::Books;
+use desk::{Clock, Desk, End, Script};
 use sqlite::MemStore;
 use std::alloc::{AllocError, Global};
 use std::io::{self, Read};

@@ -1,7 +1,7 @@
 use Rattle.std.proofs.Common.{inl, refl, Some}
 use Rattle.desk.specs.Exchanges.{Exchange}
 use Rattle.desk.specs.Next.{message_of}
-use Rattle.desk.proofs.tests.conversation.EchoServiceU64.answer.Goals as goal
+use Rattle.desk_tests.proofs.conversation.EchoServiceU64.answer.Goals as goal
 
 pub returns-in-Err : goal.returns-in-Err
 returns-in-Err g c = record { ok = tt; err = (Some c.now-moment.result, c.now-moment.ensures, inl refl) }

@@ -1,0 +1,27 @@
+//! Tests of the desk, which have no code of their own.
+//!
+//! Messages as they are written, cut anywhere, at the limits, and with each fault; bodies, routes
+//! and replies; and whole conversations, with an office in memory too. What is expected was worked
+//! out by hand, from `docs/DESK.md`.
+#![tactic(auto)]
+
+#[cfg(test)]
+mod answers;
+#[cfg(test)]
+mod bodies;
+#[cfg(test)]
+mod conversation;
+#[cfg(test)]
+mod faults;
+#[cfg(test)]
+mod inputs;
+#[cfg(test)]
+mod limits;
+#[cfg(test)]
+mod messages;
+#[cfg(test)]
+mod replies;
+#[cfg(test)]
+mod routes;
+#[cfg(test)]
+mod serving;
