@@ -2,10 +2,10 @@
 use Rattle.std.specs.Prelude.{◌≡◌, List, [], Option, Some, None, codes}
 use Rattle.clap.specs.Walk.{Row}
 use Rattle.sts_fields.specs.Text.{Text}
-use Rattle.vend.specs.Commands.{SaysImport, SaysMeter, SaysQuote, SaysReport, SaysSell, SaysShift, SaysTrial}
+use Rattle.vend.specs.Commands.{SaysImport, SaysMeter, SaysQuote, SaysReport, SaysSelfcheck, SaysSell, SaysServe, SaysShift, SaysTrial}
 use Rattle.vend.specs.Line.{command_in, faults_in}
 use Rattle.vend.specs.declared.asked.Asked.{Asked}
-use Rattle.vend.specs.declared.asked.Asked.TheVariants.{Trial, Import, Shift, Sell, Report, Meter, Quote}
+use Rattle.vend.specs.declared.asked.Asked.TheVariants.{Trial, Import, Shift, Sell, Report, Meter, Quote, Serve, Selfcheck}
 
 -- the name of the command
 abbrev pub name_of : Asked → Text
@@ -16,6 +16,8 @@ name_of (Sell words) = codes "sell"
 name_of (Report words) = codes "report"
 name_of (Meter words) = codes "meter"
 name_of (Quote words) = codes "quote"
+name_of (Serve words) = codes "serve"
+name_of (Selfcheck words) = codes "selfcheck"
 
 -- its rows say this
 abbrev pub Says : List Row → Asked → Type 0
@@ -26,6 +28,8 @@ Says rows (Sell words) = SaysSell rows words
 Says rows (Report words) = SaysReport rows words
 Says rows (Meter words) = SaysMeter rows words
 Says rows (Quote words) = SaysQuote rows words
+Says rows (Serve words) = SaysServe rows words
+Says rows (Selfcheck words) = SaysSelfcheck rows words
 
 -- the command of this name and these rows asks for this
 abbrev pub Asks : Option (Text × List Row) → Asked → Type 0

@@ -4,15 +4,18 @@ use Rattle.clap.specs.Walk.{Row}
 use Rattle.papers.specs.declared.file_kind.FileKind.{FileKind}
 use Rattle.papers.specs.declared.file_kind.FileKind.TheVariants.{Meters, Tariffs}
 use Rattle.sts_fields.specs.Text.{Text}
+use Rattle.vend.specs.Address.{SaysAddress}
 use Rattle.vend.specs.Said.{IsSaid, MayBeSaid, all_said, said}
-use Rattle.vend.specs.Values.{SayEach, SaysAmount, SaysBase, SaysItem, SaysKey, SaysMeterNo, SaysMoment, SaysOperator, SaysPrior, SaysRef, SaysSteps, SaysTender, SaysText, SaysTransform}
+use Rattle.vend.specs.Values.{SayEach, SaysAmount, SaysBase, SaysConnections, SaysItem, SaysKey, SaysMeterNo, SaysMoment, SaysOperator, SaysPrior, SaysRef, SaysSteps, SaysTender, SaysText, SaysTransform}
 use Rattle.vend.specs.declared.commands.import.ImportWords.{ImportWords}
 use Rattle.vend.specs.declared.commands.meter.MeterWords.{MeterWords}
 use Rattle.vend.specs.declared.commands.quote.QuoteWords.{QuoteWords}
 use Rattle.vend.specs.declared.commands.report.Paper.{Paper}
 use Rattle.vend.specs.declared.commands.report.Paper.TheVariants.{Shift, Receipt, Sales}
 use Rattle.vend.specs.declared.commands.report.ReportWords.{ReportWords}
+use Rattle.vend.specs.declared.commands.selfcheck.SelfcheckWords.{SelfcheckWords}
 use Rattle.vend.specs.declared.commands.sell.SellWords.{SellWords}
+use Rattle.vend.specs.declared.commands.serve.ServeWords.{ServeWords}
 use Rattle.vend.specs.declared.commands.shift.Act.{Act}
 use Rattle.vend.specs.declared.commands.shift.Act.TheVariants.{Open, Close}
 use Rattle.vend.specs.declared.commands.shift.ShiftWords.{ShiftWords}
@@ -36,6 +39,9 @@ pub record SaysQuote (rows : List Row) (words : QuoteWords) : Type 0 where
   pub steps : IsSaid SaysSteps (said (codes "steps") rows) words.steps
   pub prior : IsSaid SaysPrior (said (codes "prior") rows) words.prior
   pub tender : IsSaid SaysTender (said (codes "tender") rows) words.tender
+
+pub record SaysSelfcheck (rows : List Row) (words : SelfcheckWords) : Type 0 where
+  pub transform : IsSaid SaysTransform (said (codes "transform") rows) words.transform
 
 -- the files of an import, by their kind
 abbrev pub kind_name : FileKind → Text
@@ -84,3 +90,9 @@ SaysPaper kind number Sales = kind ≡ Some (codes "sales")
 pub record SaysReport (rows : List Row) (words : ReportWords) : Type 0 where
   pub file : IsSaid SaysText (said (codes "file") rows) words.file
   pub paper : SaysPaper (said (codes "kind") rows) (said (codes "number") rows) words.paper
+
+pub record SaysServe (rows : List Row) (words : ServeWords) : Type 0 where
+  pub transform : IsSaid SaysTransform (said (codes "transform") rows) words.transform
+  pub file : IsSaid SaysText (said (codes "file") rows) words.file
+  pub listen : IsSaid SaysAddress (said (codes "listen") rows) words.listen
+  pub connections : IsSaid SaysConnections (said (codes "connections") rows) words.connections

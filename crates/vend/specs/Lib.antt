@@ -1,13 +1,17 @@
+pub mod Address
 pub mod Asked
 pub mod Commands
 pub mod Exported
 pub mod Imported
 pub mod Line
+pub mod Listening
 pub mod Metered
 pub mod Printed
 pub mod Quoted
 pub mod Run
 pub mod Said
+pub mod Selfchecked
+pub mod Selling
 pub mod Served
 pub mod Status
 pub mod Tasks

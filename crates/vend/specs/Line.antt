@@ -73,12 +73,19 @@ abbrev pub quote_command : Shape
 quote_command = command_named (codes "quote") (transform_option ∷ word_named (codes "steps")
     ∷ word_named (codes "prior") ∷ word_named (codes "tender") ∷ [])
 
+abbrev pub serve_command : Shape
+serve_command = command_named (codes "serve") (transform_option ∷ needed (codes "file")
+    ∷ needed (codes "listen") ∷ needed (codes "connections") ∷ [])
+
+abbrev pub selfcheck_command : Shape
+selfcheck_command = command_named (codes "selfcheck") (transform_option ∷ [])
+
 -- ---- the line
 
 -- the commands, each of which has one level of words
 abbrev pub commands : List Shape
 commands = trial_command ∷ import_command ∷ shift_command ∷ sell_command ∷ report_command
-    ∷ meter_command ∷ quote_command ∷ []
+    ∷ meter_command ∷ quote_command ∷ serve_command ∷ selfcheck_command ∷ []
 
 abbrev pub has_none : List Shape → Bool
 has_none [] = true

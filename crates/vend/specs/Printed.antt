@@ -12,6 +12,7 @@ use Rattle.vend_core.specs.Refusal.{refusal_name, refusal_number}
 use Rattle.vend_core.specs.RowCause.{cause_text}
 use Rattle.vend_core.specs.declared.refusal.Refusal.{Refusal}
 use Rattle.vend_core.specs.declared.refusal.Refusal.TheVariants.{ImportRow}
+use Rattle.vend.specs.declared.address.Address.{Address}
 
 -- words with a space between them, and the end of the line
 abbrev pub line_of : List Text → Text
@@ -56,12 +57,15 @@ abbrev pub opening_line : OpenFault → Text
 opening_line fault =
     line_of (codes "open" ∷ decimal (open_fault.fault_number fault) ∷ open_fault.fault_name fault ∷ [])
 
--- how many rows an import added, and the number of a shift
+-- how many rows an import added, the number of a shift, and a selfcheck that found no fault
 abbrev pub added_line : ℕ → Text
 added_line count = line_of (codes "added" ∷ decimal count ∷ [])
 
 abbrev pub shift_line : ℕ → Text
 shift_line number = line_of (codes "shift" ∷ decimal number ∷ [])
+
+abbrev pub selfcheck_line : Text
+selfcheck_line = line_of (codes "selfcheck" ∷ codes "ok" ∷ [])
 
 -- a value outside its rule, a file that cannot be read, and a connection that cannot be had
 abbrev pub bad_word_line : Text
@@ -72,3 +76,17 @@ file_line = line_of (codes "file" ∷ [])
 
 abbrev pub net_line : Text
 net_line = line_of (codes "net" ∷ [])
+
+-- the numbers of an address, with points between them: two, and two more
+unfoldable pub pair_text : (one next : ℕ) → Text
+pair_text one next = decimal one ++ 46 ∷ decimal next
+
+abbrev pub host_text : Address → Text
+host_text a = pair_text a.first a.second ++ 46 ∷ pair_text a.third a.fourth
+
+-- where the desk listens: the address, at the port that it has
+abbrev pub address_text : Address → (port : ℕ) → Text
+address_text a port = host_text a ++ 58 ∷ decimal port
+
+abbrev pub listening_line : Address → (port : ℕ) → Text
+listening_line a port = line_of (codes "listening" ∷ address_text a port ∷ [])

@@ -1,5 +1,7 @@
 -- What the words of a command ask of an office, and what is done by them.
 use Rattle.std.specs.Prelude.{ℕ}
+use Rattle.sqlite_trees.specs.declared.store.Store.{Ghosts}
+use Rattle.sqlite_wal.specs.Recovery.{Image}
 use Rattle.sts_fields.specs.Moment.{first_moment}
 use Rattle.vend_core.specs.declared.request.Request.{Request}
 use Rattle.vend_core.specs.declared.request.Request.TheVariants.{OpenShift, CloseShift, Sell, Reprint, ShiftReport}
@@ -31,12 +33,15 @@ report_task (Receipt number) = Ask first_moment (Reprint number)
 report_task Sales = Export
 
 -- `shift`, `sell` and `report`: each does its task at the office in its file
-abbrev pub IsShifted : ShiftWords → (moment : ℕ) → Outputs → End → Type 0
-IsShifted words moment o end =
-    IsVisited words.transform (Ask moment (shift_request words)) o end
+abbrev pub IsShifted : {S : Type 0} → Ghosts S → Image → ShiftWords → (moment : ℕ) → Outputs
+    → End → Type 0
+IsShifted store image words moment o end =
+    IsVisited store image words.transform (Ask moment (shift_request words)) o end
 
-abbrev pub IsSold : SellWords → (moment : ℕ) → Outputs → End → Type 0
-IsSold words moment o end = IsVisited words.transform (Ask moment (Sell words.order)) o end
+abbrev pub IsSold : {S : Type 0} → Ghosts S → Image → SellWords → (moment : ℕ) → Outputs
+    → End → Type 0
+IsSold store image words moment o end =
+    IsVisited store image words.transform (Ask moment (Sell words.order)) o end
 
-abbrev pub IsReported : ReportWords → Outputs → End → Type 0
-IsReported words o end = IsVisited Plain (report_task words.paper) o end
+abbrev pub IsReported : {S : Type 0} → Ghosts S → Image → ReportWords → Outputs → End → Type 0
+IsReported store image words o end = IsVisited store image Plain (report_task words.paper) o end

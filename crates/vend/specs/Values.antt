@@ -32,6 +32,17 @@ SaysAmount text tenths = SaysNumber text tenths × (tenths < 2 ^ 32)
 abbrev pub SaysMoment : Text → ℕ → Type 0
 SaysMoment text seconds = SaysNumber text seconds × IsMoment seconds
 
+-- how many connections are served
+abbrev pub SaysConnections : Text → ℕ → Type 0
+SaysConnections text count = SaysNumber text count × (1 ≤ count) × (count ≤ 10 ^ 6)
+
+-- a number of an address, and its port
+abbrev pub SaysOctet : Text → ℕ → Type 0
+SaysOctet text octet = SaysNumber text octet × (octet < 256)
+
+abbrev pub SaysPort : Text → ℕ → Type 0
+SaysPort text port = SaysNumber text port × (port < 65536)
+
 -- a base date, by its year
 abbrev pub SaysBase : Text → Base → Type 0
 SaysBase text base = SaysNumber text (year_of base)

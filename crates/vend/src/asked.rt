@@ -6,7 +6,9 @@ use crate::commands::import::ImportWords;
 use crate::commands::meter::MeterWords;
 use crate::commands::quote::QuoteWords;
 use crate::commands::report::ReportWords;
+use crate::commands::selfcheck::SelfcheckWords;
 use crate::commands::sell::SellWords;
+use crate::commands::serve::ServeWords;
 use crate::commands::shift::ShiftWords;
 use crate::commands::trial::TrialWords;
 use crate::said;
@@ -24,6 +26,8 @@ pub enum Asked<'m, 'a> {
     Report(ReportWords<'a>),
     Meter(MeterWords<'m, 'a>),
     Quote(QuoteWords),
+    Serve(ServeWords<'a>),
+    Selfcheck(SelfcheckWords),
 }
 
 impl<'m, 'a> Asked<'m, 'a> {
@@ -62,6 +66,14 @@ impl<'m, 'a> Asked<'m, 'a> {
             Some(("quote", words)) => match QuoteWords::read(alloc, words) {
                 Ok(words) => Ok(Asked::Quote(words)),
                 Err(fault) => Err(fault),
+            },
+            Some(("serve", words)) => match ServeWords::read(words) {
+                Some(words) => Ok(Asked::Serve(words)),
+                None => Err(BadWords::Value),
+            },
+            Some(("selfcheck", words)) => match SelfcheckWords::read(words) {
+                Some(words) => Ok(Asked::Selfcheck(words)),
+                None => Err(BadWords::Value),
             },
             // The line has no other command.
             _ => Err(BadWords::Value),

@@ -1,48 +1,80 @@
 ghost use Rattle.std.specs.Prelude.{◌≢◌, IfErr, IfOk};
-ghost use Rattle.books.specs.Keeps.{seen};
+ghost use Rattle.sqlite.specs.State.{HasCleanDisk};
+ghost use Rattle.sqlite_wal.specs.Files.{image_at};
+ghost use Rattle.vend_core.specs.Life.{Life};
+ghost use Rattle.books.specs.Keeps.{Keeps, seen};
+ghost use Rattle.vend.specs.Listening.{AreServed};
 ghost use Rattle.vend.specs.Told.{outputs};
 ghost use Rattle.vend.specs.Visited.{IsDone, IsOpened, seen_in};
 
 use crate::end::End;
 use crate::exporting::export;
+use crate::listening::serve;
 use crate::serving::ask;
 use crate::task::Task;
 use crate::transform::Shipped;
 use books::{Books, OpenFault};
-use sqlite::{Alter, FileFrom, FileStore, Unknown};
+use desk::{Clock, Desk};
+use sqlite::{Alter, FileFrom, FileStore, Start};
 use std::alloc::Global;
 use std::io::Write;
+use std::net::{OpenListener, TcpStream};
 use sts_token::{BlockTransform, Demo, Plain};
 
 /// The books of an office in a file, under a transform that ships.
 #[derive(Drop)]
-pub enum FileBooks {
-    Plain(Books<FileStore<FileFrom<Unknown>>, Plain>),
-    Demo(Books<FileStore<FileFrom<Unknown>>, Demo>),
+pub enum FileBooks<S: Alter> {
+    Plain(Books<S, Plain>),
+    Demo(Books<S, Demo>),
 }
 
-impl FileBooks {
-    /// Opens the office in a file, or begins one where there is no file.
+impl<B: Start> FileBooks<FileStore<FileFrom<B>>> {
+    /// Opens the office in a file, or begins one where there is no file. `start` stands for what the
+    /// file holds.
     ///
     /// # Errors
     /// As `Books::open_path`.
     pub(crate) fn open(
         rt: &HostRuntime,
+        start: B,
         file: &str,
         transform: Shipped,
-    ) -> Result<FileBooks, OpenFault>
-        ensures opened { IfOk result (IsOpened transform) }
+    ) -> Result<FileBooks<FileStore<FileFrom<B>>>, OpenFault>
+        ensures opened { IfOk result (IsOpened (image_at B.Start) transform) }
         ensures never_old { IfErr result (λ fault. fault ≢ OpenFault.OldOffice) }
     {
         match transform {
-            Shipped::Plain => match Books::open_path(rt, file, Unknown, Plain) {
+            Shipped::Plain => match Books::open_path(rt, file, start, Plain) {
                 Ok(books) => Ok(FileBooks::Plain(books)),
                 Err(fault) => Err(fault),
             },
-            Shipped::Demo => match Books::open_path(rt, file, Unknown, Demo) {
+            Shipped::Demo => match Books::open_path(rt, file, start, Demo) {
                 Ok(books) => Ok(FileBooks::Demo(books)),
                 Err(fault) => Err(fault),
             },
+        }
+    }
+}
+
+impl<S: Alter> FileBooks<S> {
+    /// Serves so many connections to a listener, and answers whether all of them could be had.
+    pub(crate) fn serve<L: OpenListener<Stream = TcpStream>, C: Clock>(
+        &mut self,
+        alloc: Global,
+        desk: &Desk,
+        listener: &L,
+        connections: u32,
+        clock: &mut C,
+    ) -> bool
+        ensures { HasCleanDisk (seen_in self.new).state → (life : Life)
+            → Keeps life (seen_in self.old)
+            → (after : Life) × AreServed connections result
+            (life, C.answers clock.old) (after, C.answers clock.new)
+            × Keeps after (seen_in self.new) }
+    {
+        match self {
+            FileBooks::Plain(books) => serve(alloc, desk, listener, connections, books, clock),
+            FileBooks::Demo(books) => serve(alloc, desk, listener, connections, books, clock),
         }
     }
 

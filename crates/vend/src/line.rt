@@ -3,7 +3,7 @@ ghost use Rattle.clap.specs.Kinds.{HasKind};
 ghost use Rattle.clap.specs.Simple.{Shape, app_of, subcommand_rows_of};
 ghost use Rattle.vend.specs.Line.{IsDescribed, command_in, faults_in, line_of_commands, vend_line};
 
-use crate::commands::{import, meter, quote, report, sell, shift, trial};
+use crate::commands::{import, meter, quote, report, selfcheck, sell, serve, shift, trial};
 use clap::{ArgMatches, Command, Error};
 use std::alloc::{AllocError, Global};
 
@@ -33,7 +33,9 @@ fn describe<'a>(alloc: Global) -> Result<Command<'a>, AllocError>
     let line = with(line, sell::describe(alloc)?)?;
     let line = with(line, report::describe(alloc)?)?;
     let line = with(line, meter::describe(alloc)?)?;
-    with(line, quote::describe(alloc)?)
+    let line = with(line, quote::describe(alloc)?)?;
+    let line = with(line, serve::describe(alloc)?)?;
+    with(line, selfcheck::describe(alloc)?)
 }
 
 // The line without its commands.

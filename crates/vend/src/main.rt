@@ -4,10 +4,12 @@
 
 use crate::run::{refuse, run};
 use crate::words::BadWords;
+use sqlite::Unknown;
 use std::process::ExitCode;
 use std::rt::Env;
 use std::{env, io};
 
+mod address;
 mod asked;
 mod clock;
 mod commands;
@@ -15,11 +17,15 @@ mod end;
 mod exporting;
 mod file_books;
 mod line;
+mod listening;
 mod opening;
 mod options;
+mod prepared;
 mod printed;
 mod run;
 mod said;
+mod selfcheck;
+mod selfcheck_fault;
 mod serving;
 mod task;
 #[cfg(test)]
@@ -58,7 +64,7 @@ fn unreadable(error: io::Error) -> BadWords {
 fn run_given(rt: &HostRuntime, given: &[String]) -> u8 {
     let words: Result<Vec<&str>, _> = given.iter().map(|word| word.as_str()).collect(rt.alloc());
     match words {
-        Ok(words) => run(rt, &words, &mut rt.stdout(), &mut rt.stderr()),
+        Ok(words) => run(rt, Unknown, &words, &mut rt.stdout(), &mut rt.stderr()),
         Err(_) => refuse(BadWords::Memory, &mut rt.stderr()).status(),
     }
 }

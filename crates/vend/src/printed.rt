@@ -1,14 +1,18 @@
 //! The lines that the program prints (`specs/Printed.antt`).
-ghost use Rattle.std.specs.Prelude.{◌≡◌, ◌≢◌, ℕ, Err, map};
+ghost use Rattle.std.specs.Prelude.{◌≡◌, ◌≢◌, ℕ, Err, IfOk, map, string_bytes};
 ghost use Rattle.vend_core.specs.RowCause.{cause_text};
 ghost use Rattle.papers.specs.Output.{IsWritten};
-ghost use Rattle.vend.specs.Printed.{added_line, answer_line, credit_line, opening_line, line_of};
-ghost use Rattle.vend.specs.Printed.{quote_line, refusal_line, shift_line, token_line};
+ghost use Rattle.vend.specs.Printed.{added_line, address_text, answer_line, credit_line};
+ghost use Rattle.vend.specs.Printed.{host_text, line_of, opening_line, pair_text};
+ghost use Rattle.vend.specs.Printed.{quote_line, refusal_line, selfcheck_line};
+ghost use Rattle.vend.specs.Printed.{shift_line, token_line};
 
+use crate::address::Address;
 use books::OpenFault;
 use itoa::Buffer;
 use papers::{TextFault, write_whole};
 use sim_meter::Answer;
+use std::alloc::{AllocError, Global};
 use std::io::Write;
 use tariff::Buy;
 use vend_core::{Refusal, RowCause};
@@ -104,6 +108,38 @@ pub(crate) fn write_shift<W: Write>(shift: u32, out: &mut W) -> Result<(), TextF
 {
     let mut number = Buffer::new();
     write_line(&[b"shift", number.format(shift).as_bytes()], out)
+}
+
+/// Writes that a selfcheck found no fault.
+pub(crate) fn write_selfcheck<W: Write>(out: &mut W) -> Result<(), TextFault>
+    ensures written { IsWritten (W.contents out.old) (W.contents out.new) selfcheck_line result }
+    ensures never_memory { result ≢ Err TextFault.Memory }
+{
+    write_line(&[b"selfcheck", b"ok"], out)
+}
+
+/// The text of an address, at this port.
+pub(crate) fn address_text(alloc: Global, address: Address, port: u16) -> Result<String, AllocError>
+    ensures { IfOk result (λ text. string_bytes text ≡ address_text address port) }
+{
+    let host = host_text(alloc, address)?;
+    format!(in alloc; "{host}:{port}")
+}
+
+// The numbers of an address.
+fn host_text(alloc: Global, address: Address) -> Result<String, AllocError>
+    ensures { IfOk result (λ text. string_bytes text ≡ host_text address) }
+{
+    let front = pair_text(alloc, address.first, address.second)?;
+    let back = pair_text(alloc, address.third, address.fourth)?;
+    format!(in alloc; "{front}.{back}")
+}
+
+// Two of them.
+fn pair_text(alloc: Global, one: u8, next: u8) -> Result<String, AllocError>
+    ensures { IfOk result (λ text. string_bytes text ≡ pair_text one next) }
+{
+    format!(in alloc; "{one}.{next}")
 }
 
 /// Writes why an office is not opened.

@@ -1,9 +1,11 @@
 ghost use Rattle.std.specs.Prelude.{◌≡◌, ◌≤◌, map};
 ghost use Rattle.clap.specs.Values.{kind_of};
+ghost use Rattle.sqlite_wal.specs.Files.{image_at};
 ghost use Rattle.vend.specs.Asked.{AskFor};
 ghost use Rattle.vend.specs.Imported.{IsFileImported};
 ghost use Rattle.vend.specs.Printed.{clock_line};
 ghost use Rattle.vend.specs.Run.{IsAnswered, IsExplained, IsRun, IsTimed};
+ghost use Rattle.vend.specs.Selfchecked.{HasReplies, IsSelfchecked};
 ghost use Rattle.vend.specs.Status.{status_of};
 ghost use Rattle.vend.specs.Tasks.{IsShifted, IsSold};
 ghost use Rattle.vend.specs.Told.{HasBeginning, outputs};
@@ -15,6 +17,7 @@ ghost use Rattle.vend.specs.declared.end.End.{End};
 use crate::asked::Asked;
 use crate::clock::moment_or_now;
 use crate::commands::import::ImportWords;
+use crate::commands::selfcheck::SelfcheckWords;
 use crate::commands::sell::SellWords;
 use crate::commands::shift::ShiftWords;
 use crate::commands::trial::TrialWords;
@@ -24,6 +27,8 @@ use crate::told::{tell, tell_refusal};
 use crate::words::BadWords;
 use clap::Error;
 use clap::error::ErrorKind;
+use sqlite::{FileFrom, FileStore, Start};
+use sqlite_trees::store::Store;
 use std::io::Write;
 use vend_core::Refusal;
 
@@ -31,25 +36,39 @@ use vend_core::Refusal;
 /// status.
 ///
 /// A value outside its rule is told as `bad word`; of words that are no command's `clap` tells what
-/// is wrong, or shows its help.
-pub fn run<O: Write, E: Write>(rt: &HostRuntime, words: &[&str], out: &mut O, err: &mut E) -> u8
-    ensures run { (end : End) × IsRun (map (λ w. w.now) words.now)
+/// is wrong, or shows its help. `start` stands for what the office's file holds.
+pub fn run<B: Start, O: Write, E: Write>(
+    rt: &HostRuntime,
+    start: B,
+    words: &[&str],
+    out: &mut O,
+    err: &mut E,
+) -> u8
+    ensures run { (end : End) × IsRun ⟦<FileStore<FileFrom<B>> as Store>⟧ (image_at B.Start)
+        (map (λ w. w.now) words.now)
         (outputs (O.contents out.old) (O.contents out.new)
         (E.contents err.old) (E.contents err.new)) end × (result ≡ status_of end) }
     ensures asked { (asked : Asked) → AskFor (map (λ w. w.now) words.now) asked → result ≤ 1 }
 {
-    carry_out(rt, words, out, err).status()
+    carry_out(rt, start, words, out, err).status()
 }
 
 // Does what the words ask for, or says why not.
-fn carry_out<O: Write, E: Write>(rt: &HostRuntime, words: &[&str], out: &mut O, err: &mut E) -> End
-    ensures { IsRun (map (λ w. w.now) words.now)
+fn carry_out<B: Start, O: Write, E: Write>(
+    rt: &HostRuntime,
+    start: B,
+    words: &[&str],
+    out: &mut O,
+    err: &mut E,
+) -> End
+    ensures { IsRun ⟦<FileStore<FileFrom<B>> as Store>⟧ (image_at B.Start)
+        (map (λ w. w.now) words.now)
         (outputs (O.contents out.old) (O.contents out.new)
         (E.contents err.old) (E.contents err.new)) result }
 {
     match parse(rt.alloc(), words) {
         Ok(matches) => match Asked::read(rt.alloc(), &matches) {
-            Ok(asked) => answer(rt, &asked, out, err),
+            Ok(asked) => answer(rt, start, &asked, out, err),
             Err(fault) => refuse(fault, err),
         },
         Err(error) => explain(&error, out, err),
@@ -57,18 +76,27 @@ fn carry_out<O: Write, E: Write>(rt: &HostRuntime, words: &[&str], out: &mut O, 
 }
 
 // Does what is asked.
-fn answer<O: Write, E: Write>(rt: &HostRuntime, asked: &Asked, out: &mut O, err: &mut E) -> End
-    ensures { IsAnswered asked.now (outputs (O.contents out.old) (O.contents out.new)
+fn answer<B: Start, O: Write, E: Write>(
+    rt: &HostRuntime,
+    start: B,
+    asked: &Asked,
+    out: &mut O,
+    err: &mut E,
+) -> End
+    ensures { IsAnswered ⟦<FileStore<FileFrom<B>> as Store>⟧ (image_at B.Start)
+        asked.now (outputs (O.contents out.old) (O.contents out.new)
         (E.contents err.old) (E.contents err.new)) result }
 {
     match asked {
         Asked::Trial(words) => trial(rt, words, out, err),
-        Asked::Import(words) => import(rt, words, out, err),
-        Asked::Shift(words) => shift(rt, words, out, err),
-        Asked::Sell(words) => sell(rt, words, out, err),
-        Asked::Report(words) => words.run(rt, out, err),
+        Asked::Import(words) => import(rt, start, words, out, err),
+        Asked::Shift(words) => shift(rt, start, words, out, err),
+        Asked::Sell(words) => sell(rt, start, words, out, err),
+        Asked::Report(words) => words.run(rt, start, out, err),
         Asked::Meter(words) => words.run(out),
         Asked::Quote(words) => words.run(out, err),
+        Asked::Serve(words) => words.run(rt, start, err),
+        Asked::Selfcheck(words) => selfcheck(rt, words, out, err),
     }
 }
 
@@ -83,42 +111,71 @@ fn trial<O: Write, E: Write>(rt: &HostRuntime, words: &TrialWords, out: &mut O, 
     }
 }
 
-fn import<O: Write, E: Write>(
+fn import<B: Start, O: Write, E: Write>(
     rt: &HostRuntime,
+    start: B,
     words: &ImportWords,
     out: &mut O,
     err: &mut E,
 ) -> End
     ensures { let o = outputs (O.contents out.old) (O.contents out.new)
         (E.contents err.old) (E.contents err.new) in
-        IsTimed words.now.at (λ moment. IsFileImported words.now moment o result) o result }
+        IsTimed words.now.at (λ moment. IsFileImported ⟦<FileStore<FileFrom<B>> as Store>⟧
+        (image_at B.Start) words.now moment o result) o result }
 {
     match moment_or_now(rt, words.at) {
-        Some(moment) => words.run(rt, moment, out, err),
+        Some(moment) => words.run(rt, start, moment, out, err),
         None => no_moment(err),
     }
 }
 
-fn shift<O: Write, E: Write>(rt: &HostRuntime, words: &ShiftWords, out: &mut O, err: &mut E) -> End
+fn shift<B: Start, O: Write, E: Write>(
+    rt: &HostRuntime,
+    start: B,
+    words: &ShiftWords,
+    out: &mut O,
+    err: &mut E,
+) -> End
     ensures { let o = outputs (O.contents out.old) (O.contents out.new)
         (E.contents err.old) (E.contents err.new) in
-        IsTimed words.now.at (λ moment. IsShifted words.now moment o result) o result }
+        IsTimed words.now.at (λ moment. IsShifted ⟦<FileStore<FileFrom<B>> as Store>⟧
+        (image_at B.Start) words.now moment o result) o result }
 {
     match moment_or_now(rt, words.at) {
-        Some(moment) => words.run(rt, moment, out, err),
+        Some(moment) => words.run(rt, start, moment, out, err),
         None => no_moment(err),
     }
 }
 
-fn sell<O: Write, E: Write>(rt: &HostRuntime, words: &SellWords, out: &mut O, err: &mut E) -> End
+fn sell<B: Start, O: Write, E: Write>(
+    rt: &HostRuntime,
+    start: B,
+    words: &SellWords,
+    out: &mut O,
+    err: &mut E,
+) -> End
     ensures { let o = outputs (O.contents out.old) (O.contents out.new)
         (E.contents err.old) (E.contents err.new) in
-        IsTimed words.now.at (λ moment. IsSold words.now moment o result) o result }
+        IsTimed words.now.at (λ moment. IsSold ⟦<FileStore<FileFrom<B>> as Store>⟧
+        (image_at B.Start) words.now moment o result) o result }
 {
     match moment_or_now(rt, words.at) {
-        Some(moment) => words.run(rt, moment, out, err),
+        Some(moment) => words.run(rt, start, moment, out, err),
         None => no_moment(err),
     }
+}
+
+fn selfcheck<O: Write, E: Write>(
+    rt: &HostRuntime,
+    words: &SelfcheckWords,
+    out: &mut O,
+    err: &mut E,
+) -> End
+    ensures { IsSelfchecked (HasReplies words.now.transform)
+        (outputs (O.contents out.old) (O.contents out.new)
+        (E.contents err.old) (E.contents err.new)) result }
+{
+    words.run(rt.alloc(), rt, out, err)
 }
 
 // Tells that the clock has no moment.

@@ -9,6 +9,8 @@ mod office_words;
 mod offices;
 mod openings;
 mod quotes;
+mod selfchecks;
+mod serving;
 mod support;
 mod trials;
 mod words;

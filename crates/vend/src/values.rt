@@ -1,8 +1,9 @@
 //! The values that words say, each read exactly by its rule.
 ghost use Rattle.std.specs.Prelude.{map};
 ghost use Rattle.vend.specs.Said.{ReadsOrFull};
-ghost use Rattle.vend.specs.Values.{ReadsBy, SayEach, SaysAmount, SaysBase, SaysCount};
-ghost use Rattle.vend.specs.Values.{SaysItem, SaysMoment, SaysPrior, SaysTender};
+ghost use Rattle.vend.specs.Values.{ReadsBy, SayEach, SaysAmount, SaysBase, SaysConnections};
+ghost use Rattle.vend.specs.Values.{SaysCount, SaysItem, SaysMoment, SaysOctet, SaysPort};
+ghost use Rattle.vend.specs.Values.{SaysPrior, SaysTender};
 
 use crate::words::BadWords;
 use std::alloc::Global;
@@ -70,6 +71,32 @@ pub(crate) fn item(word: &str) -> Option<u32>
     } else {
         None
     }
+}
+
+/// How many connections are served, 1 to 1000000.
+pub(crate) fn connections(word: &str) -> Option<u32>
+    ensures { ReadsBy SaysConnections word.now result }
+{
+    let count = u32::try_from(number(word)?).ok()?;
+    if (1..=1_000_000).contains(&count) {
+        Some(count)
+    } else {
+        None
+    }
+}
+
+/// A number of an address, 0 to 255.
+pub(crate) fn octet(word: &str) -> Option<u8>
+    ensures { ReadsBy SaysOctet word.now result }
+{
+    u8::try_from(number(word)?).ok()
+}
+
+/// A port, 0 to 65535.
+pub(crate) fn port(word: &str) -> Option<u16>
+    ensures { ReadsBy SaysPort word.now result }
+{
+    u16::try_from(number(word)?).ok()
 }
 
 /// The amounts that some words say, in tenths of a kWh.

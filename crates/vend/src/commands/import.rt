@@ -1,6 +1,7 @@
 ghost use Rattle.std.specs.Prelude.{◌≡◌, codes, IfOk, List};
 ghost use Rattle.papers.specs.File.{AreFileRecords, Fields};
 ghost use Rattle.papers.specs.Import.{IsReading};
+ghost use Rattle.sqlite_wal.specs.Files.{image_at};
 ghost use Rattle.vend.specs.Commands.{SaysImport, SaysKind};
 ghost use Rattle.vend.specs.Imported.{IsFileImported, IsImported, refusal_of_rows};
 ghost use Rattle.vend.specs.Line.{IsDescribed, import_command};
@@ -17,6 +18,8 @@ use crate::told::{tell, tell_refusal};
 use crate::transform::Shipped;
 use clap::{ArgMatches, Command};
 use papers::{FileKind, RowFault, read_meters, read_tariffs};
+use sqlite::{FileFrom, FileStore, Start};
+use sqlite_trees::store::Store;
 use std::alloc::{AllocError, Global};
 use std::fs;
 use std::io::{ErrorKind, Write};
@@ -67,18 +70,20 @@ impl<'a> ImportWords<'a> {
     }
 
     /// Reads the file of rows, adds them to the office, and prints how many were new.
-    pub(crate) fn run<O: Write, E: Write>(
+    pub(crate) fn run<B: Start, O: Write, E: Write>(
         &self,
         rt: &HostRuntime,
+        start: B,
         moment: Moment,
         out: &mut O,
         err: &mut E,
     ) -> End
-        ensures { IsFileImported self.now moment (outputs (O.contents out.old) (O.contents out.new)
+        ensures { IsFileImported ⟦<FileStore<FileFrom<B>> as Store>⟧ (image_at B.Start)
+            self.now moment (outputs (O.contents out.old) (O.contents out.new)
             (E.contents err.old) (E.contents err.new)) result }
     {
         match fs::read(rt, self.csv) {
-            Ok(bytes) => self.add(rt, moment, &bytes, out, err),
+            Ok(bytes) => self.add(rt, start, moment, &bytes, out, err),
             Err(error) => {
                 if error.kind() == ErrorKind::OutOfMemory {
                     tell_refusal(Refusal::Memory, err);
@@ -91,22 +96,24 @@ impl<'a> ImportWords<'a> {
     }
 
     // Adds the rows that these bytes have.
-    fn add<O: Write, E: Write>(
+    fn add<B: Start, O: Write, E: Write>(
         &self,
         rt: &HostRuntime,
+        start: B,
         moment: Moment,
         bytes: &[u8],
         out: &mut O,
         err: &mut E,
     ) -> End
-        ensures { IsImported self.now moment bytes.now
+        ensures { IsImported ⟦<FileStore<FileFrom<B>> as Store>⟧ (image_at B.Start)
+            self.now moment bytes.now
             (outputs (O.contents out.old) (O.contents out.new)
             (E.contents err.old) (E.contents err.new)) result }
     {
         match self.rows_of(rt.alloc(), bytes) {
             Ok(rows) => {
                 let task = Task::Ask(moment, Request::Import(rows));
-                visit(rt, self.transform, self.file, task, out, err)
+                visit(rt, start, self.transform, self.file, task, out, err)
             }
             Err(fault) => {
                 tell_refusal(refusal_of(fault), err);

@@ -1,4 +1,5 @@
 ghost use Rattle.std.specs.Prelude.{◌≡◌, codes, IfOk};
+ghost use Rattle.sqlite_wal.specs.Files.{image_at};
 ghost use Rattle.vend.specs.Commands.{SaysPaper, SaysReport};
 ghost use Rattle.vend.specs.Line.{IsDescribed, report_command};
 ghost use Rattle.vend.specs.Said.{IsSaid, ReadsWhat, rows_in, said};
@@ -13,6 +14,8 @@ use crate::task::Task;
 use crate::transform::Shipped;
 use crate::{said, values};
 use clap::{ArgMatches, Command};
+use sqlite::{FileFrom, FileStore, Start};
+use sqlite_trees::store::Store;
 use std::alloc::{AllocError, Global};
 use std::io::Write;
 use sts_fields::Moment;
@@ -63,11 +66,26 @@ impl<'a> ReportWords<'a> {
     }
 
     /// Prints the paper. It writes no token, so any transform serves, and any moment.
-    pub(crate) fn run<O: Write, E: Write>(&self, rt: &HostRuntime, out: &mut O, err: &mut E) -> End
-        ensures { IsReported self.now (outputs (O.contents out.old) (O.contents out.new)
+    pub(crate) fn run<B: Start, O: Write, E: Write>(
+        &self,
+        rt: &HostRuntime,
+        start: B,
+        out: &mut O,
+        err: &mut E,
+    ) -> End
+        ensures { IsReported ⟦<FileStore<FileFrom<B>> as Store>⟧ (image_at B.Start)
+            self.now (outputs (O.contents out.old) (O.contents out.new)
             (E.contents err.old) (E.contents err.new)) result }
     {
-        visit(rt, Shipped::Plain, self.file, self.paper.task(), out, err)
+        visit(
+            rt,
+            start,
+            Shipped::Plain,
+            self.file,
+            self.paper.task(),
+            out,
+            err,
+        )
     }
 }
 

@@ -1,9 +1,14 @@
-ghost use Rattle.std.specs.Prelude.{codes, IfOk};
+ghost use Rattle.std.specs.Prelude.{codes, ℕ, IfOk};
+ghost use Rattle.books.specs.Path.{StandsIn};
+ghost use Rattle.sqlite_wal.specs.Files.{image_at};
+ghost use Rattle.sqlite_wal.specs.Recovery.{Image};
+ghost use Rattle.vend_core.specs.Office.{Office};
 ghost use Rattle.vend.specs.Commands.{SaysSell};
 ghost use Rattle.vend.specs.Line.{IsDescribed, sell_command};
 ghost use Rattle.vend.specs.Said.{IsSaid, ReadsWhat, rows_in, said};
+ghost use Rattle.vend.specs.Selling.{EndsSold};
 ghost use Rattle.vend.specs.Tasks.{IsSold};
-ghost use Rattle.vend.specs.Told.{outputs};
+ghost use Rattle.vend.specs.Told.{Outputs, outputs};
 ghost use Rattle.vend.specs.Values.{SaysMeterNo, SaysRef};
 
 use crate::end::End;
@@ -13,10 +18,12 @@ use crate::said;
 use crate::task::Task;
 use crate::transform::Shipped;
 use clap::{ArgMatches, Command};
+use sqlite::{Alter, FileFrom, FileStore, Start};
+use sqlite_trees::store::Store;
 use std::alloc::{AllocError, Global};
 use std::io::Write;
 use sts_fields::Moment;
-use vend_core::{MeterNo, Order, Ref, Request};
+use vend_core::{MeterNo, Order, Ref, Request, office_law};
 
 /// What `sell` is asked to do: an order, sold from an office.
 #[derive(Clone, Copy)]
@@ -69,19 +76,32 @@ impl<'a> SellWords<'a> {
     }
 
     /// Sells what is ordered, and prints the receipt.
-    pub(crate) fn run<O: Write, E: Write>(
+    pub(crate) fn run<B: Start, O: Write, E: Write>(
         &self,
         rt: &HostRuntime,
+        start: B,
         moment: Moment,
         out: &mut O,
         err: &mut E,
     ) -> End
-        ensures { IsSold self.now moment (outputs (O.contents out.old) (O.contents out.new)
+        ensures { IsSold ⟦<FileStore<FileFrom<B>> as Store>⟧ (image_at B.Start)
+            self.now moment (outputs (O.contents out.old) (O.contents out.new)
             (E.contents err.old) (E.contents err.new)) result }
     {
         let task = Task::Ask(moment, Request::Sell(self.order));
-        visit(rt, self.transform, self.file, task, out, err)
+        visit(rt, start, self.transform, self.file, task, out, err)
     }
+}
+
+/// What `sell` has done where it ends as done: where the files stood for an office, it printed the
+/// receipt of the sale that the office's rules give for the order, and the sale stands in all that a
+/// crash may leave of them.
+pub fn sell_law<S: Alter>()
+    ensures { (image : Image) (words : SellWords) (moment : ℕ) (office : Office) (o : Outputs)
+        → StandsIn image office → IsSold S.Store image words moment o End.Done
+        → EndsSold S.Store words moment office o }
+{
+    office_law();
 }
 
 fn read_ref(matches: &ArgMatches) -> Option<Ref>

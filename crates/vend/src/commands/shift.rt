@@ -1,4 +1,5 @@
 ghost use Rattle.std.specs.Prelude.{◌≡◌, codes, IfOk};
+ghost use Rattle.sqlite_wal.specs.Files.{image_at};
 ghost use Rattle.vend.specs.Commands.{SaysAct, SaysShift};
 ghost use Rattle.vend.specs.Line.{IsDescribed, shift_command};
 ghost use Rattle.vend.specs.Said.{IsSaid, ReadsWhat, rows_in, said};
@@ -12,6 +13,8 @@ use crate::said;
 use crate::task::Task;
 use crate::transform::Shipped;
 use clap::{ArgMatches, Command};
+use sqlite::{FileFrom, FileStore, Start};
+use sqlite_trees::store::Store;
 use std::alloc::{AllocError, Global};
 use std::io::Write;
 use sts_fields::Moment;
@@ -64,18 +67,20 @@ impl<'a> ShiftWords<'a> {
     }
 
     /// Opens or closes the shift, and prints its number.
-    pub(crate) fn run<O: Write, E: Write>(
+    pub(crate) fn run<B: Start, O: Write, E: Write>(
         &self,
         rt: &HostRuntime,
+        start: B,
         moment: Moment,
         out: &mut O,
         err: &mut E,
     ) -> End
-        ensures { IsShifted self.now moment (outputs (O.contents out.old) (O.contents out.new)
+        ensures { IsShifted ⟦<FileStore<FileFrom<B>> as Store>⟧ (image_at B.Start)
+            self.now moment (outputs (O.contents out.old) (O.contents out.new)
             (E.contents err.old) (E.contents err.new)) result }
     {
         let task = Task::Ask(moment, self.request());
-        visit(rt, self.transform, self.file, task, out, err)
+        visit(rt, start, self.transform, self.file, task, out, err)
     }
 
     fn request(&self) -> Request

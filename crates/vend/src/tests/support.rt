@@ -1,6 +1,7 @@
 //! Runs over an output and an error output that keep what they take. Nothing here has a clause, so
 //! that the proof of a test does not carry what a run means.
 use crate::run::run;
+use sqlite::Unknown;
 use std::io::{self, ErrorKind, Write};
 use std::test::Fail;
 
@@ -54,7 +55,7 @@ pub(super) fn run_within(
         taken: Vec::new(rt.alloc()),
         room: errors_room,
     };
-    let status = run(rt, words, &mut out, &mut err);
+    let status = run(rt, Unknown, words, &mut out, &mut err);
     Ok(Ran {
         output: String::from_utf8(out.taken)?,
         errors: String::from_utf8(err.taken)?,

@@ -9,4 +9,6 @@ returns c =
     let after4 = c.in_ok-line-5.ensures _ _ after3 c.in_ok-describe-4.ensures in
     let after5 = c.in_ok-line-6.ensures _ _ after4 c.in_ok-describe-5.ensures in
     let after6 = c.in_ok-line-7.ensures _ _ after5 c.in_ok-describe-6.ensures in
-    c.with-7.ensures _ _ after6 c.in_ok-describe-7.ensures
+    let after7 = c.in_ok-line-8.ensures _ _ after6 c.in_ok-describe-7.ensures in
+    let after8 = c.in_ok-line-9.ensures _ _ after7 c.in_ok-describe-8.ensures in
+    c.with-9.ensures _ _ after8 c.in_ok-describe-9.ensures

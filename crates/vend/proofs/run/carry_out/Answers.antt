@@ -11,5 +11,5 @@ returns-in-Ok-read g c =
       asks = subst (λ met. Asks met c.in-Ok-read.asked) c.in-Ok.ensures.1 c.in-Ok-read.ensures;
     }) c.answer.ensures
 
-pub returns : goal.returns
-returns g c = told_by_clap c.in-Err.error _ _ c.explain.result c.in-Err.ensures c.explain.ensures
+pub returns-in-Err : goal.returns-in-Err
+returns-in-Err g c = told_by_clap _ _ c.in-Err.error _ _ c.explain.result c.in-Err.ensures c.explain.ensures
