@@ -182,7 +182,23 @@ fn compare_in_file(
     remove(rt.alloc(), host, path)
 }
 
+// Four files of 500 requests, each with draws of its own: a test has a minute.
 #[test]
 fn requests_in_a_file(rt: HostRuntime) -> Result<(), Fail> {
     compare_in_file(&rt, &rt, "drawn_2.db", 2, 10)
+}
+
+#[test]
+fn requests_in_a_second_file(rt: HostRuntime) -> Result<(), Fail> {
+    compare_in_file(&rt, &rt, "drawn_3.db", 3, 10)
+}
+
+#[test]
+fn requests_in_a_third_file(rt: HostRuntime) -> Result<(), Fail> {
+    compare_in_file(&rt, &rt, "drawn_4.db", 4, 10)
+}
+
+#[test]
+fn requests_in_a_fourth_file(rt: HostRuntime) -> Result<(), Fail> {
+    compare_in_file(&rt, &rt, "drawn_5.db", 5, 10)
 }

@@ -3,6 +3,7 @@
 use crate::both::{Both, agree, in_memory, is_same, office, serve, serve_all, sold};
 use crate::values::{FIRST_DAY, METER, OTHER_METER, flat, order, stamped};
 use books::{Books, OpenFault};
+use papers::{TextFault, sales_csv};
 use sqlite::{Connection, MemStore};
 use std::alloc::Global;
 use std::process::Abort;
@@ -74,6 +75,56 @@ fn a_thousand_sales_and_three(rt: HostRuntime) -> Result<(), Fail> {
     // Sent again, they are answered with the same sales, and add none.
     serve_orders(&rt, &mut both, &orders(alloc, 20)?)?;
     agree(&rt, &mut both)
+}
+
+const EXPORT: &[u8] =
+    b"number,moment,shift,operator,ref,meter,base,tid,tenths,price,tender,change,token\n\
+    1,1388534430,1,ann,A-1,10000000009,2014,2,1,10,10,0,00072057602627981690\n";
+
+fn put_page(
+    alloc: Global,
+    sales: &[Sale],
+    is_first: bool,
+    text: &mut Vec<u8>,
+) -> Result<(), TextFault> {
+    sales_csv(alloc, sales, is_first, text)
+}
+
+// All sales a page at a time, up to one that is not full, with the header in front of the first.
+fn export_in_pages(alloc: Global, both: &mut Office) -> Result<Vec<u8>, Fail> {
+    let mut text = Vec::new(alloc);
+    for number in [0, 1_000, 2_000, 3_000] {
+        let sales = page(both, number, false)?;
+        put_page(alloc, &sales, number == 0, &mut text)?;
+        if sales.len() < 1_000 {
+            return Ok(text);
+        }
+    }
+    Err("each page was full".into())
+}
+
+// The pages are what is written of the sales of the lists at once: a header, and a line for each.
+fn has_export(rt: &(impl Abort + AllocGlobal), both: &mut Office, many: usize) -> Result<(), Fail> {
+    let mut whole = Vec::new(rt.alloc());
+    put_page(rt.alloc(), both.lists.sales(), true, &mut whole)?;
+    let pages = export_in_pages(rt.alloc(), both)?;
+    assert!(rt; pages.as_slice() == whole.as_slice(), "{many} sales");
+    assert!(rt; pages.starts_with(EXPORT), "{many} sales");
+    let lines = pages.iter().filter(|byte| **byte == b'\n').count();
+    assert_eq!(rt; lines, many.saturating_add(1));
+    Ok(())
+}
+
+// The third page is empty at first, and then has one sale.
+#[test]
+fn an_export_in_three_pages(rt: HostRuntime) -> Result<(), Fail> {
+    let alloc = rt.alloc();
+    let mut both = office(&rt, alloc, Base::Y2014, flat(alloc, 100)?)?;
+    let orders = orders(alloc, 2_001)?;
+    serve_orders(&rt, &mut both, orders.get(..2_000).ok_or("orders")?)?;
+    has_export(&rt, &mut both, 2_000)?;
+    serve_orders(&rt, &mut both, orders.get(2_000..).ok_or("an order")?)?;
+    has_export(&rt, &mut both, 2_001)
 }
 
 #[test]

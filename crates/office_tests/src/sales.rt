@@ -1,7 +1,7 @@
 //! What is sold: purchases, identifiers, base dates, and a clock that goes back.
 
 use crate::both::{Both, agree, office, refuses, refuses_at, sold};
-use crate::values::{FIRST_DAY, METER, OTHER_METER, block, flat, order};
+use crate::values::{FIRST_DAY, LAST_SECOND, METER, OTHER_METER, block, flat, order};
 use sqlite::MemStore;
 use std::process::Abort;
 use std::test::Fail;
@@ -79,9 +79,6 @@ fn the_end_of_a_day(rt: HostRuntime) -> Result<(), Fail> {
     }
     agree(&rt, &mut both)
 }
-
-// 2024-11-24T20:15:59Z, the last second of the identifiers from 1993 on.
-const LAST_SECOND: i64 = 1_732_479_359;
 
 #[test]
 fn the_last_identifier(rt: HostRuntime) -> Result<(), Fail> {

@@ -9,6 +9,9 @@ use vend_core::{Meter, MeterNo, Operator, Order, Ref, Request, Row, Rows, Stampe
 /// 2014-01-01T00:00:30Z
 pub(crate) const FIRST_DAY: i64 = 1_388_534_430;
 
+/// 2024-11-24T20:15:59Z, the last second of the identifiers from 1993 on.
+pub(crate) const LAST_SECOND: i64 = 1_732_479_359;
+
 pub(crate) const METER: &[u8] = b"12345678903";
 
 pub(crate) const OTHER_METER: &[u8] = b"10000000009";

@@ -1,0 +1,62 @@
+//! With memory and a store at hand each kind of request is granted, and each refusal comes that
+//! the office's rules have; want of memory and a failed store never do. In memory and in a file.
+
+use crate::asks::{ASKS, Ask, Wanted, is_wanted, request};
+use crate::both::{Both, agree, ask, in_memory};
+use crate::lives::{close, open, remove};
+use sqlite::Alter;
+use std::process::Abort;
+use std::test::Fail;
+use sts_token::{BlockTransform, Plain};
+use vend_core::Lists;
+
+// Asks both for these, and compares each reply with the one that is wanted.
+fn serve_asks<S: Alter, T: BlockTransform>(
+    rt: &(impl Abort + AllocGlobal),
+    both: &mut Both<S, T>,
+    asks: &[(i64, Ask, Wanted)],
+) -> Result<(), Fail> {
+    for (seconds, asked, wanted) in asks {
+        let reply = ask(rt, both, *seconds, request(rt.alloc(), *asked)?)?;
+        assert!(rt; is_wanted(*wanted, &reply), "{reply:?}");
+    }
+    agree(rt, both)
+}
+
+#[test]
+fn the_list_in_memory(rt: HostRuntime) -> Result<(), Fail> {
+    let mut both = in_memory(rt.alloc())?;
+    serve_asks(&rt, &mut both, &ASKS)
+}
+
+// The file is closed and opened again before the first sale, and before the clock is set back.
+#[test]
+fn the_list_in_a_file(rt: HostRuntime) -> Result<(), Fail> {
+    let path = "ample.db";
+    remove(rt.alloc(), &rt, path)?;
+    let mut lists = Lists::new(rt.alloc(), Plain);
+    for (from, to) in [(0, 21), (21, 31), (31, ASKS.len())] {
+        let asks = ASKS.get(from..to).ok_or("a part of the list")?;
+        let mut both = open(&rt, path, Plain, lists)?;
+        serve_asks(&rt, &mut both, asks)?;
+        lists = close(both)?;
+    }
+    remove(rt.alloc(), &rt, path)
+}
+
+// Whether the list wants the refusal of this number.
+fn is_refused(number: u8) -> bool {
+    ASKS.iter().any(|(_, _, wanted)| {
+        matches!(wanted, Wanted::Refused(refusal) if refusal.number() == number)
+    })
+}
+
+#[test]
+fn the_list_has_each_refusal(rt: HostRuntime) {
+    for number in [1, 2, 3, 4, 5, 6, 7, 8, 9, 10, 12, 13, 14] {
+        assert!(rt; is_refused(number), "{number}");
+    }
+    for number in [11, 15, 16, 17] {
+        assert!(rt; !is_refused(number), "{number}");
+    }
+}

@@ -1,0 +1,344 @@
+//! The office at the desk, in memory and over a file: the list of `asks` as the messages of one
+//! conversation, each fault of the desk, and each message that is refused.
+
+use crate::asks::{ASKS, Ask, is_wanted, request};
+use crate::both::{Both, agree, in_memory};
+use crate::lives::{close, open, remove};
+use crate::messages::{json, message, reply_bytes};
+use crate::values::{FIRST_DAY, stamped};
+use books::Books;
+use desk::{Desk, End, Script};
+use sqlite::Alter;
+use std::alloc::Global;
+use std::process::Abort;
+use std::test::Fail;
+use sts_token::{BlockTransform, Plain};
+use vend_core::{Lists, Reply};
+
+// What a conversation came to: its end, and what was written.
+#[derive(Drop)]
+struct Told {
+    end: End,
+    text: Vec<u8>,
+}
+
+// The conversation of these bytes, whose clock gives these moments. It has no clause, so that the
+// proof of a test does not carry what the desk promises.
+fn talk<S: Alter, T: BlockTransform>(
+    alloc: Global,
+    books: &mut Books<S, T>,
+    input: &[u8],
+    moments: &[i64],
+) -> Result<Told, Fail> {
+    let desk = Desk::new(alloc)?;
+    let (first, others) = moments.split_first().ok_or("no moment")?;
+    let mut reader = input;
+    let mut text = Vec::new(alloc);
+    let mut clock = Script::new(*first, others);
+    let end = desk.run(alloc, &mut reader, &mut text, books, &mut clock);
+    Ok(Told { end, text })
+}
+
+// All messages of the list.
+fn messages(alloc: Global) -> Result<Vec<u8>, Fail> {
+    let mut input = Vec::new(alloc);
+    for (_, ask, _) in &ASKS {
+        input.extend_from_slice(message(alloc, *ask)?.as_bytes())?;
+    }
+    Ok(input)
+}
+
+fn moments(alloc: Global) -> Result<Vec<i64>, Fail> {
+    let mut moments = Vec::new(alloc);
+    for (seconds, _, _) in &ASKS {
+        moments.push(*seconds)?;
+    }
+    Ok(moments)
+}
+
+// The reply of the lists, with the nibble of the next sale's number.
+fn listed<T: BlockTransform>(
+    alloc: Global,
+    lists: &mut Lists<T>,
+    seconds: i64,
+    ask: Ask,
+) -> Result<Reply, Fail> {
+    let nibble = (lists.sales().len().saturating_add(1) % 16) as u8;
+    let at = stamped(seconds, nibble, request(alloc, ask)?)?;
+    Ok(lists.serve(&at))
+}
+
+// The list in one conversation. Each reply is the one that the lists give, and that is wanted.
+fn converse<S: Alter, T: BlockTransform>(
+    rt: &(impl Abort + AllocGlobal),
+    both: &mut Both<S, T>,
+) -> Result<(), Fail> {
+    let alloc = rt.alloc();
+    let input = messages(alloc)?;
+    let told = talk(alloc, &mut both.books, &input, &moments(alloc)?)?;
+    assert_eq!(rt; told.end, End::Closed);
+    let mut rest = told.text.as_slice();
+    for (seconds, ask, wanted) in &ASKS {
+        let reply = listed(alloc, &mut both.lists, *seconds, *ask)?;
+        assert!(rt; is_wanted(*wanted, &reply), "{reply:?}");
+        let bytes = reply_bytes(alloc, matches!(ask, Ask::Receipt(_)), &reply)?;
+        assert!(rt; rest.starts_with(&bytes), "{reply:?}");
+        rest = rest.get(bytes.len()..).unwrap_or(b"");
+    }
+    assert!(rt; rest.is_empty());
+    agree(rt, both)
+}
+
+const PAPERS: &[u8] = b"GET /sales/1 HTTP/1.1\r\nHost: d\r\n\r\n\
+    GET /sales/1/receipt HTTP/1.1\r\nHost: d\r\n\r\n\
+    GET /shifts/1 HTTP/1.1\r\nHost: d\r\n\r\n";
+
+// What the list leaves of the first sale and of the first shift, to the byte.
+const WRITTEN: &[u8] = b"HTTP/1.1 200 OK\r\nContent-Type: application/json\r\n\
+    Content-Length: 189\r\n\r\n\
+    {\"base\":2014,\"change\":0,\"meter\":\"12345678903\",\"moment\":1388534430,\"number\":1,\
+    \"operator\":\"ann\",\"price\":10,\"ref\":\"A-1\",\"shift\":1,\"tender\":10,\"tenths\":1,\"tid\":2,\
+    \"token\":\"00072057602627981690\"}\
+    HTTP/1.1 200 OK\r\nContent-Type: text/plain\r\nContent-Length: 118\r\n\r\n\
+    SALE 1\nMETER 12345678903\nTIME 2014-01-01T00:00:30Z\nKWH 0.1\nPRICE 10\nTENDER 10\n\
+    CHANGE 0\nTOKEN 0007 2057 6026 2798 1690\n\
+    HTTP/1.1 200 OK\r\nContent-Type: text/plain\r\nContent-Length: 407\r\n\r\n\
+    SHIFT 1 ann\nOPENED 2014-01-01T00:00:30Z\nCLOSED 2014-01-01T00:00:30Z\n\
+    \x20        1 12345678903        1        10        10         0\n\
+    \x20        2 10000000009       10       100       100         0\n\
+    \x20        3 12345678903       10       100       100         0\n\
+    \x20        4 12345678903      495      5000      5000         0\n\
+    \x20        5 12345678903       10       100       100         0\n\
+    SALES 5\nTENTHS 526\nCASH 5310\n";
+
+const CLOSES: &str = "Connection: close\r\n";
+
+// Each fault of the desk, each message that is refused, and files that are no imports: a moment and
+// a message, what the reply says, and the end.
+const FAULTS: [(i64, &[u8], &str, &str, &str, End); 19] = [
+    (
+        FIRST_DAY,
+        b"GET /nowhere HTTP/1.1\r\nHost: d\r\n\r\n",
+        "404 Not Found",
+        "",
+        "{\"error\":\"NoRoute\"}",
+        End::Closed,
+    ),
+    (
+        FIRST_DAY,
+        b"GET /sales/0 HTTP/1.1\r\nHost: d\r\n\r\n",
+        "404 Not Found",
+        "",
+        "{\"error\":\"NoRoute\"}",
+        End::Closed,
+    ),
+    (
+        FIRST_DAY,
+        b"GET /sales HTTP/1.1\r\nHost: d\r\n\r\n",
+        "405 Method Not Allowed",
+        "Allow: POST\r\n",
+        "{\"error\":\"Method\"}",
+        End::Closed,
+    ),
+    (
+        FIRST_DAY,
+        b"POST /sales/1 HTTP/1.1\r\nHost: d\r\n\r\n",
+        "405 Method Not Allowed",
+        "Allow: GET\r\n",
+        "{\"error\":\"Method\"}",
+        End::Closed,
+    ),
+    (
+        725_846_399,
+        b"GET /sales/1 HTTP/1.1\r\nHost: d\r\n\r\n",
+        "503 Service Unavailable",
+        "",
+        "{\"error\":\"Clock\"}",
+        End::Closed,
+    ),
+    (
+        4_102_444_800,
+        b"POST /sales HTTP/1.1\r\nHost: d\r\nContent-Length: 2\r\n\r\n{}",
+        "503 Service Unavailable",
+        "",
+        "{\"error\":\"Clock\"}",
+        End::Closed,
+    ),
+    (
+        FIRST_DAY,
+        b"POST /sales HTTP/1.1\r\nHost: d\r\nContent-Length: 2\r\n\r\n{}",
+        "422 Unprocessable Entity",
+        "",
+        "{\"error\":\"Body\"}",
+        End::Closed,
+    ),
+    (
+        FIRST_DAY,
+        b"POST /imports/meters HTTP/1.1\r\nHost: d\r\n\r\n",
+        "422 Unprocessable Entity",
+        "",
+        "{\"cause\":\"Header\",\"error\":\"ImportRow\",\"refusal\":14,\"row\":0}",
+        End::Closed,
+    ),
+    (
+        FIRST_DAY,
+        b"POST /imports/tariffs HTTP/1.1\r\nHost: d\r\nContent-Length: 15\r\n\r\nname,steps\nday\n",
+        "422 Unprocessable Entity",
+        "",
+        "{\"cause\":\"Columns\",\"error\":\"ImportRow\",\"refusal\":14,\"row\":1}",
+        End::Closed,
+    ),
+    (
+        FIRST_DAY,
+        b"POST /imports/tariffs HTTP/1.1\r\nHost: d\r\nContent-Length: 18\r\n\r\nname,steps\nday,60\n",
+        "422 Unprocessable Entity",
+        "",
+        "{\"cause\":\"Field 2\",\"error\":\"ImportRow\",\"refusal\":14,\"row\":1}",
+        End::Closed,
+    ),
+    (
+        FIRST_DAY,
+        b"GET /sales/6 HTTP/1.0\r\n\r\nGET /sales/1 HTTP/1.0\r\n\r\n",
+        "404 Not Found",
+        CLOSES,
+        "{\"error\":\"NoSale\",\"refusal\":12}",
+        End::Closed,
+    ),
+    (
+        FIRST_DAY,
+        b"GET",
+        "400 Bad Request",
+        CLOSES,
+        "{\"error\":\"Head\"}",
+        End::BadMessage,
+    ),
+    (
+        FIRST_DAY,
+        b"DELETE /sales HTTP/1.1\r\nHost: d\r\n\r\n",
+        "501 Not Implemented",
+        CLOSES,
+        "{\"error\":\"Method\"}",
+        End::BadMessage,
+    ),
+    (
+        FIRST_DAY,
+        b"GET /sales/1 HTTP/1.1\r\n\r\n",
+        "400 Bad Request",
+        CLOSES,
+        "{\"error\":\"Host\"}",
+        End::BadMessage,
+    ),
+    (
+        FIRST_DAY,
+        b"POST /sales HTTP/1.1\r\nHost: d\r\nTransfer-Encoding: chunked\r\n\r\n",
+        "501 Not Implemented",
+        CLOSES,
+        "{\"error\":\"Coding\"}",
+        End::BadMessage,
+    ),
+    (
+        FIRST_DAY,
+        b"POST /sales HTTP/1.1\r\nHost: d\r\nContent-Length: +2\r\n\r\n{}",
+        "400 Bad Request",
+        CLOSES,
+        "{\"error\":\"Length\"}",
+        End::BadMessage,
+    ),
+    (
+        FIRST_DAY,
+        b"POST /sales HTTP/1.1\r\nHost: d\r\nContent-Length: 2\r\nContent-Length: 2\r\n\r\n{}",
+        "400 Bad Request",
+        CLOSES,
+        "{\"error\":\"Length\"}",
+        End::BadMessage,
+    ),
+    (
+        FIRST_DAY,
+        b"POST /sales HTTP/1.1\r\nHost: d\r\nContent-Length: 1048577\r\n\r\n",
+        "413 Payload Too Large",
+        CLOSES,
+        "{\"error\":\"Body\"}",
+        End::BadMessage,
+    ),
+    (
+        FIRST_DAY,
+        b"POST /nowhere HTTP/1.1\r\nHost: d\r\nContent-Length: 1048577\r\n\r\n",
+        "413 Payload Too Large",
+        CLOSES,
+        "{\"error\":\"Body\"}",
+        End::BadMessage,
+    ),
+];
+
+// A conversation comes to this text and this end.
+fn comes_to<S: Alter, T: BlockTransform>(
+    rt: &(impl Abort + AllocGlobal),
+    books: &mut Books<S, T>,
+    seconds: i64,
+    input: &[u8],
+    text: &[u8],
+    end: End,
+) -> Result<(), Fail> {
+    let told = talk(rt.alloc(), books, input, &[seconds])?;
+    assert_eq!(rt; told.text.as_slice(), text);
+    assert_eq!(rt; told.end, end);
+    Ok(())
+}
+
+fn faults<S: Alter, T: BlockTransform>(
+    rt: &(impl Abort + AllocGlobal),
+    books: &mut Books<S, T>,
+) -> Result<(), Fail> {
+    for (seconds, input, status, fields, body, end) in &FAULTS {
+        let text = json(rt.alloc(), status, fields, body)?;
+        comes_to(rt, books, *seconds, input, &text, *end)?;
+    }
+    Ok(())
+}
+
+// A file of tariffs with one row more than an import may have.
+fn too_many_rows(alloc: Global) -> Result<Vec<u8>, Fail> {
+    let mut input = Vec::new(alloc);
+    input.extend_from_slice(b"POST /imports/tariffs HTTP/1.1\r\nHost: d\r\n")?;
+    input.extend_from_slice(b"Content-Length: 50016\r\n\r\nname,steps\n")?;
+    for _ in 0..10_001 {
+        input.extend_from_slice(b"a,:1\n")?;
+    }
+    Ok(input)
+}
+
+const TOO_MANY_ROWS: &[u8] = b"HTTP/1.1 422 Unprocessable Entity\r\n\
+    Content-Type: application/json\r\nContent-Length: 68\r\n\r\n\
+    {\"cause\":\"TooManyRows\",\"error\":\"ImportRow\",\"refusal\":14,\"row\":10001}";
+
+// After the list: what it left, and what is no request changes nothing.
+fn converse_on<S: Alter, T: BlockTransform>(
+    rt: &(impl Abort + AllocGlobal),
+    both: &mut Both<S, T>,
+) -> Result<(), Fail> {
+    let (books, many) = (&mut both.books, too_many_rows(rt.alloc())?);
+    comes_to(rt, books, FIRST_DAY, PAPERS, WRITTEN, End::Closed)?;
+    faults(rt, books)?;
+    comes_to(rt, books, FIRST_DAY, &many, TOO_MANY_ROWS, End::Closed)?;
+    comes_to(rt, books, FIRST_DAY, b"", b"", End::Closed)?;
+    agree(rt, both)
+}
+
+#[test]
+fn the_list_at_a_desk_in_memory(rt: HostRuntime) -> Result<(), Fail> {
+    let mut both = in_memory(rt.alloc())?;
+    converse(&rt, &mut both)?;
+    converse_on(&rt, &mut both)
+}
+
+#[test]
+fn the_list_at_a_desk_over_a_file(rt: HostRuntime) -> Result<(), Fail> {
+    let path = "desk.db";
+    remove(rt.alloc(), &rt, path)?;
+    let mut both = open(&rt, path, Plain, Lists::new(rt.alloc(), Plain))?;
+    converse(&rt, &mut both)?;
+    let mut both = open(&rt, path, Plain, close(both)?)?;
+    converse_on(&rt, &mut both)?;
+    let _ = close(both)?;
+    remove(rt.alloc(), &rt, path)
+}
