@@ -1,0 +1,95 @@
+#!/usr/bin/env python3
+"""Sells once at a desk whose connection breaks, and prints the receipt.
+
+    examples/client.py 127.0.0.1:8080 ann 12345678903 10 A-1
+
+The words are the desk, the operator, the meter, the tender in cents, and the ref of the order. The
+first connection is closed before its reply is read, so that nobody here knows whether the sale was
+made. The same message with the same ref is then sent on a new connection: there is one sale, and
+this is its token.
+
+Status 0: sold. Status 1: refused, or still not known; the error output says which.
+"""
+import http.client
+import json
+import sys
+import time
+
+TIMEOUT = 10  # seconds for each wait: others may be served before this client
+PAUSES = [0.2, 1, 5]  # seconds before the second and each further try
+
+
+class Refused(Exception):
+    """The desk refused the message. Sending it again changes nothing before its cause is mended."""
+
+
+class Unknown(Exception):
+    """It may have been done or not. Send the same message later, a sale with the same ref."""
+
+
+def ask(desk, method, target, body=None):
+    """One message on a connection of its own: the status and the body of its reply.
+
+    The connection is closed at once, since the desk serves one after another.
+    """
+    connection = http.client.HTTPConnection(desk, timeout=TIMEOUT)
+    try:
+        connection.request(method, target, body)
+        reply = connection.getresponse()
+        return reply.status, reply.read()
+    finally:
+        connection.close()
+
+
+def ask_until_known(desk, method, target, body=None):
+    """The body of the good reply, by as many tries as it takes.
+
+    A message may come twice where the same one again changes nothing: a sale with its ref, a
+    tariff, a meter, an import, and all that is asked by GET.
+    """
+    for pause in [*PAUSES, None]:
+        try:
+            status, text = ask(desk, method, target, body)
+            if status == 200:
+                return text
+            if status != 503:
+                # {"error":"TooLittle","refusal":10}, or without a number: {"error":"Body"}
+                raise Refused(f"{status} {text.decode()}")
+            why = text.decode()  # out of memory, a failed disk, a wrong clock: it may pass
+        except (OSError, http.client.HTTPException) as error:
+            why = repr(error)  # no connection, or no whole reply
+        if pause is not None:
+            time.sleep(pause)
+    raise Unknown(why)
+
+
+def lose_the_reply(desk, method, target, body):
+    """Sends a message, and closes the connection before the reply is read."""
+    connection = http.client.HTTPConnection(desk, timeout=TIMEOUT)
+    try:
+        connection.request(method, target, body)
+    finally:
+        connection.close()
+
+
+def main(desk, operator, meter, tender, ref):
+    order = {"operator": operator, "ref": ref, "meter": meter, "tender": int(tender)}
+    message = ("POST", "/sales", json.dumps(order))
+    try:
+        lose_the_reply(desk, *message)
+        sale = json.loads(ask_until_known(desk, *message))
+        again = json.loads(ask_until_known(desk, *message))
+        if again["token"] != sale["token"]:
+            raise Unknown(f"two tokens for {ref}")
+        receipt = ask_until_known(desk, "GET", f"/sales/{sale['number']}/receipt")
+    except Refused as refusal:
+        sys.exit(f"refused: {refusal}")
+    except (OSError, Unknown) as error:
+        sys.exit(f"not known, ask again for {ref}: {error}")
+    sys.stdout.write(receipt.decode())
+
+
+if __name__ == "__main__":
+    if len(sys.argv) != 6:
+        sys.exit(__doc__)
+    main(*sys.argv[1:])
