@@ -1,0 +1,146 @@
+#!/usr/bin/env python3
+"""The program's peer in Python: it takes the same words as the program for what is measured, over
+http.server and sqlite3. It is honest, not hardened: it trusts its options.
+
+    peer.py serve --file F --listen ADDR --connections N
+    peer.py sell --file F --operator O --ref R --meter M --tender C [--at S]
+    peer.py report --file F --kind receipt|sales [--number N]
+    peer.py import --file F meters CSV
+"""
+import sys
+import time
+
+from peer_office import (BASE, DIGITS, METER, MOMENT, NUMBER, OPERATOR, PRICE, REF, SHIFT, TENDER,
+                         TENTHS, TID, Office, Refused)
+
+
+def receipt(sale):
+    when = time.strftime("%Y-%m-%dT%H:%M:%SZ", time.gmtime(sale[MOMENT]))
+    digits = sale[DIGITS]
+    groups = " ".join(digits[at:at + 4] for at in range(0, 20, 4))
+    return (f"SALE {sale[NUMBER]}\nMETER {sale[METER]}\nTIME {when}\n"
+            f"KWH {sale[TENTHS] // 10}.{sale[TENTHS] % 10}\nPRICE {sale[PRICE]}\n"
+            f"TENDER {sale[TENDER]}\nCHANGE {sale[TENDER] - sale[PRICE]}\nTOKEN {groups}\n")
+
+
+def sell(office, options, _):
+    moment = int(options.get("at", time.time()))
+    tender = int(options["tender"])
+    sys.stdout.write(receipt(office.sell(options["operator"], options["ref"], options["meter"],
+                                         tender, moment)))
+
+
+def report(office, options, _):
+    if options["kind"] == "receipt":
+        sys.stdout.write(receipt(office.sale(int(options["number"]))))
+        return
+    import csv
+    writer = csv.writer(sys.stdout, lineterminator="\n")
+    writer.writerow(("number moment shift operator ref meter base tid tenths price tender change "
+                     "token").split())
+    for page in office.pages():
+        writer.writerows((*sale[:TID + 1], *sale[TENTHS:DIGITS], sale[TENDER] - sale[PRICE],
+                          sale[DIGITS]) for sale in page)
+
+
+def is_meter_number(text):
+    if len(text) != 11 or not text.isdigit():
+        return False
+    doubled = (sum(divmod(2 * int(digit), 10)) for digit in text[-2::-2])
+    return (sum(doubled) + sum(map(int, text[::-2]))) % 10 == 0
+
+
+def is_key(text):
+    return len(text) == 16 and set(text) <= set("0123456789abcdef")
+
+
+def read_meters(file):
+    import csv
+    with open(file, newline="") as lines:
+        records = csv.reader(lines)
+        if next(records, None) != ["meter", "base", "tariff", "key"]:
+            raise Refused(14, "ImportRow 0 Header")
+        for row, record in enumerate(records, start=1):
+            if len(record) != 4:
+                raise Refused(14, f"ImportRow {row} Columns")
+            meter, base, tariff, key = record
+            are_good = (is_meter_number(meter), base in ("1993", "2014", "2035"),
+                        0 < len(tariff) <= 32 and tariff.replace("-", "a").isalnum(), is_key(key))
+            if not all(are_good):
+                raise Refused(14, f"ImportRow {row} Field {are_good.index(False) + 1}")
+            yield meter, int(base), tariff, key
+
+
+def add(office, _, words):
+    print(f"added {office.add_meters(list(read_meters(words[1])))}")
+
+
+def serve(office, options, _):
+    import json
+    import socketserver
+    from http.server import BaseHTTPRequestHandler
+
+    def members(sale):
+        return {"base": sale[BASE], "change": sale[TENDER] - sale[PRICE], "meter": sale[METER],
+                "moment": sale[MOMENT], "number": sale[NUMBER], "operator": sale[OPERATOR],
+                "price": sale[PRICE], "ref": sale[REF], "shift": sale[SHIFT],
+                "tender": sale[TENDER], "tenths": sale[TENTHS], "tid": sale[TID],
+                "token": sale[DIGITS]}
+
+    class Handler(BaseHTTPRequestHandler):
+        protocol_version = "HTTP/1.1"
+        disable_nagle_algorithm = True
+        wbufsize = 65536  # one write a reply; it is flushed after each
+
+        def log_message(self, *_):
+            pass
+
+        def answer(self, ask):
+            try:
+                status, body = 200, members(ask())
+            except Refused as refusal:
+                status = 422 if refusal.number == 10 else 404 if refusal.number in (4, 12) else 409
+                body = {"error": refusal.name, "refusal": refusal.number}
+            text = json.dumps(body, separators=(",", ":")).encode()
+            self.send_response_only(status)
+            self.send_header("Content-Type", "application/json")
+            self.send_header("Content-Length", str(len(text)))
+            self.end_headers()
+            self.wfile.write(text)
+
+        def do_GET(self):
+            self.answer(lambda: office.sale(int(self.path.removeprefix("/sales/"))))
+
+        def do_POST(self):
+            order = json.loads(self.rfile.read(int(self.headers["Content-Length"])))
+            self.answer(lambda: office.sell(order["operator"], order["ref"], order["meter"],
+                                            order["tender"], int(time.time())))
+
+    host, _, port = options["listen"].partition(":")
+    with socketserver.TCPServer((host, int(port)), Handler) as server:
+        print(f"listening {host}:{server.server_address[1]}", file=sys.stderr, flush=True)
+        for _ in range(int(options["connections"])):
+            server.handle_request()
+
+
+COMMANDS = {"serve": serve, "sell": sell, "report": report, "import": add}
+
+
+def main():
+    options, words = {}, []
+    given = iter(sys.argv[2:])
+    for word in given:
+        if word.startswith("--"):
+            options[word[2:]] = next(given)
+        else:
+            words.append(word)
+    office = Office(options["file"])
+    try:
+        COMMANDS[sys.argv[1]](office, options, words)
+    except Refused as refusal:
+        sys.exit(str(refusal))
+    finally:
+        office.close()
+
+
+main()

@@ -1,0 +1,203 @@
+"""The office over Python's sqlite3, for the peer: the program's own statements, read from its
+source, and the rules of a sale, a reprint, an export and an import of meters as docs/OFFICE.md and
+docs/PROFILE.md have them. It takes no other requests, and makes no tables: it works on a copy of a
+file that the program has made.
+
+It imports no more than a sale needs, so that a short command of the peer is a quick one.
+"""
+import sqlite3
+import time
+from pathlib import Path
+
+SOURCE = Path(__file__).resolve().parent.parent / "crates" / "book_tables" / "src" / "texts.rt"
+BASES = {1993: 725846400, 2014: 1388534400, 2035: 2051222400}
+LAST_TID = 16777215
+DAY = 1440  # minutes
+MANTISSA = 16383
+RANGES = ((1818624, 1000), (180224, 100), (16384, 10), (0, 1))  # of amounts, from exponent 3 down
+CHECKS = (0x0000, 0xCC01, 0xD801, 0x1400, 0xF001, 0x3C00, 0x2800, 0xE401,
+          0xA001, 0x6C00, 0x7800, 0xB401, 0x5000, 0x9C01, 0x8801, 0x4400)
+(NUMBER, MOMENT, SHIFT, OPERATOR, REF, METER, BASE, TID, RND, TENTHS, PRICE, TENDER,
+ DIGITS) = range(13)
+
+
+class Refused(Exception):
+    """A refusal of the office, with its number and name."""
+
+    def __init__(self, number, name):
+        super().__init__(f"refused {number} {name}")
+        self.number = number
+        self.name = name
+
+
+def read_texts():
+    """The texts of the program's statements, by the names that its source gives them."""
+    texts = {}
+    for part in SOURCE.read_text().split("const ")[1:]:
+        name, is_text, rest = part.partition(": &str")
+        if is_text:
+            texts[name] = " ".join(rest.split('"')[1].replace("\\\n", " ").split())
+    return texts
+
+
+def month_of(moment):
+    """Months since January 1993."""
+    date = time.gmtime(moment)
+    return (date.tm_year - 1993) * 12 + date.tm_mon - 1
+
+
+def fresh_tid(base, moment, last):
+    """The identifier of a sale after the last one of its meter."""
+    minute = (moment - BASES[base]) // 60
+    if minute < 0:
+        raise Refused(7, "BeforeBase")
+    tid = max(minute, 2, last + 1)
+    if tid % DAY == 1:
+        tid += 1
+    if tid > LAST_TID:
+        raise Refused(8, "IdentifiersSpent")
+    if tid - minute > DAY:
+        raise Refused(9, "IdentifierAhead")
+    return tid
+
+
+def amount_below(tenths):
+    """The greatest amount that a token carries and that is not above, with its code."""
+    for exponent, (first, step) in zip((3, 2, 1, 0), RANGES):
+        if tenths >= first:
+            mantissa = min((tenths - first) // step, MANTISSA)
+            return first + step * mantissa, exponent << 14 | mantissa
+
+
+def bought(steps, prior, money):
+    """How many tenths the money pays for, in tenths of a cent, and what they cost."""
+    tenths = cost = 0
+    for ends, price in steps:
+        affordable = (money - cost) // price
+        room = affordable if ends is None else max(ends - prior - tenths, 0)
+        taken = min(room, affordable)
+        tenths += taken
+        cost += taken * price
+        if taken < room or ends is None:
+            break
+    return tenths, cost
+
+
+def cost_of(steps, prior, tenths):
+    """What so many tenths cost, in tenths of a cent."""
+    cost = 0
+    for ends, price in steps:
+        taken = tenths if ends is None else min(max(ends - prior, 0), tenths)
+        cost += taken * price
+        prior += taken
+        tenths -= taken
+    return cost
+
+
+def purchase(steps, prior, tender):
+    """The tenths, the price and the amount's code."""
+    most, _ = bought(steps, prior, tender * 10)
+    if most < 1:
+        raise Refused(10, "TooLittle")
+    tenths, code = amount_below(most)
+    return tenths, -(-cost_of(steps, prior, tenths) // 10), code
+
+
+def token(rnd, tid, code):
+    """The twenty digits, under the transform that leaves a block as it is."""
+    fields = rnd << 40 | tid << 16 | code
+    check = 0xFFFF
+    for byte in fields.to_bytes(7, "big"):
+        check = check >> 4 ^ CHECKS[(check ^ byte) & 15]
+        check = check >> 4 ^ CHECKS[(check ^ byte >> 4) & 15]
+    block = fields << 16 | check
+    number = (block >> 27 & 3) << 64 | block >> 29 << 29 | block & 0x7FFFFFF
+    return f"{number:020d}"
+
+
+class Office:
+    """An office in a file."""
+
+    def __init__(self, file):
+        self.texts = read_texts()
+        self.conn = sqlite3.connect(file, isolation_level=None)
+        for setting in ("journal_mode = WAL", "synchronous = FULL", "foreign_keys = ON"):
+            self.conn.execute(f"PRAGMA {setting}")
+        if self.rows("FORMAT") != [(1, 1)]:
+            raise SystemExit("open 1 NotAnOffice")
+
+    def close(self):
+        self.conn.close()
+
+    def rows(self, name, *values):
+        return self.conn.execute(self.texts[name], values).fetchall()
+
+    def row(self, name, *values):
+        return self.conn.execute(self.texts[name], values).fetchone()
+
+    def write(self, name, rows):
+        """Runs a statement once a row, in one transaction."""
+        text = self.texts[name]
+        self.conn.execute("BEGIN")
+        for row in rows:
+            self.conn.execute(text, row)
+        self.conn.execute("COMMIT")
+
+    def sell(self, operator, ref, meter, tender, moment):
+        there = self.row("SALE_OF_REF", operator, ref)
+        if there:
+            if (there[METER], there[TENDER]) != (meter, tender):
+                raise Refused(1, "RefReused")
+            return there
+        shift = self.row("OPEN_SHIFT", operator)
+        if not shift:
+            raise Refused(2, "NoShift")
+        buyer = self.row("METER_NUMBERED", meter)
+        if not buyer:
+            raise Refused(4, "NoMeter")
+        base, tariff, _ = buyer
+        steps = self.rows("STEPS_OF", tariff)
+        month = month_of(moment)
+        last = max((tid for (tid,) in self.rows("TIDS_SOLD", meter, base)), default=0)
+        prior = sum(tenths for (tenths,) in self.rows("TENTHS_SOLD", meter, month))
+        number = (self.row("LAST_SALE_NUMBER") or (0,))[0] + 1
+        tid = fresh_tid(base, moment, last)
+        tenths, price, code = purchase(steps, prior, tender)
+        rnd = number % 16
+        digits = token(rnd, tid, code)
+        self.write("NEW_SALE", [(number, moment, month, shift[0], operator, ref, meter, base, tid,
+                                 rnd, tenths, price, tender, digits)])
+        return (number, moment, shift[0], operator, ref, meter, base, tid, rnd, tenths, price,
+                tender, digits)
+
+    def sale(self, number):
+        there = self.row("SALE_NUMBERED", number)
+        if not there:
+            raise Refused(12, "NoSale")
+        return there
+
+    def pages(self):
+        """All sales, a thousand at a time."""
+        after = 0
+        while True:
+            page = self.rows("SALES_AFTER", after, 1000)
+            yield page
+            if len(page) < 1000:
+                return
+            after = page[-1][NUMBER]
+
+    def add_meters(self, meters):
+        """Adds meters, all or none; how many were new."""
+        new = {}
+        for row, meter in enumerate(meters, start=1):
+            there = self.row("METER_NUMBERED", meter[0]) or new.get(meter[0])
+            if there:
+                if there != meter[1:]:
+                    raise Refused(14, f"ImportRow {row} Differs")
+            elif not self.row("TARIFF_NAMED", meter[2]):
+                raise Refused(14, f"ImportRow {row} NoTariff")
+            else:
+                new[meter[0]] = meter[1:]
+        if new:
+            self.write("NEW_METER", [(meter, *rest) for meter, rest in new.items()])
+        return len(new)
