@@ -10,7 +10,7 @@ mod HeadlineLemmas
 mod NothingLemmas
 mod OpenedLemmas
 mod OpeningLemmas
-mod OthersLemmas
+pub mod OthersLemmas
 mod PageLemmas
 mod PassedLemmas
 mod ReopenLemmas

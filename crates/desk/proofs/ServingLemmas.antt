@@ -1,7 +1,7 @@
 -- The lives that books keep, by the messages that they answer.
 use Rattle.std.proofs.Common.{◌≡◌, ◌∙◌, ℕ, ℤ, ◌+◌, ◌%◌, inl, inr, Bool, true, false, List, length, Option, Result, Ok, Err, refl, ap, sym, subst}
 use Rattle.std.specs.Prelude.{IfOk, OnErr}
-use Rattle.sqlite.specs.State.{HasCleanDisk}
+use Rattle.sqlite.specs.State.{HasCleanDisk, State}
 use Rattle.vend_core.specs.Life.{Life, present}
 use Rattle.vend_core.specs.LifeLaws.{extended_by}
 use Rattle.vend_core.specs.declared.answer.Answer.{Answer}
@@ -11,17 +11,22 @@ use Rattle.vend_core.specs.declared.request.Request.{Request}
 use Rattle.vend_core.specs.declared.request.Stamped.{Stamped}
 use Rattle.books.specs.Asking.{IsAsked, Replies, ReplyAt}
 use Rattle.books.specs.Keeps.{Keeps, Seen}
+use Rattle.books.specs.Others.{LeavesOthers}
+use Rattle.books.proofs.OthersLemmas.{others_same, others_then}
 use Rattle.desk.specs.Answering.{Comes, Serving, answers_by, books_serve, life_serves}
 use Rattle.desk.specs.Exchanges.{Exchange, GaveUp, Reads, Timed, timed}
 use Rattle.desk.specs.Meaning.{IsIdle, IsMeaning}
 use Rattle.desk.specs.Messages.{Message}
 use Rattle.desk.specs.Replies.{reply_of}
+use Rattle.desk.specs.Run.{IsRun}
+use Rattle.desk.specs.declared.end.End.{End}
 use Rattle.desk.specs.declared.form.Form.{Form}
 use Rattle.desk.specs.declared.meaning.Meaning.{Meaning}
 use Rattle.desk.specs.declared.meaning.Meaning.TheVariants as meanings
+use Rattle.desk.specs.declared.message_fault.MessageFault.{MessageFault}
 use Rattle.desk.specs.declared.outcome.Outcome.{Outcome}
 use Rattle.desk.specs.declared.outcome.Outcome.TheVariants.{Served}
-use Rattle.desk.proofs.FollowLemmas.{Follows}
+use Rattle.desk.proofs.FollowLemmas.{Follows, run_along, run_well}
 
 -- a message asks something, which is served
 pub comes_asked : {O : Type 0} (serves : Serving O) (m : Message) (now : Option ℤ) (meaning : Meaning) (form : Form) (moment : ℕ) (request : Request) (reply : Result Answer Refusal)
@@ -81,9 +86,13 @@ served_life life moment request reply old new keeps (at, asked, replies) clean =
   replies.keeps life keeps,
 )
 
-pub books_follow : {B : Type 0} (see : B → Seen)
-    → Follows (answers_by (books_serve see)) (answers_by life_serves) (λ life books. Keeps life (see books)) (λ books. HasCleanDisk (see books).state)
-books_follow {B} see = record { back = back; next = next }
+-- books keep a life, and have left the tables of other names as they were
+abbrev KeepsFrom : State → Life → Seen → Type 0
+KeepsFrom start life books = Keeps life books × LeavesOthers start books.state
+
+books_follow : {B : Type 0} (see : B → Seen) (start : State)
+    → Follows (answers_by (books_serve see)) (answers_by life_serves) (λ life books. KeepsFrom start life (see books)) (λ books. HasCleanDisk (see books).state)
+books_follow {B} see start = record { back = back; next = next }
   where
     step : B → Exchange → B → Type 0
     step = answers_by (books_serve see)
@@ -92,10 +101,30 @@ books_follow {B} see = record { back = back; next = next }
     back old x new (outcome, inl (idle, same), text) clean = subst (λ b. HasCleanDisk (see b).state) same clean
     back old x new (outcome, inr (form, moment, request, reply, is, asks, (at, asked, replies)), text) clean = replies.clean clean
 
-    next : (life : Life) (old : B) (x : Exchange) (new : B) → Keeps life (see old) → step old x new → HasCleanDisk (see new).state
-        → (after : Life) × answers_by life_serves life x after × Keeps after (see new)
-    next life old x new keeps (outcome, inl (idle, same), text) clean =
-        (life, (outcome, inl (idle, refl), text), subst (λ b. Keeps life (see b)) (sym same) keeps)
-    next life old x new keeps (outcome, inr (form, moment, request, reply, is, asks, served), text) clean =
-        let goes = served_life life moment request reply (see old) (see new) keeps served clean in
-        (goes.0, (outcome, inr (form, moment, request, reply, is, asks, goes.1), text), goes.2)
+    next : (life : Life) (old : B) (x : Exchange) (new : B) → KeepsFrom start life (see old) → step old x new → HasCleanDisk (see new).state
+        → (after : Life) × answers_by life_serves life x after × KeepsFrom start after (see new)
+    next life old x new kept (outcome, inl (idle, same), text) clean =
+        (life, (outcome, inl (idle, refl), text), subst (λ b. KeepsFrom start life (see b)) (sym same) kept)
+    next life old x new kept (outcome, inr (form, moment, request, reply, is, asks, (at, asked, replies)), text) clean =
+        let goes = served_life life moment request reply (see old) (see new) kept.0 (at, asked, replies) clean in (
+          goes.0,
+          (outcome, inr (form, moment, request, reply, is, asks, goes.1), text),
+          (goes.2, others_then start (see old).state (see new).state kept.1 (replies.others clean life kept.0)),
+        )
+
+module _ {B : Type 0} (see : B → Seen) (refusal : MessageFault → List ℕ) (old new : Timed B) (unread left held holds : Option (List ℕ)) (end : End)
+    (is_run : IsRun (answers_by (books_serve see)) refusal old new unread left held holds end) (clean : HasCleanDisk (see new.0).state) where
+  -- a life that books kept went on along a run of them, which left other tables alone
+  pub run_kept : (life : Life) → Keeps life (see old.0)
+      → (after : Life) × IsRun (answers_by life_serves) refusal (life, old.1) (after, new.1) unread left held holds end × KeepsFrom (see old.0).state after (see new.0)
+  run_kept life keeps =
+      let start = (see old.0).state in
+      run_along (answers_by (books_serve see)) (answers_by life_serves) (λ l books. KeepsFrom start l (see books)) (λ books. HasCleanDisk (see books).state) (books_follow see start)
+      refusal life old new unread left held holds end (keeps, others_same start) is_run clean
+
+  -- the disk was clean before it
+  pub run_clean : HasCleanDisk (see old.0).state
+  run_clean =
+      let start = (see old.0).state in
+      run_well (answers_by (books_serve see)) (answers_by life_serves) (λ l books. KeepsFrom start l (see books)) (λ books. HasCleanDisk (see books).state) (books_follow see start)
+      refusal old new unread left held holds end is_run clean

@@ -2,6 +2,7 @@ ghost use Rattle.std.specs.Prelude.{◌≡◌, ℤ, Option};
 ghost use Rattle.sqlite.specs.State.{HasCleanDisk};
 ghost use Rattle.vend_core.specs.Life.{Life};
 ghost use Rattle.books.specs.Keeps.{Keeps, seen};
+ghost use Rattle.books.specs.Others.{LeavesOthers};
 ghost use Rattle.desk.specs.Answering.{answers_by, books_serve, life_serves, refusal_of};
 ghost use Rattle.desk.specs.Exchanges.{Reads};
 ghost use Rattle.desk.specs.Meaning.{IsMeaning};
@@ -64,7 +65,9 @@ impl Desk {
             (life, C.answers clock.old) (after, C.answers clock.new)
             (R.remaining reader.old) (R.remaining reader.new)
             (W.contents writer.old) (W.contents writer.new) result
-            × Keeps after (seen S.Store T.forwards books.new) }
+            × Keeps after (seen S.Store T.forwards books.new)
+            × LeavesOthers (seen S.Store T.forwards books.old).state
+            (seen S.Store T.forwards books.new).state }
     {
         run(self, alloc, reader, writer, books, clock)
     }
