@@ -25,5 +25,3 @@ mod receipts;
 mod record;
 mod reports;
 mod row_fault;
-#[cfg(test)]
-mod tests;

@@ -314,6 +314,3 @@ fn report(alloc: Global, found: Option<&(Shift, Sales)>) -> Result<Change, Refus
     let sales = Vec::from_slice(alloc, sales.as_slice())?;
     unchanged(Answer::Report(*shift, Sales::of(sales)))
 }
-
-#[cfg(test)]
-mod tests;

@@ -109,10 +109,3 @@ impl<T: BlockTransform> Lists<T> {
         Ok(answer)
     }
 }
-
-#[cfg(test)]
-mod imports;
-#[cfg(test)]
-mod lives;
-#[cfg(test)]
-mod tests;

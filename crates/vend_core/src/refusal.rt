@@ -123,6 +123,3 @@ impl From<AllocError> for Refusal {
         Refusal::Memory
     }
 }
-
-#[cfg(test)]
-mod tests;

@@ -1,5 +1,5 @@
 //! Files of meters and of tariffs.
-use crate::{RowFault, read_meters, read_tariffs};
+use papers::{RowFault, read_meters, read_tariffs};
 use std::process::Abort;
 use std::test::Fail;
 use sts_fields::Base;

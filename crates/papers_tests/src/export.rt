@@ -1,6 +1,6 @@
 //! The sales export.
-use super::first_sale;
-use crate::sales_csv;
+use crate::examples::first_sale;
+use papers::sales_csv;
 use std::test::Fail;
 use vend_core::Sale;
 

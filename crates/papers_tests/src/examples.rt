@@ -1,10 +1,10 @@
-//! Each text and file against the examples of `docs/TEXTS.md`, and writers that fail.
+//! The sales and the shift of the examples of `docs/TEXTS.md`.
 use std::test::Fail;
 use sts_fields::{Amount, Base, Moment};
 use vend_core::{MeterNo, Operator, Ref, Sale, Shift, Tender};
 
 // The first sale of the examples: a tenth of a kWh for ten cents.
-fn first_sale() -> Result<Sale, Fail> {
+pub(crate) fn first_sale() -> Result<Sale, Fail> {
     Ok(Sale {
         number: 1,
         moment: Moment::of_secs(1_388_534_430).ok_or("a moment")?,
@@ -23,7 +23,7 @@ fn first_sale() -> Result<Sale, Fail> {
 }
 
 // Another one: 16384 tenths at 100 cents a kWh, with change.
-fn large_sale() -> Result<Sale, Fail> {
+pub(crate) fn large_sale() -> Result<Sale, Fail> {
     Ok(Sale {
         number: 1_000_000_000,
         tenths: Amount::of_tenths(16_384).ok_or("an amount")?,
@@ -34,7 +34,7 @@ fn large_sale() -> Result<Sale, Fail> {
 }
 
 // The first shift of the examples, closed at a moment or open.
-fn first_shift(closed: Option<Moment>) -> Result<Shift, Fail> {
+pub(crate) fn first_shift(closed: Option<Moment>) -> Result<Shift, Fail> {
     Ok(Shift {
         number: 1,
         operator: Operator::read(b"ann").ok_or("an operator")?,
@@ -42,9 +42,3 @@ fn first_shift(closed: Option<Moment>) -> Result<Shift, Fail> {
         closed,
     })
 }
-
-mod export;
-mod import;
-mod output;
-mod receipt;
-mod report;

@@ -1,6 +1,6 @@
 //! The receipt.
-use super::{first_sale, large_sale};
-use crate::{receipt, receipt_text};
+use crate::examples::{first_sale, large_sale};
+use papers::{receipt, receipt_text};
 use std::test::Fail;
 
 #[test]

@@ -1,6 +1,6 @@
 //! The shift report.
-use super::{first_sale, first_shift, large_sale};
-use crate::{shift_report, shift_text};
+use crate::examples::{first_sale, first_shift, large_sale};
+use papers::{shift_report, shift_text};
 use std::test::Fail;
 use sts_fields::Moment;
 use vend_core::Sale;

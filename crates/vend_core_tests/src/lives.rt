@@ -1,13 +1,10 @@
 //! Lives of the office over plain vectors: stops, reopenings, other transforms, and a clock that
 //! goes back.
-use super::tests::{FIRST_DAY, METER, are, ask, flat, office, order, refuses_at, reprinted, sold};
-use crate::answer::Answer;
-use crate::lists::Lists;
-use crate::refusal::Refusal;
-use crate::request::Request;
+use crate::lists::{FIRST_DAY, METER, are, ask, flat, office, order, refuses_at, reprinted, sold};
 use std::test::Fail;
 use sts_fields::Base;
 use sts_token::{BlockTransform, Demo, Plain};
+use vend_core::{Answer, Lists, Refusal, Request};
 
 // A life ends at this request: it was done or it was not, and its answer is lost.
 fn stopped_at<T: BlockTransform>(

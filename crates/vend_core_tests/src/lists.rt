@@ -2,32 +2,26 @@
 ghost use Rattle.std.specs.Prelude.{◌-◌};
 ghost use Rattle.std.proofs.Common.{arith};
 
-use crate::answer::{Answer, Reply};
-use crate::lists::Lists;
-use crate::meter::Meter;
-use crate::meter_no::MeterNo;
-use crate::operator::Operator;
-use crate::order_ref::Ref;
-use crate::refusal::Refusal;
-use crate::request::{Order, Request, Stamped};
-use crate::sale::Sale;
-use crate::tariff_name::TariffName;
 use std::alloc::Global;
 use std::process::Abort;
 use std::test::Fail;
 use sts_fields::{Base, Moment};
 use sts_token::{BlockTransform, Plain};
 use tariff::{Step, Steps, Tender};
+use vend_core::{
+    Answer, Lists, Meter, MeterNo, Operator, Order, Ref, Refusal, Reply, Request, Sale, Stamped,
+    TariffName,
+};
 
 // 2014-01-01T00:00:30Z
-pub(super) const FIRST_DAY: i64 = 1_388_534_430;
+pub(crate) const FIRST_DAY: i64 = 1_388_534_430;
 
-pub(super) const METER: &[u8] = b"12345678903";
+pub(crate) const METER: &[u8] = b"12345678903";
 
-pub(super) const OTHER_METER: &[u8] = b"10000000009";
+pub(crate) const OTHER_METER: &[u8] = b"10000000009";
 
 // No office has it.
-pub(super) const NO_METER: &[u8] = b"00000000000";
+pub(crate) const NO_METER: &[u8] = b"00000000000";
 
 // The transform that turns over each bit of a block.
 #[derive(Clone, Copy, Debug)]
@@ -55,24 +49,24 @@ impl BlockTransform for Turned {
     ghost forward_undoes = { λ t key block k b. Prim.omega arith };
 }
 
-pub(super) fn name(text: &[u8]) -> Result<TariffName, Fail> {
+pub(crate) fn name(text: &[u8]) -> Result<TariffName, Fail> {
     Ok(TariffName::read(text).ok_or("no tariff's name")?)
 }
 
-pub(super) fn number(text: &[u8]) -> Result<MeterNo, Fail> {
+pub(crate) fn number(text: &[u8]) -> Result<MeterNo, Fail> {
     Ok(MeterNo::read(text).ok_or("no meter's number")?)
 }
 
-pub(super) fn operator(text: &[u8]) -> Result<Operator, Fail> {
+pub(crate) fn operator(text: &[u8]) -> Result<Operator, Fail> {
     Ok(Operator::read(text).ok_or("no operator")?)
 }
 
 // One step without an end.
-pub(super) fn flat(alloc: Global, price: u32) -> Result<Steps, Fail> {
+pub(crate) fn flat(alloc: Global, price: u32) -> Result<Steps, Fail> {
     Ok(Steps::read(alloc, &[Step { ends: None, price }])?)
 }
 
-pub(super) fn meter(base: Base, tariff: &[u8]) -> Result<Meter, Fail> {
+pub(crate) fn meter(base: Base, tariff: &[u8]) -> Result<Meter, Fail> {
     Ok(Meter {
         base,
         tariff: name(tariff)?,
@@ -81,16 +75,20 @@ pub(super) fn meter(base: Base, tariff: &[u8]) -> Result<Meter, Fail> {
 }
 
 // An order of ann's.
-pub(super) fn order(order_ref: &[u8], meter: &[u8], cents: u64) -> Result<Request, Fail> {
+pub(crate) fn order(order_ref: &[u8], meter: &[u8], cents: u64) -> Result<Request, Fail> {
+    order_of(b"ann", order_ref, meter, cents)
+}
+
+fn order_of(by: &[u8], order_ref: &[u8], meter: &[u8], cents: u64) -> Result<Request, Fail> {
     Ok(Request::Sell(Order {
-        operator: operator(b"ann")?,
+        operator: operator(by)?,
         order_ref: Ref::read(order_ref).ok_or("no ref")?,
         meter: number(meter)?,
         tender: Tender::read(cents).ok_or("no tender")?,
     }))
 }
 
-pub(super) fn ask<T: BlockTransform>(
+pub(crate) fn ask<T: BlockTransform>(
     lists: &mut Lists<T>,
     seconds: i64,
     request: Request,
@@ -104,7 +102,7 @@ pub(super) fn ask<T: BlockTransform>(
     Ok(lists.serve(&at))
 }
 
-pub(super) fn sold<T: BlockTransform>(
+pub(crate) fn sold<T: BlockTransform>(
     lists: &mut Lists<T>,
     seconds: i64,
     request: Request,
@@ -116,7 +114,7 @@ pub(super) fn sold<T: BlockTransform>(
     }
 }
 
-pub(super) fn reprinted<T: BlockTransform>(
+pub(crate) fn reprinted<T: BlockTransform>(
     lists: &mut Lists<T>,
     number: u32,
 ) -> Result<Sale, Fail> {
@@ -150,7 +148,7 @@ fn bought(sale: &Sale) -> (u32, u32) {
 }
 
 // These sales and no others.
-pub(super) fn are(sales: &[Sale], expected: &[&Sale]) -> bool {
+pub(crate) fn are(sales: &[Sale], expected: &[&Sale]) -> bool {
     sales.len() == expected.len()
         && sales
             .iter()
@@ -159,8 +157,8 @@ pub(super) fn are(sales: &[Sale], expected: &[&Sale]) -> bool {
 }
 
 // The office refuses the request on its first day, and shows as before.
-pub(super) fn refuses(
-    rt: &impl Abort,
+pub(crate) fn refuses(
+    rt: &HostRuntime,
     lists: &mut Lists<Plain>,
     request: Request,
     refusal: Refusal,
@@ -168,26 +166,28 @@ pub(super) fn refuses(
     refuses_at(rt, lists, FIRST_DAY, request, refusal)
 }
 
-pub(super) fn refuses_at(
-    rt: &impl Abort,
+pub(crate) fn refuses_at(
+    rt: &HostRuntime,
     lists: &mut Lists<Plain>,
     seconds: i64,
     request: Request,
     refusal: Refusal,
 ) -> Result<(), Fail> {
-    let alloc = lists.alloc;
+    let alloc = rt.alloc();
     let before = format!(in alloc; "{lists:?}")?;
     match ask(lists, seconds, request)? {
-        Ok(_) => assert!(rt; false, "not refused: {refusal}"),
-        Err(given) => assert_eq!(rt; given, refusal),
+        Err(given) if given == refusal => {}
+        _ => return Err(Fail::new(format_args!("not refused: {refusal}"))),
     }
     let after = format!(in alloc; "{lists:?}")?;
-    assert_eq!(rt; before.as_str(), after.as_str(), "changed by {refusal}");
-    Ok(())
+    if before.as_str() == after.as_str() {
+        return Ok(());
+    }
+    Err(Fail::new(format_args!("changed by {refusal}")))
 }
 
 // An office with an open shift of ann's, and two meters on a tariff.
-pub(super) fn office(alloc: Global, base: Base, steps: Steps) -> Result<Lists<Plain>, Fail> {
+pub(crate) fn office(alloc: Global, base: Base, steps: Steps) -> Result<Lists<Plain>, Fail> {
     let mut lists = Lists::new(alloc, Plain);
     let block = meter(base, b"block")?;
     let requests = [
@@ -407,4 +407,31 @@ fn lives_under_two_transforms(rt: HostRuntime) -> Result<(), Fail> {
     assert_ne!(rt; second.digits, first.digits);
     assert_eq!(rt; lists.shifts().len(), 1);
     reports(&rt, &mut lists, &[&first, &second])
+}
+
+// Two shifts that sell in turn: the report on the first has its own sales and no others.
+#[test]
+fn a_long_report(rt: HostRuntime) -> Result<(), Fail> {
+    let alloc = rt.alloc();
+    let mut lists = office(alloc, Base::Y2014, flat(alloc, 100)?)?;
+    let _ = ask(&mut lists, FIRST_DAY, Request::OpenShift(operator(b"bob")?))??;
+    let mut sales = Vec::new(alloc);
+    for place in 1..=2_003_u32 {
+        // a minute later each time: a meter has one identifier for a minute
+        let moment = FIRST_DAY + 60 * i64::from(place);
+        let order_ref = format!(in alloc; "A-{place}")?;
+        let anns = order_of(b"ann", order_ref.as_bytes(), METER, 10)?;
+        sales.push(sold(&mut lists, moment, anns)?)?;
+        let bobs = order_of(b"bob", order_ref.as_bytes(), OTHER_METER, 10)?;
+        let _ = sold(&mut lists, moment, bobs)?;
+    }
+    let reply = ask(&mut lists, FIRST_DAY, Request::ShiftReport(1))?;
+    match &reply {
+        Ok(Answer::Report(shift, reported)) => {
+            assert_eq!(rt; shift.number, 1);
+            assert!(rt; reported.as_slice() == sales.as_slice());
+        }
+        _ => assert!(rt; false, "no report"),
+    }
+    Ok(())
 }

@@ -1,7 +1,6 @@
 //! What a user meets of each refusal.
-use crate::refusal::Refusal;
-use crate::row_cause::RowCause;
 use std::test::Fail;
+use vend_core::{Refusal, RowCause};
 
 #[test]
 fn numbers_names_and_sentences(rt: HostRuntime) -> Result<(), Fail> {

@@ -1,19 +1,13 @@
 //! Imports over plain vectors: twice, with a bad row, and at their greatest size.
-use super::tests::{
+use crate::lists::{
     FIRST_DAY, METER, NO_METER, OTHER_METER, ask, flat, meter, name, number, office, refuses,
 };
-use crate::answer::Answer;
-use crate::lists::Lists;
-use crate::refusal::Refusal;
-use crate::request::Request;
-use crate::row::Row;
-use crate::row_cause::RowCause;
-use crate::rows::Rows;
 use std::alloc::Global;
 use std::test::Fail;
 use sts_fields::Base;
 use sts_token::Plain;
 use tariff::{Step, Steps};
+use vend_core::{Answer, Lists, Refusal, Request, Row, RowCause, Rows};
 
 fn import(rows: Vec<Row>) -> Result<Request, Fail> {
     match Rows::of(rows) {
@@ -31,7 +25,7 @@ fn imported(lists: &mut Lists<Plain>, rows: Vec<Row>) -> Result<u32, Fail> {
     }
 }
 
-// The two meters of the office in `tests`, on a tariff of their own.
+// The two meters of the office in `lists`, on a tariff of their own.
 fn two_meters(alloc: Global) -> Result<Vec<Row>, Fail> {
     let flat = meter(Base::Y2014, b"flat")?;
     Ok(vec![in alloc;
