@@ -1,40 +1,12 @@
 //! Vends credit tokens for prepayment electricity meters: reads the words of a command line and
-//! prints.
+//! prints. What each does is in `vend_commands`.
 #![tactic(auto)]
 
-use crate::run::{refuse, run};
-use crate::words::BadWords;
 use sqlite::Unknown;
 use std::process::ExitCode;
 use std::rt::Env;
 use std::{env, io};
-
-mod address;
-mod asked;
-mod clock;
-mod commands;
-mod end;
-mod exporting;
-mod file_books;
-mod line;
-mod listening;
-mod opening;
-mod options;
-mod prepared;
-mod printed;
-mod run;
-mod said;
-mod selfcheck;
-mod selfcheck_fault;
-mod serving;
-mod task;
-#[cfg(test)]
-mod tests;
-mod told;
-mod transform;
-mod trial;
-mod values;
-mod words;
+use vend_commands::{BadWords, refuse, run};
 
 fn main(rt: HostRuntime) -> ExitCode {
     let status = match words_given(&rt) {

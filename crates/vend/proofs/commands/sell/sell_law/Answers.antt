@@ -1,5 +1,0 @@
-use Rattle.vend.proofs.SellLemmas.{ends_sold}
-use Rattle.vend.proofs.commands.sell.sell_law.Goals as goal
-
-pub returns : goal.returns
-returns g c = λ image words moment office o stands sold. ends_sold g.S.Store c.office_law.ensures.answers_stand image words moment office o stands sold

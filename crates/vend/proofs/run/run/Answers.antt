@@ -1,5 +1,0 @@
-use Rattle.vend.proofs.RunLemmas.{asked_ends}
-use Rattle.vend.proofs.run.run.Goals as goal
-
-pub returns-clause-asked : goal.returns-clause-asked
-returns-clause-asked g c = λ asked for. rw c.status.ensures (asked_ends _ _ _ _ _ asked for c.carry_out.ensures)

@@ -1,0 +1,151 @@
+-- Pages of an export.
+use Rattle.std.proofs.Common.{◌≡◌, ◌≢◌, ◌∙◌, ℕ, ◌+◌, ◌*◌, ◌≤◌, ◌==◌, Bool, true, false, List, [], ◌++◌, length, take, drop, Option, Some, None, Ok, Err, refl, ap, sym, subst, append_assoc, append-nil, length-take, length-drop, drop-drop, inl, inr, arith}
+use Rattle.std.proofs.KnownBytes.{Appends-nil, Appends-trans, Keeps-refl}
+use Rattle.std.proofs.lemmas.Bool.{eqb-false, ne_eqb}
+use Rattle.std.proofs.lemmas.List.{drop_all, take-append-drop}
+use Rattle.std.specs.Io.KnownBytes as bytes
+use Rattle.std.specs.Io.KnownBytes.{Appends}
+use Rattle.sqlite.specs.State.{HasCleanDisk}
+use Rattle.books.specs.Keeps.{Keeps, Seen}
+use Rattle.papers.specs.Export.{export_of}
+use Rattle.papers.specs.declared.fault.TextFault.TheVariants as text_fault
+use Rattle.vend_core.specs.Life.{Life, present}
+use Rattle.vend_core.specs.declared.refusal.Refusal.{Refusal}
+use Rattle.vend_core.specs.declared.sale.Sale.{Sale}
+use Rattle.vend_commands.proofs.PutLemmas.{cut-behind, none_told}
+use Rattle.vend_commands.specs.Exported.{IsExported, IsPage, IsStopTold, page_of}
+use Rattle.vend_commands.specs.Printed.{refusal_line}
+use Rattle.vend_commands.specs.Told.{HasBeginning, Held, outputs}
+use Rattle.vend_commands.specs.declared.end.End.TheVariants as how
+use Rattle.vend_commands.specs.declared.exporting.ExportFault.{ExportFault}
+use Rattle.vend_commands.specs.declared.exporting.ExportFault.TheVariants.{Refused, Write}
+
+-- the export from a page on
+abbrev pub export_from : List Sale → ℕ → List ℕ
+export_from sales page = export_of (page == 0) (drop (page * 1000) sales)
+
+abbrev pub PagesLaw : Type 0
+PagesLaw = (header : Bool) (front back : List Sale) → export_of header (front ++ back) ≡ export_of header front ++ export_of false back
+
+-- a page, and what follows it
+pub page_split : PagesLaw → (sales : List Sale) (page : ℕ) → export_from sales page ≡ export_of (page == 0) (page_of sales page) ++ export_from sales (page + 1)
+page_split law sales page =
+    let rest = drop (page * 1000) sales in
+    let whole : take 1000 rest ++ drop 1000 rest ≡ rest = take-append-drop 1000 rest in
+    let further : drop 1000 rest ≡ drop ((page + 1) * 1000) sales = drop-drop 1000 (page * 1000) sales ∙ ap (λ n. drop n sales) {x = page * 1000 + 1000} {y = (page + 1) * 1000} (omega arith) in
+    let later : (page + 1 == 0) ≡ false = ne_eqb (page + 1) 0 (λ e. omega (arith, e)) in
+    let text = export_of (page == 0) (take 1000 rest) in
+    ap (export_of (page == 0)) (sym whole) ∙ law (page == 0) (take 1000 rest) (drop 1000 rest)
+    ∙ ap (λ l. text ++ export_of false l) further
+    ∙ ap (λ b. text ++ export_of b (drop ((page + 1) * 1000) sales)) (sym later)
+
+pub export_none : (header : Bool) → header ≡ false → export_of header [] ≡ []
+unfolding export_of
+export_none true later = cc
+export_none false later = refl
+
+-- nothing is left behind the last sale
+pub export_end : (sales : List Sale) (page : ℕ) → 1 ≤ page → length sales ≤ page * 1000 → export_from sales page ≡ []
+export_end sales page later past =
+    ap (export_of (page == 0)) (drop_all (page * 1000) sales past) ∙ export_none (page == 0) (ne_eqb page 0 (λ e. omega (arith, later, e)))
+
+-- so behind a page that is not full
+pub past_short : (sales : List Sale) (page : ℕ) → length (page_of sales page) ≢ 1000 → length sales ≤ (page + 1) * 1000
+past_short sales page short = omega (arith, short, length-take 1000 (drop (page * 1000) sales), length-drop (page * 1000) sales)
+
+-- the pages before one stand on the output
+pub record SoFar (old now : Seen) (held holds : Held) (page : ℕ) (front : List ℕ) : Type 0 where
+  pub put : Appends held holds front
+  pub left : HasCleanDisk now.state → (life : Life) → Keeps life old → front ++ export_from (present life).sales page ≡ export_of true (present life).sales
+  pub keeps : (life : Life) → Keeps life old → Keeps life now
+
+pub no_pages : (books : Seen) (held : Held) → SoFar books books held held 0 []
+no_pages books held = record { put = Appends-nil held; left = λ clean life keeps. refl; keeps = λ life keeps. keeps }
+
+module _ (old mid new : Seen) (held part left : Held) (page : ℕ) (front : List ℕ) (law : PagesLaw) (so_far : SoFar old mid held part page front)
+    (keeps : (life : Life) → Keeps life mid → Keeps life new) (clean_mid : HasCleanDisk new.state → HasCleanDisk mid.state) where
+  -- what is left behind the page of these sales
+  behind : (sales : List Sale) → (HasCleanDisk new.state → (life : Life) → Keeps life mid → sales ≡ page_of (present life).sales page)
+      → HasCleanDisk new.state → (life : Life) → Keeps life old → (front ++ export_of (page == 0) sales) ++ export_from (present life).sales (page + 1) ≡ export_of true (present life).sales
+  behind sales given clean life kept =
+      let all = (present life).sales in
+      let are = given clean life (so_far.keeps life kept) in
+      append_assoc front (export_of (page == 0) sales) (export_from all (page + 1))
+      ∙ ap (λ s. front ++ (export_of (page == 0) s ++ export_from all (page + 1))) are
+      ∙ ap (λ l. front ++ l) (sym (page_split law all page))
+      ∙ so_far.left (clean_mid clean) life kept
+
+  pub page_more : (page_put : IsPage mid new page part left (Ok true)) → SoFar old new held left (page + 1) (front ++ export_of (page == 0) page_put.0)
+  page_more put = record {
+    put = Appends-trans held part left front (export_of (page == 0) put.0) so_far.put put.2;
+    left = behind put.0 put.1;
+    keeps = λ life kept. keeps life (so_far.keeps life kept);
+  }
+
+  pub page_last : (err : Held) → IsPage mid new page part left (Ok false) → IsExported old new (outputs held left err err) how.Done
+  page_last err put =
+      let text = front ++ export_of (page == 0) put.0 in
+      let short : length put.0 ≢ 1000 = eqb-false (length put.0) 1000 (sym put.3) in
+      let whole : HasCleanDisk new.state → (life : Life) → Keeps life old → text ≡ export_of true (present life).sales = λ clean life kept.
+      let all = (present life).sales in
+      let are = put.1 clean life (so_far.keeps life kept) in
+      let past = past_short all page (λ e. short (ap length are ∙ e)) in
+      sym (append-nil text) ∙ ap (λ l. text ++ l) (sym (export_end all (page + 1) (omega arith) past)) ∙ behind put.0 put.1 clean life kept in
+      record {
+        text = text;
+        stop = None;
+        told = inl (Appends-trans held part left front (export_of (page == 0) put.0) so_far.put put.2, none_told err, refl);
+        sales = λ clean life kept. record { begins = ([], append-nil text ∙ whole clean life kept); whole = λ _. whole clean life kept };
+        keeps = λ life kept. keeps life (so_far.keeps life kept);
+      }
+
+  pub page_refused : (err told : Held) (refusal : Refusal) → IsPage mid new page part left (Err (Refused refusal)) → HasBeginning err told (refusal_line refusal)
+      → IsExported old new (outputs held left err told) how.Refused
+  page_refused err told refusal same begins =
+      record {
+        text = front;
+        stop = Some refusal;
+        told = inl (Appends-kept held part left front so_far.put same, begins, refl);
+        sales = λ clean life kept. record { begins = (_, so_far.left (clean_mid clean) life kept); whole = λ e. cc };
+        keeps = λ life kept. keeps life (so_far.keeps life kept);
+      }
+    where
+      Appends-kept : (a b c : Option (List ℕ)) (bs : List ℕ) → Appends a b bs → bytes.Keeps b c → Appends a c bs
+      Appends-kept None b c bs p q = tt
+      Appends-kept (Some x) None c bs p q = absurd p
+      Appends-kept (Some x) (Some y) None bs p q = absurd q
+      Appends-kept (Some x) (Some y) (Some z) bs p q = q ∙ p
+
+  pub page_cut : (err : Held) → IsPage mid new page part left (Err Write) → IsExported old new (outputs held left err err) how.Refused
+  page_cut err put =
+      let piece = export_of (page == 0) put.0 in
+      let text = front ++ piece in
+      record {
+        text = text;
+        stop = None;
+        told = inr (cut-behind held part left front piece [] text text_fault.Write (λ e. cc) so_far.put (ap (λ l. front ++ l) (sym (append-nil piece))) put.2, Keeps-refl err, refl);
+        sales = λ clean life kept. record { begins = (_, behind put.0 put.1 clean life kept); whole = λ e. cc };
+        keeps = λ life kept. keeps life (so_far.keeps life kept);
+      }
+
+  pub page_stopped : (err told : Held) (fault : ExportFault) → IsPage mid new page part left (Err fault) → IsStopTold fault err told
+      → IsExported old new (outputs held left err told) how.Refused
+  page_stopped err told (Refused refusal) put begins = page_refused err told refusal put begins
+  page_stopped err told Write put same = subst (λ e. IsExported old new (outputs held left err e) how.Refused) (sym same) (page_cut err put)
+
+-- all pages that an office may have stand there
+pub all_pages : (old new : Seen) (held left err : Held) (page : ℕ) (front : List ℕ) → 1 ≤ page → SoFar old new held left page front
+    → (HasCleanDisk new.state → (life : Life) → Keeps life new → length (present life).sales ≤ page * 1000)
+    → IsExported old new (outputs held left err err) how.Done
+all_pages old new held left err page front later so_far few =
+    let whole : HasCleanDisk new.state → (life : Life) → Keeps life old → front ≡ export_of true (present life).sales = λ clean life kept.
+    let all = (present life).sales in
+    let past = few clean life (so_far.keeps life kept) in
+    sym (append-nil front) ∙ ap (λ l. front ++ l) (sym (export_end all page later past)) ∙ so_far.left clean life kept in
+    record {
+      text = front;
+      stop = None;
+      told = inl (so_far.put, none_told err, refl);
+      sales = λ clean life kept. record { begins = ([], append-nil front ∙ whole clean life kept); whole = λ _. whole clean life kept };
+      keeps = so_far.keeps;
+    }

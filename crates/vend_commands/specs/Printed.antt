@@ -1,0 +1,92 @@
+-- What the program prints, a definition a line.
+use Rattle.std.specs.Prelude.{ℕ, List, [], ◌∷◌, ◌++◌, codes, decimal}
+use Rattle.std.specs.List.{join_with_byte}
+use Rattle.books.specs.Fault as open_fault
+use Rattle.books.specs.declared.fault.OpenFault.{OpenFault}
+use Rattle.sim_meter.specs.declared.answer.Answer.{Answer}
+use Rattle.sim_meter.specs.declared.answer.Answer.TheVariants.{Accepted, Used, Old, Refused}
+use Rattle.sts_fields.specs.Text.{Text}
+use Rattle.sts_token.specs.TokenFault.{fault_name, fault_number}
+use Rattle.tariff.specs.declared.bought.Buy.{Buy}
+use Rattle.vend_core.specs.Refusal.{refusal_name, refusal_number}
+use Rattle.vend_core.specs.RowCause.{cause_text}
+use Rattle.vend_core.specs.declared.refusal.Refusal.{Refusal}
+use Rattle.vend_core.specs.declared.refusal.Refusal.TheVariants.{ImportRow}
+use Rattle.vend_commands.specs.declared.address.Address.{Address}
+
+-- words with a space between them, and the end of the line
+abbrev pub line_of : List Text → Text
+line_of words = join_with_byte 32 words ++ 10 ∷ []
+
+abbrev pub token_line : Text → Text
+token_line token = line_of (token ∷ [])
+
+-- the meter's answer to a token, and its credit
+abbrev pub answer_line : Answer → Text
+answer_line (Accepted tenths) = line_of (codes "accepted" ∷ decimal tenths ∷ [])
+answer_line Used = line_of (codes "used" ∷ [])
+answer_line Old = line_of (codes "old" ∷ [])
+answer_line (Refused fault) =
+    line_of (codes "refused" ∷ decimal (fault_number fault) ∷ fault_name fault ∷ [])
+
+abbrev pub credit_line : ℕ → Text
+credit_line tenths = line_of (codes "credit" ∷ decimal tenths ∷ [])
+
+-- what a tender buys
+abbrev pub quote_line : Buy → Text
+quote_line b = line_of (decimal b.tenths ∷ decimal b.price ∷ decimal b.change ∷ [])
+
+-- a refusal of the office; of an import with its row and why
+abbrev pub refusal_detail : Refusal → List Text
+refusal_detail (ImportRow row cause) = decimal row ∷ cause_text cause ∷ []
+refusal_detail _ = []
+
+abbrev pub refusal_line : Refusal → Text
+refusal_line refusal = line_of (codes "refused" ∷ decimal (refusal_number refusal)
+    ∷ refusal_name refusal ∷ refusal_detail refusal)
+
+-- an amount that no token carries, and a clock outside the moments
+abbrev pub amount_line : Text
+amount_line = line_of (codes "refused" ∷ codes "amount" ∷ [])
+
+abbrev pub clock_line : Text
+clock_line = line_of (codes "refused" ∷ codes "clock" ∷ [])
+
+-- a fault of opening, by its number and its name
+abbrev pub opening_line : OpenFault → Text
+opening_line fault =
+    line_of (codes "open" ∷ decimal (open_fault.fault_number fault) ∷ open_fault.fault_name fault ∷ [])
+
+-- how many rows an import added, the number of a shift, and a selfcheck that found no fault
+abbrev pub added_line : ℕ → Text
+added_line count = line_of (codes "added" ∷ decimal count ∷ [])
+
+abbrev pub shift_line : ℕ → Text
+shift_line number = line_of (codes "shift" ∷ decimal number ∷ [])
+
+abbrev pub selfcheck_line : Text
+selfcheck_line = line_of (codes "selfcheck" ∷ codes "ok" ∷ [])
+
+-- a value outside its rule, a file that cannot be read, and a connection that cannot be had
+abbrev pub bad_word_line : Text
+bad_word_line = line_of (codes "bad" ∷ codes "word" ∷ [])
+
+abbrev pub file_line : Text
+file_line = line_of (codes "file" ∷ [])
+
+abbrev pub net_line : Text
+net_line = line_of (codes "net" ∷ [])
+
+-- the numbers of an address, with points between them: two, and two more
+unfoldable pub pair_text : (one next : ℕ) → Text
+pair_text one next = decimal one ++ 46 ∷ decimal next
+
+abbrev pub host_text : Address → Text
+host_text a = pair_text a.first a.second ++ 46 ∷ pair_text a.third a.fourth
+
+-- where the desk listens: the address, at the port that it has
+abbrev pub address_text : Address → (port : ℕ) → Text
+address_text a port = host_text a ++ 58 ∷ decimal port
+
+abbrev pub listening_line : Address → (port : ℕ) → Text
+listening_line a port = line_of (codes "listening" ∷ address_text a port ∷ [])

@@ -1,0 +1,47 @@
+-- What `sell` has done where it ends as done, by the rules of the office that the files stand for.
+use Rattle.std.specs.Prelude.{◌≡◌, ℕ, ◌+◌, ◌%◌, length, Contains, Ok}
+use Rattle.std.specs.Io.KnownBytes.{Appends}
+use Rattle.books.specs.Keeps.{LeftFor, Seen}
+use Rattle.papers.specs.Receipt.{receipt_of}
+use Rattle.sqlite.specs.State.{HasCleanDisk}
+use Rattle.sqlite_trees.specs.Tree.{Trees}
+use Rattle.sqlite_trees.specs.declared.store.Store.{Ghosts}
+use Rattle.sts_token.specs.Token.{Way}
+use Rattle.vend_core.specs.Fold.{reply, step}
+use Rattle.vend_core.specs.Office.{Office}
+use Rattle.vend_core.specs.declared.answer.Answer.TheVariants.{Sold}
+use Rattle.vend_core.specs.declared.request.Order.{Order}
+use Rattle.vend_core.specs.declared.request.Request.TheVariants.{Sell}
+use Rattle.vend_core.specs.declared.request.Stamped.{Stamped}
+use Rattle.vend_core.specs.declared.sale.Sale.{Sale}
+use Rattle.vend_commands.specs.Told.{Outputs}
+use Rattle.vend_commands.specs.Visited.{seen_in}
+use Rattle.vend_commands.specs.Ways.{forward_of}
+use Rattle.vend_commands.specs.declared.commands.sell.SellWords.{SellWords}
+use Rattle.vend_commands.specs.declared.file_books.FileBooks.{FileBooks}
+
+-- the order at this moment, with the nibble of the office's next sale
+pub record IsOrdered (moment : ℕ) (order : Order) (office : Office) (at : Stamped) : Type 0 where
+  pub at_moment : at.moment ≡ moment
+  pub by_number : at.nibble ≡ (length office.sales + 1) % 16
+  pub for_order : at.request ≡ Sell order
+
+-- The output has the receipt of the sale that the office's rules give for the order. The sale stands
+-- in the office after it, and all that a crash may leave of the files stands for that office.
+pub record HasSold (forward : Way) (office : Office) (order : Order) (moment : ℕ) (o : Outputs)
+    (books : Seen) : Type 0 where
+  pub at : Stamped
+  pub ordered : IsOrdered moment order office at
+  pub sale : Sale
+  pub by_rules : reply forward office at ≡ Ok (Sold sale)
+  pub printed : Appends o.old o.new (receipt_of sale)
+  pub stands : Contains (step forward office at).sales sale
+  pub left : (trees : Trees) → books.state.may_leave trees
+      → LeftFor trees (step forward office at)
+
+-- so with the books as the command left them, as long as the disk returned what was written
+abbrev pub EndsSold : {S : Type 0} → Ghosts S → SellWords → (moment : ℕ) → Office → Outputs → Type 0
+EndsSold {S} store words moment office o =
+    (books : FileBooks S store)
+    × (HasCleanDisk (seen_in books).state
+    → HasSold (forward_of words.transform) office words.order moment o (seen_in books))

@@ -1,0 +1,54 @@
+-- What is printed of a request that books serve, and the life that they keep with it.
+use Rattle.std.specs.Prelude.{◌⊎◌, ⊤, ℕ, [], Result, Ok, Err}
+use Rattle.books.specs.Asking.{ReplyAt}
+use Rattle.books.specs.Keeps.{Seen}
+use Rattle.papers.specs.Receipt.{receipt_of}
+use Rattle.papers.specs.Report.{report_of}
+use Rattle.sts_fields.specs.Text.{Text}
+use Rattle.vend_core.specs.declared.answer.Answer as core
+use Rattle.vend_core.specs.declared.answer.Answer.TheVariants.{Done, Imported, Opened, Closed, Sold, Reprinted, Report}
+use Rattle.vend_core.specs.declared.refusal.Refusal.{Refusal}
+use Rattle.vend_core.specs.declared.refusal.Refusal.TheVariants.{Memory}
+use Rattle.vend_core.specs.declared.request.Request.{Request}
+use Rattle.vend_commands.specs.Printed.{added_line, refusal_line, shift_line}
+use Rattle.vend_commands.specs.Told.{Outputs, IsTold}
+use Rattle.vend_commands.specs.declared.end.End.{End}
+use Rattle.vend_commands.specs.declared.end.End.TheVariants as how
+
+-- the text of an answer: a sale's receipt, a shift's report, or a line with a number
+abbrev pub answer_text : core.Answer → Text
+answer_text Done = []
+answer_text (Imported count) = added_line count
+answer_text (Opened number) = shift_line number
+answer_text (Closed number) = shift_line number
+answer_text (Sold sale) = receipt_of sale
+answer_text (Reprinted sale) = receipt_of sale
+answer_text (Report shift sales) = report_of shift sales
+
+-- an answer whose text is a paper, which is made whole before it is printed
+abbrev pub IsPaper : core.Answer → Type 0
+IsPaper Done = ⊥
+IsPaper (Imported count) = ⊥
+IsPaper (Opened number) = ⊥
+IsPaper (Closed number) = ⊥
+IsPaper (Sold sale) = ⊤
+IsPaper (Reprinted sale) = ⊤
+IsPaper (Report shift sales) = ⊤
+
+-- the text of the answer is told; or there is no room to make a paper, and that is told
+abbrev pub TellsAnswer : core.Answer → Outputs → End → Type 0
+TellsAnswer answer o end =
+    IsTold o (answer_text answer) [] how.Done end
+    ⊎ (IsPaper answer × IsTold o [] (refusal_line Memory) how.Refused end)
+
+-- the text of this reply is told, and nothing else
+abbrev pub TellsReply : Result core.Answer Refusal → Outputs → End → Type 0
+TellsReply (Ok answer) o end = TellsAnswer answer o end
+TellsReply (Err refusal) o end = IsTold o [] (refusal_line refusal) how.Refused end
+
+-- Books replied to the request at this moment, and the text of that reply is told.
+pub record IsServed (moment : ℕ) (request : Request) (old new : Seen) (o : Outputs) (end : End)
+    : Type 0 where
+  pub reply : Result core.Answer Refusal
+  pub replied : ReplyAt moment request reply old new
+  pub told : TellsReply reply o end

@@ -1,0 +1,47 @@
+-- What the words of a command ask of an office, and what is done by them.
+use Rattle.std.specs.Prelude.{ℕ}
+use Rattle.sqlite_trees.specs.declared.store.Store.{Ghosts}
+use Rattle.sqlite_wal.specs.Recovery.{Image}
+use Rattle.sts_fields.specs.Moment.{first_moment}
+use Rattle.vend_core.specs.declared.request.Request.{Request}
+use Rattle.vend_core.specs.declared.request.Request.TheVariants.{OpenShift, CloseShift, Sell, Reprint, ShiftReport}
+use Rattle.vend_commands.specs.Told.{Outputs}
+use Rattle.vend_commands.specs.Visited.{IsVisited}
+use Rattle.vend_commands.specs.declared.commands.report.Paper.{Paper}
+use Rattle.vend_commands.specs.declared.commands.report.Paper.TheVariants.{Shift, Receipt, Sales}
+use Rattle.vend_commands.specs.declared.commands.report.ReportWords.{ReportWords}
+use Rattle.vend_commands.specs.declared.commands.sell.SellWords.{SellWords}
+use Rattle.vend_commands.specs.declared.commands.shift.Act.{Act}
+use Rattle.vend_commands.specs.declared.commands.shift.Act.TheVariants.{Open, Close}
+use Rattle.vend_commands.specs.declared.commands.shift.ShiftWords.{ShiftWords}
+use Rattle.vend_commands.specs.declared.end.End.{End}
+use Rattle.vend_commands.specs.declared.task.Task.{Task}
+use Rattle.vend_commands.specs.declared.task.Task.TheVariants.{Ask, Export}
+use Rattle.vend_commands.specs.declared.transform.Shipped.TheVariants.{Plain}
+
+abbrev pub act_request : Act → ShiftWords → Request
+act_request Open words = OpenShift words.operator
+act_request Close words = CloseShift words.operator
+
+abbrev pub shift_request : ShiftWords → Request
+shift_request words = act_request words.act words
+
+-- a report or a receipt is asked for at the first moment, since no token is written for it
+abbrev pub report_task : Paper → Task
+report_task (Shift number) = Ask first_moment (ShiftReport number)
+report_task (Receipt number) = Ask first_moment (Reprint number)
+report_task Sales = Export
+
+-- `shift`, `sell` and `report`: each does its task at the office in its file
+abbrev pub IsShifted : {S : Type 0} → Ghosts S → Image → ShiftWords → (moment : ℕ) → Outputs
+    → End → Type 0
+IsShifted store image words moment o end =
+    IsVisited store image words.transform (Ask moment (shift_request words)) o end
+
+abbrev pub IsSold : {S : Type 0} → Ghosts S → Image → SellWords → (moment : ℕ) → Outputs
+    → End → Type 0
+IsSold store image words moment o end =
+    IsVisited store image words.transform (Ask moment (Sell words.order)) o end
+
+abbrev pub IsReported : {S : Type 0} → Ghosts S → Image → ReportWords → Outputs → End → Type 0
+IsReported store image words o end = IsVisited store image Plain (report_task words.paper) o end

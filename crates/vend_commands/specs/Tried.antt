@@ -1,0 +1,41 @@
+-- What `trial` prints, and how it ends: the tokens, and then why no more was sold.
+use Rattle.std.specs.Prelude.{ℕ, List, [], Option, Some, None, map}
+use Rattle.std.specs.List.{concat}
+use Rattle.sts_fields.specs.Text.{Text}
+use Rattle.vend_core.specs.Decision.{refusal_of}
+use Rattle.vend_core.specs.declared.refusal.Refusal.TheVariants as refusal
+use Rattle.vend_commands.specs.Printed.{amount_line, refusal_line, token_line}
+use Rattle.vend_commands.specs.Told.{Outputs, IsTold}
+use Rattle.vend_commands.specs.Trial.{IsTrial}
+use Rattle.vend_commands.specs.Ways.{forward_of}
+use Rattle.vend_commands.specs.declared.commands.trial.TrialWords.{TrialWords}
+use Rattle.vend_commands.specs.declared.end.End.{End}
+use Rattle.vend_commands.specs.declared.end.End.TheVariants.{Done, Refused}
+use Rattle.vend_commands.specs.declared.trial.TrialFault.{TrialFault}
+use Rattle.vend_commands.specs.declared.trial.TrialFault.TheVariants.{Amount, Tid, Memory}
+
+-- a line for each token
+abbrev pub token_lines : List Text → Text
+token_lines tokens = concat (map token_line tokens)
+
+-- why a trial stopped
+abbrev pub fault_line : TrialFault → Text
+fault_line Amount = amount_line
+fault_line (Tid fault) = refusal_line (refusal_of fault)
+fault_line Memory = refusal_line refusal.Memory
+
+abbrev pub trial_errors : Option TrialFault → Text
+trial_errors None = []
+trial_errors (Some fault) = fault_line fault
+
+abbrev pub trial_end : Option TrialFault → End
+trial_end None = Done
+trial_end (Some fault) = Refused
+
+-- the amounts are sold at a moment (`IsTrial`), and the tokens and the fault told
+abbrev pub IsTried : TrialWords → (moment : ℕ) → Outputs → End → Type 0
+IsTried words moment o end =
+    (tids : List ℕ) × (tokens : List Text) × (fault : Option TrialFault)
+    × IsTrial (forward_of words.transform) words.key words.base moment words.amounts.items tids
+    tokens fault
+    × IsTold o (token_lines tokens) (trial_errors fault) (trial_end fault) end

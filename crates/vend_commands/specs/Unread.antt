@@ -1,0 +1,17 @@
+-- How a run ends whose words were not read.
+use Rattle.vend_core.specs.declared.refusal.Refusal.TheVariants as refusal
+use Rattle.sts_fields.specs.Text.{Text}
+use Rattle.vend_commands.specs.Printed.{bad_word_line, refusal_line}
+use Rattle.vend_commands.specs.declared.end.End.{End}
+use Rattle.vend_commands.specs.declared.end.End.TheVariants.{Refused, BadWords}
+use Rattle.vend_commands.specs.declared.words.BadWords.{BadWords as Why}
+use Rattle.vend_commands.specs.declared.words.BadWords.TheVariants.{Value, Memory}
+
+-- a value is outside its rule, or there was no room to read them
+abbrev pub bad_words_line : Why → Text
+bad_words_line Value = bad_word_line
+bad_words_line Memory = refusal_line refusal.Memory
+
+abbrev pub bad_words_end : Why → End
+bad_words_end Value = BadWords
+bad_words_end Memory = Refused

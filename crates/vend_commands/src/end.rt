@@ -1,0 +1,26 @@
+ghost use Rattle.std.specs.Prelude.{◌≡◌};
+ghost use Rattle.vend_commands.specs.Status.{status_of};
+
+/// How a command ended.
+#[derive(Clone, Copy, Debug, PartialEq, Eq)]
+pub enum End {
+    /// It did what was asked.
+    Done,
+    /// It was refused, or something failed, as its output may.
+    Refused,
+    /// The words were not those of a command, or a value of theirs is outside its rule.
+    BadWords,
+}
+
+impl End {
+    /// The exit status.
+    pub fn status(self) -> u8
+        ensures { result ≡ status_of self }
+    {
+        match self {
+            End::Done => 0,
+            End::Refused => 1,
+            End::BadWords => 2,
+        }
+    }
+}

@@ -1,0 +1,98 @@
+//! The office in memory that `selfcheck` asks.
+
+ghost use Rattle.std.specs.Prelude.{◌≡◌, ◌∷◌, [], None, IfOk, OnOk};
+ghost use Rattle.sqlite.specs.Steps.{over_memory};
+ghost use Rattle.vend_core.specs.Life.{Life};
+ghost use Rattle.books.specs.Keeps.{Keeps, seen};
+ghost use Rattle.vend_commands.specs.Selfchecked.{IsGranted, IsPrepared, add_flat, add_meter};
+ghost use Rattle.vend_commands.specs.Selfchecked.{clock_moment, flat_name, open_shift};
+
+use crate::selfcheck_fault::SelfcheckFault;
+use books::Books;
+use sqlite::{Alter, MemStore};
+use std::alloc::Global;
+use sts_fields::{Base, Moment};
+use sts_token::BlockTransform;
+use tariff::{Step, Steps};
+use vend_core::{Meter, MeterNo, Operator, Refusal, Request, TariffName};
+
+/// The moment of the office's clock, in Unix seconds: 2014-01-01T00:00:30Z.
+pub(crate) const NOW: i64 = 1_388_534_430;
+
+/// Begins an office in memory that can sell to a meter: it has a tariff, a meter and an open shift.
+pub(crate) fn prepare<T: BlockTransform + Drop>(
+    alloc: Global,
+    transform: T,
+) -> Result<Books<MemStore, T>, SelfcheckFault>
+    ensures { IfOk result (λ books. (life : Life) × IsPrepared (T.forwards transform) life
+        × Keeps life (seen over_memory T.forwards books)) }
+{
+    let mut books = match Books::in_memory(alloc, transform) {
+        Ok(books) => books,
+        Err(fault) => return Err(SelfcheckFault::Unopened(fault)),
+    };
+    let tariff = add_flat(alloc)?;
+    grant(&mut books, tariff)?;
+    grant(&mut books, add_meter())?;
+    grant(&mut books, open_shift())?;
+    Ok(books)
+}
+
+// Has a request granted at the moment of the clock.
+fn grant<S: Alter, T: BlockTransform>(
+    books: &mut Books<S, T>,
+    request: Request,
+) -> Result<(), SelfcheckFault>
+    ensures { OnOk result ((life : Life) → Keeps life (seen S.Store T.forwards books.old)
+        → (after : Life) × IsGranted request life after
+        × Keeps after (seen S.Store T.forwards books.new)) }
+{
+    match books.ask(clock_moment(), request) {
+        Ok(_) => Ok(()),
+        Err(refusal) => Err(SelfcheckFault::Refused(refusal)),
+    }
+}
+
+fn clock_moment() -> Moment
+    ensures { result ≡ clock_moment }
+{
+    Moment::of_secs(NOW).unwrap()
+}
+
+fn flat_name() -> TariffName
+    ensures { result ≡ flat_name }
+{
+    TariffName::read(b"flat").unwrap()
+}
+
+// The tariff of 100 cents a kWh.
+fn add_flat(alloc: Global) -> Result<Request, SelfcheckFault>
+    ensures { IfOk result (λ request. request ≡ add_flat) }
+{
+    let step = Step {
+        ends: None,
+        price: 100,
+    };
+    match Steps::read(alloc, &[step]) {
+        Ok(steps) => Ok(Request::AddTariff(flat_name(), steps)),
+        // A tariff may have this step, so there was no room.
+        Err(_) => Err(SelfcheckFault::Refused(Refusal::Memory)),
+    }
+}
+
+fn add_meter() -> Request
+    ensures { result ≡ add_meter }
+{
+    let meter = Meter {
+        base: Base::Y2014,
+        tariff: flat_name(),
+        key: 0,
+    };
+    Request::AddMeter(MeterNo::read(b"12345678903").unwrap(), meter)
+}
+
+fn open_shift() -> Request
+    ensures { result ≡ open_shift }
+{
+    Request::OpenShift(Operator::read(b"ann").unwrap())
+}

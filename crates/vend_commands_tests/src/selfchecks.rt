@@ -1,0 +1,165 @@
+//! The desk over memory and over a connection, and what is told where they differ.
+use crate::support::{
+    expect, expect_bad_word, expect_done, expect_each_cut, expect_help, expect_no_command,
+};
+use std::io;
+use std::io::{ErrorKind, Read};
+use std::net::{Net, SocketAddr, TcpListener, TcpStream};
+use std::test::Fail;
+use sts_token::{Demo, Plain};
+use vend_commands::{End, SelfcheckWords, Shipped, gives_exactly, replies_over_memory};
+
+// The replies to a sale and to a call for its receipt.
+const REPLIES: &[u8] = b"HTTP/1.1 200 OK\r\nContent-Type: application/json\r\n\
+    Content-Length: 189\r\n\r\n\
+    {\"base\":2014,\"change\":0,\"meter\":\"12345678903\",\"moment\":1388534430,\"number\":1,\
+    \"operator\":\"ann\",\"price\":10,\"ref\":\"A-1\",\"shift\":1,\"tender\":10,\"tenths\":1,\"tid\":2,\
+    \"token\":\"00072057602627981690\"}\
+    HTTP/1.1 200 OK\r\nContent-Type: text/plain\r\nContent-Length: 118\r\n\r\n\
+    SALE 1\nMETER 12345678903\nTIME 2014-01-01T00:00:30Z\nKWH 0.1\nPRICE 10\nTENDER 10\n\
+    CHANGE 0\nTOKEN 0007 2057 6026 2798 1690\n";
+
+// The first bytes of the replies, at most so many.
+fn first(count: usize) -> &'static [u8] {
+    let count = REPLIES.len().min(count);
+    &REPLIES[..count]
+}
+
+// Gives these bytes, two at a time, and then fails.
+#[derive(Clone, Copy)]
+struct Breaking<'a> {
+    bytes: &'a [u8],
+}
+
+impl Read for Breaking<'_> {
+    fn read(&mut self, buf: &mut [u8]) -> io::Result<usize> {
+        if self.bytes.is_empty() {
+            return Err(io::Error::from(ErrorKind::ConnectionReset));
+        }
+        let count = buf.len().min(self.bytes.len()).min(2);
+        buf[..count].copy_from_slice(&self.bytes[..count]);
+        self.bytes = &self.bytes[count..];
+        Ok(count)
+    }
+}
+
+// A machine without a network, or one on which nobody can be called.
+#[derive(Drop)]
+struct NoNet<'a, N> {
+    binds: Option<&'a N>,
+}
+
+impl<N: Net<Stream = TcpStream, Listener = TcpListener>> Net for NoNet<'_, N> {
+    type Stream = TcpStream;
+
+    type Listener = TcpListener;
+
+    fn bind(&self, addr: SocketAddr) -> io::Result<TcpListener> {
+        match self.binds {
+            Some(net) => net.bind(addr),
+            None => Err(io::Error::from(ErrorKind::AddrInUse)),
+        }
+    }
+
+    fn connect(&self, _addr: SocketAddr) -> io::Result<TcpStream> {
+        Err(io::Error::from(ErrorKind::ConnectionRefused))
+    }
+}
+
+#[test]
+fn selfchecks(rt: HostRuntime) -> Result<(), Fail> {
+    let rows = [
+        ("selfcheck", "selfcheck ok\n"),
+        ("selfcheck --transform plain", "selfcheck ok\n"),
+        ("selfcheck --transform demo", "selfcheck ok\n"),
+    ];
+    expect_done(&rt, &rows)?;
+    expect_each_cut(&rt, "selfcheck")
+}
+
+#[test]
+fn other_words(rt: HostRuntime) -> Result<(), Fail> {
+    let lines = [
+        "selfcheck extra",
+        "selfcheck --file x",
+        "selfcheck --at 1388534430",
+        "selfcheck --transform plain --transform plain",
+    ];
+    expect_no_command(&rt, &lines)?;
+    expect_bad_word(&rt, &["selfcheck --transform none"])?;
+    expect(&rt, &["selfcheck", "--transform", ""], "", "bad word\n", 2)?;
+    let texts = ["--transform <NAME>", "selfcheck ok", "Exit status"];
+    expect_help(&rt, "selfcheck --help", &texts)?;
+    expect_help(&rt, "--help", &["selfcheck"])
+}
+
+#[test]
+fn replies(rt: HostRuntime) -> Result<(), Fail> {
+    assert_eq!(rt; REPLIES.len(), 445);
+    let Ok(plain) = replies_over_memory(rt.alloc(), Plain) else {
+        return Err("no replies".into());
+    };
+    assert_eq!(rt; plain.as_slice(), REPLIES);
+    // The other transform gives another token, in both replies, and nothing else differs.
+    let Ok(demo) = replies_over_memory(rt.alloc(), Demo) else {
+        return Err("no replies".into());
+    };
+    assert_eq!(rt; demo.len(), REPLIES.len());
+    assert_eq!(rt; demo.get(..239), REPLIES.get(..239));
+    assert_eq!(rt; demo.get(259..420), REPLIES.get(259..420));
+    assert!(rt; demo.get(239..259) != REPLIES.get(239..259));
+    assert!(rt; demo.get(420..444) != REPLIES.get(420..444));
+    Ok(())
+}
+
+#[test]
+fn other_replies(rt: HostRuntime) -> Result<(), Fail> {
+    let rows: [(&[u8], bool); 7] = [
+        (REPLIES, true),
+        (b"", false),
+        (first(444), false),
+        (first(261), false),
+        (first(1), false),
+        (&[0; 445], false),
+        (&[0; 446], false),
+    ];
+    for (bytes, same) in rows {
+        let mut reader = bytes;
+        assert_eq!(rt; gives_exactly(rt.alloc(), &mut reader, REPLIES)?, same);
+        assert!(rt; reader.is_empty());
+    }
+    let mut longer = Vec::from_slice(rt.alloc(), REPLIES)?;
+    longer.push(10)?;
+    assert!(rt; !gives_exactly(rt.alloc(), &mut longer.as_slice(), REPLIES)?);
+    assert!(rt; !gives_exactly(rt.alloc(), &mut longer.as_slice(), b"")?);
+    Ok(())
+}
+
+#[test]
+fn a_reader_fails(rt: HostRuntime) -> Result<(), Fail> {
+    for len in [0, 1, 444, 445] {
+        let mut reader = Breaking { bytes: first(len) };
+        let given = gives_exactly(rt.alloc(), &mut reader, REPLIES);
+        assert_eq!(rt;
+            given.map_err(|error| error.kind()),
+            Err(ErrorKind::ConnectionReset)
+        );
+    }
+    Ok(())
+}
+
+#[test]
+fn nobody_answers(rt: HostRuntime) -> Result<(), Fail> {
+    for binds in [None, Some(&rt)] {
+        let words = SelfcheckWords {
+            transform: Shipped::Plain,
+        };
+        let mut out = Vec::new(rt.alloc());
+        let mut err = Vec::new(rt.alloc());
+        let end = words.run(rt.alloc(), &NoNet { binds }, &mut out, &mut err);
+        assert_eq!(rt; end, End::Refused);
+        assert!(rt; out.is_empty());
+        assert_eq!(rt; err.as_slice(), b"net\n".as_slice());
+    }
+    Ok(())
+}

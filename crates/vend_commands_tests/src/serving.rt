@@ -1,0 +1,314 @@
+//! The desk over sockets of this machine: what is served, and what is told.
+use crate::folder;
+use crate::support::{
+    expect, expect_bad_word, expect_done, expect_help, expect_no_command, expect_refused, words_of,
+};
+use books::Books;
+use desk::{Desk, Script};
+use sqlite::Unknown;
+use std::io::{self, ErrorKind, Read, Write};
+use std::net::{OpenListener, OpenStream, Shutdown, SocketAddr, TcpListener, TcpStream};
+use std::test::Fail;
+use std::time::Duration;
+use sts_token::Plain;
+use vend_commands::{run, serve, set_options};
+
+/// An error output that, once it is told where the desk listens, sends each message there on a
+/// connection of its own, and ends that connection's writing side.
+#[derive(Drop)]
+struct Callers<'a> {
+    rt: &'a HostRuntime,
+    told: Vec<u8>,
+    messages: &'a [&'a str],
+    streams: Vec<TcpStream>,
+}
+
+impl Callers<'_> {
+    fn call(&mut self, port: u16) -> io::Result<()> {
+        for message in self.messages {
+            let mut stream = TcpStream::connect(self.rt, ("127.0.0.1", port))?;
+            stream.write_all(message.as_bytes())?;
+            stream.shutdown(Shutdown::Write)?;
+            self.streams.push(stream)?;
+        }
+        Ok(())
+    }
+}
+
+impl Write for Callers<'_> {
+    fn write(&mut self, buf: &[u8]) -> io::Result<usize> {
+        self.told.extend_from_slice(buf)?;
+        if self.streams.is_empty() {
+            let port = port_in(self.told.as_slice());
+            if let Some(port) = port {
+                self.call(port)?;
+            }
+        }
+        Ok(buf.len())
+    }
+
+    fn flush(&mut self) -> io::Result<()> {
+        Ok(())
+    }
+}
+
+// The port of a line that tells where the desk listens.
+fn port_in(told: &[u8]) -> Option<u16> {
+    let line = str::from_utf8(told).ok()?.strip_suffix('\n')?;
+    line.strip_prefix("listening 127.0.0.1:")?.parse().ok()
+}
+
+// Serves each message on a connection of its own, and compares what is read of each with its reply.
+fn expect_replies(rt: &HostRuntime, rows: &[(&str, &str)]) -> Result<(), Fail> {
+    let messages: Vec<&str> = rows.iter().map(|row| row.0).collect(rt.alloc())?;
+    let replies = replies_to(rt, &messages)?;
+    for (row, reply) in rows.iter().zip(&replies) {
+        if row.1 != reply.as_str() {
+            return Err(Fail::new(format_args!("{}: {reply}", row.0)));
+        }
+    }
+    if replies.len() == rows.len() {
+        return Ok(());
+    }
+    Err(Fail::new(format_args!("{} replies", replies.len())))
+}
+
+// What is read of connections that send a message each.
+fn replies_to(rt: &HostRuntime, messages: &[&str]) -> Result<Vec<String>, Fail> {
+    let line = format!(in rt.alloc();
+        "serve --file office.db --listen 127.0.0.1:0 --connections {}",
+        messages.len()
+    )?;
+    let mut out = Vec::new(rt.alloc());
+    let mut callers = Callers {
+        rt,
+        told: Vec::new(rt.alloc()),
+        messages,
+        streams: Vec::new(rt.alloc()),
+    };
+    let status = run(
+        rt,
+        Unknown,
+        &words_of(rt, line.as_str())?,
+        &mut out,
+        &mut callers,
+    );
+    if status != 0 || !out.is_empty() || port_in(callers.told.as_slice()).is_none() {
+        return Err(Fail::new(format_args!("{status}")));
+    }
+    let mut replies = Vec::new(rt.alloc());
+    for stream in &mut callers.streams {
+        replies.push(io::read_to_string(rt.alloc(), stream)?)?;
+    }
+    Ok(replies)
+}
+
+const HEAD_REFUSED: &str = "HTTP/1.1 400 Bad Request\r\nContent-Type: application/json\r\n\
+    Content-Length: 16\r\nConnection: close\r\n\r\n{\"error\":\"Head\"}";
+
+const RECEIPT_ASKED: &str = "GET /sales/1/receipt HTTP/1.1\r\nHost: d\r\n\r\n";
+
+const RECEIPT_REPLY: &str = "HTTP/1.1 200 OK\r\nContent-Type: text/plain\r\nContent-Length: 118\r\n\
+    \r\nSALE 1\nMETER 12345678903\nTIME 2014-01-01T00:00:30Z\nKWH 0.1\nPRICE 10\nTENDER 10\n\
+    CHANGE 0\nTOKEN 0007 2057 6026 2798 1690\n";
+
+const NO_SALE: &str = "HTTP/1.1 404 Not Found\r\nContent-Type: application/json\r\n\
+    Content-Length: 31\r\n\r\n{\"error\":\"NoSale\",\"refusal\":12}";
+
+// A bad message, a message that is cut and one that asks nothing count as connections too.
+#[test]
+fn connections_end_in_many_ways(rt: HostRuntime) -> Result<(), Fail> {
+    let path = folder::enter(&rt)?;
+    folder::fill(&rt)?;
+    let rows = [
+        ("GET", HEAD_REFUSED),
+        (
+            "POST /sales HTTP/1.1\r\nHost: d\r\nContent-Length: 64\r\n\r\n{",
+            "",
+        ),
+        (RECEIPT_ASKED, RECEIPT_REPLY),
+        ("", ""),
+        ("GET /sales/2 HTTP/1.1\r\nHost: d\r\n\r\n", NO_SALE),
+    ];
+    expect_replies(&rt, &rows)?;
+    folder::remove(&rt, path)
+}
+
+// The same order again, on another connection and to another run, gets the same reply.
+#[test]
+fn a_sale_is_asked_for_again(rt: HostRuntime) -> Result<(), Fail> {
+    let path = folder::enter(&rt)?;
+    folder::fill(&rt)?;
+    let sale = "POST /sales HTTP/1.1\r\nHost: d\r\nContent-Length: 64\r\n\r\n\
+        {\"meter\":\"12345678903\",\"operator\":\"ann\",\"ref\":\"B-1\",\"tender\":10}";
+    let first = replies_to(&rt, &[sale, sale])?;
+    let later = replies_to(&rt, &[sale])?;
+    let (Some(reply), Some(again), Some(after)) = (first.first(), first.get(1), later.first())
+    else {
+        return Err(Fail::new("a reply is missing"));
+    };
+    if !reply.starts_with("HTTP/1.1 200 OK\r\n")
+        || !reply.contains("\"number\":2,\"operator\":\"ann\",\"price\":10,\"ref\":\"B-1\"")
+        || reply.as_str() != again.as_str()
+        || reply.as_str() != after.as_str()
+    {
+        return Err(Fail::new(format_args!("{first:?} {later:?}")));
+    }
+    // It is a sale like those of the command line.
+    let known = "GET /sales/1 HTTP/1.1\r\nHost: d\r\n\r\n";
+    let shown = "HTTP/1.1 200 OK\r\nContent-Type: application/json\r\nContent-Length: 189\r\n\r\n\
+        {\"base\":2014,\"change\":0,\"meter\":\"12345678903\",\"moment\":1388534430,\"number\":1,\
+        \"operator\":\"ann\",\"price\":10,\"ref\":\"A-1\",\"shift\":1,\"tender\":10,\"tenths\":1,\
+        \"tid\":2,\"token\":\"00072057602627981690\"}";
+    expect_replies(&rt, &[(known, shown)])?;
+    folder::remove(&rt, path)
+}
+
+#[test]
+fn a_port_that_is_taken(rt: HostRuntime) -> Result<(), Fail> {
+    let path = folder::enter(&rt)?;
+    folder::fill(&rt)?;
+    let listener = TcpListener::bind(&rt, "127.0.0.1:0")?;
+    let line = format!(in rt.alloc();
+        "serve --file office.db --listen 127.0.0.1:{} --connections 1",
+        listener.local_addr()?.port()
+    )?;
+    expect(&rt, &words_of(&rt, line.as_str())?, "", "net\n", 1)?;
+    folder::remove(&rt, path)
+}
+
+// The office is opened before the port is looked at.
+#[test]
+fn a_file_that_is_no_office(rt: HostRuntime) -> Result<(), Fail> {
+    let path = folder::enter(&rt)?;
+    folder::make(
+        &rt,
+        "CREATE TABLE about (id INTEGER PRIMARY KEY, word TEXT)",
+    )?;
+    let listener = TcpListener::bind(&rt, "127.0.0.1:0")?;
+    let line = format!(in rt.alloc();
+        "serve --file office.db --listen 127.0.0.1:{} --connections 1",
+        listener.local_addr()?.port()
+    )?;
+    expect_refused(&rt, &[(line.as_str(), "", "open 1 NotAnOffice\n")])?;
+    folder::remove(&rt, path)
+}
+
+/// A listener whose connections fail.
+#[derive(Drop)]
+struct Broken;
+
+impl OpenListener for Broken {
+    type Stream = TcpStream;
+
+    fn accept(&self) -> io::Result<(TcpStream, SocketAddr)> {
+        Err(io::Error::from(ErrorKind::ConnectionAborted))
+    }
+}
+
+#[test]
+fn a_connection_that_cannot_be_had(rt: HostRuntime) -> Result<(), Fail> {
+    let Ok(mut books) = Books::in_memory(rt.alloc(), Plain) else {
+        return Err(Fail::new("no books"));
+    };
+    let desk = Desk::new(rt.alloc())?;
+    let mut clock = Script::new(1_388_534_430, &[]);
+    if serve(rt.alloc(), &desk, &Broken, 1, &mut books, &mut clock) {
+        return Err(Fail::new("served"));
+    }
+    Ok(())
+}
+
+// It waits for a silent peer for a time, both ways, and for no acknowledgement.
+#[test]
+fn options_of_a_connection(rt: HostRuntime) -> Result<(), Fail> {
+    let listener = TcpListener::bind(&rt, "127.0.0.1:0")?;
+    let stream = TcpStream::connect(&rt, listener.local_addr()?)?;
+    set_options(&stream);
+    let patience = Some(Duration::from_secs(30));
+    if stream.read_timeout()? == patience
+        && stream.write_timeout()? == patience
+        && stream.nodelay()?
+    {
+        return Ok(());
+    }
+    Err(Fail::new("another option"))
+}
+
+#[test]
+fn words_of_serve(rt: HostRuntime) -> Result<(), Fail> {
+    let path = folder::enter(&rt)?;
+    let lines = [
+        "serve --listen 127.0.0.1:0 --connections 1",
+        "serve --file office.db --connections 1",
+        "serve --file office.db --listen 127.0.0.1:0",
+        "serve --file office.db --listen 127.0.0.1:0 --connections 1 --at 1388534430",
+        "serve --file office.db --listen 127.0.0.1:0 --connections 1 more",
+        "serve --file office.db --listen 127.0.0.1:0 --connections -1",
+    ];
+    expect_no_command(&rt, &lines)?;
+    let lines = [
+        "serve --file office.db --listen 127.0.0.1 --connections 1",
+        "serve --file office.db --listen 127.0.0.1: --connections 1",
+        "serve --file office.db --listen :8080 --connections 1",
+        "serve --file office.db --listen localhost:8080 --connections 1",
+        "serve --file office.db --listen 127.0.0:8080 --connections 1",
+        "serve --file office.db --listen 127.0.0.0.1:8080 --connections 1",
+        "serve --file office.db --listen 127.0.0.256:8080 --connections 1",
+        "serve --file office.db --listen 256.0.0.1:8080 --connections 1",
+        "serve --file office.db --listen 127..0.1:8080 --connections 1",
+        "serve --file office.db --listen 127.0.0.+1:8080 --connections 1",
+        "serve --file office.db --listen 127.0.0.1:65536 --connections 1",
+        "serve --file office.db --listen 127.0.0.1:80:80 --connections 1",
+        "serve --file office.db --listen 127.0.0.1:0 --connections 0",
+        "serve --file office.db --listen 127.0.0.1:0 --connections 1000001",
+        "serve --file office.db --listen 127.0.0.1:0 --connections one",
+        "serve --file office.db --listen 127.0.0.1:0 --connections 1 --transform none",
+    ];
+    expect_bad_word(&rt, &lines)?;
+    // None of them made the file.
+    expect_done(&rt, &[("quote :100 0 10", "1 10 0\n")])?;
+    if std::fs::exists(&rt, "office.db")? {
+        return Err(Fail::new("a file was made"));
+    }
+    folder::remove(&rt, path)
+}
+
+// A number may have zeros in front, as everywhere on the line.
+#[test]
+fn an_address_with_zeros_in_front(rt: HostRuntime) -> Result<(), Fail> {
+    let path = folder::enter(&rt)?;
+    folder::fill(&rt)?;
+    let mut out = Vec::new(rt.alloc());
+    let mut callers = Callers {
+        rt: &rt,
+        told: Vec::new(rt.alloc()),
+        messages: &[RECEIPT_ASKED],
+        streams: Vec::new(rt.alloc()),
+    };
+    let line = "serve --file office.db --listen 127.000.0.01:00 --connections 01 --transform demo";
+    let status = run(&rt, Unknown, &words_of(&rt, line)?, &mut out, &mut callers);
+    if status != 0 || !out.is_empty() || callers.streams.len() != 1 {
+        return Err(Fail::new(format_args!("{status}")));
+    }
+    for stream in &mut callers.streams {
+        let reply = io::read_to_string(rt.alloc(), stream)?;
+        if reply.as_str() != RECEIPT_REPLY {
+            return Err(Fail::new(format_args!("{reply}")));
+        }
+    }
+    folder::remove(&rt, path)
+}
+
+#[test]
+fn help_of_serve(rt: HostRuntime) -> Result<(), Fail> {
+    let texts = [
+        "--file",
+        "--listen",
+        "127.0.0.1:8080",
+        "--connections",
+        "1 to 1000000",
+        "--transform",
+    ];
+    expect_help(&rt, "serve --help", &texts)
+}
