@@ -27,9 +27,5 @@ mod probing;
 mod read_fault;
 mod readers;
 pub mod recognise;
-#[cfg(test)]
-mod row_tests;
-#[cfg(test)]
-mod table_tests;
 mod updating;
 mod writing;

@@ -1,6 +1,6 @@
-use crate::inspect::{are_free, are_untaken, is_unreferred};
-use crate::make::create_tables;
-use crate::recognise::{are_left_alone, stand};
+use one_table::inspect::{are_free, are_untaken, is_unreferred};
+use one_table::make::create_tables;
+use one_table::recognise::{are_left_alone, stand};
 use sqlite::{Connection, Error, ErrorCode, MemStore};
 use std::alloc::Global;
 use std::test::Fail;

@@ -1,6 +1,9 @@
 //! Reading and writing a table that stands between others, in memory.
 
-use super::*;
+use one_table::{
+    Change, FromRow, Gather, ReadFault, change_once, column, fold_rows, insert, read_row,
+    read_rows, update,
+};
 use sqlite::{Alter, Connection, Error, Row, Transaction, params};
 use std::alloc::Global;
 use std::test::Fail;
