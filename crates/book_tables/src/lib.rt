@@ -12,15 +12,9 @@ pub mod changing;
 mod error;
 pub mod format;
 mod laws;
-#[cfg(test)]
-mod list_tests;
 mod listed;
-#[cfg(test)]
-mod look_up_tests;
 pub mod making;
 pub mod meters;
-#[cfg(test)]
-mod opening_tests;
 pub mod recognising;
 mod records;
 pub mod sale_lists;
@@ -29,9 +23,5 @@ pub mod shifts;
 mod shown;
 pub mod sold;
 pub mod tariffs;
-#[cfg(test)]
-mod tests;
 mod texts;
 mod values;
-#[cfg(test)]
-mod write_tests;

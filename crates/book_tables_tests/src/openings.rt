@@ -1,11 +1,29 @@
-use crate::TableError;
-use crate::format::format_number;
-use crate::making::make_tables;
-use crate::recognising::{Found, what_is_here};
-use crate::texts::TABLES;
+//! An office that is made beside other tables, and what is found in a file.
+use book_tables::TableError;
+use book_tables::format::format_number;
+use book_tables::making::make_tables;
+use book_tables::recognising::{Found, what_is_here};
 use sqlite::{Connection, Error, ErrorCode, MemStore};
 use std::alloc::Global;
 use std::test::Fail;
+
+// The six tables of `docs/OFFICE.md`, in the order in which they are made.
+const TABLES: [&str; 6] = [
+    "CREATE TABLE about (id INTEGER PRIMARY KEY, format INTEGER NOT NULL) STRICT",
+    "CREATE TABLE tariffs (name TEXT NOT NULL PRIMARY KEY) STRICT",
+    "CREATE TABLE tariff_steps (tariff TEXT NOT NULL REFERENCES tariffs (name), \
+    place INTEGER NOT NULL, ends INTEGER, price INTEGER NOT NULL, UNIQUE (tariff, place)) STRICT",
+    "CREATE TABLE meters (meter TEXT NOT NULL PRIMARY KEY, base INTEGER NOT NULL, \
+    tariff TEXT NOT NULL REFERENCES tariffs (name), secret TEXT NOT NULL) STRICT",
+    "CREATE TABLE shifts (number INTEGER PRIMARY KEY, operator TEXT NOT NULL, \
+    opened INTEGER NOT NULL, closed INTEGER) STRICT",
+    "CREATE TABLE sales (number INTEGER PRIMARY KEY, moment INTEGER NOT NULL, \
+    month INTEGER NOT NULL, shift INTEGER NOT NULL REFERENCES shifts (number), \
+    operator TEXT NOT NULL, ref TEXT NOT NULL, meter TEXT NOT NULL REFERENCES meters (meter), \
+    base INTEGER NOT NULL, tid INTEGER NOT NULL, rnd INTEGER NOT NULL, tenths INTEGER NOT NULL, \
+    price INTEGER NOT NULL, tender INTEGER NOT NULL, digits TEXT NOT NULL, \
+    UNIQUE (operator, ref), UNIQUE (meter, base, tid)) STRICT",
+];
 
 const BEFORE: &str = "CREATE TABLE before (id INTEGER PRIMARY KEY, word TEXT); \
     INSERT INTO before VALUES (7, 'a'); CREATE INDEX word_of ON before (word); \

@@ -1,6 +1,6 @@
 //! Each statement once, over memory, in a file that has other tables before and after the office's.
 
-use crate::{format, meters, sales, shifts, tariffs};
+use book_tables::{TableError, format, meters, sales, shifts, tariffs};
 use sqlite::{Alter, Connection, Error};
 use std::alloc::Global;
 use std::test::Fail;
@@ -136,6 +136,6 @@ fn tells_a_row_of_no_office(rt: HostRuntime) -> Result<(), Fail> {
     batch(&mut conn, ROWS)?;
     batch(&mut conn, "UPDATE meters SET secret = 'xyz'")?;
     let found = meters::meter_numbered(&mut conn, &meter_no()?);
-    assert_eq!(rt; found, Err(crate::TableError::RowOfNoOffice));
+    assert_eq!(rt; found, Err(TableError::RowOfNoOffice));
     Ok(())
 }

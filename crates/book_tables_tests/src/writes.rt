@@ -1,5 +1,6 @@
-use crate::adding::{add_meter, add_name, add_sale, add_shift, add_step, add_tariff};
-use crate::changing::{close_shift, set_tariff};
+//! Each statement that writes, once, and rows that are refused.
+use book_tables::adding::{add_meter, add_name, add_sale, add_shift, add_step, add_tariff};
+use book_tables::changing::{close_shift, set_tariff};
 use sqlite::{Connection, Error, ErrorCode, MemStore, Transaction};
 use std::alloc::Global;
 use std::test::Fail;

@@ -1,7 +1,7 @@
 //! The statements that read many rows, over memory, beside other tables.
 
-use crate::look_up_tests::{ROWS, TABLES, batch, meter_no, second_sale};
-use crate::{TableError, sale_lists, sold, tariffs};
+use crate::look_ups::{ROWS, TABLES, batch, meter_no, second_sale};
+use book_tables::{TableError, sale_lists, sold, tariffs};
 use sqlite::{Alter, Connection};
 use std::alloc::Global;
 use std::test::Fail;

@@ -1,0 +1,184 @@
+//! Rows whose values are outside their rules or at the ends of them, beside other tables.
+use crate::look_ups::{ROWS, TABLES, batch, meter_no};
+use book_tables::{TableError, meters, sales, shifts, sold};
+use sqlite::{Connection, Error, ErrorCode, MemStore};
+use std::alloc::Global;
+use std::test::Fail;
+use sts_fields::{Amount, Base, Moment};
+use tariff::Tender;
+use vend_core::{Meter, MeterNo, Operator, Ref, Sale, TariffName};
+
+// The rows of the other tests, after a change. It has no clause, so that the proof of a test does
+// not carry the state of the database.
+fn changed(alloc: Global, change: &str) -> Result<Connection<MemStore>, Error> {
+    let mut conn = Connection::open_in_memory(alloc)?;
+    batch(&mut conn, TABLES)?;
+    batch(&mut conn, ROWS)?;
+    batch(&mut conn, change)?;
+    Ok(conn)
+}
+
+fn sale_after(alloc: Global, change: &str) -> Result<Result<Option<Sale>, TableError>, Fail> {
+    let mut conn = changed(alloc, change)?;
+    Ok(sales::sale_numbered(&mut conn, 1))
+}
+
+// Whether the first shift is no shift of an office after a change.
+fn spoils_a_shift(alloc: Global, change: &str) -> Result<bool, Fail> {
+    let mut conn = changed(alloc, change)?;
+    Ok(shifts::shift_numbered(&mut conn, 1) == Err(TableError::RowOfNoOffice))
+}
+
+fn meter_after(alloc: Global, change: &str) -> Result<Result<Option<Meter>, TableError>, Fail> {
+    let mut conn = changed(alloc, change)?;
+    Ok(meters::meter_numbered(&mut conn, &meter_no()?))
+}
+
+const GREATEST: &str = "\
+    INSERT INTO shifts VALUES (1000000000, 'ann', 1700000000, NULL); \
+    INSERT INTO meters VALUES ('79927398713', 2035, 'home', '0123456789abcdef'); \
+    INSERT INTO sales VALUES (1000000000, 4102444799, 1283, 1000000000, 'abcdefghijklmno9', \
+    'ABCDEFGHIJKLMNOPQRSTUVWXYZ-01234', '79927398713', 2035, 16777215, 15, 18201624, 100000000, \
+    100000000, '99999999999999999999')";
+
+#[test]
+fn the_greatest_sale(rt: HostRuntime) -> Result<(), Fail> {
+    let sale = Sale {
+        number: 1_000_000_000,
+        moment: Moment::of_secs(4_102_444_799).ok_or("a moment")?,
+        shift: 1_000_000_000,
+        operator: Operator::read(b"abcdefghijklmno9").ok_or("an operator")?,
+        order_ref: Ref::read(b"ABCDEFGHIJKLMNOPQRSTUVWXYZ-01234").ok_or("a ref")?,
+        meter: MeterNo::read(b"79927398713").ok_or("a meter's number")?,
+        base: Base::Y2035,
+        tid: 16_777_215,
+        rnd: 15,
+        tenths: Amount::of_tenths(18_201_624).ok_or("an amount")?,
+        price: 100_000_000,
+        tender: Tender::read(100_000_000).ok_or("a tender")?,
+        digits: *b"99999999999999999999",
+    };
+    let mut conn = changed(rt.alloc(), GREATEST)?;
+    assert_eq!(rt; sales::sale_numbered(&mut conn, 1_000_000_000)?, Some(sale));
+    assert_eq!(rt; sales::last_sale_number(&mut conn)?, Some(1_000_000_000));
+    assert_eq!(rt; shifts::last_shift_number(&mut conn)?, Some(1_000_000_000));
+    assert_eq!(rt;
+        sold::greatest_tid(&mut conn, &sale.meter, Base::Y2035)?,
+        Some(16_777_215)
+    );
+    Ok(())
+}
+
+#[test]
+fn sales_outside_their_rules(rt: HostRuntime) -> Result<(), Fail> {
+    let changes = [
+        "UPDATE sales SET moment = 725846399 WHERE number = 1",
+        "INSERT INTO shifts VALUES (1000000001, 'ann', 1700000000, NULL); \
+            UPDATE sales SET shift = 1000000001 WHERE number = 1",
+        "UPDATE sales SET operator = 'a-b' WHERE number = 1",
+        "UPDATE sales SET ref = '' WHERE number = 1",
+        "INSERT INTO meters VALUES ('12345678904', 2035, 'home', '0123456789abcdef'); \
+            UPDATE sales SET meter = '12345678904' WHERE number = 1",
+        "UPDATE sales SET base = 2000 WHERE number = 1",
+        "UPDATE sales SET tid = 16777216 WHERE number = 1",
+        "UPDATE sales SET rnd = 16 WHERE number = 1",
+        "UPDATE sales SET tenths = 16385 WHERE number = 1",
+        "UPDATE sales SET price = -1 WHERE number = 1",
+        "UPDATE sales SET price = 4294967296 WHERE number = 1",
+        "UPDATE sales SET price = 1001 WHERE number = 1",
+        "UPDATE sales SET tender = 100000001 WHERE number = 1",
+        "UPDATE sales SET digits = '0007205760262798169' WHERE number = 1",
+        "UPDATE sales SET digits = '0007205760262798169x' WHERE number = 1",
+    ];
+    for change in changes {
+        let found = sale_after(rt.alloc(), change)?;
+        assert_eq!(rt; found, Err(TableError::RowOfNoOffice), "{change}");
+    }
+    let found = sale_after(rt.alloc(), "UPDATE sales SET ref = 'a-b' WHERE number = 1")?;
+    assert!(rt; found.is_ok());
+    Ok(())
+}
+
+#[test]
+fn shifts_outside_their_rules(rt: HostRuntime) -> Result<(), Fail> {
+    let changes = [
+        "UPDATE shifts SET operator = '' WHERE number = 1",
+        "UPDATE shifts SET opened = 725846399 WHERE number = 1",
+        "UPDATE shifts SET closed = 725846399 WHERE number = 1",
+        "UPDATE shifts SET closed = 4102444800 WHERE number = 1",
+    ];
+    for change in changes {
+        assert!(rt; spoils_a_shift(rt.alloc(), change)?, "{change}");
+    }
+    Ok(())
+}
+
+#[test]
+fn meters_outside_their_rules(rt: HostRuntime) -> Result<(), Fail> {
+    let changes = [
+        "UPDATE meters SET base = 2000",
+        "INSERT INTO tariffs VALUES ('a b'); UPDATE meters SET tariff = 'a b'",
+        "UPDATE meters SET secret = '0123456789ABCDEF'",
+        "UPDATE meters SET secret = '0123456789abcde'",
+    ];
+    for change in changes {
+        let found = meter_after(rt.alloc(), change)?;
+        assert_eq!(rt; found, Err(TableError::RowOfNoOffice), "{change}");
+    }
+    Ok(())
+}
+
+// What is read of one column has its rule too.
+#[test]
+fn columns_outside_their_rules(rt: HostRuntime) -> Result<(), Fail> {
+    let meter = meter_no()?;
+    let mut conn = changed(
+        rt.alloc(),
+        "UPDATE sales SET number = 1000000001 WHERE number = 2",
+    )?;
+    assert_eq!(rt;
+        sales::last_sale_number(&mut conn),
+        Err(TableError::RowOfNoOffice)
+    );
+    let mut conn = changed(
+        rt.alloc(),
+        "UPDATE shifts SET number = 1000000001 WHERE number = 2",
+    )?;
+    assert_eq!(rt;
+        shifts::last_shift_number(&mut conn),
+        Err(TableError::RowOfNoOffice)
+    );
+    let mut conn = changed(
+        rt.alloc(),
+        "UPDATE sales SET tid = 16777216 WHERE number = 1",
+    )?;
+    let found = sold::greatest_tid(&mut conn, &meter, Base::Y2014);
+    assert_eq!(rt; found, Err(TableError::RowOfNoOffice));
+    let mut conn = changed(
+        rt.alloc(),
+        "UPDATE sales SET tenths = 16385 WHERE number = 1",
+    )?;
+    let found = sold::tenths_in_month(&mut conn, &meter, 370);
+    assert_eq!(rt; found, Err(TableError::RowOfNoOffice));
+    Ok(())
+}
+
+#[test]
+fn the_greatest_key(rt: HostRuntime) -> Result<(), Fail> {
+    let meter = Meter {
+        base: Base::Y1993,
+        tariff: TariffName::read(b"home").ok_or("a tariff's name")?,
+        key: u64::MAX,
+    };
+    let change = "UPDATE meters SET base = 1993, secret = 'ffffffffffffffff'";
+    assert_eq!(rt; meter_after(rt.alloc(), change)?, Ok(Some(meter)));
+    Ok(())
+}
+
+#[test]
+fn want_of_memory_is_told_apart(rt: HostRuntime) {
+    let memory = TableError::Database(Error::SqliteFailure(ErrorCode::OutOfMemory));
+    assert!(rt; memory.is_memory());
+    assert!(rt; !TableError::Database(Error::InvalidQuery).is_memory());
+    assert!(rt; !TableError::RowOfNoOffice.is_memory());
+}
