@@ -2,11 +2,12 @@
 //! prints. What each does is in `vend_commands`.
 #![tactic(auto)]
 
+use command_line::BadWords;
 use sqlite::Unknown;
 use std::process::ExitCode;
 use std::rt::Env;
 use std::{env, io};
-use vend_commands::{BadWords, refuse, run};
+use vend_commands::{refuse, run};
 
 fn main(rt: HostRuntime) -> ExitCode {
     let status = match words_given(&rt) {

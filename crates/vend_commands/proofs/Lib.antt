@@ -1,11 +1,8 @@
-pub mod AddressLemmas
 pub mod ExportLemmas
-pub mod LineLemmas
 pub mod ListeningLemmas
 pub mod MeteringLemmas
 pub mod PutLemmas
 pub mod RunLemmas
-pub mod SayLemmas
 pub mod SelfcheckLemmas
 pub mod SellLemmas
 pub mod TrialLemmas

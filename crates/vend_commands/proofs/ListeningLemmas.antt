@@ -14,7 +14,7 @@ use Rattle.vend_commands.specs.Listening.{AreHeld, AreServed, GoOn, IsHeld, IsPo
 use Rattle.vend_commands.specs.Printed.{address_text, line_of, listening_line}
 use Rattle.vend_commands.specs.Told.{HasBeginning, Held, outputs}
 use Rattle.vend_commands.specs.Visited.{IsOpened}
-use Rattle.vend_commands.specs.declared.commands.serve.ServeWords.{ServeWords}
+use Rattle.command_line.specs.declared.commands.serve.ServeWords.{ServeWords}
 use Rattle.vend_commands.specs.declared.end.End.{End}
 use Rattle.vend_commands.specs.declared.file_books.FileBooks.{FileBooks}
 

@@ -13,10 +13,10 @@ use Rattle.vend_core.specs.declared.refusal.Refusal.{Refusal}
 use Rattle.vend_core.specs.declared.row.Row.{Row}
 use Rattle.papers.specs.declared.row_fault.RowFault.{RowFault}
 use Rattle.tariff.specs.Purchase.{purchase_of}
-use Rattle.vend_commands.specs.Asked.{AskFor}
+use Rattle.command_line.specs.Asked.{AskFor}
 use Rattle.vend_commands.specs.Exported.{stop_end}
 use Rattle.vend_commands.specs.Imported.{AreAdded, IsFileImported}
-use Rattle.vend_commands.specs.Line.{faults_in}
+use Rattle.command_line.specs.Line.{faults_in}
 use Rattle.vend_commands.specs.Listening as listening
 use Rattle.vend_commands.specs.Listening.{IsServing}
 use Rattle.vend_commands.specs.Listening.IsServing.{not_opened, no_desk, no_listener, not_told, was_open}
@@ -30,14 +30,14 @@ use Rattle.vend_commands.specs.Told.{IsTold, Outputs}
 use Rattle.vend_commands.specs.Tried.{trial_end}
 use Rattle.vend_commands.specs.Visited.{IsVisited}
 use Rattle.vend_commands.specs.Visited.IsVisited.{unopened, visited}
-use Rattle.vend_commands.specs.declared.asked.Asked.{Asked}
-use Rattle.vend_commands.specs.declared.asked.Asked.TheVariants as asks
-use Rattle.vend_commands.specs.declared.commands.import.ImportWords.{ImportWords}
-use Rattle.vend_commands.specs.declared.commands.serve.ServeWords.{ServeWords}
+use Rattle.command_line.specs.declared.asked.Asked.{Asked}
+use Rattle.command_line.specs.declared.asked.Asked.TheVariants as asks
+use Rattle.command_line.specs.declared.commands.import.ImportWords.{ImportWords}
+use Rattle.command_line.specs.declared.commands.serve.ServeWords.{ServeWords}
 use Rattle.vend_commands.specs.declared.end.End.TheVariants as how
 use Rattle.vend_commands.specs.declared.task.Task.{Task}
 use Rattle.vend_commands.specs.declared.task.Task.TheVariants.{Ask, Export}
-use Rattle.vend_commands.specs.declared.transform.Shipped.{Shipped}
+use Rattle.command_line.specs.declared.transform.Shipped.{Shipped}
 use Rattle.vend_commands.specs.declared.trial.TrialFault.{TrialFault}
 use Rattle.vend_commands.specs.declared.end.End.{End}
 

@@ -34,7 +34,7 @@ use Rattle.vend_commands.specs.Told.{IsTold, Outputs}
 use Rattle.vend_commands.specs.Visited.{seen_in}
 use Rattle.vend_commands.specs.Visited.IsVisited.{unopened, visited}
 use Rattle.vend_commands.specs.Ways.{forward_of}
-use Rattle.vend_commands.specs.declared.commands.sell.SellWords.{SellWords}
+use Rattle.command_line.specs.declared.commands.sell.SellWords.{SellWords}
 use Rattle.vend_commands.specs.declared.end.End.TheVariants as how
 
 -- ---- an order that is granted gives a sale

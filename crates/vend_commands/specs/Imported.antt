@@ -13,7 +13,7 @@ use Rattle.vend_core.specs.declared.row.Row.{Row}
 use Rattle.vend_commands.specs.Printed.{file_line, refusal_line}
 use Rattle.vend_commands.specs.Told.{Outputs, IsTold}
 use Rattle.vend_commands.specs.Visited.{IsVisited}
-use Rattle.vend_commands.specs.declared.commands.import.ImportWords.{ImportWords}
+use Rattle.command_line.specs.declared.commands.import.ImportWords.{ImportWords}
 use Rattle.vend_commands.specs.declared.end.End.{End}
 use Rattle.vend_commands.specs.declared.end.End.TheVariants.{Refused}
 use Rattle.vend_commands.specs.declared.task.Task.TheVariants.{Ask}

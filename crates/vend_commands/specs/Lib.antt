@@ -1,15 +1,10 @@
-pub mod Address
-pub mod Asked
-pub mod Commands
 pub mod Exported
 pub mod Imported
-pub mod Line
 pub mod Listening
 pub mod Metered
 pub mod Printed
 pub mod Quoted
 pub mod Run
-pub mod Said
 pub mod Selfchecked
 pub mod Selling
 pub mod Served
@@ -19,6 +14,5 @@ pub mod Told
 pub mod Trial
 pub mod Tried
 pub mod Unread
-pub mod Values
 pub mod Visited
 pub mod Ways

@@ -17,8 +17,8 @@ use Rattle.vend_core.specs.declared.refusal.Refusal.TheVariants.{Memory}
 use Rattle.vend_commands.specs.Printed.{listening_line, net_line, opening_line, refusal_line}
 use Rattle.vend_commands.specs.Told.{Outputs, IsTold}
 use Rattle.vend_commands.specs.Visited.{IsOpened, seen_in}
-use Rattle.vend_commands.specs.declared.address.Address.{Address}
-use Rattle.vend_commands.specs.declared.commands.serve.ServeWords.{ServeWords}
+use Rattle.command_line.specs.declared.address.Address.{Address}
+use Rattle.command_line.specs.declared.commands.serve.ServeWords.{ServeWords}
 use Rattle.vend_commands.specs.declared.end.End.{End}
 use Rattle.vend_commands.specs.declared.end.End.TheVariants.{Done, Refused}
 use Rattle.vend_commands.specs.declared.file_books.FileBooks.{FileBooks}

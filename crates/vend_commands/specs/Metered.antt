@@ -9,7 +9,7 @@ use Rattle.sts_token.specs.Reading.{reading_of}
 use Rattle.vend_commands.specs.Printed.{answer_line, credit_line}
 use Rattle.vend_commands.specs.Told.{Outputs, IsTold}
 use Rattle.vend_commands.specs.Ways.{inverse_of}
-use Rattle.vend_commands.specs.declared.commands.meter.MeterWords.{MeterWords}
+use Rattle.command_line.specs.declared.commands.meter.MeterWords.{MeterWords}
 use Rattle.vend_commands.specs.declared.end.End.{End}
 use Rattle.vend_commands.specs.declared.end.End.TheVariants.{Done}
 

@@ -12,7 +12,7 @@ use Rattle.vend_core.specs.Refusal.{refusal_name, refusal_number}
 use Rattle.vend_core.specs.RowCause.{cause_text}
 use Rattle.vend_core.specs.declared.refusal.Refusal.{Refusal}
 use Rattle.vend_core.specs.declared.refusal.Refusal.TheVariants.{ImportRow}
-use Rattle.vend_commands.specs.declared.address.Address.{Address}
+use Rattle.command_line.specs.declared.address.Address.{Address}
 
 -- words with a space between them, and the end of the line
 abbrev pub line_of : List Text → Text

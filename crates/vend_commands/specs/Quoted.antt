@@ -6,7 +6,7 @@ use Rattle.vend_core.specs.declared.refusal.Refusal.TheVariants.{TooLittle}
 use Rattle.tariff.specs.Purchase.{purchase_of}
 use Rattle.vend_commands.specs.Printed.{quote_line, refusal_line}
 use Rattle.vend_commands.specs.Told.{Outputs, IsTold}
-use Rattle.vend_commands.specs.declared.commands.quote.QuoteWords.{QuoteWords}
+use Rattle.command_line.specs.declared.commands.quote.QuoteWords.{QuoteWords}
 use Rattle.vend_commands.specs.declared.end.End.{End}
 use Rattle.vend_commands.specs.declared.end.End.TheVariants.{Done, Refused}
 

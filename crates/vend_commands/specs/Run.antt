@@ -8,8 +8,8 @@ use Rattle.sqlite_trees.specs.declared.store.Store.{Ghosts}
 use Rattle.sqlite_wal.specs.Recovery.{Image}
 use Rattle.sts_fields.specs.Text.{Text}
 use Rattle.vend_core.specs.declared.refusal.Refusal.TheVariants.{Memory}
-use Rattle.vend_commands.specs.Asked.{AskFor}
-use Rattle.vend_commands.specs.Line.{faults_in}
+use Rattle.command_line.specs.Asked.{AskFor}
+use Rattle.command_line.specs.Line.{faults_in}
 use Rattle.vend_commands.specs.Imported.{IsFileImported}
 use Rattle.vend_commands.specs.Listening.{IsServing}
 use Rattle.vend_commands.specs.Metered.{IsMetered}
@@ -19,8 +19,8 @@ use Rattle.vend_commands.specs.Selfchecked.{HasReplies, IsSelfchecked}
 use Rattle.vend_commands.specs.Tasks.{IsReported, IsShifted, IsSold}
 use Rattle.vend_commands.specs.Told.{Outputs, IsTold}
 use Rattle.vend_commands.specs.Tried.{IsTried}
-use Rattle.vend_commands.specs.declared.asked.Asked.{Asked}
-use Rattle.vend_commands.specs.declared.asked.Asked.TheVariants.{Trial, Import, Shift, Sell, Report, Meter, Quote, Serve, Selfcheck}
+use Rattle.command_line.specs.declared.asked.Asked.{Asked}
+use Rattle.command_line.specs.declared.asked.Asked.TheVariants.{Trial, Import, Shift, Sell, Report, Meter, Quote, Serve, Selfcheck}
 use Rattle.vend_commands.specs.declared.end.End.{End}
 use Rattle.vend_commands.specs.declared.end.End.TheVariants.{Refused, BadWords}
 

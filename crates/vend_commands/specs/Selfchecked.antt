@@ -24,7 +24,7 @@ use Rattle.vend_commands.specs.declared.end.End.{End}
 use Rattle.vend_commands.specs.declared.end.End.TheVariants.{Done, Refused as IsRefused}
 use Rattle.vend_commands.specs.declared.selfcheck_fault.SelfcheckFault.{SelfcheckFault}
 use Rattle.vend_commands.specs.declared.selfcheck_fault.SelfcheckFault.TheVariants.{Net, Unopened, Refused}
-use Rattle.vend_commands.specs.declared.transform.Shipped.{Shipped}
+use Rattle.command_line.specs.declared.transform.Shipped.{Shipped}
 
 -- ---- the office
 

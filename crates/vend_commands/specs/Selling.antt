@@ -17,7 +17,7 @@ use Rattle.vend_core.specs.declared.sale.Sale.{Sale}
 use Rattle.vend_commands.specs.Told.{Outputs}
 use Rattle.vend_commands.specs.Visited.{seen_in}
 use Rattle.vend_commands.specs.Ways.{forward_of}
-use Rattle.vend_commands.specs.declared.commands.sell.SellWords.{SellWords}
+use Rattle.command_line.specs.declared.commands.sell.SellWords.{SellWords}
 use Rattle.vend_commands.specs.declared.file_books.FileBooks.{FileBooks}
 
 -- the order at this moment, with the nibble of the office's next sale

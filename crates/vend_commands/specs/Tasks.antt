@@ -7,17 +7,17 @@ use Rattle.vend_core.specs.declared.request.Request.{Request}
 use Rattle.vend_core.specs.declared.request.Request.TheVariants.{OpenShift, CloseShift, Sell, Reprint, ShiftReport}
 use Rattle.vend_commands.specs.Told.{Outputs}
 use Rattle.vend_commands.specs.Visited.{IsVisited}
-use Rattle.vend_commands.specs.declared.commands.report.Paper.{Paper}
-use Rattle.vend_commands.specs.declared.commands.report.Paper.TheVariants.{Shift, Receipt, Sales}
-use Rattle.vend_commands.specs.declared.commands.report.ReportWords.{ReportWords}
-use Rattle.vend_commands.specs.declared.commands.sell.SellWords.{SellWords}
-use Rattle.vend_commands.specs.declared.commands.shift.Act.{Act}
-use Rattle.vend_commands.specs.declared.commands.shift.Act.TheVariants.{Open, Close}
-use Rattle.vend_commands.specs.declared.commands.shift.ShiftWords.{ShiftWords}
+use Rattle.command_line.specs.declared.commands.report.Paper.{Paper}
+use Rattle.command_line.specs.declared.commands.report.Paper.TheVariants.{Shift, Receipt, Sales}
+use Rattle.command_line.specs.declared.commands.report.ReportWords.{ReportWords}
+use Rattle.command_line.specs.declared.commands.sell.SellWords.{SellWords}
+use Rattle.command_line.specs.declared.commands.shift.Act.{Act}
+use Rattle.command_line.specs.declared.commands.shift.Act.TheVariants.{Open, Close}
+use Rattle.command_line.specs.declared.commands.shift.ShiftWords.{ShiftWords}
 use Rattle.vend_commands.specs.declared.end.End.{End}
 use Rattle.vend_commands.specs.declared.task.Task.{Task}
 use Rattle.vend_commands.specs.declared.task.Task.TheVariants.{Ask, Export}
-use Rattle.vend_commands.specs.declared.transform.Shipped.TheVariants.{Plain}
+use Rattle.command_line.specs.declared.transform.Shipped.TheVariants.{Plain}
 
 abbrev pub act_request : Act → ShiftWords → Request
 act_request Open words = OpenShift words.operator

@@ -4,8 +4,8 @@ use Rattle.sts_fields.specs.Text.{Text}
 use Rattle.vend_commands.specs.Printed.{bad_word_line, refusal_line}
 use Rattle.vend_commands.specs.declared.end.End.{End}
 use Rattle.vend_commands.specs.declared.end.End.TheVariants.{Refused, BadWords}
-use Rattle.vend_commands.specs.declared.words.BadWords.{BadWords as Why}
-use Rattle.vend_commands.specs.declared.words.BadWords.TheVariants.{Value, Memory}
+use Rattle.command_line.specs.declared.words.BadWords.{BadWords as Why}
+use Rattle.command_line.specs.declared.words.BadWords.TheVariants.{Value, Memory}
 
 -- a value is outside its rule, or there was no room to read them
 abbrev pub bad_words_line : Why → Text

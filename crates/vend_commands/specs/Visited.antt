@@ -20,8 +20,8 @@ use Rattle.vend_commands.specs.declared.file_books.FileBooks.{FileBooks}
 use Rattle.vend_commands.specs.declared.file_books.FileBooks.TheVariants as books
 use Rattle.vend_commands.specs.declared.task.Task.{Task}
 use Rattle.vend_commands.specs.declared.task.Task.TheVariants.{Ask, Export}
-use Rattle.vend_commands.specs.declared.transform.Shipped.{Shipped}
-use Rattle.vend_commands.specs.declared.transform.Shipped.TheVariants.{Plain, Demo}
+use Rattle.command_line.specs.declared.transform.Shipped.{Shipped}
+use Rattle.command_line.specs.declared.transform.Shipped.TheVariants.{Plain, Demo}
 
 -- what is seen of the books of a file
 abbrev pub seen_in : {S : Type 0} → {store : Ghosts S} → FileBooks S store → Seen

@@ -1,8 +1,8 @@
 -- The two ways of a transform that ships.
 use Rattle.sts_token.specs.Demo.{demo_forward, demo_inverse}
 use Rattle.sts_token.specs.Token.{Way}
-use Rattle.vend_commands.specs.declared.transform.Shipped.{Shipped}
-use Rattle.vend_commands.specs.declared.transform.Shipped.TheVariants.{Plain, Demo}
+use Rattle.command_line.specs.declared.transform.Shipped.{Shipped}
+use Rattle.command_line.specs.declared.transform.Shipped.TheVariants.{Plain, Demo}
 
 abbrev pub forward_of : Shipped → Way
 forward_of Plain = λ key block. block

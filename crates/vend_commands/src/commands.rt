@@ -1,4 +1,4 @@
-//! The commands: how each is described, what its words say, and what it does.
+//! The commands: what each does.
 pub mod import;
 pub mod meter;
 pub mod quote;

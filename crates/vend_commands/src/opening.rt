@@ -8,7 +8,7 @@ use crate::end::End;
 use crate::file_books::FileBooks;
 use crate::task::Task;
 use crate::told::tell_opening;
-use crate::transform::Shipped;
+use command_line::Shipped;
 use sqlite::{FileFrom, FileStore, Start};
 use sqlite_trees::store::Store;
 use std::io::Write;

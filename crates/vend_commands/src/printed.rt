@@ -7,8 +7,8 @@ ghost use Rattle.vend_commands.specs.Printed.{host_text, line_of, opening_line, 
 ghost use Rattle.vend_commands.specs.Printed.{quote_line, refusal_line, selfcheck_line};
 ghost use Rattle.vend_commands.specs.Printed.{shift_line, token_line};
 
-use crate::address::Address;
 use books::OpenFault;
+use command_line::Address;
 use itoa::Buffer;
 use papers::{TextFault, write_whole};
 use sim_meter::Answer;

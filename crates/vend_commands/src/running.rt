@@ -1,7 +1,7 @@
 ghost use Rattle.std.specs.Prelude.{◌≡◌, ◌≤◌, map};
 ghost use Rattle.clap.specs.Values.{kind_of};
 ghost use Rattle.sqlite_wal.specs.Files.{image_at};
-ghost use Rattle.vend_commands.specs.Asked.{AskFor};
+ghost use Rattle.command_line.specs.Asked.{AskFor};
 ghost use Rattle.vend_commands.specs.Imported.{IsFileImported};
 ghost use Rattle.vend_commands.specs.Printed.{clock_line};
 ghost use Rattle.vend_commands.specs.Run.{IsAnswered, IsExplained, IsRun, IsTimed};
@@ -11,22 +11,19 @@ ghost use Rattle.vend_commands.specs.Tasks.{IsShifted, IsSold};
 ghost use Rattle.vend_commands.specs.Told.{HasBeginning, outputs};
 ghost use Rattle.vend_commands.specs.Tried.{IsTried};
 ghost use Rattle.vend_commands.specs.Unread.{bad_words_end, bad_words_line};
-ghost use Rattle.vend_commands.specs.declared.asked.Asked.{Asked};
+ghost use Rattle.command_line.specs.declared.asked.Asked.{Asked};
 ghost use Rattle.vend_commands.specs.declared.end.End.{End};
 
-use crate::asked::Asked;
 use crate::clock::moment_or_now;
-use crate::commands::import::ImportWords;
-use crate::commands::selfcheck::SelfcheckWords;
-use crate::commands::sell::SellWords;
-use crate::commands::shift::ShiftWords;
-use crate::commands::trial::TrialWords;
+use crate::commands;
+use crate::commands::selfcheck::run_selfcheck;
 use crate::end::End;
-use crate::line::parse;
 use crate::told::{tell, tell_refusal};
-use crate::words::BadWords;
 use clap::Error;
 use clap::error::ErrorKind;
+use command_line::{
+    Asked, BadWords, ImportWords, SelfcheckWords, SellWords, ShiftWords, TrialWords, parse,
+};
 use sqlite::{FileFrom, FileStore, Start};
 use sqlite_trees::store::Store;
 use std::io::Write;
@@ -92,10 +89,10 @@ fn answer<B: Start, O: Write, E: Write>(
         Asked::Import(words) => import(rt, start, words, out, err),
         Asked::Shift(words) => shift(rt, start, words, out, err),
         Asked::Sell(words) => sell(rt, start, words, out, err),
-        Asked::Report(words) => words.run(rt, start, out, err),
-        Asked::Meter(words) => words.run(out),
-        Asked::Quote(words) => words.run(out, err),
-        Asked::Serve(words) => words.run(rt, start, err),
+        Asked::Report(words) => commands::report::run(words, rt, start, out, err),
+        Asked::Meter(words) => commands::meter::run(words, out),
+        Asked::Quote(words) => commands::quote::run(words, out, err),
+        Asked::Serve(words) => commands::serve::run(words, rt, start, err),
         Asked::Selfcheck(words) => selfcheck(rt, words, out, err),
     }
 }
@@ -106,7 +103,7 @@ fn trial<O: Write, E: Write>(rt: &HostRuntime, words: &TrialWords, out: &mut O, 
         IsTimed words.now.at (λ moment. IsTried words.now moment o result) o result }
 {
     match moment_or_now(rt, words.at) {
-        Some(moment) => words.run(rt.alloc(), moment, out, err),
+        Some(moment) => commands::trial::run(words, rt.alloc(), moment, out, err),
         None => no_moment(err),
     }
 }
@@ -124,7 +121,7 @@ fn import<B: Start, O: Write, E: Write>(
         (image_at B.Start) words.now moment o result) o result }
 {
     match moment_or_now(rt, words.at) {
-        Some(moment) => words.run(rt, start, moment, out, err),
+        Some(moment) => commands::import::run(words, rt, start, moment, out, err),
         None => no_moment(err),
     }
 }
@@ -142,7 +139,7 @@ fn shift<B: Start, O: Write, E: Write>(
         (image_at B.Start) words.now moment o result) o result }
 {
     match moment_or_now(rt, words.at) {
-        Some(moment) => words.run(rt, start, moment, out, err),
+        Some(moment) => commands::shift::run(words, rt, start, moment, out, err),
         None => no_moment(err),
     }
 }
@@ -160,7 +157,7 @@ fn sell<B: Start, O: Write, E: Write>(
         (image_at B.Start) words.now moment o result) o result }
 {
     match moment_or_now(rt, words.at) {
-        Some(moment) => words.run(rt, start, moment, out, err),
+        Some(moment) => commands::sell::run(words, rt, start, moment, out, err),
         None => no_moment(err),
     }
 }
@@ -175,7 +172,7 @@ fn selfcheck<O: Write, E: Write>(
         (outputs (O.contents out.old) (O.contents out.new)
         (E.contents err.old) (E.contents err.new)) result }
 {
-    words.run(rt.alloc(), rt, out, err)
+    run_selfcheck(words, rt.alloc(), rt, out, err)
 }
 
 // Tells that the clock has no moment.

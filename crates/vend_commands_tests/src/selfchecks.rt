@@ -2,12 +2,13 @@
 use crate::support::{
     expect, expect_bad_word, expect_done, expect_each_cut, expect_help, expect_no_command,
 };
+use command_line::{SelfcheckWords, Shipped};
 use std::io;
 use std::io::{ErrorKind, Read};
 use std::net::{Net, SocketAddr, TcpListener, TcpStream};
 use std::test::Fail;
 use sts_token::{Demo, Plain};
-use vend_commands::{End, SelfcheckWords, Shipped, gives_exactly, replies_over_memory};
+use vend_commands::{End, gives_exactly, replies_over_memory, run_selfcheck};
 
 // The replies to a sale and to a call for its receipt.
 const REPLIES: &[u8] = b"HTTP/1.1 200 OK\r\nContent-Type: application/json\r\n\
@@ -156,7 +157,7 @@ fn nobody_answers(rt: HostRuntime) -> Result<(), Fail> {
         };
         let mut out = Vec::new(rt.alloc());
         let mut err = Vec::new(rt.alloc());
-        let end = words.run(rt.alloc(), &NoNet { binds }, &mut out, &mut err);
+        let end = run_selfcheck(&words, rt.alloc(), &NoNet { binds }, &mut out, &mut err);
         assert_eq!(rt; end, End::Refused);
         assert!(rt; out.is_empty());
         assert_eq!(rt; err.as_slice(), b"net\n".as_slice());

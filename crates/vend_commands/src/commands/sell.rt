@@ -1,96 +1,37 @@
-ghost use Rattle.std.specs.Prelude.{codes, ℕ, IfOk};
+ghost use Rattle.std.specs.Prelude.{ℕ};
 ghost use Rattle.books.specs.Path.{StandsIn};
 ghost use Rattle.sqlite_wal.specs.Files.{image_at};
 ghost use Rattle.sqlite_wal.specs.Recovery.{Image};
 ghost use Rattle.vend_core.specs.Office.{Office};
-ghost use Rattle.vend_commands.specs.Commands.{SaysSell};
-ghost use Rattle.vend_commands.specs.Line.{IsDescribed, sell_command};
-ghost use Rattle.vend_commands.specs.Said.{IsSaid, ReadsWhat, rows_in, said};
 ghost use Rattle.vend_commands.specs.Selling.{EndsSold};
 ghost use Rattle.vend_commands.specs.Tasks.{IsSold};
 ghost use Rattle.vend_commands.specs.Told.{Outputs, outputs};
-ghost use Rattle.vend_commands.specs.Values.{SaysMeterNo, SaysRef};
 
 use crate::end::End;
 use crate::opening::visit;
-use crate::options::{self, needed, with};
-use crate::said;
 use crate::task::Task;
-use crate::transform::Shipped;
-use clap::{ArgMatches, Command};
+use command_line::SellWords;
 use sqlite::{Alter, FileFrom, FileStore, Start};
 use sqlite_trees::store::Store;
-use std::alloc::{AllocError, Global};
 use std::io::Write;
 use sts_fields::Moment;
-use vend_core::{MeterNo, Order, Ref, Request, office_law};
+use vend_core::{Request, office_law};
 
-/// What `sell` is asked to do: an order, sold from an office.
-#[derive(Clone, Copy)]
-pub struct SellWords<'a> {
-    pub transform: Shipped,
-    /// The file that keeps the office.
-    pub file: &'a str,
-    pub order: Order,
-    /// The machine's clock where it is left out.
-    pub at: Option<Moment>,
-}
-
-/// `sell --file F --operator O --ref R --meter M --tender C [--at S] [--transform X]`.
-pub(crate) fn describe<'a>(alloc: Global) -> Result<Command<'a>, AllocError>
-    ensures { IfOk result (IsDescribed sell_command) }
+/// Sells what is ordered, and prints the receipt.
+pub(crate) fn run<B: Start, O: Write, E: Write>(
+    words: &SellWords,
+    rt: &HostRuntime,
+    start: B,
+    moment: Moment,
+    out: &mut O,
+    err: &mut E,
+) -> End
+    ensures { IsSold ⟦<FileStore<FileFrom<B>> as Store>⟧ (image_at B.Start)
+        words.now moment (outputs (O.contents out.old) (O.contents out.new)
+        (E.contents err.old) (E.contents err.new)) result }
 {
-    let about = "Sells electricity to a meter for a tender, and prints the receipt; the same words \
-        again print it again";
-    let order_ref = "The order's name among the operator's, 1 to 32 ASCII letters, digits or \
-        hyphens, e.g. A-1";
-    let meter = "The meter's number, eleven digits of which the last is the Luhn check, e.g. \
-        12345678903";
-    let tender = "The money in whole cents, 1 to 100000000, e.g. 1000";
-    let command = options::command(alloc, "sell", about);
-    let command = with(command, options::transform(alloc))?;
-    let command = with(command, options::file(alloc))?;
-    let command = with(command, options::operator(alloc))?;
-    let command = with(command, needed(alloc, "ref", "REF", order_ref))?;
-    let command = with(command, needed(alloc, "meter", "NUMBER", meter))?;
-    let command = with(command, needed(alloc, "tender", "CENTS", tender))?;
-    with(command, options::at(alloc))
-}
-
-impl<'a> SellWords<'a> {
-    pub(crate) fn read(matches: &ArgMatches<'a>) -> Option<SellWords<'a>>
-        ensures { ReadsWhat result (SaysSell (rows_in matches.now)) }
-    {
-        let order = Order {
-            operator: options::read_operator(matches)?,
-            order_ref: read_ref(matches)?,
-            meter: read_meter(matches)?,
-            tender: options::read_tender(matches)?,
-        };
-        Some(SellWords {
-            transform: options::read_transform(matches)?,
-            file: options::read_file(matches)?,
-            order,
-            at: options::read_at(matches)?,
-        })
-    }
-
-    /// Sells what is ordered, and prints the receipt.
-    pub(crate) fn run<B: Start, O: Write, E: Write>(
-        &self,
-        rt: &HostRuntime,
-        start: B,
-        moment: Moment,
-        out: &mut O,
-        err: &mut E,
-    ) -> End
-        ensures { IsSold ⟦<FileStore<FileFrom<B>> as Store>⟧ (image_at B.Start)
-            self.now moment (outputs (O.contents out.old) (O.contents out.new)
-            (E.contents err.old) (E.contents err.new)) result }
-    {
-        let task = Task::Ask(moment, Request::Sell(self.order));
-        visit(rt, start, self.transform, self.file, task, out, err)
-    }
+    let task = Task::Ask(moment, Request::Sell(words.order));
+    visit(rt, start, words.transform, words.file, task, out, err)
 }
 
 /// What `sell` has done where it ends as done: where the files stood for an office, it printed the
@@ -102,18 +43,4 @@ pub fn sell_law<S: Alter>()
         → EndsSold S.Store words moment office o }
 {
     office_law();
-}
-
-fn read_ref(matches: &ArgMatches) -> Option<Ref>
-    ensures { ReadsWhat result (IsSaid SaysRef
-        (said (codes "ref") (rows_in matches.now))) }
-{
-    Ref::read(said::text(matches, "ref")?.as_bytes())
-}
-
-fn read_meter(matches: &ArgMatches) -> Option<MeterNo>
-    ensures { ReadsWhat result (IsSaid SaysMeterNo
-        (said (codes "meter") (rows_in matches.now))) }
-{
-    MeterNo::read(said::text(matches, "meter")?.as_bytes())
 }

@@ -1,105 +1,41 @@
-ghost use Rattle.std.specs.Prelude.{◌≡◌, codes, IfOk};
+ghost use Rattle.std.specs.Prelude.{◌≡◌};
 ghost use Rattle.sqlite_wal.specs.Files.{image_at};
-ghost use Rattle.vend_commands.specs.Commands.{SaysAct, SaysShift};
-ghost use Rattle.vend_commands.specs.Line.{IsDescribed, shift_command};
-ghost use Rattle.vend_commands.specs.Said.{IsSaid, ReadsWhat, rows_in, said};
 ghost use Rattle.vend_commands.specs.Tasks.{IsShifted, shift_request};
 ghost use Rattle.vend_commands.specs.Told.{outputs};
 
 use crate::end::End;
 use crate::opening::visit;
-use crate::options::{self, with};
-use crate::said;
 use crate::task::Task;
-use crate::transform::Shipped;
-use clap::{ArgMatches, Command};
+use command_line::{Act, ShiftWords};
 use sqlite::{FileFrom, FileStore, Start};
 use sqlite_trees::store::Store;
-use std::alloc::{AllocError, Global};
 use std::io::Write;
 use sts_fields::Moment;
-use vend_core::{Operator, Request};
+use vend_core::Request;
 
-/// What is done to a shift.
-#[derive(Clone, Copy, Debug, PartialEq, Eq)]
-pub enum Act {
-    Open,
-    Close,
-}
-
-/// What `shift` is asked to do: an operator's shift, opened or closed.
-#[derive(Clone, Copy)]
-pub struct ShiftWords<'a> {
-    pub transform: Shipped,
-    /// The file that keeps the office.
-    pub file: &'a str,
-    pub operator: Operator,
-    /// The machine's clock where it is left out.
-    pub at: Option<Moment>,
-    pub act: Act,
-}
-
-/// `shift --file F --operator O [--at S] [--transform X] open|close`.
-pub(crate) fn describe<'a>(alloc: Global) -> Result<Command<'a>, AllocError>
-    ensures { IfOk result (IsDescribed shift_command) }
+/// Opens or closes the shift, and prints its number.
+pub(crate) fn run<B: Start, O: Write, E: Write>(
+    words: &ShiftWords,
+    rt: &HostRuntime,
+    start: B,
+    moment: Moment,
+    out: &mut O,
+    err: &mut E,
+) -> End
+    ensures { IsShifted ⟦<FileStore<FileFrom<B>> as Store>⟧ (image_at B.Start)
+        words.now moment (outputs (O.contents out.old) (O.contents out.new)
+        (E.contents err.old) (E.contents err.new)) result }
 {
-    let about = "Opens or closes an operator's shift, and prints its number";
-    let act = "What is done to the shift: open or close";
-    let command = options::command(alloc, "shift", about);
-    let command = with(command, options::transform(alloc))?;
-    let command = with(command, options::file(alloc))?;
-    let command = with(command, options::operator(alloc))?;
-    let command = with(command, options::at(alloc))?;
-    with(command, options::word(alloc, "act", "ACT", act))
+    let task = Task::Ask(moment, request(words));
+    visit(rt, start, words.transform, words.file, task, out, err)
 }
 
-impl<'a> ShiftWords<'a> {
-    pub(crate) fn read(matches: &ArgMatches<'a>) -> Option<ShiftWords<'a>>
-        ensures { ReadsWhat result (SaysShift (rows_in matches.now)) }
-    {
-        Some(ShiftWords {
-            transform: options::read_transform(matches)?,
-            file: options::read_file(matches)?,
-            operator: options::read_operator(matches)?,
-            at: options::read_at(matches)?,
-            act: read_act(matches)?,
-        })
-    }
-
-    /// Opens or closes the shift, and prints its number.
-    pub(crate) fn run<B: Start, O: Write, E: Write>(
-        &self,
-        rt: &HostRuntime,
-        start: B,
-        moment: Moment,
-        out: &mut O,
-        err: &mut E,
-    ) -> End
-        ensures { IsShifted ⟦<FileStore<FileFrom<B>> as Store>⟧ (image_at B.Start)
-            self.now moment (outputs (O.contents out.old) (O.contents out.new)
-            (E.contents err.old) (E.contents err.new)) result }
-    {
-        let task = Task::Ask(moment, self.request());
-        visit(rt, start, self.transform, self.file, task, out, err)
-    }
-
-    fn request(&self) -> Request
-        ensures { result ≡ shift_request self.now }
-    {
-        match self.act {
-            Act::Open => Request::OpenShift(self.operator),
-            Act::Close => Request::CloseShift(self.operator),
-        }
-    }
-}
-
-fn read_act(matches: &ArgMatches) -> Option<Act>
-    ensures { ReadsWhat result (IsSaid SaysAct
-        (said (codes "act") (rows_in matches.now))) }
+// What is asked of the office for the shift.
+fn request(words: &ShiftWords) -> Request
+    ensures { result ≡ shift_request words.now }
 {
-    match said::text(matches, "act")? {
-        "open" => Some(Act::Open),
-        "close" => Some(Act::Close),
-        _ => None,
+    match words.act {
+        Act::Open => Request::OpenShift(words.operator),
+        Act::Close => Request::CloseShift(words.operator),
     }
 }

@@ -1,5 +1,5 @@
 use Rattle.std.proofs.Common.{subst}
-use Rattle.vend_commands.specs.Asked.{Asks}
+use Rattle.command_line.specs.Asked.{Asks}
 use Rattle.vend_commands.specs.Run.IsRun.{answered}
 use Rattle.vend_commands.proofs.RunLemmas.{told_by_clap}
 use Rattle.vend_commands.proofs.running.carry_out.Goals as goal

@@ -1,0 +1,67 @@
+-- The command line is one of which `clap` states what it makes of the words.
+use Rattle.std.proofs.Common.{◌≡◌, ◌∙◌, List, [], ◌∷◌, ◌++◌, option_map, Option, Some, None, Result, Ok, Err, refl, true, ap, ap₂, subst}
+use Rattle.std.specs.Box.{box_value}
+use Rattle.std.specs.Borrow.{Bor}
+use Rattle.std.specs.Prelude.{Box, IfOk, MatchResult}
+use Rattle.std.specs.declared.alloc.AllocError.{AllocError}
+use Rattle.clap.proofs.OnLiterals.{clap_on_literals}
+use Rattle.clap.specs.Faults.{fault_of, is_simple_and_free}
+use Rattle.clap.specs.Kinds.{FailsBy, HasKind}
+use Rattle.clap.specs.Built.{AddsSubcommand}
+use Rattle.clap.specs.Matches.{found_of, subcommand_name_of}
+use Rattle.clap.specs.declared.builder.command.Command.{Command}
+use Rattle.clap.specs.declared.parser.matches.SubCommand.{SubCommand}
+use Rattle.clap.specs.declared.parser.matches.ArgMatches.TheViews.{out-ArgMatches, out-SubCommand}
+use Rattle.clap.specs.Simple.{App, HasMatchesOf, Shape, app_of, is_simple, subcommand_rows, subcommand_rows_of, with_subcommand}
+use Rattle.clap.specs.Walk.{Row, rows_of}
+use Rattle.clap.specs.declared.error.Error.{Error}
+use Rattle.clap.specs.declared.parser.matches.ArgMatches.{ArgMatches}
+use Rattle.sts_fields.specs.Text.{Text}
+use Rattle.command_line.specs.Line.{IsDescribed, command_in, faults_in, line_of_commands, vend_line}
+use Rattle.command_line.specs.Said.{rows_in}
+
+pub is_simple_line : is_simple vend_line ≡ true
+unfolding clap_on_literals
+is_simple_line = refl
+
+pub is_free_line : is_simple_and_free vend_line ≡ true
+unfolding clap_on_literals
+is_free_line = refl
+
+-- what a parse of the line gives
+pub parsed : (r : Result ArgMatches Error) (app : App) (words : List Text) → app ≡ vend_line → (is_simple_and_free app ≡ true → FailsBy (fault_of app words) r) → IfOk r (HasMatchesOf app words)
+    → MatchResult r (λ matches. (faults_in words ≡ []) × (subcommand_rows_of matches ≡ command_in words)) (HasKind (faults_in words))
+unfolding faults_in command_in
+parsed (Ok m) app words is kinds matches =
+    let same = subst (λ (a : App). FailsBy (fault_of a words) (Ok m)) is (kinds (ap is_simple_and_free is ∙ is_free_line)) in
+    let rows = subst (λ (a : App). HasMatchesOf a words m) is matches in
+    (same, (rows is_simple_line).1)
+parsed (Err e) app words is kinds matches = subst (λ (a : App). HasKind (fault_of a words) e) is (kinds (ap is_simple_and_free is ∙ is_free_line))
+
+-- a command more
+pub one_more : (before : List Shape) (shape : Shape) (line sub : Command) (r : Result Command AllocError) → app_of line ≡ line_of_commands before → IsDescribed shape sub → IfOk r (λ new. AddsSubcommand line sub new)
+    → IfOk r (λ new. app_of new ≡ line_of_commands (before ++ shape ∷ []))
+one_more before shape line sub (Err e) is described adds = tt
+one_more [] shape line sub (Ok new) is described adds = adds.shape described.no_globals ∙ ap₂ with_subcommand is (ap (λ (a : App). a.top) described.app)
+one_more (first ∷ rest) shape line sub (Ok new) is described adds = adds.shape described.no_globals ∙ ap₂ with_subcommand is (ap (λ (a : App). a.top) described.app)
+
+-- the name and the rows of the command that was met
+module _ {Z : Type 0} where
+  name_there : (o : Option (Box SubCommand Z)) → option_map (λ b. (out-SubCommand (box_value b)).name.now) o ≡ option_map (λ p. p.0) (subcommand_rows o)
+  name_there None = refl
+  name_there (Some b) = refl
+
+pub met_name : (m : ArgMatches) → subcommand_name_of m ≡ option_map (λ p. p.0) (subcommand_rows_of m)
+met_name m = name_there (out-ArgMatches m).subcommand
+
+-- the command that was met, by its name and its rows
+pub met : (r : Option (Bor Text × Bor ArgMatches)) (o : Option (Text × List Row)) → option_map (λ p. p.0.now) r ≡ option_map (λ p. p.0) o → option_map (λ p. rows_of (found_of p.1.now)) r ≡ option_map (λ p. p.1) o
+    → option_map (λ p. (p.0.now, rows_in p.1.now)) r ≡ o
+unfolding rows_in
+met None None name rows = refl
+met None (Some y) name rows = cc
+met (Some x) None name rows = cc
+met (Some x) (Some y) name rows =
+    let same_name : x.0.now ≡ y.0 = cc in
+    let same_rows : rows_of (found_of x.1.now) ≡ y.1 = cc in
+    ap Some (λ i. (same_name i, same_rows i))

@@ -1,0 +1,14 @@
+use Rattle.std.proofs.Common.{[]}
+use Rattle.command_line.proofs.line.describe.Goals as goal
+
+pub returns : goal.returns
+returns c =
+    let after1 = c.in_ok-line-2.ensures [] _ c.in_ok-line.ensures c.in_ok-describe.ensures in
+    let after2 = c.in_ok-line-3.ensures _ _ after1 c.in_ok-describe-2.ensures in
+    let after3 = c.in_ok-line-4.ensures _ _ after2 c.in_ok-describe-3.ensures in
+    let after4 = c.in_ok-line-5.ensures _ _ after3 c.in_ok-describe-4.ensures in
+    let after5 = c.in_ok-line-6.ensures _ _ after4 c.in_ok-describe-5.ensures in
+    let after6 = c.in_ok-line-7.ensures _ _ after5 c.in_ok-describe-6.ensures in
+    let after7 = c.in_ok-line-8.ensures _ _ after6 c.in_ok-describe-7.ensures in
+    let after8 = c.in_ok-line-9.ensures _ _ after7 c.in_ok-describe-8.ensures in
+    c.with-9.ensures _ _ after8 c.in_ok-describe-9.ensures

@@ -1,0 +1,6 @@
+pub mod Address
+pub mod Asked
+pub mod Commands
+pub mod Line
+pub mod Said
+pub mod Values

@@ -1,0 +1,10 @@
+//! The commands: how each is described, and what its words say.
+pub mod import;
+pub mod meter;
+pub mod quote;
+pub mod report;
+pub mod selfcheck;
+pub mod sell;
+pub mod serve;
+pub mod shift;
+pub mod trial;

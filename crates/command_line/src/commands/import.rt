@@ -1,0 +1,75 @@
+ghost use Rattle.std.specs.Prelude.{codes, IfOk};
+ghost use Rattle.command_line.specs.Commands.{SaysImport, SaysKind};
+ghost use Rattle.command_line.specs.Line.{IsDescribed, import_command};
+ghost use Rattle.command_line.specs.Said.{IsSaid, ReadsWhat, rows_in, said};
+ghost use Rattle.command_line.specs.Values.{SaysText};
+
+use crate::options::{self, with};
+use crate::said;
+use crate::transform::Shipped;
+use clap::{ArgMatches, Command};
+use papers::FileKind;
+use std::alloc::{AllocError, Global};
+use sts_fields::Moment;
+
+/// What `import` is asked to do: the rows of a file of tariffs or meters, added to an office.
+#[derive(Clone, Copy)]
+pub struct ImportWords<'a> {
+    pub transform: Shipped,
+    /// The file that keeps the office.
+    pub file: &'a str,
+    /// The machine's clock where it is left out.
+    pub at: Option<Moment>,
+    pub kind: FileKind,
+    /// The file of rows.
+    pub csv: &'a str,
+}
+
+/// `import --file F [--at S] [--transform X] tariffs|meters CSV`.
+pub(crate) fn describe<'a>(alloc: Global) -> Result<Command<'a>, AllocError>
+    ensures { IfOk result (IsDescribed import_command) }
+{
+    let about = "Adds the rows of a CSV file to the office, all or none, and prints how many were \
+        new";
+    let kind = "What the rows are: tariffs or meters";
+    let csv = "The CSV file of at most 10000 rows, under the header name,steps or \
+        meter,base,tariff,key, e.g. tariffs.csv";
+    let command = options::command(alloc, "import", about);
+    let command = with(command, options::transform(alloc))?;
+    let command = with(command, options::file(alloc))?;
+    let command = with(command, options::at(alloc))?;
+    let command = with(command, options::word(alloc, "kind", "KIND", kind))?;
+    with(command, options::word(alloc, "csv", "CSV", csv))
+}
+
+impl<'a> ImportWords<'a> {
+    pub(crate) fn read(matches: &ArgMatches<'a>) -> Option<ImportWords<'a>>
+        ensures { ReadsWhat result (SaysImport (rows_in matches.now)) }
+    {
+        Some(ImportWords {
+            transform: options::read_transform(matches)?,
+            file: options::read_file(matches)?,
+            at: options::read_at(matches)?,
+            kind: read_kind(matches)?,
+            csv: read_csv(matches)?,
+        })
+    }
+}
+
+fn read_kind(matches: &ArgMatches) -> Option<FileKind>
+    ensures { ReadsWhat result (IsSaid SaysKind
+        (said (codes "kind") (rows_in matches.now))) }
+{
+    match said::text(matches, "kind")? {
+        "tariffs" => Some(FileKind::Tariffs),
+        "meters" => Some(FileKind::Meters),
+        _ => None,
+    }
+}
+
+fn read_csv<'a>(matches: &ArgMatches<'a>) -> Option<&'a str>
+    ensures { ReadsWhat result (IsSaid SaysText
+        (said (codes "csv") (rows_in matches.now))) }
+{
+    said::text(matches, "csv")
+}

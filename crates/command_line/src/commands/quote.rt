@@ -1,0 +1,89 @@
+ghost use Rattle.std.specs.Prelude.{◌≤◌, codes, IfOk};
+ghost use Rattle.tariff.specs.Cost.{greatest_prior};
+ghost use Rattle.command_line.specs.Line.{IsDescribed, quote_command};
+ghost use Rattle.command_line.specs.Said.{IsSaid, ReadsOrFull, ReadsWhat, rows_in, said};
+ghost use Rattle.command_line.specs.Values.{SaysPrior, SaysSteps};
+
+use crate::options::{self, with};
+use crate::transform::Shipped;
+use crate::words::BadWords;
+use crate::{said, values};
+use clap::{ArgMatches, Command};
+use std::alloc::{AllocError, Global};
+use tariff::{Steps, StepsFault, Tender};
+
+/// What `quote` is asked: what a tender buys of some steps after the tenths that the month had
+/// before.
+#[derive(Drop)]
+pub struct QuoteWords {
+    /// No token is written or read, so this one does not matter.
+    pub transform: Shipped,
+    pub steps: Steps,
+    pub prior: u64,
+    pub tender: Tender,
+    ghost prior_in_range: { prior ≤ greatest_prior },
+}
+
+/// `quote [--transform X] STEPS PRIOR TENDER`.
+pub(crate) fn describe<'a>(alloc: Global) -> Result<Command<'a>, AllocError>
+    ensures { IfOk result (IsDescribed quote_command) }
+{
+    let about = "Prints what a tender buys: tenths of a kWh, price and change in cents";
+    let steps = "The steps of a tariff as END:PRICE with ';' between them, ends in tenths of a kWh \
+        a month and prices in cents per kWh, the last without an end, e.g. '500:100;:200'";
+    let prior = "Tenths of a kWh that the month had before, 0 to 100000000000000000, e.g. 490";
+    let tender = "The money in whole cents, 1 to 100000000, e.g. 200";
+    let command = options::command(alloc, "quote", about);
+    let command = with(command, options::transform(alloc))?;
+    let command = with(command, options::word(alloc, "steps", "STEPS", steps))?;
+    let command = with(command, options::word(alloc, "prior", "PRIOR", prior))?;
+    with(command, options::word(alloc, "tender", "TENDER", tender))
+}
+
+impl QuoteWords {
+    ghost use Rattle.command_line.specs.Commands.{SaysQuote};
+
+    pub(crate) fn read(alloc: Global, matches: &ArgMatches) -> Result<QuoteWords, BadWords>
+        ensures { ReadsOrFull result (SaysQuote (rows_in matches.now)) }
+    {
+        let Some(transform) = options::read_transform(matches) else {
+            return Err(BadWords::Value);
+        };
+        let Some(prior) = read_prior(matches) else {
+            return Err(BadWords::Value);
+        };
+        let Some(tender) = options::read_tender(matches) else {
+            return Err(BadWords::Value);
+        };
+        match read_steps(alloc, matches) {
+            Ok(steps) => Ok(QuoteWords {
+                transform,
+                steps,
+                prior,
+                tender,
+            }),
+            Err(fault) => Err(fault),
+        }
+    }
+}
+
+fn read_prior(matches: &ArgMatches) -> Option<u64>
+    ensures { ReadsWhat result (IsSaid SaysPrior
+        (said (codes "prior") (rows_in matches.now))) }
+{
+    values::prior(said::text(matches, "prior")?)
+}
+
+fn read_steps(alloc: Global, matches: &ArgMatches) -> Result<Steps, BadWords>
+    ensures { ReadsOrFull result (IsSaid SaysSteps
+        (said (codes "steps") (rows_in matches.now))) }
+{
+    let Some(word) = said::text(matches, "steps") else {
+        return Err(BadWords::Value);
+    };
+    match Steps::of_text(alloc, word.as_bytes()) {
+        Ok(steps) => Ok(steps),
+        Err(StepsFault::Memory) => Err(BadWords::Memory),
+        Err(_) => Err(BadWords::Value),
+    }
+}

@@ -1,0 +1,35 @@
+ghost use Rattle.std.specs.Prelude.{IfOk};
+ghost use Rattle.command_line.specs.Line.{IsDescribed, selfcheck_command};
+ghost use Rattle.command_line.specs.Said.{ReadsWhat, rows_in};
+
+use crate::options::{self, with};
+use crate::transform::Shipped;
+use clap::{ArgMatches, Command};
+use std::alloc::{AllocError, Global};
+
+/// What `selfcheck` is asked: under which transform the offices write their token.
+#[derive(Clone, Copy)]
+pub struct SelfcheckWords {
+    pub transform: Shipped,
+}
+
+/// `selfcheck [--transform X]`.
+pub(crate) fn describe<'a>(alloc: Global) -> Result<Command<'a>, AllocError>
+    ensures { IfOk result (IsDescribed selfcheck_command) }
+{
+    let about = "Sells over a connection of this machine with itself, to an office in memory, and \
+        prints 'selfcheck ok' where the replies are those that come without a connection";
+    let command = options::command(alloc, "selfcheck", about);
+    with(command, options::transform(alloc))
+}
+
+impl SelfcheckWords {
+    ghost use Rattle.command_line.specs.Commands.{SaysSelfcheck};
+
+    pub(crate) fn read(matches: &ArgMatches) -> Option<SelfcheckWords>
+        ensures { ReadsWhat result (SaysSelfcheck (rows_in matches.now)) }
+    {
+        let transform = options::read_transform(matches)?;
+        Some(SelfcheckWords { transform })
+    }
+}

@@ -1,0 +1,78 @@
+ghost use Rattle.std.specs.Prelude.{codes, IfOk};
+ghost use Rattle.command_line.specs.Commands.{SaysSell};
+ghost use Rattle.command_line.specs.Line.{IsDescribed, sell_command};
+ghost use Rattle.command_line.specs.Said.{IsSaid, ReadsWhat, rows_in, said};
+ghost use Rattle.command_line.specs.Values.{SaysMeterNo, SaysRef};
+
+use crate::options::{self, needed, with};
+use crate::said;
+use crate::transform::Shipped;
+use clap::{ArgMatches, Command};
+use std::alloc::{AllocError, Global};
+use sts_fields::Moment;
+use vend_core::{MeterNo, Order, Ref};
+
+/// What `sell` is asked to do: an order, sold from an office.
+#[derive(Clone, Copy)]
+pub struct SellWords<'a> {
+    pub transform: Shipped,
+    /// The file that keeps the office.
+    pub file: &'a str,
+    pub order: Order,
+    /// The machine's clock where it is left out.
+    pub at: Option<Moment>,
+}
+
+/// `sell --file F --operator O --ref R --meter M --tender C [--at S] [--transform X]`.
+pub(crate) fn describe<'a>(alloc: Global) -> Result<Command<'a>, AllocError>
+    ensures { IfOk result (IsDescribed sell_command) }
+{
+    let about = "Sells electricity to a meter for a tender, and prints the receipt; the same words \
+        again print it again";
+    let order_ref = "The order's name among the operator's, 1 to 32 ASCII letters, digits or \
+        hyphens, e.g. A-1";
+    let meter = "The meter's number, eleven digits of which the last is the Luhn check, e.g. \
+        12345678903";
+    let tender = "The money in whole cents, 1 to 100000000, e.g. 1000";
+    let command = options::command(alloc, "sell", about);
+    let command = with(command, options::transform(alloc))?;
+    let command = with(command, options::file(alloc))?;
+    let command = with(command, options::operator(alloc))?;
+    let command = with(command, needed(alloc, "ref", "REF", order_ref))?;
+    let command = with(command, needed(alloc, "meter", "NUMBER", meter))?;
+    let command = with(command, needed(alloc, "tender", "CENTS", tender))?;
+    with(command, options::at(alloc))
+}
+
+impl<'a> SellWords<'a> {
+    pub(crate) fn read(matches: &ArgMatches<'a>) -> Option<SellWords<'a>>
+        ensures { ReadsWhat result (SaysSell (rows_in matches.now)) }
+    {
+        let order = Order {
+            operator: options::read_operator(matches)?,
+            order_ref: read_ref(matches)?,
+            meter: read_meter(matches)?,
+            tender: options::read_tender(matches)?,
+        };
+        Some(SellWords {
+            transform: options::read_transform(matches)?,
+            file: options::read_file(matches)?,
+            order,
+            at: options::read_at(matches)?,
+        })
+    }
+}
+
+fn read_ref(matches: &ArgMatches) -> Option<Ref>
+    ensures { ReadsWhat result (IsSaid SaysRef
+        (said (codes "ref") (rows_in matches.now))) }
+{
+    Ref::read(said::text(matches, "ref")?.as_bytes())
+}
+
+fn read_meter(matches: &ArgMatches) -> Option<MeterNo>
+    ensures { ReadsWhat result (IsSaid SaysMeterNo
+        (said (codes "meter") (rows_in matches.now))) }
+{
+    MeterNo::read(said::text(matches, "meter")?.as_bytes())
+}

@@ -1,0 +1,74 @@
+ghost use Rattle.std.specs.Prelude.{Err, IfOk};
+ghost use Rattle.command_line.specs.Commands.{SaysTrial};
+ghost use Rattle.command_line.specs.Line.{IsDescribed, trial_command};
+ghost use Rattle.command_line.specs.Said.{ReadsOrFull, rows_in};
+
+use crate::options::{self, with};
+use crate::transform::Shipped;
+use crate::words::BadWords;
+use crate::{said, values};
+use clap::{ArgMatches, Command};
+use std::alloc::{AllocError, Global};
+use sts_fields::{Base, Moment};
+
+/// What `trial` is asked to do: amounts in tenths of a kWh, sold to one meter at a moment.
+#[derive(Drop)]
+pub struct TrialWords {
+    pub transform: Shipped,
+    pub base: Base,
+    pub key: u64,
+    /// The machine's clock where it is left out.
+    pub at: Option<Moment>,
+    pub amounts: Vec<u32>,
+}
+
+/// `trial --base Y --key K [--at S] [--transform X] T..`.
+pub(crate) fn describe<'a>(alloc: Global) -> Result<Command<'a>, AllocError>
+    ensures { IfOk result (IsDescribed trial_command) }
+{
+    let about =
+        "Sells amounts to one meter from an empty list, in memory alone, and prints a token \
+        of twenty digits a line";
+    let help = "An amount in tenths of a kWh that a token can carry, 1 to 18201624, e.g. 105 for \
+        10.5 kWh";
+    let amounts = options::words(alloc, "amounts", "TENTHS", help);
+    let command = options::command(alloc, "trial", about);
+    let command = with(command, options::transform(alloc))?;
+    let command = with(command, options::base(alloc))?;
+    let command = with(command, options::key(alloc))?;
+    let command = with(command, options::at(alloc))?;
+    with(command, amounts)
+}
+
+impl TrialWords {
+    pub(crate) fn read(alloc: Global, matches: &ArgMatches) -> Result<TrialWords, BadWords>
+        ensures { ReadsOrFull result (SaysTrial (rows_in matches.now)) }
+    {
+        let Some(transform) = options::read_transform(matches) else {
+            return Err(BadWords::Value);
+        };
+        let Some(base) = options::read_base(matches) else {
+            return Err(BadWords::Value);
+        };
+        let Some(key) = options::read_key_of(matches) else {
+            return Err(BadWords::Value);
+        };
+        let Some(at) = options::read_at(matches) else {
+            return Err(BadWords::Value);
+        };
+        let Some(amounts) = said::texts(matches, "amounts") else {
+            return Err(BadWords::Value);
+        };
+        let amounts = match values::all_tenths(alloc, amounts) {
+            Ok(amounts) => amounts,
+            Err(fault) => return Err(fault),
+        };
+        Ok(TrialWords {
+            transform,
+            base,
+            key,
+            at,
+            amounts,
+        })
+    }
+}

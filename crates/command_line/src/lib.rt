@@ -1,0 +1,30 @@
+//! The command line of the program: which words are commands, and what they ask for.
+//!
+//! `clap` parses the words, and each value is read by the product's own reader. `specs/Line.antt` has
+//! the line, `specs/Commands.antt` what the words of each command say.
+#![tactic(auto)]
+
+pub use address::Address;
+pub use asked::Asked;
+pub use commands::import::ImportWords;
+pub use commands::meter::MeterWords;
+pub use commands::quote::QuoteWords;
+pub use commands::report::{Paper, ReportWords};
+pub use commands::selfcheck::SelfcheckWords;
+pub use commands::sell::SellWords;
+pub use commands::serve::ServeWords;
+pub use commands::shift::{Act, ShiftWords};
+pub use commands::trial::TrialWords;
+pub use line::parse;
+pub use transform::Shipped;
+pub use words::BadWords;
+
+mod address;
+mod asked;
+mod commands;
+mod line;
+mod options;
+mod said;
+mod transform;
+mod values;
+mod words;

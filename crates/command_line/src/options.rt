@@ -1,0 +1,190 @@
+//! What commands are described by, and the options that they share, each with its reader.
+ghost use Rattle.std.specs.Prelude.{◌≡◌, ◌∷◌, ◌++◌, [], false, codes, IfOk};
+ghost use Rattle.clap.specs.Walk.{Rule, rule_of};
+ghost use Rattle.clap.specs.Simple.{Shape};
+ghost use Rattle.command_line.specs.Line.{IsDescribed, command_named};
+ghost use Rattle.command_line.specs.Line.{at_option, needed, option_named, transform_option};
+ghost use Rattle.command_line.specs.Line.{word_named, words_named};
+ghost use Rattle.command_line.specs.Said.{IsSaid, MayBeSaid, ReadsWhat, rows_in, said};
+ghost use Rattle.command_line.specs.Values.{SaysBase, SaysKey, SaysMoment, SaysOperator};
+ghost use Rattle.command_line.specs.Values.{SaysTender, SaysText, SaysTransform};
+
+use crate::transform::Shipped;
+use crate::{said, values};
+use clap::{Arg, ArgMatches, Command};
+use std::alloc::{AllocError, Global};
+use sts_fields::{Base, Moment};
+use sts_token::read_key;
+use tariff::Tender;
+use vend_core::Operator;
+
+// What stands below the help of each command.
+const STATUSES: &str =
+    "Exit status: 0 done; 1 refused or failed (a line on the error output says why); 2 bad words";
+
+/// A command with a line on what it does, and no words yet.
+pub(crate) fn command<'a>(alloc: Global, name: &'a str, about: &'a str) -> Command<'a>
+    ensures { IsDescribed (command_named name.entry.now []) result }
+{
+    Command::new(alloc, name).about(about).after_help(STATUSES)
+}
+
+/// The command with one more argument, the last.
+pub(crate) fn with<'a>(command: Command<'a>, arg: Arg<'a>) -> Result<Command<'a>, AllocError>
+    requires { arg.global ≡ false }
+    ensures { (shape : Shape) (rule : Rule)
+        → IsDescribed shape command.entry → rule_of arg.entry ≡ rule
+        → IfOk result (IsDescribed (record shape { rules = shape.rules ++ rule ∷ [] })) }
+{
+    command.arg(arg)
+}
+
+/// `--NAME VALUE`, which may be left out.
+pub(crate) fn option<'a>(alloc: Global, name: &'a str, value: &'a str, help: &'a str) -> Arg<'a>
+    ensures rule { rule_of result ≡ option_named name.entry.now }
+    ensures own { result.global ≡ false }
+{
+    Arg::new(alloc, name)
+        .long(name)
+        .value_name(value)
+        .help(help)
+}
+
+/// `--NAME VALUE`, which has to be there.
+pub(crate) fn needed<'a>(alloc: Global, name: &'a str, value: &'a str, help: &'a str) -> Arg<'a>
+    ensures rule { rule_of result ≡ needed name.entry.now }
+    ensures own { result.global ≡ false }
+{
+    option(alloc, name, value, help).required(true)
+}
+
+/// A word at its place.
+pub(crate) fn word<'a>(alloc: Global, name: &'a str, value: &'a str, help: &'a str) -> Arg<'a>
+    ensures rule { rule_of result ≡ word_named name.entry.now }
+    ensures own { result.global ≡ false }
+{
+    Arg::new(alloc, name)
+        .value_name(value)
+        .required(true)
+        .help(help)
+}
+
+/// One word or more, up to the end.
+pub(crate) fn words<'a>(alloc: Global, name: &'a str, value: &'a str, help: &'a str) -> Arg<'a>
+    ensures rule { rule_of result ≡ words_named name.entry.now }
+    ensures own { result.global ≡ false }
+{
+    word(alloc, name, value, help).num_args(1..)
+}
+
+// ---- the options that commands share
+
+/// `--transform`, which is `plain` where it is left out.
+pub(crate) fn transform<'a>(alloc: Global) -> Arg<'a>
+    ensures rule { rule_of result ≡ transform_option }
+    ensures own { result.global ≡ false }
+{
+    let help = "The block transform of the meter: plain or demo";
+    option(alloc, "transform", "NAME", help).default_value("plain")
+}
+
+pub(crate) fn read_transform(matches: &ArgMatches) -> Option<Shipped>
+    ensures { ReadsWhat result (IsSaid SaysTransform
+        (said (codes "transform") (rows_in matches.now))) }
+{
+    Shipped::read(said::text(matches, "transform")?)
+}
+
+/// `--at`, which may be left out.
+pub(crate) fn at<'a>(alloc: Global) -> Arg<'a>
+    ensures rule { rule_of result ≡ at_option }
+    ensures own { result.global ≡ false }
+{
+    let help = "The moment in Unix seconds, 725846400 to 4102444799 (1993 to 2099, UTC), e.g. \
+        1388534430; the machine's clock where it is left out";
+    option(alloc, "at", "SECONDS", help)
+}
+
+/// The moment that is given, or `None` within where none is.
+pub(crate) fn read_at(matches: &ArgMatches) -> Option<Option<Moment>>
+    ensures { ReadsWhat result (MayBeSaid SaysMoment
+        (said (codes "at") (rows_in matches.now))) }
+{
+    match said::text(matches, "at") {
+        Some(word) => Some(Some(values::moment(word)?)),
+        None => Some(None),
+    }
+}
+
+/// `--file`.
+pub(crate) fn file<'a>(alloc: Global) -> Arg<'a>
+    ensures rule { rule_of result ≡ needed (codes "file") }
+    ensures own { result.global ≡ false }
+{
+    let help = "The file that keeps the office, made where it is missing, e.g. office.db";
+    needed(alloc, "file", "FILE", help)
+}
+
+pub(crate) fn read_file<'a>(matches: &ArgMatches<'a>) -> Option<&'a str>
+    ensures { ReadsWhat result (IsSaid SaysText
+        (said (codes "file") (rows_in matches.now))) }
+{
+    said::text(matches, "file")
+}
+
+/// `--operator`.
+pub(crate) fn operator<'a>(alloc: Global) -> Arg<'a>
+    ensures rule { rule_of result ≡ needed (codes "operator") }
+    ensures own { result.global ≡ false }
+{
+    let help = "Who sells, 1 to 16 ASCII letters or digits, e.g. ann";
+    needed(alloc, "operator", "NAME", help)
+}
+
+pub(crate) fn read_operator(matches: &ArgMatches) -> Option<Operator>
+    ensures { ReadsWhat result (IsSaid SaysOperator
+        (said (codes "operator") (rows_in matches.now))) }
+{
+    Operator::read(said::text(matches, "operator")?.as_bytes())
+}
+
+/// `--base`.
+pub(crate) fn base<'a>(alloc: Global) -> Arg<'a>
+    ensures rule { rule_of result ≡ needed (codes "base") }
+    ensures own { result.global ≡ false }
+{
+    let help = "The base date of the meter's identifiers, by its year: 1993, 2014 or 2035";
+    needed(alloc, "base", "YEAR", help)
+}
+
+pub(crate) fn read_base(matches: &ArgMatches) -> Option<Base>
+    ensures { ReadsWhat result (IsSaid SaysBase
+        (said (codes "base") (rows_in matches.now))) }
+{
+    values::base(said::text(matches, "base")?)
+}
+
+/// `--key`.
+pub(crate) fn key<'a>(alloc: Global) -> Arg<'a>
+    ensures rule { rule_of result ≡ needed (codes "key") }
+    ensures own { result.global ≡ false }
+{
+    let help = "The meter's decoder key, sixteen lower-case hexadecimal digits, e.g. \
+        0123456789abcdef";
+    needed(alloc, "key", "KEY", help)
+}
+
+pub(crate) fn read_key_of(matches: &ArgMatches) -> Option<u64>
+    ensures { ReadsWhat result (IsSaid SaysKey
+        (said (codes "key") (rows_in matches.now))) }
+{
+    read_key(said::text(matches, "key")?.as_bytes())
+}
+
+/// The tender of a word or an option `tender`.
+pub(crate) fn read_tender(matches: &ArgMatches) -> Option<Tender>
+    ensures { ReadsWhat result (IsSaid SaysTender
+        (said (codes "tender") (rows_in matches.now))) }
+{
+    values::tender(said::text(matches, "tender")?)
+}

@@ -1,9 +1,0 @@
-use Rattle.vend_commands.proofs.SayLemmas.{SayEach-texts}
-use Rattle.vend_commands.proofs.commands.meter.MeterWords.read.Goals as goal
-
-pub returns : goal.returns
-returns c = record {
-  transform = c.in_ok-read_transform.ensures;
-  key = c.in_ok-read_key_of.ensures;
-  tokens = rw (← c.in_ok-texts.ensures) (SayEach-texts c.in_ok-texts.field-0.now);
-}

@@ -1,8 +1,0 @@
-use Rattle.std.proofs.Common.{rules}
-use Rattle.vend_commands.proofs.commands.report.describe.Goals as goal
-
-pub returns : goal.returns
-returns c =
-    let after1 = c.in_ok-command.ensures _ _ c.command-command.ensures c.file.ensures.rule in
-    let after2 = c.in_ok-command-2.ensures _ _ after1 c.needed.ensures.rule in
-    c.with-3.ensures _ _ after2 (search rules)

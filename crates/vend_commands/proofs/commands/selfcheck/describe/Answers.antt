@@ -1,4 +1,0 @@
-use Rattle.vend_commands.proofs.commands.selfcheck.describe.Goals as goal
-
-pub returns : goal.returns
-returns c = c.with.ensures _ _ c.command-command.ensures c.transform.ensures.rule

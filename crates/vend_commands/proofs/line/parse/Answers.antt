@@ -1,7 +1,0 @@
-use Rattle.vend_commands.proofs.LineLemmas.{parsed}
-use Rattle.vend_commands.proofs.line.parse.Goals as goal
-
-pub returns : goal.returns
-returns c =
-    let parse = c.try_get_matches_from in
-    parsed parse.result _ _ c.in_ok-describe.ensures parse.ensures.kinds parse.ensures.matches

@@ -1,5 +1,0 @@
-use Rattle.vend_commands.proofs.LineLemmas.{one_more}
-use Rattle.vend_commands.proofs.line.with.Goals as goal
-
-pub returns : goal.returns
-returns c = λ before shape is described. one_more before shape c.args.line c.args.command c.subcommand.result is described c.subcommand.ensures

@@ -1,6 +1,0 @@
-use Rattle.std.proofs.Common.{◌∙◌}
-use Rattle.vend_commands.proofs.LineLemmas.{met, met_name}
-use Rattle.vend_commands.proofs.said.command.Goals as goal
-
-pub returns : goal.returns
-returns c = met c.subcommand.result _ (c.subcommand.ensures.name ∙ met_name c.args.matches.now) c.subcommand.ensures.rows

@@ -1,9 +1,0 @@
-use Rattle.std.proofs.Common.{◌∙◌}
-use Rattle.clap.proofs.WalkLemmas.{raw_values-rows}
-use Rattle.clap.specs.Matches.{found_of}
-use Rattle.vend_commands.specs.Said.{all_said, rows_in}
-use Rattle.vend_commands.proofs.said.texts.Goals as goal
-
-pub returns : goal.returns
-unfolding all_said rows_in
-returns c = c.get_strs.ensures ∙ raw_values-rows (found_of c.args.matches.now) c.args.id.now
