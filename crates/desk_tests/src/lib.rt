@@ -1,12 +1,15 @@
 //! Tests of the desk, which have no code of their own.
 //!
 //! Messages as they are written, cut anywhere, at the limits, and with each fault; bodies, routes
-//! and replies; and whole conversations, with an office in memory too. What is expected was worked
-//! out by hand, from `docs/DESK.md`.
+//! and replies; and whole conversations, with an office in memory or in a file too, beside the
+//! office over plain lists. What is expected was worked out by hand, from `docs/DESK.md` and
+//! `docs/OFFICE.md`.
 #![tactic(auto)]
 
 #[cfg(test)]
 mod answers;
+#[cfg(test)]
+mod asked;
 #[cfg(test)]
 mod bodies;
 #[cfg(test)]
@@ -19,6 +22,8 @@ mod inputs;
 mod limits;
 #[cfg(test)]
 mod messages;
+#[cfg(test)]
+mod offices;
 #[cfg(test)]
 mod replies;
 #[cfg(test)]

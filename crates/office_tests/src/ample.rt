@@ -1,9 +1,9 @@
 //! With memory and a store at hand each kind of request is granted, and each refusal comes that
 //! the office's rules have; want of memory and a failed store never do. In memory and in a file.
 
-use crate::asks::{ASKS, Ask, Wanted, is_wanted, request};
-use crate::both::{Both, agree, ask, in_memory};
-use crate::lives::{close, open, remove};
+use office_testing::asks::{ASKS, Ask, Wanted, is_wanted, request};
+use office_testing::both::{Both, agree, ask, in_memory};
+use office_testing::in_file::{close, open, remove};
 use sqlite::Alter;
 use std::process::Abort;
 use std::test::Fail;
@@ -17,10 +17,10 @@ fn serve_asks<S: Alter, T: BlockTransform>(
     asks: &[(i64, Ask, Wanted)],
 ) -> Result<(), Fail> {
     for (seconds, asked, wanted) in asks {
-        let reply = ask(rt, both, *seconds, request(rt.alloc(), *asked)?)?;
+        let reply = ask(both, *seconds, request(rt.alloc(), *asked)?)?;
         assert!(rt; is_wanted(*wanted, &reply), "{reply:?}");
     }
-    agree(rt, both)
+    agree(both)
 }
 
 #[test]

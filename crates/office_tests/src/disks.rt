@@ -1,7 +1,7 @@
 //! Disks in memory that stop at a call, and the lives of offices on them.
 
-use crate::both::serve_all;
 use books::Books;
+use office_testing::both::serve_all;
 use sqlite::{Connection, FileStore, Files, Options};
 use sqlite_disk::{Disk, Fuse, Memory};
 use std::alloc::{AllocError, Global};
@@ -59,6 +59,8 @@ pub(crate) struct Ended {
 
 type Stored = Connection<FileStore<Fuse<Memory>>>;
 
+type Office = Books<FileStore<Fuse<Memory>>, Plain>;
+
 /// No file yet.
 pub(crate) fn nothing(alloc: Global) -> Kept {
     Kept {
@@ -107,18 +109,31 @@ fn disconnect(alloc: Global, conn: Stored) -> Result<Kept, AllocError> {
     keep(alloc, &conn.into_store().close())
 }
 
-// The requests of a life, once its connection is open.
-fn live(alloc: Global, conn: Stored, script: &[Stamped]) -> Result<Ended, Fail> {
+// The books of a connection, or the connection where it holds no office. This and the next have no
+// clause, so that the proof of a life does not carry what the books promise.
+fn opened(alloc: Global, conn: Stored) -> Result<Result<Office, Stored>, Fail> {
     if !conn.is_autocommit() {
         return Err("a transaction is open".into());
     }
     match Books::open_from(alloc, conn, Plain) {
+        Ok(books) => Ok(Ok(books)),
+        Err((_, conn)) => Ok(Err(conn)),
+    }
+}
+
+fn given_back(books: Office) -> Stored {
+    books.into_connection()
+}
+
+// The requests of a life, once its connection is open.
+fn live(alloc: Global, conn: Stored, script: &[Stamped]) -> Result<Ended, Fail> {
+    match opened(alloc, conn)? {
         Ok(mut books) => {
             let replies = Some(serve_all(&mut books, script)?);
-            let kept = disconnect(alloc, books.into_connection())?;
+            let kept = disconnect(alloc, given_back(books))?;
             Ok(Ended { replies, kept })
         }
-        Err((_, conn)) => Ok(Ended {
+        Err(conn) => Ok(Ended {
             replies: None,
             kept: disconnect(alloc, conn)?,
         }),

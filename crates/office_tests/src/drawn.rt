@@ -1,9 +1,9 @@
 //! Drawn requests, in memory and in a file that is closed and opened again.
 
-use crate::both::{Both, agree, ask, in_memory};
 use crate::draws::Draws;
-use crate::lives::{close, open, remove};
-use crate::values::{import, meter, meter_no, operator, order_of, tariff_name};
+use office_testing::both::{Both, agree, ask, in_memory};
+use office_testing::in_file::{close, open, remove};
+use office_testing::values::{import, meter, meter_no, operator, order_of, tariff_name};
 use sqlite::Alter;
 use std::alloc::Global;
 use std::process::Abort;
@@ -124,11 +124,11 @@ fn compare<S: Alter, T: BlockTransform>(
     for _ in 0..many {
         let request = request(rt.alloc(), draws)?;
         let moment = clock.now.saturating_add(i64::from(draws.below(clock.off)));
-        let reply = ask(rt, both, moment, request)?;
+        let reply = ask(both, moment, request)?;
         count(&mut counts, &reply);
         clock.now = clock.now.saturating_add(clock.step);
     }
-    agree(rt, both)?;
+    agree(both)?;
     Ok(counts)
 }
 

@@ -1,9 +1,9 @@
 //! Imports: sent twice, with a bad row, at their greatest size in a file, and where the store stops.
 
-use crate::both::{Both, agree, ask, in_memory, office, refuses};
 use crate::disks::{Ended, Kept, SOUND, Stopping, count, life, nothing};
-use crate::lives::{close, open, remove};
-use crate::values::{
+use office_testing::both::{Both, agree, ask, in_memory, office, refuses};
+use office_testing::in_file::{close, open, remove};
+use office_testing::values::{
     FIRST_DAY, METER, NO_METER, OTHER_METER, flat, import, meter, meter_no, stamped, tariff_name,
 };
 use sqlite::Alter;
@@ -16,11 +16,10 @@ use vend_core::{Answer, Lists, MeterNo, Refusal, Reply, Request, Row, RowCause, 
 
 // How many rows were new.
 fn imported<S: Alter, T: BlockTransform>(
-    rt: &impl Abort,
     both: &mut Both<S, T>,
     rows: Vec<Row>,
 ) -> Result<u32, Fail> {
-    let reply = ask(rt, both, FIRST_DAY, import(rows)?)?;
+    let reply = ask(both, FIRST_DAY, import(rows)?)?;
     match &reply {
         Ok(Answer::Imported(new)) => Ok(*new),
         _ => Ok(None.ok_or("not imported")?),
@@ -40,17 +39,17 @@ fn meters_come_twice(rt: HostRuntime) -> Result<(), Fail> {
     let alloc = rt.alloc();
     let mut both = in_memory(alloc)?;
     let added = Request::AddTariff(tariff_name(b"flat")?, flat(alloc, 100)?);
-    let _ = ask(&rt, &mut both, FIRST_DAY, added)??;
-    assert_eq!(rt; imported(&rt, &mut both, two_meters(alloc)?)?, 2);
-    assert_eq!(rt; imported(&rt, &mut both, two_meters(alloc)?)?, 0);
+    let _ = ask(&mut both, FIRST_DAY, added)??;
+    assert_eq!(rt; imported(&mut both, two_meters(alloc)?)?, 2);
+    assert_eq!(rt; imported(&mut both, two_meters(alloc)?)?, 0);
     // one of them is on another tariff by now
     let other = Request::AddTariff(tariff_name(b"night")?, flat(alloc, 50)?);
-    let _ = ask(&rt, &mut both, FIRST_DAY, other)??;
+    let _ = ask(&mut both, FIRST_DAY, other)??;
     let set = Request::SetTariff(meter_no(OTHER_METER)?, tariff_name(b"night")?);
-    let _ = ask(&rt, &mut both, FIRST_DAY, set)??;
+    let _ = ask(&mut both, FIRST_DAY, set)??;
     let again = import(two_meters(alloc)?)?;
     let second = Refusal::ImportRow(2, RowCause::Differs);
-    refuses(&rt, &mut both, again, second)
+    refuses(&mut both, again, second)
 }
 
 // A tariff that comes with the import, and a meter on it.
@@ -65,15 +64,15 @@ fn on_night() -> Result<Row, Fail> {
 #[test]
 fn rows_see_the_rows_before(rt: HostRuntime) -> Result<(), Fail> {
     let alloc = rt.alloc();
-    let mut both = office(&rt, alloc, Base::Y2014, flat(alloc, 100)?)?;
+    let mut both = office(alloc, Base::Y2014, flat(alloc, 100)?)?;
     let early = import(vec![in alloc; on_night()?, night(alloc, 50)?]?)?;
     let first = Refusal::ImportRow(1, RowCause::NoTariff);
-    refuses(&rt, &mut both, early, first)?;
+    refuses(&mut both, early, first)?;
     let twice = vec![in alloc; night(alloc, 50)?, night(alloc, 50)?, night(alloc, 51)?]?;
     let third = Refusal::ImportRow(3, RowCause::Differs);
-    refuses(&rt, &mut both, import(twice)?, third)?;
+    refuses(&mut both, import(twice)?, third)?;
     let rows = vec![in alloc; night(alloc, 50)?, on_night()?, night(alloc, 50)?]?;
-    assert_eq!(rt; imported(&rt, &mut both, rows)?, 2);
+    assert_eq!(rt; imported(&mut both, rows)?, 2);
     Ok(())
 }
 
@@ -115,12 +114,12 @@ fn the_greatest_import_in_a_file(rt: HostRuntime) -> Result<(), Fail> {
     let mut both = open(&rt, path, Plain, Lists::new(alloc, Plain))?;
     let bad = import(spoiled(alloc, 9_998)?)?;
     let last = Refusal::ImportRow(10_000, RowCause::NoTariff);
-    refuses(&rt, &mut both, bad, last)?;
-    assert_eq!(rt; imported(&rt, &mut both, many(alloc, 9_999)?)?, 10_000);
+    refuses(&mut both, bad, last)?;
+    assert_eq!(rt; imported(&mut both, many(alloc, 9_999)?)?, 10_000);
     let lists = close(both)?;
     let mut both = open(&rt, path, Plain, lists)?;
-    assert_eq!(rt; imported(&rt, &mut both, many(alloc, 9_999)?)?, 0);
-    agree(&rt, &mut both)?;
+    assert_eq!(rt; imported(&mut both, many(alloc, 9_999)?)?, 0);
+    agree(&mut both)?;
     let _ = close(both)?;
     remove(alloc, &rt, path)
 }

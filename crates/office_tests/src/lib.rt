@@ -1,18 +1,12 @@
-//! Tests of the office in its file and at its desk, which have no code of their own.
+//! Tests of the office in its file, which have no code of their own.
 //!
 //! Each reply of the books is compared with the one that the office over plain lists gives to the
-//! same request. What is expected was worked out by hand, from `docs/OFFICE.md`, `docs/PROFILE.md`,
-//! `docs/LIVES.md` and `docs/DESK.md`.
+//! same request. What is expected was worked out by hand, from `docs/OFFICE.md`, `docs/PROFILE.md`
+//! and `docs/LIVES.md`.
 #![tactic(auto)]
 
 #[cfg(test)]
 mod ample;
-#[cfg(test)]
-mod asks;
-#[cfg(test)]
-mod both;
-#[cfg(test)]
-mod desks;
 #[cfg(test)]
 mod disks;
 #[cfg(test)]
@@ -26,8 +20,6 @@ mod imports;
 #[cfg(test)]
 mod lives;
 #[cfg(test)]
-mod messages;
-#[cfg(test)]
 mod pages;
 #[cfg(test)]
 mod refusals;
@@ -35,5 +27,3 @@ mod refusals;
 mod sales;
 #[cfg(test)]
 mod stops;
-#[cfg(test)]
-mod values;

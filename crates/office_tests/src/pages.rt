@@ -1,8 +1,8 @@
 //! Many requests at once, the sales a page at a time, and books whose connection is given back.
 
-use crate::both::{Both, agree, in_memory, is_same, office, serve, serve_all, sold};
-use crate::values::{FIRST_DAY, METER, OTHER_METER, flat, order, stamped};
 use books::{Books, OpenFault};
+use office_testing::both::{Both, agree, in_memory, is_same, office, serve, serve_all, sold};
+use office_testing::values::{FIRST_DAY, METER, OTHER_METER, flat, order, stamped};
 use papers::{TextFault, sales_csv};
 use sqlite::{Connection, MemStore};
 use std::alloc::Global;
@@ -62,7 +62,7 @@ fn has_page(
 #[test]
 fn a_thousand_sales_and_three(rt: HostRuntime) -> Result<(), Fail> {
     let alloc = rt.alloc();
-    let mut both = office(&rt, alloc, Base::Y2014, flat(alloc, 100)?)?;
+    let mut both = office(alloc, Base::Y2014, flat(alloc, 100)?)?;
     serve_orders(&rt, &mut both, &orders(alloc, 1_003)?)?;
     assert_eq!(rt; both.books.next_number(), 1_004);
     has_page(&rt, &mut both, 0, false, 1_000)?;
@@ -74,7 +74,7 @@ fn a_thousand_sales_and_three(rt: HostRuntime) -> Result<(), Fail> {
     assert!(rt; page(&mut both, u32::MAX, true)?.is_empty());
     // Sent again, they are answered with the same sales, and add none.
     serve_orders(&rt, &mut both, &orders(alloc, 20)?)?;
-    agree(&rt, &mut both)
+    agree(&mut both)
 }
 
 const EXPORT: &[u8] =
@@ -119,7 +119,7 @@ fn has_export(rt: &(impl Abort + AllocGlobal), both: &mut Office, many: usize) -
 #[test]
 fn an_export_in_three_pages(rt: HostRuntime) -> Result<(), Fail> {
     let alloc = rt.alloc();
-    let mut both = office(&rt, alloc, Base::Y2014, flat(alloc, 100)?)?;
+    let mut both = office(alloc, Base::Y2014, flat(alloc, 100)?)?;
     let orders = orders(alloc, 2_001)?;
     serve_orders(&rt, &mut both, orders.get(..2_000).ok_or("orders")?)?;
     has_export(&rt, &mut both, 2_000)?;
@@ -133,7 +133,7 @@ fn no_requests_and_no_sales(rt: HostRuntime) -> Result<(), Fail> {
     serve_orders(&rt, &mut both, &[])?;
     assert_eq!(rt; both.books.next_number(), 1);
     assert!(rt; page(&mut both, 0, true)?.is_empty());
-    agree(&rt, &mut both)
+    agree(&mut both)
 }
 
 fn reopened(
@@ -152,7 +152,7 @@ fn reopened(
 #[test]
 fn books_over_the_same_connection(rt: HostRuntime) -> Result<(), Fail> {
     let alloc = rt.alloc();
-    let mut both = office(&rt, alloc, Base::Y2014, flat(alloc, 100)?)?;
+    let mut both = office(alloc, Base::Y2014, flat(alloc, 100)?)?;
     serve_orders(&rt, &mut both, &orders(alloc, 5)?)?;
     let Both { books, lists } = both;
     let mut conn = books.into_connection();
@@ -162,17 +162,17 @@ fn books_over_the_same_connection(rt: HostRuntime) -> Result<(), Fail> {
     assert_eq!(rt; last, 5);
     let books = reopened(alloc, conn)?;
     let mut both = Both { books, lists };
-    agree(&rt, &mut both)?;
-    let sale = sold(&rt, &mut both, FIRST_DAY, order(b"B-1", METER, 10)?)?;
+    agree(&mut both)?;
+    let sale = sold(&mut both, FIRST_DAY, order(b"B-1", METER, 10)?)?;
     assert_eq!(rt; (sale.number, sale.tid), (6, 4));
-    agree(&rt, &mut both)
+    agree(&mut both)
 }
 
 // A request that meets a row which is no office's: the books stop, until they are opened again.
 #[test]
 fn a_row_that_is_no_offices(rt: HostRuntime) -> Result<(), Fail> {
     let alloc = rt.alloc();
-    let both = office(&rt, alloc, Base::Y2014, flat(alloc, 100)?)?;
+    let both = office(alloc, Base::Y2014, flat(alloc, 100)?)?;
     let mut conn = both.books.into_connection();
     let spoil = "UPDATE meters SET secret = 'xyz' WHERE meter = '10000000009'";
     conn.execute_batch(spoil)?;

@@ -2,7 +2,7 @@
 //! comes again gives one sale.
 
 use crate::disks::{Ended, Kept, SOUND, Stopping, count, life, nothing};
-use crate::values::{
+use office_testing::values::{
     FIRST_DAY, METER, flat, meter, meter_no, moment, operator, order, stamped, tariff_name,
 };
 use std::alloc::Global;

@@ -6,7 +6,6 @@ use crate::values::{
 use books::Books;
 use sqlite::{Alter, MemStore};
 use std::alloc::Global;
-use std::process::Abort;
 use std::test::Fail;
 use sts_fields::Base;
 use sts_token::{BlockTransform, Plain};
@@ -14,13 +13,13 @@ use tariff::Steps;
 use vend_core::{Answer, Lists, Refusal, Reply, Request, Sale, Stamped};
 
 #[derive(Drop)]
-pub(crate) struct Both<S: Alter, T> {
-    pub(crate) books: Books<S, T>,
-    pub(crate) lists: Lists<T>,
+pub struct Both<S: Alter, T> {
+    pub books: Books<S, T>,
+    pub lists: Lists<T>,
 }
 
 /// Both offices, which are empty.
-pub(crate) fn in_memory(alloc: Global) -> Result<Both<MemStore, Plain>, Fail> {
+pub fn in_memory(alloc: Global) -> Result<Both<MemStore, Plain>, Fail> {
     Ok(Both {
         books: Books::in_memory(alloc, Plain)?,
         lists: Lists::new(alloc, Plain),
@@ -28,20 +27,14 @@ pub(crate) fn in_memory(alloc: Global) -> Result<Both<MemStore, Plain>, Fail> {
 }
 
 /// Both offices in memory, with an open shift of ann's and two meters on a tariff.
-pub(crate) fn office(
-    rt: &impl Abort,
-    alloc: Global,
-    base: Base,
-    steps: Steps,
-) -> Result<Both<MemStore, Plain>, Fail> {
+pub fn office(alloc: Global, base: Base, steps: Steps) -> Result<Both<MemStore, Plain>, Fail> {
     let mut both = in_memory(alloc)?;
-    furnish(rt, &mut both, base, steps)?;
+    furnish(&mut both, base, steps)?;
     Ok(both)
 }
 
 /// Opens ann's shift, and adds two meters on the tariff `block`.
-pub(crate) fn furnish<S: Alter, T: BlockTransform>(
-    rt: &impl Abort,
+pub fn furnish<S: Alter, T: BlockTransform>(
     both: &mut Both<S, T>,
     base: Base,
     steps: Steps,
@@ -54,17 +47,17 @@ pub(crate) fn furnish<S: Alter, T: BlockTransform>(
         Request::OpenShift(operator(b"ann")?),
     ];
     for request in requests {
-        let _ = ask(rt, both, FIRST_DAY, request)??;
+        let _ = ask(both, FIRST_DAY, request)??;
     }
     Ok(())
 }
 
 // These have no clause, so that the proof of a test does not carry what the books promise.
-pub(crate) fn serve<S: Alter, T: BlockTransform>(books: &mut Books<S, T>, at: &Stamped) -> Reply {
+pub fn serve<S: Alter, T: BlockTransform>(books: &mut Books<S, T>, at: &Stamped) -> Reply {
     books.serve(at)
 }
 
-pub(crate) fn serve_all<S: Alter, T: BlockTransform>(
+pub fn serve_all<S: Alter, T: BlockTransform>(
     books: &mut Books<S, T>,
     ats: &[Stamped],
 ) -> Result<Vec<Reply>, Refusal> {
@@ -78,13 +71,13 @@ fn page<S: Alter, T: BlockTransform>(
     books.sales_after(number, 1000)
 }
 
-fn next_number<S: Alter, T: BlockTransform>(books: &Books<S, T>) -> u64 {
+/// The number of the next sale.
+pub fn next_number<S: Alter, T: BlockTransform>(books: &Books<S, T>) -> u64 {
     books.next_number()
 }
 
 /// The reply that both give. The nibble is that of the next sale's number.
-pub(crate) fn ask<S: Alter, T: BlockTransform>(
-    rt: &impl Abort,
+pub fn ask<S: Alter, T: BlockTransform>(
     both: &mut Both<S, T>,
     seconds: i64,
     request: Request,
@@ -93,32 +86,29 @@ pub(crate) fn ask<S: Alter, T: BlockTransform>(
     let at = stamped(seconds, nibble, request)?;
     let reply = serve(&mut both.books, &at);
     let expected = both.lists.serve(&at);
-    assert!(rt;
-        is_same(&reply, &expected),
-        "{reply:?}, and not {expected:?}"
-    );
-    Ok(reply)
+    if is_same(&reply, &expected) {
+        return Ok(reply);
+    }
+    Err(Fail::new(format_args!("{reply:?}, and not {expected:?}")))
 }
 
-pub(crate) fn sold<S: Alter, T: BlockTransform>(
-    rt: &impl Abort,
+pub fn sold<S: Alter, T: BlockTransform>(
     both: &mut Both<S, T>,
     seconds: i64,
     request: Request,
 ) -> Result<Sale, Fail> {
-    let reply = ask(rt, both, seconds, request)?;
+    let reply = ask(both, seconds, request)?;
     match &reply {
         Ok(Answer::Sold(sale)) => Ok(*sale),
         _ => Ok(None.ok_or("not sold")?),
     }
 }
 
-pub(crate) fn reprinted<S: Alter, T: BlockTransform>(
-    rt: &impl Abort,
+pub fn reprinted<S: Alter, T: BlockTransform>(
     both: &mut Both<S, T>,
     number: u32,
 ) -> Result<Sale, Fail> {
-    let reply = ask(rt, both, FIRST_DAY, Request::Reprint(number))?;
+    let reply = ask(both, FIRST_DAY, Request::Reprint(number))?;
     match &reply {
         Ok(Answer::Reprinted(sale)) => Ok(*sale),
         _ => Ok(None.ok_or("not reprinted")?),
@@ -126,69 +116,68 @@ pub(crate) fn reprinted<S: Alter, T: BlockTransform>(
 }
 
 /// Both refuse the request on the office's first day.
-pub(crate) fn refuses<S: Alter, T: BlockTransform>(
-    rt: &impl Abort,
+pub fn refuses<S: Alter, T: BlockTransform>(
     both: &mut Both<S, T>,
     request: Request,
     refusal: Refusal,
 ) -> Result<(), Fail> {
-    refuses_at(rt, both, FIRST_DAY, request, refusal)
+    refuses_at(both, FIRST_DAY, request, refusal)
 }
 
 /// Both refuse the request, and show as before.
-pub(crate) fn refuses_at<S: Alter, T: BlockTransform>(
-    rt: &impl Abort,
+pub fn refuses_at<S: Alter, T: BlockTransform>(
     both: &mut Both<S, T>,
     seconds: i64,
     request: Request,
     refusal: Refusal,
 ) -> Result<(), Fail> {
     let next = next_number(&both.books);
-    match ask(rt, both, seconds, request)? {
-        Ok(_) => assert!(rt; false, "not refused: {refusal}"),
-        Err(given) => assert_eq!(rt; given, refusal),
+    let is_refused = match ask(both, seconds, request)? {
+        Ok(_) => false,
+        Err(given) => given == refusal,
+    };
+    if !is_refused {
+        return Err(Fail::new(format_args!("not refused: {refusal}")));
     }
-    assert_eq!(rt; next_number(&both.books), next, "changed by {refusal}");
-    agree(rt, both)
+    if next_number(&both.books) != next {
+        return Err(Fail::new(format_args!("changed by {refusal}")));
+    }
+    agree(both)
 }
 
 /// Both have the same sales and the same shifts, which they show by number.
-pub(crate) fn agree<S: Alter, T: BlockTransform>(
-    rt: &impl Abort,
-    both: &mut Both<S, T>,
-) -> Result<(), Fail> {
+pub fn agree<S: Alter, T: BlockTransform>(both: &mut Both<S, T>) -> Result<(), Fail> {
     let mut first = 0;
     for expected in both.lists.sales().chunks(1000) {
         let sales = page(&mut both.books, first)?;
-        assert!(rt; sales.as_slice() == expected, "sales after {first}");
+        if sales.as_slice() != expected {
+            return Err(Fail::new(format_args!("other sales after {first}")));
+        }
         first = expected.last().map_or(first, |sale| sale.number);
     }
-    assert!(rt;
-        page(&mut both.books, first)?.is_empty(),
-        "sales after {first}"
-    );
-    assert_eq!(rt;
-        next_number(&both.books),
-        u64::from(first).saturating_add(1)
-    );
-    agree_on_shifts(rt, both)
+    if !page(&mut both.books, first)?.is_empty() {
+        return Err(Fail::new(format_args!("sales after the last, {first}")));
+    }
+    if next_number(&both.books) != u64::from(first).saturating_add(1) {
+        return Err(Fail::new(format_args!("another number after {first}")));
+    }
+    agree_on_shifts(both)
 }
 
 // One shift more than there are, which both refuse.
-fn agree_on_shifts<S: Alter, T: BlockTransform>(
-    rt: &impl Abort,
-    both: &mut Both<S, T>,
-) -> Result<(), Fail> {
+fn agree_on_shifts<S: Alter, T: BlockTransform>(both: &mut Both<S, T>) -> Result<(), Fail> {
     let last = u32::try_from(both.lists.shifts().len())?.saturating_add(1);
     for number in 1..=last {
-        let reply = ask(rt, both, FIRST_DAY, Request::ShiftReport(number))?;
-        assert_eq!(rt; reply.is_ok(), number < last, "shift {number}");
+        let reply = ask(both, FIRST_DAY, Request::ShiftReport(number))?;
+        if reply.is_ok() != (number < last) {
+            return Err(Fail::new(format_args!("shift {number}")));
+        }
     }
     Ok(())
 }
 
 /// Whether two replies are the same to the last field.
-pub(crate) fn is_same(one: &Reply, other: &Reply) -> bool {
+pub fn is_same(one: &Reply, other: &Reply) -> bool {
     match (one, other) {
         (Ok(one), Ok(other)) => is_same_answer(one, other),
         (Err(one), Err(other)) => one == other,

@@ -7,46 +7,46 @@ use tariff::{Step, Steps, Tender};
 use vend_core::{Meter, MeterNo, Operator, Order, Ref, Request, Row, Rows, Stamped, TariffName};
 
 /// 2014-01-01T00:00:30Z
-pub(crate) const FIRST_DAY: i64 = 1_388_534_430;
+pub const FIRST_DAY: i64 = 1_388_534_430;
 
 /// 2024-11-24T20:15:59Z, the last second of the identifiers from 1993 on.
-pub(crate) const LAST_SECOND: i64 = 1_732_479_359;
+pub const LAST_SECOND: i64 = 1_732_479_359;
 
-pub(crate) const METER: &[u8] = b"12345678903";
+pub const METER: &[u8] = b"12345678903";
 
-pub(crate) const OTHER_METER: &[u8] = b"10000000009";
+pub const OTHER_METER: &[u8] = b"10000000009";
 
 /// No office has it.
-pub(crate) const NO_METER: &[u8] = b"00000000000";
+pub const NO_METER: &[u8] = b"00000000000";
 
-pub(crate) fn tariff_name(text: &[u8]) -> Result<TariffName, Fail> {
+pub fn tariff_name(text: &[u8]) -> Result<TariffName, Fail> {
     Ok(TariffName::read(text).ok_or("no tariff's name")?)
 }
 
-pub(crate) fn meter_no(text: &[u8]) -> Result<MeterNo, Fail> {
+pub fn meter_no(text: &[u8]) -> Result<MeterNo, Fail> {
     Ok(MeterNo::read(text).ok_or("no meter's number")?)
 }
 
-pub(crate) fn operator(text: &[u8]) -> Result<Operator, Fail> {
+pub fn operator(text: &[u8]) -> Result<Operator, Fail> {
     Ok(Operator::read(text).ok_or("no operator")?)
 }
 
-pub(crate) fn moment(seconds: i64) -> Result<Moment, Fail> {
+pub fn moment(seconds: i64) -> Result<Moment, Fail> {
     Ok(Moment::of_secs(seconds).ok_or("no moment")?)
 }
 
 /// One step without an end.
-pub(crate) fn flat(alloc: Global, price: u32) -> Result<Steps, Fail> {
+pub fn flat(alloc: Global, price: u32) -> Result<Steps, Fail> {
     Ok(Steps::read(alloc, &[Step { ends: None, price }])?)
 }
 
 /// 500 tenths a month cost 100 cents a kWh, the others 200.
-pub(crate) fn block(alloc: Global) -> Result<Steps, Fail> {
+pub fn block(alloc: Global) -> Result<Steps, Fail> {
     Ok(Steps::of_text(alloc, b"500:100;:200")?)
 }
 
 /// A meter of the key 0.
-pub(crate) fn meter(base: Base, tariff: &[u8]) -> Result<Meter, Fail> {
+pub fn meter(base: Base, tariff: &[u8]) -> Result<Meter, Fail> {
     Ok(Meter {
         base,
         tariff: tariff_name(tariff)?,
@@ -55,16 +55,11 @@ pub(crate) fn meter(base: Base, tariff: &[u8]) -> Result<Meter, Fail> {
 }
 
 /// An order of ann's.
-pub(crate) fn order(order_ref: &[u8], meter: &[u8], cents: u64) -> Result<Request, Fail> {
+pub fn order(order_ref: &[u8], meter: &[u8], cents: u64) -> Result<Request, Fail> {
     order_of(b"ann", order_ref, meter, cents)
 }
 
-pub(crate) fn order_of(
-    who: &[u8],
-    order_ref: &[u8],
-    meter: &[u8],
-    cents: u64,
-) -> Result<Request, Fail> {
+pub fn order_of(who: &[u8], order_ref: &[u8], meter: &[u8], cents: u64) -> Result<Request, Fail> {
     Ok(Request::Sell(Order {
         operator: operator(who)?,
         order_ref: Ref::read(order_ref).ok_or("no ref")?,
@@ -73,14 +68,14 @@ pub(crate) fn order_of(
     }))
 }
 
-pub(crate) fn import(rows: Vec<Row>) -> Result<Request, Fail> {
+pub fn import(rows: Vec<Row>) -> Result<Request, Fail> {
     match Rows::of(rows) {
         Ok(rows) => Ok(Request::Import(rows)),
         Err(_) => Ok(None.ok_or("too many rows")?),
     }
 }
 
-pub(crate) fn stamped(seconds: i64, nibble: u8, request: Request) -> Result<Stamped, Fail> {
+pub fn stamped(seconds: i64, nibble: u8, request: Request) -> Result<Stamped, Fail> {
     Ok(Stamped {
         moment: moment(seconds)?,
         nibble: nibble % 16,

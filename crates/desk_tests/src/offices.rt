@@ -1,13 +1,13 @@
 //! The office at the desk, in memory and over a file: the list of `asks` as the messages of one
 //! conversation, each fault of the desk, and each message that is refused.
 
-use crate::asks::{ASKS, Ask, is_wanted, request};
-use crate::both::{Both, agree, in_memory};
-use crate::lives::{close, open, remove};
-use crate::messages::{json, message, reply_bytes};
-use crate::values::{FIRST_DAY, stamped};
+use crate::asked::{json, message, reply_bytes};
 use books::Books;
 use desk::{Desk, End, Script};
+use office_testing::asks::{ASKS, Ask, is_wanted, request};
+use office_testing::both::{Both, agree, in_memory};
+use office_testing::in_file::{close, open, remove};
+use office_testing::values::{FIRST_DAY, stamped};
 use sqlite::Alter;
 use std::alloc::Global;
 use std::process::Abort;
@@ -86,7 +86,7 @@ fn converse<S: Alter, T: BlockTransform>(
         rest = rest.get(bytes.len()..).unwrap_or(b"");
     }
     assert!(rt; rest.is_empty());
-    agree(rt, both)
+    agree(both)
 }
 
 const PAPERS: &[u8] = b"GET /sales/1 HTTP/1.1\r\nHost: d\r\n\r\n\
@@ -321,7 +321,7 @@ fn converse_on<S: Alter, T: BlockTransform>(
     faults(rt, books)?;
     comes_to(rt, books, FIRST_DAY, &many, TOO_MANY_ROWS, End::Closed)?;
     comes_to(rt, books, FIRST_DAY, b"", b"", End::Closed)?;
-    agree(rt, both)
+    agree(both)
 }
 
 #[test]

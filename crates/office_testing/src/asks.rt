@@ -11,14 +11,14 @@ use tariff::Steps;
 use vend_core::{Answer, Refusal, Reply, Request, Row, RowCause};
 
 /// A name and its steps.
-pub(crate) type TariffText = (&'static str, &'static str);
+pub type TariffText = (&'static str, &'static str);
 
 /// A meter's number, its base date, and its tariff.
-pub(crate) type MeterText = (&'static str, Base, &'static str);
+pub type MeterText = (&'static str, Base, &'static str);
 
 /// A request, by the texts that it is made of. Keys are 0, and orders are ann's.
 #[derive(Clone, Copy)]
-pub(crate) enum Ask {
+pub enum Ask {
     /// A name and its steps.
     AddTariff(&'static str, &'static str),
     /// A meter's number, its base date, and its tariff.
@@ -41,7 +41,7 @@ pub(crate) enum Ask {
 
 /// What a request has to be answered with.
 #[derive(Clone, Copy)]
-pub(crate) enum Wanted {
+pub enum Wanted {
     Done,
     Imported(u32),
     Opened(u32),
@@ -70,7 +70,7 @@ const TARIFFS: Ask = Ask::ImportTariffs(("night", ":50"), ("flat", ":100"));
 const METERS: Ask = Ask::ImportMeters((M1993, Base::Y1993, "flat"), (M2035, Base::Y2035, "night"));
 
 /// Moments, requests, and what they are answered with, one after another from an empty office.
-pub(crate) const ASKS: [(i64, Ask, Wanted); 45] = [
+pub const ASKS: [(i64, Ask, Wanted); 45] = [
     (FIRST_DAY, Ask::AddTariff("flat", ":100"), Wanted::Done),
     (FIRST_DAY, Ask::AddTariff("flat", ":100"), Wanted::Done),
     (
@@ -217,7 +217,7 @@ pub(crate) const ASKS: [(i64, Ask, Wanted); 45] = [
 ];
 
 /// The request of these texts.
-pub(crate) fn request(alloc: Global, ask: Ask) -> Result<Request, Fail> {
+pub fn request(alloc: Global, ask: Ask) -> Result<Request, Fail> {
     Ok(match ask {
         Ask::AddTariff(name, steps) => Request::AddTariff(
             tariff_name(name.as_bytes())?,
@@ -262,7 +262,7 @@ fn meters(alloc: Global, one: MeterText, other: MeterText) -> Result<Vec<Row>, F
 }
 
 /// Whether a reply is the one that is wanted.
-pub(crate) fn is_wanted(wanted: Wanted, reply: &Reply) -> bool {
+pub fn is_wanted(wanted: Wanted, reply: &Reply) -> bool {
     match (wanted, reply) {
         (Wanted::Done, Ok(Answer::Done)) => true,
         (Wanted::Imported(count), Ok(Answer::Imported(given)))

@@ -1,6 +1,6 @@
 //! Requests as messages of HTTP/1.1, and replies as bytes, by `docs/DESK.md`.
 
-use crate::asks::{Ask, MeterText, TariffText};
+use office_testing::asks::{Ask, MeterText, TariffText};
 use papers::{receipt, shift_report};
 use std::alloc::{AllocError, Global};
 use std::test::Fail;

@@ -1,0 +1,11 @@
+//! What tests of the office share: the office in tables beside the office over plain lists, which
+//! has to answer the same; requests by their texts; a list of requests with their replies.
+//!
+//! Nothing here has a contract beyond that it returns: a difference comes back as a failed test's
+//! message.
+#![tactic(auto)]
+
+pub mod asks;
+pub mod both;
+pub mod in_file;
+pub mod values;
