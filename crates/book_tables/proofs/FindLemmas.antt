@@ -1,22 +1,23 @@
 -- Statements that look up one record of the office's rows.
-use Rattle.std.proofs.Common.{sym, Ok, Err, subst, ◌≡◌, ℕ, List, [], map, Option, None, Some, Result, IfOk, IfErr, OnOk, IfSome, refl}
+use Rattle.std.proofs.Common.{sym, Ok, Err, subst, ◌≡◌, ℕ, List, [], map, Option, None, Some, Result, IfOk, IfErr, OnOk, IfSome, refl, false, OnErr}
 use Rattle.std.specs.Prelude.{All}
 use Rattle.std.specs.Option.{option_to_list}
 use Rattle.std.proofs.lemmas.List.Elements.{All-cons, All-nil, All-same}
 use Rattle.sqlite.specs.Effect.{Database}
 use Rattle.sqlite.specs.Order.{Row}
-use Rattle.sqlite.specs.State.{IsUnchanged, State}
+use Rattle.sqlite.specs.State.{HasCleanDisk, IsUnchanged, State, Survives}
 use Rattle.sqlite_resolve.specs.Scope.{Name}
 use Rattle.sqlite_schema.specs.declared.schema.Schema.{Schema}
 use Rattle.sqlite_schema.specs.declared.schema.Table.{Table}
 use Rattle.sqlite_sql.specs.Query.{IsAnswer, Query}
-use Rattle.one_table.specs.Answer.{GivesFirst, OnlyAsks}
+use Rattle.one_table.specs.Answer.{GivesFirst, IsLeft, OnlyAsks}
 use Rattle.one_table.specs.Place.{Has}
 use Rattle.one_table.specs.Standing.{place_in, tree_in}
 use Rattle.book_tables.specs.Holds.{HasOffice, Holds}
-use Rattle.book_tables.specs.Reading.{AreOfOffice, FailsToRead, FailsToShow, HasRows, HasTables, IsShown, ShowsRecord}
+use Rattle.book_tables.specs.Reading.{AreOfOffice, FailsToRead, FailsToShow, HasRows, HasTables, IsShown, OnlyReads, ShowsRecord}
 use Rattle.book_tables.specs.Rows.{Rows}
 use Rattle.book_tables.specs.declared.error.TableError.{TableError}
+use Rattle.book_tables.proofs.OnlyReadsLemmas.{only_reads}
 use Rattle.book_tables.proofs.ReadLemmas as read
 use Rattle.book_tables.proofs.ReadLemmas.{Asks}
 
@@ -62,3 +63,13 @@ module _ {M : Type 0} {sql : List ℕ} {params : Row} {shown : M → Row} {keeps
   fails old new has =
       read.fails f.asks f.name f.stands (ShowsRecord shown keeps) old new has
       (λ rows held of_office answer is. All-same (ShowsRecord shown keeps) answer (map shown (option_to_list (found rows))) (f.answers old.now rows held of_office answer is) (readable (found rows) (f.kept rows of_office)))
+
+  -- what it leaves of the tables
+  pub reads : {A : Type 0} (old new : State) (r : Result A TableError) (values : Row) → values ≡ params
+      → (HasCleanDisk new → OnlyAsks old sql → OnOk r (IsUnchanged old new))
+      → (HasCleanDisk new → OnlyAsks old sql → OnErr r (IsLeft old new))
+      → (old.in_transaction ≡ false → new.in_transaction ≡ false)
+      → (HasCleanDisk new → OnlyAsks old sql → IfErr r (FailsToShow (ShowsRecord shown keeps) sql values old new))
+      → (OnlyAsks old sql → Survives old new (λ _. ⊥)) → OnlyReads IsUnchanged old new r
+  reads old new r values are same kept mode faults survives =
+      only_reads r (only_asks old) same kept mode (λ clean has. fails old new has r values are (faults clean (only_asks old has))) survives

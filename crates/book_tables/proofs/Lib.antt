@@ -15,6 +15,7 @@ pub mod MemberLemmas
 pub mod MeterLemmas
 pub mod NewLemmas
 pub mod OneRowTexts
+pub mod OnlyReadsLemmas
 pub mod PartLemmas
 pub mod ReadLemmas
 pub mod RecognisingLemmas

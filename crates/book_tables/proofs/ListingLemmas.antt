@@ -1,22 +1,23 @@
 -- Statements that list records of the office's rows.
-use Rattle.std.proofs.Common.{◌≡◌, ℕ, List, [], ◌∷◌, map, Result, Ok, Err, IfOk, IfErr, OnOk, refl, sym, ap₂, subst}
+use Rattle.std.proofs.Common.{◌≡◌, ℕ, List, [], ◌∷◌, map, Result, Ok, Err, IfOk, IfErr, OnOk, refl, sym, ap₂, subst, false, OnErr}
 use Rattle.std.specs.Prelude.{All}
 use Rattle.std.specs.List.{AllZip}
 use Rattle.std.proofs.lemmas.List.Elements.{All-cons, All-head, All-nil, All-same, All-tail}
 use Rattle.sqlite.specs.Effect.{Database}
 use Rattle.sqlite.specs.Order.{Row}
-use Rattle.sqlite.specs.State.{IsUnchanged, State}
+use Rattle.sqlite.specs.State.{HasCleanDisk, IsUnchanged, State, Survives}
 use Rattle.sqlite_resolve.specs.Scope.{Name}
 use Rattle.sqlite_schema.specs.declared.schema.Schema.{Schema}
 use Rattle.sqlite_schema.specs.declared.schema.Table.{Table}
 use Rattle.sqlite_sql.specs.Query.{IsAnswer, Query}
-use Rattle.one_table.specs.Answer.{GivesAll, OnlyAsks}
+use Rattle.one_table.specs.Answer.{GivesAll, IsLeft, OnlyAsks}
 use Rattle.one_table.specs.Place.{Has}
 use Rattle.one_table.specs.Standing.{place_in, tree_in}
 use Rattle.book_tables.specs.Holds.{HasOffice, Holds}
-use Rattle.book_tables.specs.Reading.{AreOfOffice, FailsToRead, FailsToShow, HasRows, HasTables, IsShown, ShowsRecord}
+use Rattle.book_tables.specs.Reading.{AreOfOffice, FailsToRead, FailsToShow, HasRows, HasTables, IsShown, OnlyReads, ShowsRecord}
 use Rattle.book_tables.specs.Rows.{Rows}
 use Rattle.book_tables.specs.declared.error.TableError.{TableError}
+use Rattle.book_tables.proofs.OnlyReadsLemmas.{only_reads}
 use Rattle.book_tables.proofs.ReadLemmas as read
 use Rattle.book_tables.proofs.ReadLemmas.{Asks}
 
@@ -91,3 +92,13 @@ module _ {M : Type 0} {sql : List ℕ} {params : Row} {shown : M → Row} {keeps
   pub fails : {A : Type 0} (old new : State) → HasTables old → (r : Result A TableError) (values : Row) → values ≡ params
       → IfErr r (FailsToShow (ShowsRecord shown keeps) sql values old new) → IfErr r (FailsToRead old new)
   fails old new has = read.fails l.asks l.name l.stands (ShowsRecord shown keeps) old new has (all_readable old)
+
+  -- what it leaves of the tables
+  pub reads : {A : Type 0} (old new : State) (r : Result A TableError) (values : Row) → values ≡ params
+      → (HasCleanDisk new → OnlyAsks old sql → OnOk r (IsUnchanged old new))
+      → (HasCleanDisk new → OnlyAsks old sql → OnErr r (IsLeft old new))
+      → (old.in_transaction ≡ false → new.in_transaction ≡ false)
+      → (HasCleanDisk new → OnlyAsks old sql → IfErr r (FailsToShow (ShowsRecord shown keeps) sql values old new))
+      → (OnlyAsks old sql → Survives old new (λ _. ⊥)) → OnlyReads IsUnchanged old new r
+  reads old new r values are same kept mode faults survives =
+      only_reads r (only_asks old) same kept mode (λ clean has. fails old new has r values are (faults clean (only_asks old has))) survives

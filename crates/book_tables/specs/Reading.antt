@@ -1,10 +1,10 @@
 -- What a connection has of the office, and why a read of its tables fails.
-use Rattle.std.specs.Prelude.{◌≡◌, ◌⊎◌, ℕ, List, IsTrue}
+use Rattle.std.specs.Prelude.{◌≡◌, ◌⊎◌, ℕ, false, List, Result, IfErr, IsTrue, OnErr, OnOk}
 use Rattle.sqlite.specs.Order.{Row}
-use Rattle.sqlite.specs.State.{IsUnchanged, State}
+use Rattle.sqlite.specs.State.{HasCleanDisk, IsUnchanged, State, Survives}
 use Rattle.sqlite.specs.declared.error.Error.TheVariants.{SqliteFailure}
 use Rattle.sqlite.specs.declared.error.ErrorCode.TheVariants.{OutOfMemory}
-use Rattle.one_table.specs.Answer.{FailsToRead as FailsToAnswer}
+use Rattle.one_table.specs.Answer.{FailsToRead as FailsToAnswer, IsLeft}
 use Rattle.one_table.specs.Reading.{FailsPlainly}
 use Rattle.one_table.specs.declared.read_fault.ReadFault.{ReadFault}
 use Rattle.one_table.specs.declared.read_fault.ReadFault.TheVariants as fault
@@ -36,6 +36,16 @@ FailsToRead old new (Database e) =
     ⊎ ((e ≡ SqliteFailure OutOfMemory) × IsUnchanged old new)
 FailsToRead old new RowOfNoOffice =
     ((rows : Rows) → Holds old.now rows → ¬ AreOfOffice rows) × IsUnchanged old new
+
+-- tables that are only read: what is the same where the read succeeds; what is left where it fails,
+-- and why it does; and that a crash leaves nothing else
+pub record OnlyReads {T : Type 0} (Same : State → State → Type 0) (old new : State)
+    (result : Result T TableError) : Type 0 where
+  pub same : HasCleanDisk new → HasTables old → OnOk result (Same old new)
+  pub kept : HasCleanDisk new → HasTables old → OnErr result (IsLeft old new)
+  pub mode : old.in_transaction ≡ false → new.in_transaction ≡ false
+  pub faults : HasCleanDisk new → HasTables old → IfErr result (FailsToRead old new)
+  pub survives : HasTables old → Survives old new (λ _. ⊥)
 
 -- what is told of a reader's fault: rows that add up to too much are no office's either
 abbrev pub told : ReadFault → TableError

@@ -1,13 +1,12 @@
 //! The number of the format of the tables.
 
-ghost use Rattle.std.specs.Prelude.{◌≡◌, ◌<◌, ◌^◌, false, IsTrue, IfOk, IfErr, OnOk, OnErr};
+ghost use Rattle.std.specs.Prelude.{◌<◌, ◌^◌, IsTrue, IfOk};
 ghost use Rattle.sqlite.specs.Effect.{IsDatabase};
-ghost use Rattle.sqlite.specs.State.{HasCleanDisk, IsUnchanged, Survives};
+ghost use Rattle.sqlite.specs.State.{HasCleanDisk, IsUnchanged};
 ghost use Rattle.sqlite.specs.Held.{state};
-ghost use Rattle.one_table.specs.Answer.{IsLeft};
 ghost use Rattle.book_tables.specs.Format.{IsFormatOf, shown_format};
 ghost use Rattle.book_tables.specs.ReadBack.{ReadsBack};
-ghost use Rattle.book_tables.specs.Reading.{FailsToRead, HasTables};
+ghost use Rattle.book_tables.specs.Reading.{HasTables, OnlyReads};
 
 use crate::cells;
 use crate::error::TableError;
@@ -64,18 +63,8 @@ pub fn format_number<S: Alter>(
         → HasTables (state S.Store conn.old)
         → (IsTrue (state S.Store conn.old).is_open → IsDatabase (state S.Store conn.old).now)
         → IfOk result (IsFormatOf (state S.Store conn.old).now) }
-    ensures same { HasCleanDisk (state S.Store conn.new)
-        → HasTables (state S.Store conn.old)
-        → OnOk result (IsUnchanged (state S.Store conn.old) (state S.Store conn.new)) }
-    ensures kept { HasCleanDisk (state S.Store conn.new)
-        → HasTables (state S.Store conn.old)
-        → OnErr result (IsLeft (state S.Store conn.old) (state S.Store conn.new)) }
-    ensures mode { conn.old.in_transaction ≡ false → conn.new.in_transaction ≡ false }
-    ensures faults { HasCleanDisk (state S.Store conn.new)
-        → HasTables (state S.Store conn.old)
-        → IfErr result (FailsToRead (state S.Store conn.old) (state S.Store conn.new)) }
-    ensures survives { HasTables (state S.Store conn.old)
-        → Survives (state S.Store conn.old) (state S.Store conn.new) (λ _. ⊥) }
+    ensures reads { OnlyReads IsUnchanged
+        (state S.Store conn.old) (state S.Store conn.new) result }
 {
     let told: Vec<Told> = read_rows(alloc, conn, FORMAT, &[])?;
     if told.len() != 1 {

@@ -1,10 +1,9 @@
 //! The statements on the table of meters.
 
-ghost use Rattle.std.specs.Prelude.{◌≡◌, bytes_eq, false, find, option_map, IfOk, IfErr, OnOk, OnErr};
-ghost use Rattle.sqlite.specs.State.{HasCleanDisk, IsUnchanged, Survives};
+ghost use Rattle.std.specs.Prelude.{◌≡◌, bytes_eq, find, option_map, IfOk};
+ghost use Rattle.sqlite.specs.State.{HasCleanDisk, IsUnchanged};
 ghost use Rattle.sqlite.specs.Held.{state};
-ghost use Rattle.one_table.specs.Answer.{IsLeft};
-ghost use Rattle.book_tables.specs.Reading.{AreOfOffice, FailsToRead, HasRows, HasTables};
+ghost use Rattle.book_tables.specs.Reading.{AreOfOffice, HasRows, OnlyReads};
 ghost use Rattle.book_tables.specs.Rows.{Rows};
 
 use crate::error::TableError;
@@ -26,18 +25,8 @@ pub fn meter_numbered<S: Alter>(
         → (rows : Rows) → HasRows (state S.Store conn.old) rows → AreOfOffice rows
         → IfOk result (λ found. found ≡ option_map (λ r. r.1)
         (find (λ r. bytes_eq r.0 number.now) rows.meters)) }
-    ensures same { HasCleanDisk (state S.Store conn.new)
-        → HasTables (state S.Store conn.old)
-        → OnOk result (IsUnchanged (state S.Store conn.old) (state S.Store conn.new)) }
-    ensures kept { HasCleanDisk (state S.Store conn.new)
-        → HasTables (state S.Store conn.old)
-        → OnErr result (IsLeft (state S.Store conn.old) (state S.Store conn.new)) }
-    ensures mode { conn.old.in_transaction ≡ false → conn.new.in_transaction ≡ false }
-    ensures faults { HasCleanDisk (state S.Store conn.new)
-        → HasTables (state S.Store conn.old)
-        → IfErr result (FailsToRead (state S.Store conn.old) (state S.Store conn.new)) }
-    ensures survives { HasTables (state S.Store conn.old)
-        → Survives (state S.Store conn.old) (state S.Store conn.new) (λ _. ⊥) }
+    ensures reads { OnlyReads IsUnchanged
+        (state S.Store conn.old) (state S.Store conn.new) result }
 {
     first_record(conn, METER_NUMBERED, &meter_no_values(number))
 }

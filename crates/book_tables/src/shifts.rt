@@ -1,11 +1,10 @@
 //! The statements on the table of shifts.
 
-ghost use Rattle.std.specs.Prelude.{◌≡◌, ◌&&◌, ◌==◌, bytes_eq, false, find, is_none, length, option_map, unwrap_or, None, IfOk, IfErr, OnOk, OnErr};
+ghost use Rattle.std.specs.Prelude.{◌≡◌, ◌&&◌, ◌==◌, bytes_eq, find, is_none, length, option_map, unwrap_or, None, IfOk};
 ghost use Rattle.std.specs.List.{last_or};
-ghost use Rattle.sqlite.specs.State.{HasCleanDisk, IsUnchanged, Survives};
+ghost use Rattle.sqlite.specs.State.{HasCleanDisk, IsUnchanged};
 ghost use Rattle.sqlite.specs.Held.{state};
-ghost use Rattle.one_table.specs.Answer.{IsLeft};
-ghost use Rattle.book_tables.specs.Reading.{AreOfOffice, FailsToRead, HasRows, HasTables};
+ghost use Rattle.book_tables.specs.Reading.{AreOfOffice, HasRows, OnlyReads};
 ghost use Rattle.book_tables.specs.Rows.{Rows};
 
 use crate::error::TableError;
@@ -26,18 +25,8 @@ pub fn shift_numbered<S: Alter>(
     ensures given { HasCleanDisk (state S.Store conn.new)
         → (rows : Rows) → HasRows (state S.Store conn.old) rows → AreOfOffice rows
         → IfOk result (λ found. found ≡ find (λ s. s.number == number) rows.shifts) }
-    ensures same { HasCleanDisk (state S.Store conn.new)
-        → HasTables (state S.Store conn.old)
-        → OnOk result (IsUnchanged (state S.Store conn.old) (state S.Store conn.new)) }
-    ensures kept { HasCleanDisk (state S.Store conn.new)
-        → HasTables (state S.Store conn.old)
-        → OnErr result (IsLeft (state S.Store conn.old) (state S.Store conn.new)) }
-    ensures mode { conn.old.in_transaction ≡ false → conn.new.in_transaction ≡ false }
-    ensures faults { HasCleanDisk (state S.Store conn.new)
-        → HasTables (state S.Store conn.old)
-        → IfErr result (FailsToRead (state S.Store conn.old) (state S.Store conn.new)) }
-    ensures survives { HasTables (state S.Store conn.old)
-        → Survives (state S.Store conn.old) (state S.Store conn.new) (λ _. ⊥) }
+    ensures reads { OnlyReads IsUnchanged
+        (state S.Store conn.old) (state S.Store conn.new) result }
 {
     first_record(conn, SHIFT_NUMBERED, &number_values(number))
 }
@@ -54,18 +43,8 @@ pub fn open_shift<S: Alter>(
         → (rows : Rows) → HasRows (state S.Store conn.old) rows → AreOfOffice rows
         → IfOk result (λ found. found ≡ find (λ s. bytes_eq s.operator operator.now
         && is_none s.closed) rows.shifts) }
-    ensures same { HasCleanDisk (state S.Store conn.new)
-        → HasTables (state S.Store conn.old)
-        → OnOk result (IsUnchanged (state S.Store conn.old) (state S.Store conn.new)) }
-    ensures kept { HasCleanDisk (state S.Store conn.new)
-        → HasTables (state S.Store conn.old)
-        → OnErr result (IsLeft (state S.Store conn.old) (state S.Store conn.new)) }
-    ensures mode { conn.old.in_transaction ≡ false → conn.new.in_transaction ≡ false }
-    ensures faults { HasCleanDisk (state S.Store conn.new)
-        → HasTables (state S.Store conn.old)
-        → IfErr result (FailsToRead (state S.Store conn.old) (state S.Store conn.new)) }
-    ensures survives { HasTables (state S.Store conn.old)
-        → Survives (state S.Store conn.old) (state S.Store conn.new) (λ _. ⊥) }
+    ensures reads { OnlyReads IsUnchanged
+        (state S.Store conn.old) (state S.Store conn.new) result }
 {
     first_record(conn, OPEN_SHIFT, &operator_values(operator))
 }
@@ -82,18 +61,8 @@ pub fn last_shift_number<S: Alter>(conn: &mut Connection<S>) -> Result<Option<u3
     ensures counted { HasCleanDisk (state S.Store conn.new)
         → (rows : Rows) → HasRows (state S.Store conn.old) rows → AreOfOffice rows
         → IfOk result (λ found. unwrap_or found 0 ≡ length rows.shifts) }
-    ensures same { HasCleanDisk (state S.Store conn.new)
-        → HasTables (state S.Store conn.old)
-        → OnOk result (IsUnchanged (state S.Store conn.old) (state S.Store conn.new)) }
-    ensures kept { HasCleanDisk (state S.Store conn.new)
-        → HasTables (state S.Store conn.old)
-        → OnErr result (IsLeft (state S.Store conn.old) (state S.Store conn.new)) }
-    ensures mode { conn.old.in_transaction ≡ false → conn.new.in_transaction ≡ false }
-    ensures faults { HasCleanDisk (state S.Store conn.new)
-        → HasTables (state S.Store conn.old)
-        → IfErr result (FailsToRead (state S.Store conn.old) (state S.Store conn.new)) }
-    ensures survives { HasTables (state S.Store conn.old)
-        → Survives (state S.Store conn.old) (state S.Store conn.new) (λ _. ⊥) }
+    ensures reads { OnlyReads IsUnchanged
+        (state S.Store conn.old) (state S.Store conn.new) result }
 {
     first_record(conn, LAST_SHIFT_NUMBER, &[])
 }

@@ -1,14 +1,13 @@
 //! The statements on the sales to a meter, whose rows are taken one at a time: there may be more
 //! of them than there is memory.
 
-ghost use Rattle.std.specs.Prelude.{◌≡◌, ◌&&◌, ◌==◌, ◌+◌, ◌^◌, ◌<◌, ⊤, false, bytes_eq, filter, map, max, Some, sum_by, unwrap_or, IfOk, IfErr, OnOk, OnErr};
-ghost use Rattle.sqlite.specs.State.{HasCleanDisk, IsUnchanged, Survives};
+ghost use Rattle.std.specs.Prelude.{◌≡◌, ◌&&◌, ◌==◌, ◌+◌, ◌^◌, ◌<◌, ⊤, bytes_eq, filter, map, max, Some, sum_by, unwrap_or, IfOk};
+ghost use Rattle.sqlite.specs.State.{HasCleanDisk, IsUnchanged};
 ghost use Rattle.sqlite.specs.Held.{state};
 ghost use Rattle.sts_fields.specs.Calendar.{month_at};
-ghost use Rattle.one_table.specs.Answer.{IsLeft};
 ghost use Rattle.sts_fields.specs.Base.{base_eq};
 ghost use Rattle.vend_core.specs.Lookup.{greatest_of};
-ghost use Rattle.book_tables.specs.Reading.{AreOfOffice, FailsToRead, HasRows, HasTables};
+ghost use Rattle.book_tables.specs.Reading.{AreOfOffice, HasRows, OnlyReads};
 ghost use Rattle.book_tables.specs.Rows.{Rows, shown_number};
 ghost use Rattle.book_tables.specs.Values.{IsSoldAmount, IsTid};
 
@@ -100,18 +99,8 @@ pub fn greatest_tid<S: Alter>(
         → (rows : Rows) → HasRows (state S.Store conn.old) rows → AreOfOffice rows
         → IfOk result (λ greatest. greatest ≡ greatest_of (map (λ s. s.tid)
         (filter (λ s. bytes_eq s.meter meter.now && base_eq s.base base) rows.sales))) }
-    ensures same { HasCleanDisk (state S.Store conn.new)
-        → HasTables (state S.Store conn.old)
-        → OnOk result (IsUnchanged (state S.Store conn.old) (state S.Store conn.new)) }
-    ensures kept { HasCleanDisk (state S.Store conn.new)
-        → HasTables (state S.Store conn.old)
-        → OnErr result (IsLeft (state S.Store conn.old) (state S.Store conn.new)) }
-    ensures mode { conn.old.in_transaction ≡ false → conn.new.in_transaction ≡ false }
-    ensures faults { HasCleanDisk (state S.Store conn.new)
-        → HasTables (state S.Store conn.old)
-        → IfErr result (FailsToRead (state S.Store conn.old) (state S.Store conn.new)) }
-    ensures survives { HasTables (state S.Store conn.old)
-        → Survives (state S.Store conn.old) (state S.Store conn.new) (λ _. ⊥) }
+    ensures reads { OnlyReads IsUnchanged
+        (state S.Store conn.old) (state S.Store conn.new) result }
 {
     office_law();
     let start = Greatest { tid: None };
@@ -132,18 +121,8 @@ pub fn tenths_in_month<S: Alter>(
         → (rows : Rows) → HasRows (state S.Store conn.old) rows → AreOfOffice rows
         → IfOk result (λ tenths. tenths ≡ sum_by (λ s. s.tenths)
         (filter (λ s. bytes_eq s.meter meter.now && (month_at s.moment == month)) rows.sales)) }
-    ensures same { HasCleanDisk (state S.Store conn.new)
-        → HasTables (state S.Store conn.old)
-        → OnOk result (IsUnchanged (state S.Store conn.old) (state S.Store conn.new)) }
-    ensures kept { HasCleanDisk (state S.Store conn.new)
-        → HasTables (state S.Store conn.old)
-        → OnErr result (IsLeft (state S.Store conn.old) (state S.Store conn.new)) }
-    ensures mode { conn.old.in_transaction ≡ false → conn.new.in_transaction ≡ false }
-    ensures faults { HasCleanDisk (state S.Store conn.new)
-        → HasTables (state S.Store conn.old)
-        → IfErr result (FailsToRead (state S.Store conn.old) (state S.Store conn.new)) }
-    ensures survives { HasTables (state S.Store conn.old)
-        → Survives (state S.Store conn.old) (state S.Store conn.new) (λ _. ⊥) }
+    ensures reads { OnlyReads IsUnchanged
+        (state S.Store conn.old) (state S.Store conn.new) result }
 {
     amount_law();
     let start = Total { tenths: 0 };

@@ -1,12 +1,11 @@
 //! The statements on the tables of tariffs.
 
-ghost use Rattle.std.specs.Prelude.{◌≡◌, ◌≢◌, ◌↔◌, ◌⊎◌, [], false, unwrap_or, Contains, IsTrue, IfOk, IfErr, IfSome, OnOk, OnErr};
-ghost use Rattle.sqlite.specs.State.{HasCleanDisk, IsUnchanged, Survives};
+ghost use Rattle.std.specs.Prelude.{◌≡◌, ◌≢◌, ◌↔◌, ◌⊎◌, [], unwrap_or, Contains, IsTrue, IfOk, IfErr, IfSome};
+ghost use Rattle.sqlite.specs.State.{HasCleanDisk, IsUnchanged};
 ghost use Rattle.sqlite.specs.Held.{state};
 ghost use Rattle.tariff.specs.Steps.{IsSteps};
 ghost use Rattle.vend_core.specs.Office.{IsOffice, Office};
-ghost use Rattle.one_table.specs.Answer.{IsLeft};
-ghost use Rattle.book_tables.specs.Reading.{AreOfOffice, FailsToRead, HasRows, HasTables};
+ghost use Rattle.book_tables.specs.Reading.{AreOfOffice, HasRows, OnlyReads};
 ghost use Rattle.book_tables.specs.Rows.{Rows};
 ghost use Rattle.book_tables.specs.Stands.{AreMembersOf};
 
@@ -28,18 +27,8 @@ pub fn has_tariff<S: Alter>(conn: &mut Connection<S>, name: &TariffName) -> Resu
     ensures given { HasCleanDisk (state S.Store conn.new)
         → (rows : Rows) → HasRows (state S.Store conn.old) rows → AreOfOffice rows
         → IfOk result (λ there. IsTrue there ↔ Contains rows.tariffs name.now) }
-    ensures same { HasCleanDisk (state S.Store conn.new)
-        → HasTables (state S.Store conn.old)
-        → OnOk result (IsUnchanged (state S.Store conn.old) (state S.Store conn.new)) }
-    ensures kept { HasCleanDisk (state S.Store conn.new)
-        → HasTables (state S.Store conn.old)
-        → OnErr result (IsLeft (state S.Store conn.old) (state S.Store conn.new)) }
-    ensures mode { conn.old.in_transaction ≡ false → conn.new.in_transaction ≡ false }
-    ensures faults { HasCleanDisk (state S.Store conn.new)
-        → HasTables (state S.Store conn.old)
-        → IfErr result (FailsToRead (state S.Store conn.old) (state S.Store conn.new)) }
-    ensures survives { HasTables (state S.Store conn.old)
-        → Survives (state S.Store conn.old) (state S.Store conn.new) (λ _. ⊥) }
+    ensures reads { OnlyReads IsUnchanged
+        (state S.Store conn.old) (state S.Store conn.new) result }
 {
     let found: Option<TariffName> = first_record(conn, TARIFF_NAMED, &tariff_values(name))?;
     Ok(found.is_some())
@@ -79,18 +68,8 @@ pub fn steps_of<S: Alter>(
         → (rows : Rows) (o : Office) → HasRows (state S.Store conn.old) rows
         → IsOffice o → AreMembersOf rows o
         → IfOk result (λ found. found ≡ o.tariffs name.now) }
-    ensures same { HasCleanDisk (state S.Store conn.new)
-        → HasTables (state S.Store conn.old)
-        → OnOk result (IsUnchanged (state S.Store conn.old) (state S.Store conn.new)) }
-    ensures kept { HasCleanDisk (state S.Store conn.new)
-        → HasTables (state S.Store conn.old)
-        → OnErr result (IsLeft (state S.Store conn.old) (state S.Store conn.new)) }
-    ensures mode { conn.old.in_transaction ≡ false → conn.new.in_transaction ≡ false }
-    ensures faults { HasCleanDisk (state S.Store conn.new)
-        → HasTables (state S.Store conn.old)
-        → IfErr result (FailsToRead (state S.Store conn.old) (state S.Store conn.new)) }
-    ensures survives { HasTables (state S.Store conn.old)
-        → Survives (state S.Store conn.old) (state S.Store conn.new) (λ _. ⊥) }
+    ensures reads { OnlyReads IsUnchanged
+        (state S.Store conn.old) (state S.Store conn.new) result }
 {
     let shown: Vec<Step> = all_records(alloc, conn, STEPS_OF, &tariff_values(name))?;
     tariff_of(alloc, &shown)

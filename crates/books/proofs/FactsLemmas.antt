@@ -5,7 +5,7 @@ use Rattle.std.specs.Option.{option_to_list}
 use Rattle.std.proofs.lemmas.Bool.{false≢true}
 use Rattle.std.proofs.lemmas.List.Elements.{All-head, All-tail}
 use Rattle.sqlite.specs.Effect.{Database}
-use Rattle.sqlite.specs.State.{HasCleanDisk, State, Survives}
+use Rattle.sqlite.specs.State.{HasCleanDisk, IsUnchanged, State, Survives}
 use Rattle.sts_fields.specs.Calendar.{month_at}
 use Rattle.tariff.specs.declared.step.Step.{Step}
 use Rattle.vend_core.specs.Decision.{Buyer, buyer_of, row_decision}
@@ -22,12 +22,12 @@ use Rattle.vend_core.specs.declared.sale.Sale.{Sale}
 use Rattle.vend_core.specs.declared.shift.Shift.{Shift}
 use Rattle.book_tables.specs.Found.{meters_numbered}
 use Rattle.book_tables.specs.Holds.{Holds, HoldsMembers}
-use Rattle.book_tables.specs.Reading.{AreOfOffice, FailsToRead, HasRows, HasTables}
+use Rattle.book_tables.specs.Reading.{AreOfOffice, FailsToRead, HasRows, HasTables, OnlyReads}
 use Rattle.book_tables.specs.Rows.{Rows}
 use Rattle.book_tables.specs.Stands.{AreMembersOf}
 use Rattle.book_tables.specs.declared.error.TableError.TheVariants.{RowOfNoOffice}
 use Rattle.books.specs.Members.{HasMembers}
-use Rattle.books.proofs.PassedLemmas.{HasPassed, HasRead, clean_before, earlier, read_after, tables_after}
+use Rattle.books.proofs.PassedLemmas.{HasPassed, clean_before, earlier, tables_after}
 
 pub tables_of : (s : State) (o : Office) → HasMembers s o → HasTables s
 tables_of s o members is_open = (members is_open).1.has
@@ -51,13 +51,18 @@ test_is true (Some x) P b_is o_is = refl
 test_is false None P b_is o_is = refl
 test_is false (Some x) P b_is o_is = b_is.1 (o_is.0 refl)
 
+-- where nothing is there
+pub none_is : {X : Type 0} (o : Option X) → is_some o ≡ false → None ≡ o
+none_is None none = refl
+none_is (Some x) none = absurd (false≢true (sym none))
+
 -- reads leave an open connection its members
 pub members_after : (o : Office) {old mid new : State} → HasMembers old o → HasPassed old mid → (HasTables mid → Survives mid new (λ _. ⊥)) → HasCleanDisk new → HasMembers mid o
 members_after o {old} {mid} {new} members before survives clean is_open =
     let so_far = earlier old mid new before survives (tables_of old o members) clean in
     subst (λ (db : Database). HoldsMembers db o) (sym so_far.now_is) (members (sym so_far.is_open ∙ is_open))
 
-module _ {o : Office} {old mid new : State} (office : IsOffice o) (members : HasMembers old o) (before : HasPassed old mid) (this : HasRead mid new) (clean : HasCleanDisk new) where
+module _ {T : Type 0} {value : T} {o : Office} {old mid new : State} (office : IsOffice o) (members : HasMembers old o) (before : HasPassed old mid) (this : OnlyReads IsUnchanged mid new (Ok value)) (clean : HasCleanDisk new) where
   -- a read tells it of rows that are the office's
   told : (Says : Rows → Type 0) → ((rows : Rows) → HasRows mid rows → AreOfOffice rows → Says rows) → (rows : Rows) × AreMembersOf rows o × Says rows
   told Says given =
@@ -98,9 +103,8 @@ module _ {o : Office} {old mid new : State} (office : IsOffice o) (members : Has
       it.2 o office it.1
 
 -- what was read, and is that of no office
-pub of_no_office : {old mid new : State} → HasPassed old mid → HasRead mid new → HasCleanDisk new → HasTables old → ((o : Office) → IsOffice o → HasMembers old o → ⊥) → FailsToRead old new RowOfNoOffice
-of_no_office before this clean has none =
-    (λ rows held of_office. none of_office.0 of_office.1 (λ _. (rows, held, of_office.2)), (read_after before this).same clean has)
+pub of_no_office : {T : Type 0} {x : T} {old new : State} → OnlyReads IsUnchanged old new (Ok x) → HasCleanDisk new → HasTables old → ((o : Office) → IsOffice o → HasMembers old o → ⊥) → FailsToRead old new RowOfNoOffice
+of_no_office this clean has none = (λ rows held of_office. none of_office.0 of_office.1 (λ _. (rows, held, of_office.2)), this.same clean has)
 
 -- ---- a buyer
 
@@ -140,13 +144,7 @@ pub new_sale_is : {E : Type 0} (o : Office) (moment : ℕ) (order : Order) (firs
     → IfOk r (λ f. IsNone f.first_sale) → IfOk r (AreNewSaleFacts o moment order) → IfOk r (AreSaleFacts o moment order)
 new_sale_is o moment order first (Err e) first_is gone none new = tt
 new_sale_is o moment order first (Ok f) first_is gone none new =
-    let same : f.first_sale ≡ first = both_none f.first_sale first none gone in
-    record { first_sale = same ∙ first_is; new_sale = λ _. new }
-  where
-    both_none : (a b : Option Sale) → is_some a ≡ false → is_some b ≡ false → a ≡ b
-    both_none None None p q = refl
-    both_none None (Some y) p q = absurd (false≢true (sym q))
-    both_none (Some x) b p q = absurd (false≢true (sym p))
+    record { first_sale = sym (none_is f.first_sale none) ∙ none_is first gone ∙ first_is; new_sale = λ _. new }
 
 -- ---- the rows of an import
 

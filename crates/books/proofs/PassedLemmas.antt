@@ -1,19 +1,17 @@
 -- Reads of the office's tables, one after another: what they leave, and why a later one fails.
-use Rattle.std.proofs.Common.{◌≡◌, ◌≤◌, false, IfErr, IsErrAnd, IsTrue, OnErr, OnOk, Result, Ok, Err, refl, sym, ◌∙◌, subst, inl, inr, arith}
+use Rattle.std.proofs.Common.{◌≡◌, ◌≤◌, false, IsTrue, Result, Ok, Err, refl, sym, ◌∙◌, subst, inl, inr, arith}
 use Rattle.std.proofs.lemmas.Bool.{both_ways, true_from_ne_false}
-use Rattle.sqlite_trees.specs.declared.store.Store.{Ghosts}
 use Rattle.sqlite_trees.specs.declared.error.StoreError.{StoreError}
 use Rattle.sqlite_trees.specs.declared.error.StoreError.TheVariants.{OutOfMemory, Io, Corrupt, Full, Broken, Unstorable}
 use Rattle.sqlite_trees.proofs.Doubt.{no_doubt}
 use Rattle.sqlite.specs.Effect.{Database}
-use Rattle.sqlite.specs.Held.{Held, state}
 use Rattle.sqlite.specs.State.{HasCause, HasCleanDisk, IsRolledBack, IsUnchanged, KeepsCounts, State, Survives}
 use Rattle.sqlite.specs.declared.error.Error.{Error}
 use Rattle.sqlite.proofs.StateLemmas.{survives_then}
 use Rattle.one_table.specs.Answer.{IsLeft}
 use Rattle.one_table.specs.Reading.{FailsPlainly}
 use Rattle.book_tables.specs.Holds.{HasOffice, Holds}
-use Rattle.book_tables.specs.Reading.{FailsToRead, HasTables}
+use Rattle.book_tables.specs.Reading.{FailsToRead, HasTables, OnlyReads}
 use Rattle.book_tables.specs.declared.error.TableError.{TableError}
 use Rattle.book_tables.specs.declared.error.TableError.TheVariants as table
 use Rattle.books.specs.Same.{IsSame}
@@ -103,29 +101,19 @@ same_if old new as_was = record { was_open = λ is_open. sym as_was.is_open ∙ 
 pub record HasPassed (old now : State) : Type 0 where
   pub survives : HasTables old → Survives old now (λ _. ⊥)
   pub same : HasCleanDisk now → HasTables old → IsUntouched old now
+  pub mode : old.in_transaction ≡ false → now.in_transaction ≡ false
   pub shut : now.is_clean ≡ false → now.is_open ≡ false
-
--- a read that succeeds
-pub record HasRead (old new : State) : Type 0 where
-  pub survives : HasTables old → Survives old new (λ _. ⊥)
-  pub same : HasCleanDisk new → HasTables old → IsUnchanged old new
-  pub shut : new.is_clean ≡ false → new.is_open ≡ false
-
--- a read that fails
-pub record HasFailed (e : TableError) (old new : State) : Type 0 where
-  pub survives : HasTables old → Survives old new (λ _. ⊥)
-  pub kept : HasCleanDisk new → HasTables old → IsLeft old new
-  pub faults : HasCleanDisk new → HasTables old → FailsToRead old new e
 
 pub passed_none : (s : State) → (s.is_clean ≡ false → s.is_open ≡ false) → HasPassed s s
 passed_none s shut = record {
   survives = λ _. record { clean = omega arith; shield = λ k. k; counts = omega arith; limit = refl; closes = λ _ k. inl k; crash = λ _ db k. inl k };
   same = λ _ _. untouched s;
+  mode = λ outside. outside;
   shut = shut;
 }
 
-pub passed : {old new : State} → HasRead old new → HasPassed old new
-passed {old} {new} this = record { survives = this.survives; same = λ clean has. untouched_if old new (this.same clean has); shut = this.shut }
+pub passed : {T : Type 0} {x : T} {old new : State} → OnlyReads IsUnchanged old new (Ok x) → (new.is_clean ≡ false → new.is_open ≡ false) → HasPassed old new
+passed {T} {x} {old} {new} this shut = record { survives = this.survives; same = λ clean has. untouched_if old new (this.same clean has); mode = this.mode; shut = shut }
 
 -- what is open is clean
 clean_if_open : (s : State) → (s.is_clean ≡ false → s.is_open ≡ false) → IsTrue s.is_open → HasCleanDisk s
@@ -148,72 +136,43 @@ module _ (old mid new : State) (before : HasPassed old mid) (survives : HasTable
 pub clean_before : {old mid new : State} → HasPassed old mid → (HasTables mid → Survives mid new (λ _. ⊥)) → HasTables old → HasCleanDisk new → HasCleanDisk mid
 clean_before before survives has clean = omega (arith, (survives (tables_after before has)).clean, clean)
 
-pub passed_after : {old mid new : State} → HasPassed old mid → HasRead mid new → HasPassed old new
-passed_after {old} {mid} {new} before this = record {
+pub passed_after : {T : Type 0} {x : T} {old mid new : State} → HasPassed old mid → OnlyReads IsUnchanged mid new (Ok x) → (new.is_clean ≡ false → new.is_open ≡ false) → HasPassed old new
+passed_after {T} {x} {old} {mid} {new} before this shut = record {
   survives = survives_after old mid new before this.survives;
   same = λ clean has. untouched_after old mid new (earlier old mid new before this.survives has clean) (untouched_if mid new (this.same clean (tables_after before has)));
-  shut = this.shut;
+  mode = λ outside. this.mode (before.mode outside);
+  shut = shut;
 }
 
-pub read_after : {old mid new : State} → HasPassed old mid → HasRead mid new → HasRead old new
-read_after {old} {mid} {new} before this = record {
-  survives = survives_after old mid new before this.survives;
+-- a read after others
+pub read_after : {T : Type 0} {r : Result T TableError} {old mid new : State} → HasPassed old mid → OnlyReads IsUnchanged mid new r → OnlyReads IsUnchanged old new r
+read_after {T} {r = Ok x} {old} {mid} {new} before this = record {
   same = λ clean has. unchanged_after old mid new (earlier old mid new before this.survives has clean) (this.same clean (tables_after before has));
-  shut = this.shut;
-}
-
-pub failed_after : {old mid new : State} {e : TableError} → HasPassed old mid → HasFailed e mid new → HasFailed e old new
-failed_after {old} {mid} {new} {e} before this = record {
+  kept = λ _ _. tt;
+  mode = λ outside. this.mode (before.mode outside);
+  faults = λ _ _. tt;
   survives = survives_after old mid new before this.survives;
+}
+read_after {T} {r = Err e} {old} {mid} {new} before this = record {
+  same = λ _ _. tt;
   kept = λ clean has. left_after old mid new (earlier old mid new before this.survives has clean) (this.kept clean (tables_after before has));
+  mode = λ outside. this.mode (before.mode outside);
   faults = λ clean has. fails_after old mid new (earlier old mid new before this.survives has clean) (before.survives has) e (this.faults clean (tables_after before has));
+  survives = survives_after old mid new before this.survives;
 }
 
--- what is said of a result that is this error
-pub on_err : {T P : Type 0} (r : Result T TableError) → P → OnErr r P
-on_err (Ok x) told = tt
-on_err (Err e) told = told
+-- a failure for which a read that succeeded gives a reason
+pub stops_on : {T U : Type 0} {x : T} {old new : State} (e : TableError) → OnlyReads IsUnchanged old new (Ok x) → (HasCleanDisk new → HasTables old → FailsToRead old new e) → OnlyReads {T = U} IsUnchanged old new (Err e)
+stops_on e this why = record { same = λ _ _. tt; kept = λ clean has. inl (this.same clean has); mode = this.mode; faults = why; survives = this.survives }
 
-pub if_err : {T : Type 0} (r : Result T TableError) (e : TableError) (P : TableError → Type 0) → IsErrAnd r (λ x. x ≡ e) → P e → IfErr r P
-if_err (Ok x) e P is told = tt
-if_err (Err x) e P is told = subst P (sym is) told
-
--- a read whose result is given on
-pub record HasEnded {T : Type 0} (r : Result T TableError) (old new : State) : Type 0 where
-  pub survives : HasTables old → Survives old new (λ _. ⊥)
-  pub same : HasCleanDisk new → HasTables old → OnOk r (IsUnchanged old new)
-  pub kept : HasCleanDisk new → HasTables old → OnErr r (IsLeft old new)
-  pub faults : HasCleanDisk new → HasTables old → IfErr r (FailsToRead old new)
-  pub shut : new.is_clean ≡ false → new.is_open ≡ false
-
-pub ended_after : {T : Type 0} {r : Result T TableError} {old mid new : State} → HasPassed old mid → HasEnded r mid new → HasEnded r old new
-ended_after {T} {r = Ok x} before this =
-    let read = read_after before (record { survives = this.survives; same = this.same; shut = this.shut }) in
-    record { survives = read.survives; same = read.same; kept = λ _ _. tt; faults = λ _ _. tt; shut = read.shut }
-ended_after {T} {r = Err e} before this =
-    let stops : HasFailed e _ _ = failed_after before (record { survives = this.survives; kept = this.kept; faults = this.faults }) in
-    record { survives = stops.survives; same = λ _ _. tt; kept = stops.kept; faults = stops.faults; shut = this.shut }
-
--- what they leave
+-- what the reads leave
 pub passed_same : {old now : State} → HasPassed old now → HasCleanDisk now → HasTables old → IsSame old now
 passed_same {old} {now} before clean has = same_if old now (before.same clean has)
 
--- the same of a connection, whose store is shut where it is not clean
-module _ {S : Type 0} (g : Ghosts S) (law : (s : S) → (g.view s).is_clean ≡ false → (g.view s).is_open ≡ false) where
-  pub has_none : (h : Held S) → HasPassed (state g h) (state g h)
-  has_none h = passed_none (state g h) (law h.store)
+pub passed_reads : {T : Type 0} {x : T} {old now : State} → HasPassed old now → OnlyReads IsSame old now (Ok x)
+passed_reads before = record { same = passed_same before; kept = λ _ _. tt; mode = before.mode; faults = λ _ _. tt; survives = before.survives }
 
-  pub has_read : (old new : Held S) → (HasTables (state g old) → Survives (state g old) (state g new) (λ _. ⊥))
-      → (HasCleanDisk (state g new) → HasTables (state g old) → IsUnchanged (state g old) (state g new)) → HasRead (state g old) (state g new)
-  has_read old new survives same = record { survives = survives; same = same; shut = law new.store }
-
-  pub has_failed : (e : TableError) (old new : Held S) → (HasTables (state g old) → Survives (state g old) (state g new) (λ _. ⊥))
-      → (HasCleanDisk (state g new) → HasTables (state g old) → IsLeft (state g old) (state g new))
-      → (HasCleanDisk (state g new) → HasTables (state g old) → FailsToRead (state g old) (state g new) e) → HasFailed e (state g old) (state g new)
-  has_failed e old new survives kept faults = record { survives = survives; kept = kept; faults = faults }
-
-  pub has_ended : {T : Type 0} (r : Result T TableError) (old new : Held S) → (HasTables (state g old) → Survives (state g old) (state g new) (λ _. ⊥))
-      → (HasCleanDisk (state g new) → HasTables (state g old) → OnOk r (IsUnchanged (state g old) (state g new)))
-      → (HasCleanDisk (state g new) → HasTables (state g old) → OnErr r (IsLeft (state g old) (state g new)))
-      → (HasCleanDisk (state g new) → HasTables (state g old) → IfErr r (FailsToRead (state g old) (state g new))) → HasEnded r (state g old) (state g new)
-  has_ended r old new survives same kept faults = record { survives = survives; same = same; kept = kept; faults = faults; shut = law new.store }
+-- what is unchanged is the same
+pub same_on : {T : Type 0} {r : Result T TableError} {old new : State} → OnlyReads IsUnchanged old new r → OnlyReads IsSame old new r
+same_on {T} {r = Ok x} {old} {new} this = record { same = λ clean has. same_if old new (untouched_if old new (this.same clean has)); kept = λ _ _. tt; mode = this.mode; faults = λ _ _. tt; survives = this.survives }
+same_on {T} {r = Err e} this = record { same = λ _ _. tt; kept = this.kept; mode = this.mode; faults = this.faults; survives = this.survives }

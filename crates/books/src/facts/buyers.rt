@@ -1,14 +1,13 @@
 //! What a sale looks at of its meter.
 
-ghost use Rattle.std.specs.Prelude.{◌≡◌, ◌<◌, ◌^◌, false, IfOk, IfErr, OnOk, OnErr};
-ghost use Rattle.sqlite.specs.State.{HasCleanDisk, IsUnchanged, Survives};
+ghost use Rattle.std.specs.Prelude.{◌≡◌, ◌<◌, IfOk};
+ghost use Rattle.sqlite.specs.State.{HasCleanDisk, IsUnchanged};
 ghost use Rattle.sqlite.specs.Held.{state};
-ghost use Rattle.one_table.specs.Answer.{IsLeft};
 ghost use Rattle.sts_fields.specs.Calendar.{month_at};
 ghost use Rattle.vend_core.specs.Decision.{buyer_of};
 ghost use Rattle.vend_core.specs.Lookup.{greatest_of, prior, used};
 ghost use Rattle.vend_core.specs.Office.{IsOffice, Office};
-ghost use Rattle.book_tables.specs.Reading.{FailsToRead, HasTables};
+ghost use Rattle.book_tables.specs.Reading.{OnlyReads};
 ghost use Rattle.books.specs.Members.{HasMembers};
 
 use book_tables::{TableError, members_law, meters, sold, tariffs};
@@ -28,18 +27,8 @@ pub(crate) fn buyer_numbered<S: Alter>(
     ensures facts { HasCleanDisk (state S.Store conn.new)
         → (o : Office) → IsOffice o → HasMembers (state S.Store conn.old) o
         → IfOk result (λ found. found ≡ buyer_of o number.now moment) }
-    ensures same { HasCleanDisk (state S.Store conn.new)
-        → HasTables (state S.Store conn.old)
-        → OnOk result (IsUnchanged (state S.Store conn.old) (state S.Store conn.new)) }
-    ensures kept { HasCleanDisk (state S.Store conn.new)
-        → HasTables (state S.Store conn.old)
-        → OnErr result (IsLeft (state S.Store conn.old) (state S.Store conn.new)) }
-    ensures mode { conn.old.in_transaction ≡ false → conn.new.in_transaction ≡ false }
-    ensures faults { HasCleanDisk (state S.Store conn.new)
-        → HasTables (state S.Store conn.old)
-        → IfErr result (FailsToRead (state S.Store conn.old) (state S.Store conn.new)) }
-    ensures survives { HasTables (state S.Store conn.old)
-        → Survives (state S.Store conn.old) (state S.Store conn.new) (λ _. ⊥) }
+    ensures reads { OnlyReads IsUnchanged
+        (state S.Store conn.old) (state S.Store conn.new) result }
 {
     members_law();
     let there = meters::meter_numbered(conn, number)?;
@@ -71,18 +60,8 @@ fn buyer_at<S: Alter>(
           last = greatest_of (used o number.now meter.base);
           prior = prior o number.now (month_at moment);
         }) }
-    ensures same { HasCleanDisk (state S.Store conn.new)
-        → HasTables (state S.Store conn.old)
-        → OnOk result (IsUnchanged (state S.Store conn.old) (state S.Store conn.new)) }
-    ensures kept { HasCleanDisk (state S.Store conn.new)
-        → HasTables (state S.Store conn.old)
-        → OnErr result (IsLeft (state S.Store conn.old) (state S.Store conn.new)) }
-    ensures mode { conn.old.in_transaction ≡ false → conn.new.in_transaction ≡ false }
-    ensures faults { HasCleanDisk (state S.Store conn.new)
-        → HasTables (state S.Store conn.old)
-        → IfErr result (FailsToRead (state S.Store conn.old) (state S.Store conn.new)) }
-    ensures survives { HasTables (state S.Store conn.old)
-        → Survives (state S.Store conn.old) (state S.Store conn.new) (λ _. ⊥) }
+    ensures reads { OnlyReads IsUnchanged
+        (state S.Store conn.old) (state S.Store conn.new) result }
 {
     store_law();
     let last = sold::greatest_tid(conn, number, meter.base)?;

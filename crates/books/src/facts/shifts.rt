@@ -1,13 +1,12 @@
 //! What requests on shifts look at.
 
-ghost use Rattle.std.specs.Prelude.{◌≡◌, false, IfOk, IfErr, OnOk, OnErr};
-ghost use Rattle.sqlite.specs.State.{HasCleanDisk, IsUnchanged, Survives};
+ghost use Rattle.std.specs.Prelude.{◌≡◌, IfOk};
+ghost use Rattle.sqlite.specs.State.{HasCleanDisk, IsUnchanged};
 ghost use Rattle.sqlite.specs.Held.{state};
-ghost use Rattle.one_table.specs.Answer.{IsLeft};
 ghost use Rattle.vend_core.specs.Facts.{AreOpeningFacts, report_of};
 ghost use Rattle.vend_core.specs.Lookup.{open_shift};
 ghost use Rattle.vend_core.specs.Office.{IsOffice, Office};
-ghost use Rattle.book_tables.specs.Reading.{FailsToRead, HasTables};
+ghost use Rattle.book_tables.specs.Reading.{OnlyReads};
 ghost use Rattle.books.specs.Members.{HasMembers};
 
 use book_tables::{TableError, sale_lists, shifts};
@@ -23,18 +22,8 @@ pub(crate) fn opening_facts<S: Alter>(
     ensures facts { HasCleanDisk (state S.Store conn.new)
         → (o : Office) → IsOffice o → HasMembers (state S.Store conn.old) o
         → IfOk result (AreOpeningFacts o operator.now) }
-    ensures same { HasCleanDisk (state S.Store conn.new)
-        → HasTables (state S.Store conn.old)
-        → OnOk result (IsUnchanged (state S.Store conn.old) (state S.Store conn.new)) }
-    ensures kept { HasCleanDisk (state S.Store conn.new)
-        → HasTables (state S.Store conn.old)
-        → OnErr result (IsLeft (state S.Store conn.old) (state S.Store conn.new)) }
-    ensures mode { conn.old.in_transaction ≡ false → conn.new.in_transaction ≡ false }
-    ensures faults { HasCleanDisk (state S.Store conn.new)
-        → HasTables (state S.Store conn.old)
-        → IfErr result (FailsToRead (state S.Store conn.old) (state S.Store conn.new)) }
-    ensures survives { HasTables (state S.Store conn.old)
-        → Survives (state S.Store conn.old) (state S.Store conn.new) (λ _. ⊥) }
+    ensures reads { OnlyReads IsUnchanged
+        (state S.Store conn.old) (state S.Store conn.new) result }
 {
     let open_shift = shifts::open_shift(conn, operator)?;
     if open_shift.is_some() {
@@ -59,18 +48,8 @@ pub(crate) fn closing_facts<S: Alter>(
     ensures facts { HasCleanDisk (state S.Store conn.new)
         → (o : Office) → IsOffice o → HasMembers (state S.Store conn.old) o
         → IfOk result (λ f. f.open_shift ≡ open_shift o operator.now) }
-    ensures same { HasCleanDisk (state S.Store conn.new)
-        → HasTables (state S.Store conn.old)
-        → OnOk result (IsUnchanged (state S.Store conn.old) (state S.Store conn.new)) }
-    ensures kept { HasCleanDisk (state S.Store conn.new)
-        → HasTables (state S.Store conn.old)
-        → OnErr result (IsLeft (state S.Store conn.old) (state S.Store conn.new)) }
-    ensures mode { conn.old.in_transaction ≡ false → conn.new.in_transaction ≡ false }
-    ensures faults { HasCleanDisk (state S.Store conn.new)
-        → HasTables (state S.Store conn.old)
-        → IfErr result (FailsToRead (state S.Store conn.old) (state S.Store conn.new)) }
-    ensures survives { HasTables (state S.Store conn.old)
-        → Survives (state S.Store conn.old) (state S.Store conn.new) (λ _. ⊥) }
+    ensures reads { OnlyReads IsUnchanged
+        (state S.Store conn.old) (state S.Store conn.new) result }
 {
     let open_shift = shifts::open_shift(conn, operator)?;
     Ok(Facts {
@@ -88,18 +67,8 @@ pub(crate) fn report_facts<S: Alter>(
     ensures facts { HasCleanDisk (state S.Store conn.new)
         → (o : Office) → IsOffice o → HasMembers (state S.Store conn.old) o
         → IfOk result (λ f. f.report ≡ report_of o number) }
-    ensures same { HasCleanDisk (state S.Store conn.new)
-        → HasTables (state S.Store conn.old)
-        → OnOk result (IsUnchanged (state S.Store conn.old) (state S.Store conn.new)) }
-    ensures kept { HasCleanDisk (state S.Store conn.new)
-        → HasTables (state S.Store conn.old)
-        → OnErr result (IsLeft (state S.Store conn.old) (state S.Store conn.new)) }
-    ensures mode { conn.old.in_transaction ≡ false → conn.new.in_transaction ≡ false }
-    ensures faults { HasCleanDisk (state S.Store conn.new)
-        → HasTables (state S.Store conn.old)
-        → IfErr result (FailsToRead (state S.Store conn.old) (state S.Store conn.new)) }
-    ensures survives { HasTables (state S.Store conn.old)
-        → Survives (state S.Store conn.old) (state S.Store conn.new) (λ _. ⊥) }
+    ensures reads { OnlyReads IsUnchanged
+        (state S.Store conn.old) (state S.Store conn.new) result }
 {
     let found = shifts::shift_numbered(conn, number)?;
     let Some(shift) = found else {

@@ -1,6 +1,6 @@
 use Rattle.sqlite.specs.Held.{state}
 use Rattle.sqlite.specs.Values.{bound}
-use Rattle.book_tables.proofs.ListingLemmas.{fails, gives, only_asks}
+use Rattle.book_tables.proofs.ListingLemmas.{gives, only_asks, reads}
 use Rattle.book_tables.proofs.SaleListLemmas.{sales_after}
 use Rattle.book_tables.proofs.sale_lists.sales_after.Goals as goal
 
@@ -11,17 +11,7 @@ returns-clause-given g c clean rows has of_office =
     gives (sales_after c.args.number c.args.limit) (λ found. found.items) old (state g.S.Store c.all_records.new.conn) rows has of_office c.all_records.result
     (bound c.page_values.result) c.page_values.ensures (c.all_records.ensures.same clean only) (c.all_records.ensures.given clean only)
 
-pub returns-clause-same : goal.returns-clause-same
-returns-clause-same g c clean has = c.all_records.ensures.same clean (only_asks (sales_after c.args.number c.args.limit) (state g.S.Store c.args.conn.now) has)
-
-pub returns-clause-kept : goal.returns-clause-kept
-returns-clause-kept g c clean has = c.all_records.ensures.kept clean (only_asks (sales_after c.args.number c.args.limit) (state g.S.Store c.args.conn.now) has)
-
-pub returns-clause-faults : goal.returns-clause-faults
-returns-clause-faults g c clean has =
-    let old = state g.S.Store c.args.conn.now in
-    fails (sales_after c.args.number c.args.limit) old (state g.S.Store c.all_records.new.conn) has c.all_records.result
-    (bound c.page_values.result) c.page_values.ensures (c.all_records.ensures.faults clean (only_asks (sales_after c.args.number c.args.limit) old has))
-
-pub returns-clause-survives : goal.returns-clause-survives
-returns-clause-survives g c has = c.all_records.ensures.survives (only_asks (sales_after c.args.number c.args.limit) (state g.S.Store c.args.conn.now) has)
+pub returns-clause-reads : goal.returns-clause-reads
+returns-clause-reads g c =
+    reads (sales_after c.args.number c.args.limit) (state g.S.Store c.args.conn.now) (state g.S.Store c.all_records.new.conn) c.all_records.result (bound c.page_values.result) c.page_values.ensures
+    c.all_records.ensures.same c.all_records.ensures.kept c.all_records.ensures.mode c.all_records.ensures.faults c.all_records.ensures.survives

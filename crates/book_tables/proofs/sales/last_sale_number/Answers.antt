@@ -1,6 +1,6 @@
 use Rattle.sqlite.specs.Held.{state}
 use Rattle.std.proofs.Common.{◌≡◌, [], length, refl, unwrap_or}
-use Rattle.book_tables.proofs.FindLemmas.{fails, gives, gives_such, only_asks}
+use Rattle.book_tables.proofs.FindLemmas.{gives, gives_such, only_asks, reads}
 use Rattle.book_tables.proofs.SaleLemmas.{last_sale_counts, last_sale_number}
 use Rattle.book_tables.proofs.sales.last_sale_number.Goals as goal
 
@@ -18,17 +18,7 @@ returns-clause-counted g c clean rows has of_office =
     gives_such last_sale_number old (state g.S.Store c.first_record.new.conn) rows has of_office (λ found. unwrap_or found 0 ≡ length rows.sales) (last_sale_counts rows of_office) c.first_record.result
     [] refl (c.first_record.ensures.same clean only) (c.first_record.ensures.given clean only)
 
-pub returns-clause-same : goal.returns-clause-same
-returns-clause-same g c clean has = c.first_record.ensures.same clean (only_asks last_sale_number (state g.S.Store c.args.conn.now) has)
-
-pub returns-clause-kept : goal.returns-clause-kept
-returns-clause-kept g c clean has = c.first_record.ensures.kept clean (only_asks last_sale_number (state g.S.Store c.args.conn.now) has)
-
-pub returns-clause-faults : goal.returns-clause-faults
-returns-clause-faults g c clean has =
-    let old = state g.S.Store c.args.conn.now in
-    fails last_sale_number old (state g.S.Store c.first_record.new.conn) has c.first_record.result
-    [] refl (c.first_record.ensures.faults clean (only_asks last_sale_number old has))
-
-pub returns-clause-survives : goal.returns-clause-survives
-returns-clause-survives g c has = c.first_record.ensures.survives (only_asks last_sale_number (state g.S.Store c.args.conn.now) has)
+pub returns-clause-reads : goal.returns-clause-reads
+returns-clause-reads g c =
+    reads last_sale_number (state g.S.Store c.args.conn.now) (state g.S.Store c.first_record.new.conn) c.first_record.result [] refl
+    c.first_record.ensures.same c.first_record.ensures.kept c.first_record.ensures.mode c.first_record.ensures.faults c.first_record.ensures.survives

@@ -1,6 +1,6 @@
 use Rattle.sqlite.specs.Held.{state}
 use Rattle.sqlite.specs.Values.{bound}
-use Rattle.book_tables.proofs.FindLemmas.{fails, gives, only_asks}
+use Rattle.book_tables.proofs.FindLemmas.{gives, only_asks, reads}
 use Rattle.book_tables.proofs.ShiftLemmas.{shift_numbered}
 use Rattle.book_tables.proofs.shifts.shift_numbered.Goals as goal
 
@@ -11,17 +11,7 @@ returns-clause-given g c clean rows has of_office =
     gives (shift_numbered c.args.number) old (state g.S.Store c.first_record.new.conn) rows has of_office c.first_record.result
     (bound c.number_values.result) c.number_values.ensures (c.first_record.ensures.same clean only) (c.first_record.ensures.given clean only)
 
-pub returns-clause-same : goal.returns-clause-same
-returns-clause-same g c clean has = c.first_record.ensures.same clean (only_asks (shift_numbered c.args.number) (state g.S.Store c.args.conn.now) has)
-
-pub returns-clause-kept : goal.returns-clause-kept
-returns-clause-kept g c clean has = c.first_record.ensures.kept clean (only_asks (shift_numbered c.args.number) (state g.S.Store c.args.conn.now) has)
-
-pub returns-clause-faults : goal.returns-clause-faults
-returns-clause-faults g c clean has =
-    let old = state g.S.Store c.args.conn.now in
-    fails (shift_numbered c.args.number) old (state g.S.Store c.first_record.new.conn) has c.first_record.result
-    (bound c.number_values.result) c.number_values.ensures (c.first_record.ensures.faults clean (only_asks (shift_numbered c.args.number) old has))
-
-pub returns-clause-survives : goal.returns-clause-survives
-returns-clause-survives g c has = c.first_record.ensures.survives (only_asks (shift_numbered c.args.number) (state g.S.Store c.args.conn.now) has)
+pub returns-clause-reads : goal.returns-clause-reads
+returns-clause-reads g c =
+    reads (shift_numbered c.args.number) (state g.S.Store c.args.conn.now) (state g.S.Store c.first_record.new.conn) c.first_record.result (bound c.number_values.result) c.number_values.ensures
+    c.first_record.ensures.same c.first_record.ensures.kept c.first_record.ensures.mode c.first_record.ensures.faults c.first_record.ensures.survives

@@ -7,20 +7,22 @@ use Rattle.book_tables.proofs.ListingLemmas.{only_asks}
 use Rattle.book_tables.proofs.SoldLemmas.{greatest_sold, tids_sold, tids_within, with_tid}
 use Rattle.book_tables.proofs.sold.greatest_tid.Goals as goal
 
-pub returns-in_err-greatest-clause-kept : goal.returns-in_err-greatest-clause-kept
-returns-in_err-greatest-clause-kept g c clean has =
-    let left = c.in_err-greatest.ensures.kept clean (only_asks (tids_sold c.args.meter.now c.args.base) (state g.S.Store c.args.conn.now) has) in
-    search (rules, left)
-
-pub returns-in_err-greatest-clause-faults : goal.returns-in_err-greatest-clause-faults
-returns-in_err-greatest-clause-faults g c clean has =
+pub returns-in_err-greatest-clause-reads : goal.returns-in_err-greatest-clause-reads
+returns-in_err-greatest-clause-reads g c =
     let old = state g.S.Store c.args.conn.now in
-    let stops = fails_to_gather (tids_sold c.args.meter.now c.args.base) (λ x. x.record) (with_tid (λ x. x.record)) (record { tid = None }) (λ _ _. ⊤) (tids_within (λ x. x.record) c.args.meter.now c.args.base) old (state g.S.Store c.fold_rows.new.conn) has
-    (bound c.base_values.result) c.base_values.ensures c.in_err-greatest.field-0.0 (c.in_err-greatest.ensures.faults clean (only_asks (tids_sold c.args.meter.now c.args.base) old has)) in
-    search (rules, stops)
-
-pub returns-in_err-greatest-clause-survives : goal.returns-in_err-greatest-clause-survives
-returns-in_err-greatest-clause-survives g c has = c.in_err-greatest.ensures.survives (only_asks (tids_sold c.args.meter.now c.args.base) (state g.S.Store c.args.conn.now) has)
+    let asks = only_asks (tids_sold c.args.meter.now c.args.base) old in
+    record {
+      same = search rules;
+      kept = λ clean has.
+          let left = c.in_err-greatest.ensures.kept clean (asks has) in
+          search (rules, left);
+      mode = c.in_err-greatest.ensures.mode;
+      faults = λ clean has.
+          let stops = fails_to_gather (tids_sold c.args.meter.now c.args.base) (λ x. x.record) (with_tid (λ x. x.record)) (record { tid = None }) (λ _ _. ⊤) (tids_within (λ x. x.record) c.args.meter.now c.args.base) old (state g.S.Store c.fold_rows.new.conn) has
+          (bound c.base_values.result) c.base_values.ensures c.in_err-greatest.field-0.0 (c.in_err-greatest.ensures.faults clean (asks has)) in
+          search (rules, stops);
+      survives = λ has. c.in_err-greatest.ensures.survives (asks has);
+    }
 
 pub returns-clause-given : goal.returns-clause-given
 returns-clause-given g c clean rows has of_office =
@@ -30,8 +32,13 @@ returns-clause-given g c clean rows has of_office =
     (c.in_ok-greatest.ensures.same clean only) c.in_ok-greatest.greatest (bound c.base_values.result) c.base_values.ensures (c.in_ok-greatest.ensures.given clean only) in
     greatest_sold (λ x. x.record) c.office_law.ensures.last c.args.meter.now c.args.base rows all.0 all.1 c.in_ok-greatest.greatest all.2
 
-pub returns-clause-same : goal.returns-clause-same
-returns-clause-same g c clean has = c.in_ok-greatest.ensures.same clean (only_asks (tids_sold c.args.meter.now c.args.base) (state g.S.Store c.args.conn.now) has)
-
-pub returns-clause-survives : goal.returns-clause-survives
-returns-clause-survives g c has = c.in_ok-greatest.ensures.survives (only_asks (tids_sold c.args.meter.now c.args.base) (state g.S.Store c.args.conn.now) has)
+pub returns-clause-reads : goal.returns-clause-reads
+returns-clause-reads g c =
+    let asks = only_asks (tids_sold c.args.meter.now c.args.base) (state g.S.Store c.args.conn.now) in
+    record {
+      same = λ clean has. c.in_ok-greatest.ensures.same clean (asks has);
+      kept = λ _ _. tt;
+      mode = c.in_ok-greatest.ensures.mode;
+      faults = λ _ _. tt;
+      survives = λ has. c.in_ok-greatest.ensures.survives (asks has);
+    }

@@ -1,28 +1,17 @@
-use Rattle.std.specs.Prelude.{Contains, bytes_eq, find}
-use Rattle.std.proofs.Common.{rules, ◌≡◌, ◌↔◌, ◌∙◌, ap, subst, sym, IsTrue, is_some, IfOk, IfErr}
+use Rattle.std.specs.Prelude.{⊤, Contains, bytes_eq, find}
+use Rattle.std.proofs.Common.{◌≡◌, ◌↔◌, ◌∙◌, ap, subst, sym, IsTrue, is_some, IfOk, Err, Ok}
 use Rattle.sqlite.specs.Held.{state}
 use Rattle.sqlite.specs.Values.{bound}
-use Rattle.book_tables.specs.Reading.{FailsToRead}
-use Rattle.book_tables.proofs.FindLemmas.{fails, gives, only_asks}
+use Rattle.book_tables.proofs.FindLemmas.{gives, only_asks, reads}
+use Rattle.book_tables.proofs.OnlyReadsLemmas.{fail_on, read_on}
 use Rattle.book_tables.proofs.TariffLemmas.{tariff_named, there_is}
 use Rattle.book_tables.proofs.tariffs.has_tariff.Goals as goal
 
-pub returns-in_err-found-clause-kept : goal.returns-in_err-found-clause-kept
-returns-in_err-found-clause-kept g c clean has =
-    let kept = c.in_err-found.ensures.kept clean (only_asks (tariff_named c.args.name.now) (state g.S.Store c.args.conn.now) has) in
-    search (rules, kept)
-
-pub returns-in_err-found-clause-faults : goal.returns-in_err-found-clause-faults
-returns-in_err-found-clause-faults g c clean has =
-    let old = state g.S.Store c.args.conn.now in
-    let new = state g.S.Store c.first_record.new.conn in
-    let why = fails (tariff_named c.args.name.now) old new has c.first_record.result
-    (bound c.tariff_values.result) c.tariff_values.ensures (c.first_record.ensures.faults clean (only_asks (tariff_named c.args.name.now) old has)) in
-    let here = subst (λ r. IfErr r (FailsToRead old new)) c.in_err-found.was why in
-    search (rules, here)
-
-pub returns-in_err-found-clause-survives : goal.returns-in_err-found-clause-survives
-returns-in_err-found-clause-survives g c has = c.first_record.ensures.survives (only_asks (tariff_named c.args.name.now) (state g.S.Store c.args.conn.now) has)
+pub returns-in_err-found-clause-reads : goal.returns-in_err-found-clause-reads
+returns-in_err-found-clause-reads g c =
+    let this = c.in_err-found.ensures in
+    fail_on {T = ⊤} c.from_residual.result c.from_residual.ensures.1 (reads (tariff_named c.args.name.now) (state g.S.Store c.args.conn.now) (state g.S.Store c.first_record.new.conn) (Err c.in_err-found.field-0.0) (bound c.tariff_values.result) c.tariff_values.ensures
+    this.same this.kept this.mode this.faults this.survives)
 
 pub returns-clause-given : goal.returns-clause-given
 returns-clause-given g c clean rows has of_office =
@@ -34,8 +23,8 @@ returns-clause-given g c clean rows has of_office =
     subst (λ r. IfOk r (λ x. x ≡ find (λ r. bytes_eq r c.args.name.now) rows.tariffs)) c.in_ok-found.was found in
     subst (λ b. IsTrue b ↔ Contains rows.tariffs c.args.name.now) (sym (c.is_some.ensures ∙ ap is_some is)) (there_is c.args.name.now rows.tariffs)
 
-pub returns-clause-same : goal.returns-clause-same
-returns-clause-same g c clean has = c.in_ok-found.ensures.same clean (only_asks (tariff_named c.args.name.now) (state g.S.Store c.args.conn.now) has)
-
-pub returns-clause-survives : goal.returns-clause-survives
-returns-clause-survives g c has = c.first_record.ensures.survives (only_asks (tariff_named c.args.name.now) (state g.S.Store c.args.conn.now) has)
+pub returns-clause-reads : goal.returns-clause-reads
+returns-clause-reads g c =
+    let this = c.in_ok-found.ensures in
+    read_on (reads (tariff_named c.args.name.now) (state g.S.Store c.args.conn.now) (state g.S.Store c.first_record.new.conn) (Ok c.in_ok-found.found) (bound c.tariff_values.result) c.tariff_values.ensures
+    this.same this.kept this.mode this.faults this.survives)

@@ -8,12 +8,12 @@ returns-then-eq-clause-format g c = λ clean tables sound.
     has_format (state g.S.Store c.args.conn.now).now c.in-Ok.format (sym c.eq.ensures ∙ c.if-eq.true) (c.in-Ok.ensures.given clean tables sound)
 
 pub returns-else-eq-clause-kept : goal.returns-else-eq-clause-kept
-returns-else-eq-clause-kept g c = λ clean tables. inl (c.in-Ok.ensures.same clean tables)
+returns-else-eq-clause-kept g c = λ clean tables. inl (c.in-Ok.ensures.reads.same clean tables)
 
 pub returns-else-eq-clause-other : goal.returns-else-eq-clause-other
 returns-else-eq-clause-other g c = λ clean tables sound o at.
     let old = state g.S.Store c.args.conn.now in
-    let is_open = (c.in-Ok.ensures.same clean tables).0.was_open in
+    let is_open = (c.in-Ok.ensures.reads.same clean tables).0.was_open in
     let held = members_of old.now o (tables is_open) (at.now is_open) in
     let is = is_format old.now o c.in-Ok.format held (c.in-Ok.ensures.given clean tables sound) in
     let told = rw is at c.eq.ensures in

@@ -1,4 +1,4 @@
-use Rattle.std.proofs.Common.{◌≡◌, ◌++◌, List, drop, false}
+use Rattle.std.proofs.Common.{◌++◌, List, drop}
 use Rattle.sqlite.specs.Held.{state}
 use Rattle.sqlite.specs.State.{HasCleanDisk}
 use Rattle.vend_core.specs.Facts.{AreRowsFacts}
@@ -13,7 +13,6 @@ use Rattle.books.proofs.facts.imports.found_of.Given as goal
 abbrev pub invariant-loop-row : goal.invariant-loop-row
 invariant-loop-row g l = record {
   passed : HasPassed (state g.S.Store l.fn.conn) (state g.S.Store l.conn);
-  mode : l.fn.conn.in_transaction ≡ false → l.conn.in_transaction ≡ false;
   found : HasCleanDisk (state g.S.Store l.conn) → (o : Office) → IsOffice o → HasMembers (state g.S.Store l.fn.conn) o
       → (more : List RowFacts) → AreRowsFacts o (drop l.row-index l.rows) more → AreRowsFacts o l.rows (l.found.items ++ more);
 }
