@@ -1,6 +1,7 @@
 pub mod AlongLemmas
 pub mod AskingLemmas
 pub mod BodyLemmas
+pub mod BufferLemmas
 pub mod EndLemmas
 pub mod FieldLemmas
 pub mod FollowLemmas
@@ -17,4 +18,3 @@ pub mod RunLemmas
 pub mod SaleLemmas
 pub mod SaleTextLemmas
 pub mod ServingLemmas
-pub mod WritingLemmas

@@ -1,7 +1,7 @@
 use Rattle.std.proofs.Common.{◌≡◌, ◌∙◌, ◌≤◌, true, not, is_ok, length, take, drop, ap, arith}
 use Rattle.std.proofs.lemmas.Bool.{cond-true}
 use Rattle.std.proofs.lemmas.List.{length-drop, length-take-le}
-use Rattle.desk.proofs.WritingLemmas.{read_behind}
+use Rattle.desk.proofs.BufferLemmas.{read_behind}
 use Rattle.desk.proofs.reading.read_more.Goals as goal
 
 pub returns-in-Ok : goal.returns-in-Ok
