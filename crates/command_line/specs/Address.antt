@@ -1,6 +1,9 @@
 -- What a word says of where the desk listens.
-use Rattle.std.specs.Prelude.{◌≡◌, ℕ, ◌<◌, ◌==◌, length}
+use Rattle.std.specs.Prelude.{◌≡◌, ℕ, ◌<◌, ◌==◌, [], ◌∷◌, length}
 use Rattle.std.specs.List.{after_first, before_first, position_or_len}
+use Rattle.std.specs.Net.Addr.{IsV4And, ipv4_octets}
+use Rattle.std.specs.Net.Socket.{socket_ip, socket_port}
+use Rattle.std.specs.declared.net.socket_addr.SocketAddr.{SocketAddr}
 use Rattle.sts_fields.specs.Text.{Text}
 use Rattle.command_line.specs.Values.{SaysOctet, SaysPort}
 use Rattle.command_line.specs.declared.address.Address.{Address}
@@ -29,3 +32,9 @@ pub record SaysAddress (text : Text) (address : Address) : Type 0 where
   pub second : BeginsWithOctet from_second address.second from_third
   pub third : BeginsWithOctet from_third address.third from_fourth
   pub fourth : EndsWithPort from_fourth address.fourth address.port
+
+-- a socket's IPv4 address has these four numbers, in this order, and its port is this one
+pub record IsSocketOf (address : Address) (socket : SocketAddr) : Type 0 where
+  pub numbers : IsV4And (socket_ip socket) (λ ip. ipv4_octets ip
+      ≡ address.first ∷ address.second ∷ address.third ∷ address.fourth ∷ [])
+  pub port : socket_port socket ≡ address.port

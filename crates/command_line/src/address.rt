@@ -2,7 +2,7 @@
 
 ghost use Rattle.std.specs.Prelude.{MatchOption, ℕ};
 ghost use Rattle.sts_fields.specs.Text.{Text};
-ghost use Rattle.command_line.specs.Address.{BeginsWithOctet, EndsWithPort, SaysAddress};
+ghost use Rattle.command_line.specs.Address.{BeginsWithOctet, EndsWithPort, IsSocketOf, SaysAddress};
 ghost use Rattle.command_line.specs.Values.{ReadsBy};
 
 use crate::values;
@@ -38,7 +38,9 @@ impl Address {
     }
 
     /// The same for a socket.
-    pub fn socket(self) -> SocketAddr {
+    pub fn socket(self) -> SocketAddr
+        ensures { IsSocketOf self result }
+    {
         let ip = Ipv4Addr::new(self.first, self.second, self.third, self.fourth);
         SocketAddr::V4(SocketAddrV4::new(ip, self.port))
     }
