@@ -82,3 +82,25 @@ pub fn stamped(seconds: i64, nibble: u8, request: Request) -> Result<Stamped, Fa
         request,
     })
 }
+
+/// The meter's number of these ten digits and a check.
+pub fn numbered(alloc: Global, digits: u32) -> Result<MeterNo, Fail> {
+    for check in 0..10u32 {
+        let text = format!(in alloc; "{digits:010}{check}")?;
+        if let Some(number) = MeterNo::read(text.as_bytes()) {
+            return Ok(number);
+        }
+    }
+    Err("each check was wrong".into())
+}
+
+/// The rows of the tariff `flat`, and of so many meters on it.
+pub fn flat_with_meters(alloc: Global, meters: u32) -> Result<Vec<Row>, Fail> {
+    let on_flat = meter(Base::Y2014, b"flat")?;
+    let mut rows = Vec::new(alloc);
+    rows.push(Row::Tariff(tariff_name(b"flat")?, flat(alloc, 100)?))?;
+    for digits in 0..meters {
+        rows.push(Row::Meter(numbered(alloc, digits)?, on_flat))?;
+    }
+    Ok(rows)
+}

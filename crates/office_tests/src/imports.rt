@@ -1,18 +1,17 @@
-//! Imports: sent twice, with a bad row, at their greatest size in a file, and where the store stops.
+//! Imports: sent twice, with a bad row, and at their greatest size in a file.
 
-use crate::disks::{Ended, Kept, SOUND, Stopping, count, life, nothing};
 use office_testing::both::{Both, agree, ask, in_memory, office, refuses};
 use office_testing::in_file::{close, open, remove};
 use office_testing::values::{
-    FIRST_DAY, METER, NO_METER, OTHER_METER, flat, import, meter, meter_no, stamped, tariff_name,
+    FIRST_DAY, METER, NO_METER, OTHER_METER, flat, flat_with_meters, import, meter, meter_no,
+    numbered, tariff_name,
 };
 use sqlite::Alter;
 use std::alloc::Global;
-use std::process::Abort;
 use std::test::Fail;
 use sts_fields::Base;
 use sts_token::{BlockTransform, Plain};
-use vend_core::{Answer, Lists, MeterNo, Refusal, Reply, Request, Row, RowCause, Stamped};
+use vend_core::{Answer, Lists, Refusal, Request, Row, RowCause};
 
 // How many rows were new.
 fn imported<S: Alter, T: BlockTransform>(
@@ -76,31 +75,9 @@ fn rows_see_the_rows_before(rt: HostRuntime) -> Result<(), Fail> {
     Ok(())
 }
 
-// The meter's number of these ten digits and a check.
-fn numbered(alloc: Global, digits: u32) -> Result<MeterNo, Fail> {
-    for check in 0..10u32 {
-        let text = format!(in alloc; "{digits:010}{check}")?;
-        if let Some(number) = MeterNo::read(text.as_bytes()) {
-            return Ok(number);
-        }
-    }
-    Err("each check was wrong".into())
-}
-
-// The tariff `flat`, and so many meters on it.
-fn many(alloc: Global, meters: u32) -> Result<Vec<Row>, Fail> {
-    let on_flat = meter(Base::Y2014, b"flat")?;
-    let mut rows = Vec::new(alloc);
-    rows.push(Row::Tariff(tariff_name(b"flat")?, flat(alloc, 100)?))?;
-    for digits in 0..meters {
-        rows.push(Row::Meter(numbered(alloc, digits)?, on_flat))?;
-    }
-    Ok(rows)
-}
-
-// Those, and a meter on a tariff that is not there.
+// The tariff `flat`, so many meters on it, and one on a tariff that is not there.
 fn spoiled(alloc: Global, meters: u32) -> Result<Vec<Row>, Fail> {
-    let mut rows = many(alloc, meters)?;
+    let mut rows = flat_with_meters(alloc, meters)?;
     let lost = meter(Base::Y2014, b"none")?;
     rows.push(Row::Meter(numbered(alloc, meters)?, lost))?;
     Ok(rows)
@@ -115,87 +92,14 @@ fn the_greatest_import_in_a_file(rt: HostRuntime) -> Result<(), Fail> {
     let bad = import(spoiled(alloc, 9_998)?)?;
     let last = Refusal::ImportRow(10_000, RowCause::NoTariff);
     refuses(&mut both, bad, last)?;
-    assert_eq!(rt; imported(&mut both, many(alloc, 9_999)?)?, 10_000);
+    assert_eq!(rt;
+        imported(&mut both, flat_with_meters(alloc, 9_999)?)?,
+        10_000
+    );
     let lists = close(both)?;
     let mut both = open(&rt, path, Plain, lists)?;
-    assert_eq!(rt; imported(&mut both, many(alloc, 9_999)?)?, 0);
+    assert_eq!(rt; imported(&mut both, flat_with_meters(alloc, 9_999)?)?, 0);
     agree(&mut both)?;
     let _ = close(both)?;
     remove(alloc, &rt, path)
-}
-
-// How many meters the import has that a stop meets.
-const METERS: u32 = 100;
-
-fn sent(alloc: Global) -> Result<Vec<Stamped>, Fail> {
-    let request = import(many(alloc, METERS)?)?;
-    Ok(vec![in alloc; stamped(FIRST_DAY, 0, request)?]?)
-}
-
-// How many rows the reply to the import says to be new, and `None` where the store failed.
-fn new_rows(ended: &Ended) -> Result<Option<u32>, Fail> {
-    let replies: &[Reply] = match &ended.replies {
-        Some(replies) => replies.as_slice(),
-        None => &[],
-    };
-    match replies.first() {
-        Some(Ok(Answer::Imported(new))) => Ok(Some(*new)),
-        Some(Err(Refusal::Store)) | None => Ok(None),
-        _ => Ok(None.ok_or("another reply")?),
-    }
-}
-
-// How many meters and tariffs were kept.
-fn rows_kept(alloc: Global, kept: &Kept) -> Result<i64, Fail> {
-    let sql = "SELECT (SELECT count(*) FROM meters) + (SELECT count(*) FROM tariffs)";
-    count(alloc, kept, sql)
-}
-
-// Whether the store failed. All rows of the import are stored or none, and a second one adds the
-// others.
-fn stops(rt: &(impl Abort + AllocGlobal), stop: Stopping, calls: u64) -> Result<bool, Fail> {
-    let (alloc, sent) = (rt.alloc(), sent(rt.alloc())?);
-    let empty = life(alloc, &nothing(alloc), SOUND, &[])?.kept;
-    let first = life(alloc, &empty, stop.after(calls), &sent)?;
-    let told = new_rows(&first)?;
-    let all = METERS + 1;
-    assert!(rt;
-        told.is_none_or(|new| new == all),
-        "{told:?} rows, {calls} calls"
-    );
-    let stored = rows_kept(alloc, &first.kept)?;
-    let is_there = stored == i64::from(all);
-    assert!(rt;
-        is_there || (stored == 0 && told.is_none()),
-        "{stored} rows, {calls} calls"
-    );
-    let second = life(alloc, &first.kept, SOUND, &sent)?;
-    let others = if is_there { 0 } else { all };
-    assert_eq!(rt; new_rows(&second)?, Some(others));
-    assert_eq!(rt; rows_kept(alloc, &second.kept)?, i64::from(all));
-    Ok(told.is_none())
-}
-
-// Each number of calls, up to the first at which no call fails.
-fn sweep(rt: &(impl Abort + AllocGlobal), stopping: Stopping) -> Result<u64, Fail> {
-    for calls in 0..1000 {
-        if !stops(rt, stopping, calls)? {
-            return Ok(calls);
-        }
-    }
-    Err("each number of calls was too small".into())
-}
-
-#[test]
-fn an_import_that_the_log_stops(rt: HostRuntime) -> Result<(), Fail> {
-    let calls = sweep(&rt, Stopping::Log)?;
-    assert!(rt; calls > 10, "{calls} calls");
-    Ok(())
-}
-
-#[test]
-fn an_import_that_the_database_stops(rt: HostRuntime) -> Result<(), Fail> {
-    let calls = sweep(&rt, Stopping::Database)?;
-    assert!(rt; calls > 1, "{calls} calls");
-    Ok(())
 }

@@ -8,8 +8,6 @@
 #[cfg(test)]
 mod ample;
 #[cfg(test)]
-mod disks;
-#[cfg(test)]
 mod drawn;
 #[cfg(test)]
 mod draws;
@@ -25,5 +23,3 @@ mod pages;
 mod refusals;
 #[cfg(test)]
 mod sales;
-#[cfg(test)]
-mod stops;
