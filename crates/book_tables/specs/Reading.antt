@@ -38,7 +38,7 @@ FailsToRead old new RowOfNoOffice =
     ((rows : Rows) → Holds old.now rows → ¬ AreOfOffice rows) × IsUnchanged old new
 
 -- tables that are only read: what is the same where the read succeeds; what is left where it fails,
--- and why it does; and that a crash leaves nothing else
+-- and why it does; that no transaction is begun; and that a crash leaves nothing else
 pub record OnlyReads {T : Type 0} (Same : State → State → Type 0) (old new : State)
     (result : Result T TableError) : Type 0 where
   pub same : HasCleanDisk new → HasTables old → OnOk result (Same old new)
