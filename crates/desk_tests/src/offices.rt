@@ -4,9 +4,9 @@
 use crate::asked::{json, message, reply_bytes};
 use books::Books;
 use desk::{Desk, End, Script};
-use office_testing::asks::{ASKS, Ask, is_wanted, request};
+use office_testing::asks::{ASKS, Ask, Wanted, is_wanted, request};
 use office_testing::both::{Both, agree, in_memory};
-use office_testing::in_file::{close, open, remove};
+use office_testing::in_file::{end, open, remove};
 use office_testing::values::{FIRST_DAY, stamped};
 use sqlite::Alter;
 use std::alloc::Global;
@@ -39,18 +39,19 @@ fn talk<S: Alter, T: BlockTransform>(
     Ok(Told { end, text })
 }
 
-// All messages of the list.
-fn messages(alloc: Global) -> Result<Vec<u8>, Fail> {
+// All messages of a list. It is a parameter here and below, since a proof takes much longer over a
+// list that it knows item by item.
+fn messages(alloc: Global, asks: &[(i64, Ask, Wanted)]) -> Result<Vec<u8>, Fail> {
     let mut input = Vec::new(alloc);
-    for (_, ask, _) in &ASKS {
+    for (_, ask, _) in asks {
         input.extend_from_slice(message(alloc, *ask)?.as_bytes())?;
     }
     Ok(input)
 }
 
-fn moments(alloc: Global) -> Result<Vec<i64>, Fail> {
+fn moments(alloc: Global, asks: &[(i64, Ask, Wanted)]) -> Result<Vec<i64>, Fail> {
     let mut moments = Vec::new(alloc);
-    for (seconds, _, _) in &ASKS {
+    for (seconds, _, _) in asks {
         moments.push(*seconds)?;
     }
     Ok(moments)
@@ -68,22 +69,34 @@ fn listed<T: BlockTransform>(
     Ok(lists.serve(&at))
 }
 
-// The list in one conversation. Each reply is the one that the lists give, and that is wanted.
+// What follows the reply at the beginning of a text. It is the one that the lists give, and that is
+// wanted.
+fn after_reply<'text, T: BlockTransform>(
+    rt: &(impl Abort + AllocGlobal),
+    lists: &mut Lists<T>,
+    (seconds, ask, wanted): (i64, Ask, Wanted),
+    text: &'text [u8],
+) -> Result<&'text [u8], Fail> {
+    let reply = listed(rt.alloc(), lists, seconds, ask)?;
+    assert!(rt; is_wanted(wanted, &reply), "{reply:?}");
+    let bytes = reply_bytes(rt.alloc(), matches!(ask, Ask::Receipt(_)), &reply)?;
+    assert!(rt; text.starts_with(&bytes), "{reply:?}");
+    Ok(text.get(bytes.len()..).unwrap_or(b""))
+}
+
+// The list in one conversation.
 fn converse<S: Alter, T: BlockTransform>(
     rt: &(impl Abort + AllocGlobal),
     both: &mut Both<S, T>,
+    asks: &[(i64, Ask, Wanted)],
 ) -> Result<(), Fail> {
     let alloc = rt.alloc();
-    let input = messages(alloc)?;
-    let told = talk(alloc, &mut both.books, &input, &moments(alloc)?)?;
+    let input = messages(alloc, asks)?;
+    let told = talk(alloc, &mut both.books, &input, &moments(alloc, asks)?)?;
     assert_eq!(rt; told.end, End::Closed);
     let mut rest = told.text.as_slice();
-    for (seconds, ask, wanted) in &ASKS {
-        let reply = listed(alloc, &mut both.lists, *seconds, *ask)?;
-        assert!(rt; is_wanted(*wanted, &reply), "{reply:?}");
-        let bytes = reply_bytes(alloc, matches!(ask, Ask::Receipt(_)), &reply)?;
-        assert!(rt; rest.starts_with(&bytes), "{reply:?}");
-        rest = rest.get(bytes.len()..).unwrap_or(b"");
+    for asked in asks {
+        rest = after_reply(rt, &mut both.lists, *asked, rest)?;
     }
     assert!(rt; rest.is_empty());
     agree(both)
@@ -113,9 +126,18 @@ const WRITTEN: &[u8] = b"HTTP/1.1 200 OK\r\nContent-Type: application/json\r\n\
 
 const CLOSES: &str = "Connection: close\r\n";
 
-// Each fault of the desk, each message that is refused, and files that are no imports: a moment and
-// a message, what the reply says, and the end.
-const FAULTS: [(i64, &[u8], &str, &str, &str, End); 19] = [
+// A moment and a message, what the reply says, and the end.
+type Fault = (
+    i64,
+    &'static [u8],
+    &'static str,
+    &'static str,
+    &'static str,
+    End,
+);
+
+// Each fault of the desk, each message that is refused, and files that are no imports.
+const FAULTS: [Fault; 19] = [
     (
         FIRST_DAY,
         b"GET /nowhere HTTP/1.1\r\nHost: d\r\n\r\n",
@@ -285,11 +307,12 @@ fn comes_to<S: Alter, T: BlockTransform>(
     Ok(())
 }
 
-fn faults<S: Alter, T: BlockTransform>(
+fn come_to<S: Alter, T: BlockTransform>(
     rt: &(impl Abort + AllocGlobal),
     books: &mut Books<S, T>,
+    faults: &[Fault],
 ) -> Result<(), Fail> {
-    for (seconds, input, status, fields, body, end) in &FAULTS {
+    for (seconds, input, status, fields, body, end) in faults {
         let text = json(rt.alloc(), status, fields, body)?;
         comes_to(rt, books, *seconds, input, &text, *end)?;
     }
@@ -318,7 +341,7 @@ fn converse_on<S: Alter, T: BlockTransform>(
 ) -> Result<(), Fail> {
     let (books, many) = (&mut both.books, too_many_rows(rt.alloc())?);
     comes_to(rt, books, FIRST_DAY, PAPERS, WRITTEN, End::Closed)?;
-    faults(rt, books)?;
+    come_to(rt, books, &FAULTS)?;
     comes_to(rt, books, FIRST_DAY, &many, TOO_MANY_ROWS, End::Closed)?;
     comes_to(rt, books, FIRST_DAY, b"", b"", End::Closed)?;
     agree(both)
@@ -327,18 +350,36 @@ fn converse_on<S: Alter, T: BlockTransform>(
 #[test]
 fn the_list_at_a_desk_in_memory(rt: HostRuntime) -> Result<(), Fail> {
     let mut both = in_memory(rt.alloc())?;
-    converse(&rt, &mut both)?;
+    converse(&rt, &mut both, &ASKS)?;
     converse_on(&rt, &mut both)
+}
+
+fn first_life<S: Alter + Drop, T: BlockTransform + Drop>(
+    rt: &(impl Abort + AllocGlobal),
+    both: Both<S, T>,
+    asks: &[(i64, Ask, Wanted)],
+) -> (Both<S, T>, Result<(), Fail>) {
+    let mut both = both;
+    let came = converse(rt, &mut both, asks);
+    (both, came)
+}
+
+fn second_life<S: Alter + Drop, T: BlockTransform + Drop>(
+    rt: &(impl Abort + AllocGlobal),
+    both: Both<S, T>,
+) -> (Both<S, T>, Result<(), Fail>) {
+    let mut both = both;
+    let came = converse_on(rt, &mut both);
+    (both, came)
 }
 
 #[test]
 fn the_list_at_a_desk_over_a_file(rt: HostRuntime) -> Result<(), Fail> {
     let path = "desk.db";
     remove(rt.alloc(), &rt, path)?;
-    let mut both = open(&rt, path, Plain, Lists::new(rt.alloc(), Plain))?;
-    converse(&rt, &mut both)?;
-    let mut both = open(&rt, path, Plain, close(both)?)?;
-    converse_on(&rt, &mut both)?;
-    let _ = close(both)?;
+    let both = open(&rt, path, Plain, Lists::new(rt.alloc(), Plain))?;
+    let (lists, ()) = end(first_life(&rt, both, &ASKS))?;
+    let both = open(&rt, path, Plain, lists)?;
+    let _ = end(second_life(&rt, both))?;
     remove(rt.alloc(), &rt, path)
 }

@@ -2,7 +2,7 @@
 
 use books::Books;
 use office_testing::both::serve_all;
-use sqlite::{Connection, FileStore, Files, Options};
+use sqlite::{Alter, Connection, FileStore, Files, Options};
 use sqlite_disk::{Disk, Fuse, Memory};
 use std::alloc::{AllocError, Global};
 use std::io;
@@ -59,8 +59,6 @@ pub(crate) struct Ended {
 
 type Stored = Connection<FileStore<Fuse<Memory>>>;
 
-type Office = Books<FileStore<Fuse<Memory>>, Plain>;
-
 /// No file yet.
 pub(crate) fn nothing(alloc: Global) -> Kept {
     Kept {
@@ -105,13 +103,12 @@ fn connect(alloc: Global, kept: &Kept, stop: Stop) -> Result<Result<Stored, Kept
     }
 }
 
-fn disconnect(alloc: Global, conn: Stored) -> Result<Kept, AllocError> {
-    keep(alloc, &conn.into_store().close())
-}
-
-// The books of a connection, or the connection where it holds no office. This and the next have no
-// clause, so that the proof of a life does not carry what the books promise.
-fn opened(alloc: Global, conn: Stored) -> Result<Result<Office, Stored>, Fail> {
+// These have no clause and are over any store, so that the proof of a life carries neither what the
+// books promise nor what a store of files is.
+fn opened<S: Alter + Drop>(
+    alloc: Global,
+    conn: Connection<S>,
+) -> Result<Result<Books<S, Plain>, Connection<S>>, Fail> {
     if !conn.is_autocommit() {
         return Err("a transaction is open".into());
     }
@@ -121,23 +118,32 @@ fn opened(alloc: Global, conn: Stored) -> Result<Result<Office, Stored>, Fail> {
     }
 }
 
-fn given_back(books: Office) -> Stored {
-    books.into_connection()
+fn store_of<S: Alter + Drop>(conn: Connection<S>) -> S {
+    conn.into_store()
 }
 
-// The requests of a life, once its connection is open.
-fn live(alloc: Global, conn: Stored, script: &[Stamped]) -> Result<Ended, Fail> {
+fn store_of_books<S: Alter + Drop>(books: Books<S, Plain>) -> S {
+    store_of(books.into_connection())
+}
+
+// The replies to these requests, and the store: no replies where it holds no office.
+fn live<S: Alter + Drop>(
+    alloc: Global,
+    conn: Connection<S>,
+    script: &[Stamped],
+) -> Result<(Option<Vec<Reply>>, S), Fail> {
     match opened(alloc, conn)? {
         Ok(mut books) => {
-            let replies = Some(serve_all(&mut books, script)?);
-            let kept = disconnect(alloc, given_back(books))?;
-            Ok(Ended { replies, kept })
+            let replies = serve_all(&mut books, script)?;
+            Ok((Some(replies), store_of_books(books)))
         }
-        Err(conn) => Ok(Ended {
-            replies: None,
-            kept: disconnect(alloc, conn)?,
-        }),
+        Err(conn) => Ok((None, store_of(conn))),
     }
+}
+
+fn number_of<S: Alter + Drop>(conn: Connection<S>, sql: &str) -> Result<i64, Fail> {
+    let mut conn = conn;
+    Ok(conn.query_row(sql, &[])?.get(0)?)
 }
 
 /// A life on disks that stop, in which these requests are sent.
@@ -148,7 +154,11 @@ pub(crate) fn life(
     script: &[Stamped],
 ) -> Result<Ended, Fail> {
     match connect(alloc, kept, stop)? {
-        Ok(conn) => live(alloc, conn, script),
+        Ok(conn) => {
+            let (replies, store) = live(alloc, conn, script)?;
+            let kept = keep(alloc, &store.close())?;
+            Ok(Ended { replies, kept })
+        }
         Err(kept) => Ok(Ended {
             replies: None,
             kept,
@@ -159,7 +169,7 @@ pub(crate) fn life(
 /// How many rows a table of what was kept has.
 pub(crate) fn count(alloc: Global, kept: &Kept, sql: &str) -> Result<i64, Fail> {
     match connect(alloc, kept, SOUND)? {
-        Ok(mut conn) => Ok(conn.query_row(sql, &[])?.get(0)?),
+        Ok(conn) => number_of(conn, sql),
         Err(_) => Err("not opened on sound disks".into()),
     }
 }

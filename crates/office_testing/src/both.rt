@@ -52,6 +52,13 @@ pub fn furnish<S: Alter, T: BlockTransform>(
     Ok(())
 }
 
+/// Ends a life as a program that stops: the books are not closed. The lists stay.
+pub fn stop<S: Alter + Drop, T: Drop>(both: Both<S, T>) -> Lists<T> {
+    let Both { books, lists } = both;
+    drop(books);
+    lists
+}
+
 // These have no clause, so that the proof of a test does not carry what the books promise.
 pub fn serve<S: Alter, T: BlockTransform>(books: &mut Books<S, T>, at: &Stamped) -> Reply {
     books.serve(at)

@@ -3,22 +3,31 @@
 
 use office_testing::asks::{ASKS, Ask, Wanted, is_wanted, request};
 use office_testing::both::{Both, agree, ask, in_memory};
-use office_testing::in_file::{close, open, remove};
+use office_testing::in_file::{end, open, remove};
 use sqlite::Alter;
 use std::process::Abort;
 use std::test::Fail;
 use sts_token::{BlockTransform, Plain};
 use vend_core::Lists;
 
-// Asks both for these, and compares each reply with the one that is wanted.
+// Asks both, and compares the reply with the one that is wanted.
+fn serve_ask<S: Alter, T: BlockTransform>(
+    rt: &(impl Abort + AllocGlobal),
+    both: &mut Both<S, T>,
+    (seconds, asked, wanted): (i64, Ask, Wanted),
+) -> Result<(), Fail> {
+    let reply = ask(both, seconds, request(rt.alloc(), asked)?)?;
+    assert!(rt; is_wanted(wanted, &reply), "{reply:?}");
+    Ok(())
+}
+
 fn serve_asks<S: Alter, T: BlockTransform>(
     rt: &(impl Abort + AllocGlobal),
     both: &mut Both<S, T>,
     asks: &[(i64, Ask, Wanted)],
 ) -> Result<(), Fail> {
-    for (seconds, asked, wanted) in asks {
-        let reply = ask(both, *seconds, request(rt.alloc(), *asked)?)?;
-        assert!(rt; is_wanted(*wanted, &reply), "{reply:?}");
+    for asked in asks {
+        serve_ask(rt, both, *asked)?;
     }
     agree(both)
 }
@@ -29,6 +38,17 @@ fn the_list_in_memory(rt: HostRuntime) -> Result<(), Fail> {
     serve_asks(&rt, &mut both, &ASKS)
 }
 
+// A life in which both are asked for these.
+fn life<S: Alter + Drop, T: BlockTransform + Drop>(
+    rt: &(impl Abort + AllocGlobal),
+    both: Both<S, T>,
+    asks: &[(i64, Ask, Wanted)],
+) -> (Both<S, T>, Result<(), Fail>) {
+    let mut both = both;
+    let came = serve_asks(rt, &mut both, asks);
+    (both, came)
+}
+
 // The file is closed and opened again before the first sale, and before the clock is set back.
 #[test]
 fn the_list_in_a_file(rt: HostRuntime) -> Result<(), Fail> {
@@ -37,16 +57,16 @@ fn the_list_in_a_file(rt: HostRuntime) -> Result<(), Fail> {
     let mut lists = Lists::new(rt.alloc(), Plain);
     for (from, to) in [(0, 21), (21, 31), (31, ASKS.len())] {
         let asks = ASKS.get(from..to).ok_or("a part of the list")?;
-        let mut both = open(&rt, path, Plain, lists)?;
-        serve_asks(&rt, &mut both, asks)?;
-        lists = close(both)?;
+        let both = open(&rt, path, Plain, lists)?;
+        (lists, ()) = end(life(&rt, both, asks))?;
     }
     remove(rt.alloc(), &rt, path)
 }
 
-// Whether the list wants the refusal of this number.
-fn is_refused(number: u8) -> bool {
-    ASKS.iter().any(|(_, _, wanted)| {
+// Whether a list wants the refusal of this number. It is a parameter, since a proof takes much longer
+// over a list that it knows item by item.
+fn is_refused(asks: &[(i64, Ask, Wanted)], number: u8) -> bool {
+    asks.iter().any(|(_, _, wanted)| {
         matches!(wanted, Wanted::Refused(refusal) if refusal.number() == number)
     })
 }
@@ -54,9 +74,9 @@ fn is_refused(number: u8) -> bool {
 #[test]
 fn the_list_has_each_refusal(rt: HostRuntime) {
     for number in [1, 2, 3, 4, 5, 6, 7, 8, 9, 10, 12, 13, 14] {
-        assert!(rt; is_refused(number), "{number}");
+        assert!(rt; is_refused(&ASKS, number), "{number}");
     }
     for number in [11, 15, 16, 17] {
-        assert!(rt; !is_refused(number), "{number}");
+        assert!(rt; !is_refused(&ASKS, number), "{number}");
     }
 }

@@ -2,7 +2,7 @@
 
 use crate::draws::Draws;
 use office_testing::both::{Both, agree, ask, in_memory};
-use office_testing::in_file::{close, open, remove};
+use office_testing::in_file::{end, open, remove};
 use office_testing::values::{import, meter, meter_no, operator, order_of, tariff_name};
 use sqlite::Alter;
 use std::alloc::Global;
@@ -81,13 +81,21 @@ fn sell(alloc: Global, draws: &mut Draws) -> Result<Request, Fail> {
     order_of(who, order_ref.as_bytes(), meter, from.pick(&TENDERS)?)
 }
 
+fn opening(draws: &mut Draws) -> Result<Request, Fail> {
+    Ok(Request::OpenShift(operator(draws.pick(&OPERATORS)?)?))
+}
+
+fn closing(draws: &mut Draws) -> Result<Request, Fail> {
+    Ok(Request::CloseShift(operator(draws.pick(&OPERATORS)?)?))
+}
+
 fn request(alloc: Global, draws: &mut Draws) -> Result<Request, Fail> {
     match draws.below(24) {
         0 | 1 => addition(alloc, draws),
         2 => rows(alloc, draws),
         3 => setting(draws),
-        4 | 5 => Ok(Request::OpenShift(operator(draws.pick(&OPERATORS)?)?)),
-        6 => Ok(Request::CloseShift(operator(draws.pick(&OPERATORS)?)?)),
+        4 | 5 => opening(draws),
+        6 => closing(draws),
         7 | 8 => Ok(Request::Reprint(draws.below(200))),
         9 => Ok(Request::ShiftReport(draws.below(60))),
         _ => sell(alloc, draws),
@@ -157,6 +165,19 @@ fn requests_in_memory(rt: HostRuntime) -> Result<(), Fail> {
     Ok(())
 }
 
+// A life of so many drawn requests.
+fn life<S: Alter + Drop, T: BlockTransform + Drop>(
+    rt: &(impl Abort + AllocGlobal),
+    both: Both<S, T>,
+    draws: &mut Draws,
+    clock: &mut Clock,
+    many: u32,
+) -> (Both<S, T>, Result<Counts, Fail>) {
+    let mut both = both;
+    let counts = compare(rt, &mut both, draws, clock, many);
+    (both, counts)
+}
+
 // Drawn requests in a file, which is closed and opened again after every fifty.
 fn compare_in_file(
     host: &HostRuntime,
@@ -174,9 +195,8 @@ fn compare_in_file(
     };
     let mut lists = Lists::new(rt.alloc(), Demo);
     for _ in 0..times {
-        let mut both = open(host, path, Demo, lists)?;
-        let _ = compare(rt, &mut both, &mut draws, &mut clock, 50)?;
-        lists = close(both)?;
+        let both = open(host, path, Demo, lists)?;
+        (lists, _) = end(life(rt, both, &mut draws, &mut clock, 50))?;
     }
     assert!(rt; !lists.sales().is_empty(), "nothing was sold");
     remove(rt.alloc(), host, path)

@@ -1,13 +1,14 @@
 //! Imports: sent twice, with a bad row, and at their greatest size in a file.
 
 use office_testing::both::{Both, agree, ask, in_memory, office, refuses};
-use office_testing::in_file::{close, open, remove};
+use office_testing::in_file::{end, open, remove};
 use office_testing::values::{
     FIRST_DAY, METER, NO_METER, OTHER_METER, flat, flat_with_meters, import, meter, meter_no,
     numbered, tariff_name,
 };
 use sqlite::Alter;
 use std::alloc::Global;
+use std::process::Abort;
 use std::test::Fail;
 use sts_fields::Base;
 use sts_token::{BlockTransform, Plain};
@@ -83,23 +84,55 @@ fn spoiled(alloc: Global, meters: u32) -> Result<Vec<Row>, Fail> {
     Ok(rows)
 }
 
+// An import with a bad last row adds none, and one of as many rows as there may be adds them all.
+fn first_whole<S: Alter, T: BlockTransform>(
+    rt: &(impl Abort + AllocGlobal),
+    both: &mut Both<S, T>,
+) -> Result<(), Fail> {
+    let alloc = rt.alloc();
+    let bad = import(spoiled(alloc, 9_998)?)?;
+    let last = Refusal::ImportRow(10_000, RowCause::NoTariff);
+    refuses(both, bad, last)?;
+    let new = imported(both, flat_with_meters(alloc, 9_999)?)?;
+    assert_eq!(rt; new, 10_000);
+    Ok(())
+}
+
+fn first_life<S: Alter + Drop, T: BlockTransform + Drop>(
+    rt: &(impl Abort + AllocGlobal),
+    both: Both<S, T>,
+) -> (Both<S, T>, Result<(), Fail>) {
+    let mut both = both;
+    let came = first_whole(rt, &mut both);
+    (both, came)
+}
+
+fn whole_again<S: Alter, T: BlockTransform>(
+    rt: &(impl Abort + AllocGlobal),
+    both: &mut Both<S, T>,
+) -> Result<(), Fail> {
+    let new = imported(both, flat_with_meters(rt.alloc(), 9_999)?)?;
+    assert_eq!(rt; new, 0);
+    agree(both)
+}
+
+fn second_life<S: Alter + Drop, T: BlockTransform + Drop>(
+    rt: &(impl Abort + AllocGlobal),
+    both: Both<S, T>,
+) -> (Both<S, T>, Result<(), Fail>) {
+    let mut both = both;
+    let came = whole_again(rt, &mut both);
+    (both, came)
+}
+
 #[test]
 fn the_greatest_import_in_a_file(rt: HostRuntime) -> Result<(), Fail> {
     let alloc = rt.alloc();
     let path = "import.db";
     remove(alloc, &rt, path)?;
-    let mut both = open(&rt, path, Plain, Lists::new(alloc, Plain))?;
-    let bad = import(spoiled(alloc, 9_998)?)?;
-    let last = Refusal::ImportRow(10_000, RowCause::NoTariff);
-    refuses(&mut both, bad, last)?;
-    assert_eq!(rt;
-        imported(&mut both, flat_with_meters(alloc, 9_999)?)?,
-        10_000
-    );
-    let lists = close(both)?;
-    let mut both = open(&rt, path, Plain, lists)?;
-    assert_eq!(rt; imported(&mut both, flat_with_meters(alloc, 9_999)?)?, 0);
-    agree(&mut both)?;
-    let _ = close(both)?;
+    let both = open(&rt, path, Plain, Lists::new(alloc, Plain))?;
+    let (lists, ()) = end(first_life(&rt, both))?;
+    let both = open(&rt, path, Plain, lists)?;
+    let _ = end(second_life(&rt, both))?;
     remove(alloc, &rt, path)
 }
