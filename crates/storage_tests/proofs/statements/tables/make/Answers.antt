@@ -1,7 +1,7 @@
 use Rattle.std.proofs.Common.{refl}
 use Rattle.sqlite_tied.specs.Compute.{everything}
 use Rattle.one_table.specs.Making.{is_creation}
-use Rattle.one_table_tests.proofs.tables.make.Goals as goal
+use Rattle.storage_tests.proofs.statements.tables.make.Goals as goal
 
 pub create_tables-requires-clause-creations : goal.create_tables-requires-clause-creations
 unfolding everything is_creation

@@ -1,6 +1,6 @@
 //! The statements that read many rows, over memory, beside other tables.
 
-use crate::look_ups::{ROWS, TABLES, batch, meter_no, second_sale};
+use crate::office_tables::look_ups::{ROWS, TABLES, batch, meter_no, second_sale};
 use book_tables::{TableError, sale_lists, sold, tariffs};
 use sqlite::{Alter, Connection};
 use std::alloc::Global;

@@ -1,7 +1,7 @@
 //! A store that stops at each of its calls: all rows of an import are stored or none, and the import
 //! that comes again adds the others.
 
-use crate::disks::{Ended, Kept, SOUND, Stopping, count, life, nothing};
+use crate::stops::disks::{Ended, Kept, SOUND, Stopping, count, life, nothing};
 use office_testing::values::{FIRST_DAY, flat_with_meters, import, stamped};
 use std::alloc::Global;
 use std::process::Abort;

@@ -1,5 +1,5 @@
 //! Rows whose values are outside their rules or at the ends of them, beside other tables.
-use crate::look_ups::{ROWS, TABLES, batch, meter_no};
+use crate::office_tables::look_ups::{ROWS, TABLES, batch, meter_no};
 use book_tables::{TableError, meters, sales, shifts, sold};
 use sqlite::{Connection, Error, ErrorCode, MemStore};
 use std::alloc::Global;

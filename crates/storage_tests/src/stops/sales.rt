@@ -1,7 +1,7 @@
 //! A store that stops at each of its calls: nothing that was acknowledged is lost, and a ref that
 //! comes again gives one sale.
 
-use crate::disks::{Ended, Kept, SOUND, Stopping, count, life, nothing};
+use crate::stops::disks::{Ended, Kept, SOUND, Stopping, count, life, nothing};
 use office_testing::values::{
     FIRST_DAY, METER, flat, meter, meter_no, moment, operator, order, stamped, tariff_name,
 };
