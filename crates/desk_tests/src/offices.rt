@@ -4,7 +4,7 @@
 use crate::asked::{json, message, reply_bytes};
 use books::Books;
 use desk::{Desk, End, Script};
-use office_testing::asks::{ASKS, Ask, Wanted, is_wanted, request};
+use office_testing::asks::{Ask, Wanted, asks, is_wanted, request};
 use office_testing::both::{Both, agree, in_memory};
 use office_testing::in_file::{end, open, remove};
 use office_testing::values::{FIRST_DAY, stamped};
@@ -39,8 +39,7 @@ fn talk<S: Alter, T: BlockTransform>(
     Ok(Told { end, text })
 }
 
-// All messages of a list. It is a parameter here and below, since a proof takes much longer over a
-// list that it knows item by item.
+// All messages of a list.
 fn messages(alloc: Global, asks: &[(i64, Ask, Wanted)]) -> Result<Vec<u8>, Fail> {
     let mut input = Vec::new(alloc);
     for (_, ask, _) in asks {
@@ -137,7 +136,7 @@ type Fault = (
 );
 
 // Each fault of the desk, each message that is refused, and files that are no imports.
-const FAULTS: [Fault; 19] = [
+static FAULTS: [Fault; 19] = [
     (
         FIRST_DAY,
         b"GET /nowhere HTTP/1.1\r\nHost: d\r\n\r\n",
@@ -292,6 +291,11 @@ const FAULTS: [Fault; 19] = [
     ),
 ];
 
+// It has no clause: a proof takes much longer over a list that it knows item by item.
+fn faults() -> &'static [Fault] {
+    &FAULTS
+}
+
 // A conversation comes to this text and this end.
 fn comes_to<S: Alter, T: BlockTransform>(
     rt: &(impl Abort + AllocGlobal),
@@ -341,7 +345,7 @@ fn converse_on<S: Alter, T: BlockTransform>(
 ) -> Result<(), Fail> {
     let (books, many) = (&mut both.books, too_many_rows(rt.alloc())?);
     comes_to(rt, books, FIRST_DAY, PAPERS, WRITTEN, End::Closed)?;
-    come_to(rt, books, &FAULTS)?;
+    come_to(rt, books, faults())?;
     comes_to(rt, books, FIRST_DAY, &many, TOO_MANY_ROWS, End::Closed)?;
     comes_to(rt, books, FIRST_DAY, b"", b"", End::Closed)?;
     agree(both)
@@ -350,7 +354,7 @@ fn converse_on<S: Alter, T: BlockTransform>(
 #[test]
 fn the_list_at_a_desk_in_memory(rt: HostRuntime) -> Result<(), Fail> {
     let mut both = in_memory(rt.alloc())?;
-    converse(&rt, &mut both, &ASKS)?;
+    converse(&rt, &mut both, asks())?;
     converse_on(&rt, &mut both)
 }
 
@@ -378,7 +382,7 @@ fn the_list_at_a_desk_over_a_file(rt: HostRuntime) -> Result<(), Fail> {
     let path = "desk.db";
     remove(rt.alloc(), &rt, path)?;
     let both = open(&rt, path, Plain, Lists::new(rt.alloc(), Plain))?;
-    let (lists, ()) = end(first_life(&rt, both, &ASKS))?;
+    let (lists, ()) = end(first_life(&rt, both, asks()))?;
     let both = open(&rt, path, Plain, lists)?;
     let _ = end(second_life(&rt, both))?;
     remove(rt.alloc(), &rt, path)

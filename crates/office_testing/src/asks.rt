@@ -69,8 +69,7 @@ const TARIFFS: Ask = Ask::ImportTariffs(("night", ":50"), ("flat", ":100"));
 
 const METERS: Ask = Ask::ImportMeters((M1993, Base::Y1993, "flat"), (M2035, Base::Y2035, "night"));
 
-/// Moments, requests, and what they are answered with, one after another from an empty office.
-pub const ASKS: [(i64, Ask, Wanted); 45] = [
+static ASKS: [(i64, Ask, Wanted); 45] = [
     (FIRST_DAY, Ask::AddTariff("flat", ":100"), Wanted::Done),
     (FIRST_DAY, Ask::AddTariff("flat", ":100"), Wanted::Done),
     (
@@ -215,6 +214,13 @@ pub const ASKS: [(i64, Ask, Wanted); 45] = [
     (FIRST_DAY, Ask::ShiftReport(2), Wanted::Report(2, 0)),
     (FIRST_DAY, Ask::CloseShift("bob"), Wanted::Closed(2)),
 ];
+
+/// Moments, requests, and what they are answered with, one after another from an empty office.
+///
+/// It has no clause: a proof takes much longer over a list that it knows item by item.
+pub fn asks() -> &'static [(i64, Ask, Wanted)] {
+    &ASKS
+}
 
 /// The request of these texts.
 pub fn request(alloc: Global, ask: Ask) -> Result<Request, Fail> {

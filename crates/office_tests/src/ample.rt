@@ -1,7 +1,7 @@
 //! With memory and a store at hand each kind of request is granted, and each refusal comes that
 //! the office's rules have; want of memory and a failed store never do. In memory and in a file.
 
-use office_testing::asks::{ASKS, Ask, Wanted, is_wanted, request};
+use office_testing::asks::{Ask, Wanted, asks, is_wanted, request};
 use office_testing::both::{Both, agree, ask, in_memory};
 use office_testing::in_file::{end, open, remove};
 use sqlite::Alter;
@@ -35,7 +35,7 @@ fn serve_asks<S: Alter, T: BlockTransform>(
 #[test]
 fn the_list_in_memory(rt: HostRuntime) -> Result<(), Fail> {
     let mut both = in_memory(rt.alloc())?;
-    serve_asks(&rt, &mut both, &ASKS)
+    serve_asks(&rt, &mut both, asks())
 }
 
 // A life in which both are asked for these.
@@ -55,18 +55,17 @@ fn the_list_in_a_file(rt: HostRuntime) -> Result<(), Fail> {
     let path = "ample.db";
     remove(rt.alloc(), &rt, path)?;
     let mut lists = Lists::new(rt.alloc(), Plain);
-    for (from, to) in [(0, 21), (21, 31), (31, ASKS.len())] {
-        let asks = ASKS.get(from..to).ok_or("a part of the list")?;
+    for (from, to) in [(0, 21), (21, 31), (31, asks().len())] {
+        let part = asks().get(from..to).ok_or("a part of the list")?;
         let both = open(&rt, path, Plain, lists)?;
-        (lists, ()) = end(life(&rt, both, asks))?;
+        (lists, ()) = end(life(&rt, both, part))?;
     }
     remove(rt.alloc(), &rt, path)
 }
 
-// Whether a list wants the refusal of this number. It is a parameter, since a proof takes much longer
-// over a list that it knows item by item.
-fn is_refused(asks: &[(i64, Ask, Wanted)], number: u8) -> bool {
-    asks.iter().any(|(_, _, wanted)| {
+// Whether the list wants the refusal of this number.
+fn is_refused(number: u8) -> bool {
+    asks().iter().any(|(_, _, wanted)| {
         matches!(wanted, Wanted::Refused(refusal) if refusal.number() == number)
     })
 }
@@ -74,9 +73,9 @@ fn is_refused(asks: &[(i64, Ask, Wanted)], number: u8) -> bool {
 #[test]
 fn the_list_has_each_refusal(rt: HostRuntime) {
     for number in [1, 2, 3, 4, 5, 6, 7, 8, 9, 10, 12, 13, 14] {
-        assert!(rt; is_refused(&ASKS, number), "{number}");
+        assert!(rt; is_refused(number), "{number}");
     }
     for number in [11, 15, 16, 17] {
-        assert!(rt; !is_refused(&ASKS, number), "{number}");
+        assert!(rt; !is_refused(number), "{number}");
     }
 }
