@@ -9,5 +9,3 @@ pub use meter::Meter;
 mod answer;
 mod meter;
 mod store;
-#[cfg(test)]
-mod tests;

@@ -15,6 +15,4 @@ mod base;
 mod calendar;
 mod fault;
 mod moment;
-#[cfg(test)]
-mod tests;
 mod tid;

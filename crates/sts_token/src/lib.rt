@@ -23,9 +23,5 @@ mod fields;
 mod key;
 mod meter;
 mod reading;
-#[cfg(test)]
-mod reading_tests;
-#[cfg(test)]
-mod tests;
 mod token;
 mod transform;

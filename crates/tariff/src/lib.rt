@@ -19,6 +19,4 @@ mod purchase;
 mod step;
 mod steps;
 mod tender;
-#[cfg(test)]
-mod tests;
 mod text;

@@ -1,6 +1,8 @@
-use crate::{Step, Steps, StepsFault, Tender, buy, price};
+//! Steps, prices and purchases (`tariff`).
+
 use std::alloc::Global;
 use std::test::Fail;
+use tariff::{Step, Steps, StepsFault, Tender, buy, price};
 
 // What a tender buys by the steps of a text: tenths, price and change.
 fn bought(

@@ -1,4 +1,6 @@
-use crate::{Answer, Meter};
+//! What the simulated meter answers and credits (`sim_meter`).
+
+use sim_meter::{Answer, Meter};
 use std::test::Fail;
 use sts_fields::Amount;
 use sts_token::{Demo, Fields, Plain, TokenFault, write};

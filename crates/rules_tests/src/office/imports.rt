@@ -1,5 +1,5 @@
 //! Imports over plain vectors: twice, with a bad row, and at their greatest size.
-use crate::lists::{
+use crate::office::lists::{
     FIRST_DAY, METER, NO_METER, OTHER_METER, ask, flat, meter, name, number, office, refuses,
 };
 use std::alloc::Global;

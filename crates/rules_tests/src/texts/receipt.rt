@@ -1,5 +1,5 @@
 //! The receipt.
-use crate::examples::{first_sale, large_sale};
+use crate::texts::examples::{first_sale, large_sale};
 use papers::{receipt, receipt_text};
 use std::test::Fail;
 

@@ -1,5 +1,5 @@
 //! The sales export.
-use crate::examples::first_sale;
+use crate::texts::examples::first_sale;
 use papers::sales_csv;
 use std::test::Fail;
 use vend_core::Sale;

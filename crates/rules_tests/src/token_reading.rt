@@ -1,6 +1,8 @@
-use crate::{BlockTransform, Demo, Fields, Plain, TokenFault, read, write};
+//! Tokens that are read, and the fault of each other text (`sts_token`).
+
 use std::test::Fail;
 use sts_fields::Amount;
+use sts_token::{BlockTransform, Demo, Fields, Plain, TokenFault, read, write};
 
 fn fields(rnd: u8, tid: u32, tenths: u32) -> Option<Fields> {
     let amount = Amount::of_tenths(tenths)?;

@@ -1,5 +1,5 @@
 //! The shift report.
-use crate::examples::{first_sale, first_shift, large_sale};
+use crate::texts::examples::{first_sale, first_shift, large_sale};
 use papers::{shift_report, shift_text};
 use std::test::Fail;
 use sts_fields::Moment;

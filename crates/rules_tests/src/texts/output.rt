@@ -1,5 +1,5 @@
 //! Writers that take a part of what they are given, and then fail.
-use crate::examples::{first_sale, first_shift};
+use crate::texts::examples::{first_sale, first_shift};
 use papers::{TextFault, receipt, receipt_text, sales_csv, shift_text};
 use std::io::{self, Write};
 use std::test::Fail;

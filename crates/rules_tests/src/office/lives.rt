@@ -1,6 +1,8 @@
 //! Lives of the office over plain vectors: stops, reopenings, other transforms, and a clock that
 //! goes back.
-use crate::lists::{FIRST_DAY, METER, are, ask, flat, office, order, refuses_at, reprinted, sold};
+use crate::office::lists::{
+    FIRST_DAY, METER, are, ask, flat, office, order, refuses_at, reprinted, sold,
+};
 use std::test::Fail;
 use sts_fields::Base;
 use sts_token::{BlockTransform, Demo, Plain};

@@ -1,5 +1,7 @@
-use crate::{Amount, Base, LAST_TID, Memory, Moment, TidFault, minute, next_tid};
+//! Amounts and their codes, minutes, and the next identifier (`sts_fields`).
+
 use std::test::Fail;
+use sts_fields::{Amount, Base, LAST_TID, Memory, Moment, TidFault, minute, next_tid};
 
 #[test]
 fn amounts_and_codes(rt: HostRuntime) -> Result<(), Fail> {

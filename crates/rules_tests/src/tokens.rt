@@ -1,6 +1,8 @@
-use crate::{BlockTransform, Fields, Plain, check16, key_text, read_key, write};
+//! Checks, keys and tokens that are written (`sts_token`).
+
 use std::test::Fail;
 use sts_fields::Amount;
+use sts_token::{BlockTransform, Fields, Plain, check16, key_text, read_key, write};
 
 #[test]
 fn checks(rt: HostRuntime) {

@@ -1,0 +1,23 @@
+//! Tests of the rules, which have no code of their own.
+//!
+//! Amounts, identifiers and the calendar, tokens, the simulated meter, tariffs, the office in plain
+//! vectors, and the texts that it prints and reads. What is expected was worked out by hand or by
+//! Python, from `docs/PROFILE.md`, `docs/OFFICE.md` and `docs/TEXTS.md`.
+#![tactic(auto)]
+
+#[cfg(test)]
+mod calendar;
+#[cfg(test)]
+mod fields;
+#[cfg(test)]
+mod meter;
+#[cfg(test)]
+mod office;
+#[cfg(test)]
+mod tariffs;
+#[cfg(test)]
+mod texts;
+#[cfg(test)]
+mod token_reading;
+#[cfg(test)]
+mod tokens;
