@@ -6,9 +6,14 @@ use std::test::Fail;
 use sts_fields::Base;
 use vend_core::{Request, RowCause};
 
+// It has no clause, so that the proof of a test does not carry what the desk promises.
+fn asked(alloc: Global, route: Route, body: &[u8]) -> Result<Request, BodyFault> {
+    request_of(alloc, route, body)
+}
+
 // A body asks a route for nothing.
 fn fails(rt: &(impl Abort + AllocGlobal), route: Route, body: &[u8], fault: BodyFault) {
-    let found = request_of(rt.alloc(), route, body).err();
+    let found = asked(rt.alloc(), route, body).err();
     assert_eq!(rt; found, Some(fault), "{body:?}");
 }
 
@@ -20,14 +25,14 @@ fn is_outside(rt: &(impl Abort + AllocGlobal), route: Route, body: &[u8]) {
 #[test]
 fn tariffs_and_meters(rt: HostRuntime) -> Result<(), Fail> {
     let body = b"{\"name\":\"flat\",\"steps\":\"500:100;:200\"}";
-    let Request::AddTariff(name, steps) = request_of(rt.alloc(), Route::AddTariff, body)? else {
+    let Request::AddTariff(name, steps) = asked(rt.alloc(), Route::AddTariff, body)? else {
         return Err(Fail::new("no tariff"));
     };
     assert_eq!(rt; name.as_bytes(), b"flat".as_slice());
     assert_eq!(rt; steps.as_slice().len(), 2);
     let body = b" {\"meter\": \"12345678903\", \"key\": \"0123456789abcdef\",\r\n\
         \"tariff\": \"fl\\u0061t\", \"base\": 2014} ";
-    let Request::AddMeter(number, meter) = request_of(rt.alloc(), Route::AddMeter, body)? else {
+    let Request::AddMeter(number, meter) = asked(rt.alloc(), Route::AddMeter, body)? else {
         return Err(Fail::new("no meter"));
     };
     assert_eq!(rt; number.as_bytes(), b"12345678903".as_slice());
@@ -36,7 +41,7 @@ fn tariffs_and_meters(rt: HostRuntime) -> Result<(), Fail> {
     assert_eq!(rt; meter.key, 0x0123_4567_89ab_cdef);
     let body = b"{\"tariff\":\"flat\"}";
     let route = Route::SetTariff(number);
-    let Request::SetTariff(other, name) = request_of(rt.alloc(), route, body)? else {
+    let Request::SetTariff(other, name) = asked(rt.alloc(), route, body)? else {
         return Err(Fail::new("no tariff of a meter"));
     };
     assert_eq!(rt; other, number);
@@ -47,10 +52,10 @@ fn tariffs_and_meters(rt: HostRuntime) -> Result<(), Fail> {
 #[test]
 fn shifts_and_sales(rt: HostRuntime) -> Result<(), Fail> {
     let body = b"{\"operator\":\"ann\"}";
-    let Request::OpenShift(opening) = request_of(rt.alloc(), Route::OpenShift, body)? else {
+    let Request::OpenShift(opening) = asked(rt.alloc(), Route::OpenShift, body)? else {
         return Err(Fail::new("no opening"));
     };
-    let Request::CloseShift(closing) = request_of(rt.alloc(), Route::CloseShift, body)? else {
+    let Request::CloseShift(closing) = asked(rt.alloc(), Route::CloseShift, body)? else {
         return Err(Fail::new("no closing"));
     };
     assert_eq!(rt; opening.as_bytes(), b"ann".as_slice());
@@ -58,7 +63,7 @@ fn shifts_and_sales(rt: HostRuntime) -> Result<(), Fail> {
     // The last one of two members of one name stands.
     let body = b"{\"tender\":9,\"meter\":\"12345678903\",\"operator\":\"ann\",\"ref\":\"A-1\",\
         \"tender\":10}";
-    let Request::Sell(order) = request_of(rt.alloc(), Route::Sell, body)? else {
+    let Request::Sell(order) = asked(rt.alloc(), Route::Sell, body)? else {
         return Err(Fail::new("no order"));
     };
     assert_eq!(rt; order.operator, opening);
@@ -72,12 +77,12 @@ fn shifts_and_sales(rt: HostRuntime) -> Result<(), Fail> {
 #[test]
 fn bodies_not_looked_at(rt: HostRuntime) {
     for body in [b"".as_slice(), b"\xff", b"{}"] {
-        let asked = request_of(rt.alloc(), Route::ShiftReport(3), body);
-        assert!(rt; matches!(asked, Ok(Request::ShiftReport(3))));
-        let asked = request_of(rt.alloc(), Route::Reprint(4), body);
-        assert!(rt; matches!(asked, Ok(Request::Reprint(4))));
-        let asked = request_of(rt.alloc(), Route::Receipt(5), body);
-        assert!(rt; matches!(asked, Ok(Request::Reprint(5))));
+        let request = asked(rt.alloc(), Route::ShiftReport(3), body);
+        assert!(rt; matches!(request, Ok(Request::ShiftReport(3))));
+        let request = asked(rt.alloc(), Route::Reprint(4), body);
+        assert!(rt; matches!(request, Ok(Request::Reprint(4))));
+        let request = asked(rt.alloc(), Route::Receipt(5), body);
+        assert!(rt; matches!(request, Ok(Request::Reprint(5))));
     }
 }
 
@@ -155,11 +160,11 @@ fn deep_bodies(rt: HostRuntime) -> Result<(), Fail> {
 fn files(rt: HostRuntime) -> Result<(), Fail> {
     let meters = b"meter,base,tariff,key\n12345678903,2014,flat,0000000000000000\n";
     let tariffs = b"name,steps\nflat,:100\nhome,500:100;:200\n";
-    let Request::Import(rows) = request_of(rt.alloc(), Route::ImportMeters, meters)? else {
+    let Request::Import(rows) = asked(rt.alloc(), Route::ImportMeters, meters)? else {
         return Err(Fail::new("no import"));
     };
     assert_eq!(rt; rows.as_slice().len(), 1);
-    let Request::Import(rows) = request_of(rt.alloc(), Route::ImportTariffs, tariffs)? else {
+    let Request::Import(rows) = asked(rt.alloc(), Route::ImportTariffs, tariffs)? else {
         return Err(Fail::new("no import"));
     };
     assert_eq!(rt; rows.as_slice().len(), 2);
