@@ -6,7 +6,7 @@ use books::Books;
 use desk::{Desk, End, Script};
 use office_testing::asks::{Ask, Wanted, asks, is_wanted, request};
 use office_testing::both::{Both, agree, in_memory};
-use office_testing::in_file::{end, open, remove};
+use office_testing::in_file::{Life, live, remove};
 use office_testing::values::{FIRST_DAY, stamped};
 use sqlite::Alter;
 use std::alloc::Global;
@@ -358,32 +358,36 @@ fn the_list_at_a_desk_in_memory(rt: HostRuntime) -> Result<(), Fail> {
     converse_on(&rt, &mut both)
 }
 
-fn first_life<S: Alter + Drop, T: BlockTransform + Drop>(
-    rt: &(impl Abort + AllocGlobal),
-    both: Both<S, T>,
-    asks: &[(i64, Ask, Wanted)],
-) -> (Both<S, T>, Result<(), Fail>) {
-    let mut both = both;
-    let came = converse(rt, &mut both, asks);
-    (both, came)
+// A life in which the list is one conversation.
+#[derive(Drop)]
+struct FirstConversation<'a, A> {
+    rt: &'a A,
 }
 
-fn second_life<S: Alter + Drop, T: BlockTransform + Drop>(
-    rt: &(impl Abort + AllocGlobal),
-    both: Both<S, T>,
-) -> (Both<S, T>, Result<(), Fail>) {
-    let mut both = both;
-    let came = converse_on(rt, &mut both);
-    (both, came)
+impl<T: BlockTransform, A: Abort + AllocGlobal> Life<T, ()> for FirstConversation<'_, A> {
+    fn live<S: Alter>(self, both: &mut Both<S, T>) -> Result<(), Fail> {
+        converse(self.rt, both, asks())
+    }
+}
+
+// The life after it.
+#[derive(Drop)]
+struct NextConversation<'a, A> {
+    rt: &'a A,
+}
+
+impl<T: BlockTransform, A: Abort + AllocGlobal> Life<T, ()> for NextConversation<'_, A> {
+    fn live<S: Alter>(self, both: &mut Both<S, T>) -> Result<(), Fail> {
+        converse_on(self.rt, both)
+    }
 }
 
 #[test]
 fn the_list_at_a_desk_over_a_file(rt: HostRuntime) -> Result<(), Fail> {
     let path = "desk.db";
     remove(rt.alloc(), &rt, path)?;
-    let both = open(&rt, path, Plain, Lists::new(rt.alloc(), Plain))?;
-    let (lists, ()) = end(first_life(&rt, both, asks()))?;
-    let both = open(&rt, path, Plain, lists)?;
-    let _ = end(second_life(&rt, both))?;
+    let lists = Lists::new(rt.alloc(), Plain);
+    let (lists, ()) = live(&rt, path, Plain, lists, FirstConversation { rt: &rt })?;
+    let _ = live(&rt, path, Plain, lists, NextConversation { rt: &rt })?;
     remove(rt.alloc(), &rt, path)
 }

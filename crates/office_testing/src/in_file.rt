@@ -1,19 +1,26 @@
 //! Both offices, the one in tables over a file.
 
-use crate::both::{Both, stop};
+use crate::both::{Both, next_number, stop};
 use books::{Books, OpenFault};
-use sqlite::{FileFrom, FileStore, Unknown};
+use sqlite::{Alter, FileFrom, FileStore, Unknown};
 use std::alloc::Global;
 use std::fs;
 use std::rt::Files;
 use std::test::Fail;
-use sts_token::BlockTransform;
+use sts_token::{BlockTransform, Plain};
 use vend_core::Lists;
 
-pub type InFile<T> = Both<FileStore<FileFrom<Unknown>>, T>;
+type InFile<T> = Both<FileStore<FileFrom<Unknown>>, T>;
 
-/// The office of a file, beside the lists that an earlier life left.
-pub fn open<T: BlockTransform + Drop>(
+/// What is done in a life of both offices, which comes to an `R`.
+///
+/// It is over any store: a test that names the store of a file itself takes minutes to prove.
+pub trait Life<T: BlockTransform, R> {
+    fn live<S: Alter>(self, both: &mut Both<S, T>) -> Result<R, Fail>;
+}
+
+// The office of a file, beside the lists that an earlier life left.
+fn open<T: BlockTransform + Drop>(
     host: &HostRuntime,
     path: &str,
     transform: T,
@@ -25,27 +32,56 @@ pub fn open<T: BlockTransform + Drop>(
     })
 }
 
-/// Ends a life: what stays is in the file, and in the lists.
-pub fn close<T: BlockTransform + Drop>(both: InFile<T>) -> Result<Lists<T>, Fail> {
+// What stays is in the file, and in the lists.
+fn close<T: BlockTransform + Drop>(both: InFile<T>) -> Result<Lists<T>, Fail> {
     let Both { books, lists } = both;
     books.into_connection().close()?;
     Ok(lists)
 }
 
-/// Ends a life after what came of it: it is closed, or where a comparison failed, it stops.
-///
-/// A life that is a function over any store, and gives the offices back, is proved much faster than
-/// one over the store of a file.
-pub fn end<T: BlockTransform + Drop, R: Drop>(
-    (both, came): (InFile<T>, Result<R, Fail>),
+/// A life of the office of a file, beside the lists that an earlier life left. The file is closed at
+/// its end, where no comparison failed.
+pub fn live<T: BlockTransform + Drop, R: Drop, L: Life<T, R> + Drop>(
+    host: &HostRuntime,
+    path: &str,
+    transform: T,
+    lists: Lists<T>,
+    life: L,
 ) -> Result<(Lists<T>, R), Fail> {
-    match came {
+    let mut both = open(host, path, transform, lists)?;
+    match life.live(&mut both) {
         Ok(result) => Ok((close(both)?, result)),
         Err(fail) => {
             let _ = stop(both);
             Err(fail)
         }
     }
+}
+
+/// A life that ends as a program that stops: the log is not copied into the database.
+pub fn live_and_stop<T: BlockTransform + Drop, R: Drop, L: Life<T, R> + Drop>(
+    host: &HostRuntime,
+    path: &str,
+    transform: T,
+    lists: Lists<T>,
+    life: L,
+) -> Result<(Lists<T>, R), Fail> {
+    let mut both = open(host, path, transform, lists)?;
+    let result = life.live(&mut both);
+    let lists = stop(both);
+    Ok((lists, result?))
+}
+
+// The number of the next sale of an office that stops.
+fn next_of(both: InFile<Plain>) -> u64 {
+    let next = next_number(&both.books);
+    let _ = stop(both);
+    next
+}
+
+/// The number of the next sale of a file's office, or why it is not opened.
+pub fn next_in_file(host: &HostRuntime, path: &str) -> Result<u64, OpenFault> {
+    open(host, path, Plain, Lists::new(host.alloc(), Plain)).map(next_of)
 }
 
 /// Removes a database and its log, where they are.

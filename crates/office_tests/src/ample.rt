@@ -3,7 +3,7 @@
 
 use office_testing::asks::{Ask, Wanted, asks, is_wanted, request};
 use office_testing::both::{Both, agree, ask, in_memory};
-use office_testing::in_file::{end, open, remove};
+use office_testing::in_file::{Life, live, remove};
 use sqlite::Alter;
 use std::process::Abort;
 use std::test::Fail;
@@ -39,14 +39,16 @@ fn the_list_in_memory(rt: HostRuntime) -> Result<(), Fail> {
 }
 
 // A life in which both are asked for these.
-fn life<S: Alter + Drop, T: BlockTransform + Drop>(
-    rt: &(impl Abort + AllocGlobal),
-    both: Both<S, T>,
-    asks: &[(i64, Ask, Wanted)],
-) -> (Both<S, T>, Result<(), Fail>) {
-    let mut both = both;
-    let came = serve_asks(rt, &mut both, asks);
-    (both, came)
+#[derive(Drop)]
+struct Asked<'a, A> {
+    rt: &'a A,
+    asks: &'a [(i64, Ask, Wanted)],
+}
+
+impl<T: BlockTransform, A: Abort + AllocGlobal> Life<T, ()> for Asked<'_, A> {
+    fn live<S: Alter>(self, both: &mut Both<S, T>) -> Result<(), Fail> {
+        serve_asks(self.rt, both, self.asks)
+    }
 }
 
 // The file is closed and opened again before the first sale, and before the clock is set back.
@@ -56,9 +58,8 @@ fn the_list_in_a_file(rt: HostRuntime) -> Result<(), Fail> {
     remove(rt.alloc(), &rt, path)?;
     let mut lists = Lists::new(rt.alloc(), Plain);
     for (from, to) in [(0, 21), (21, 31), (31, asks().len())] {
-        let part = asks().get(from..to).ok_or("a part of the list")?;
-        let both = open(&rt, path, Plain, lists)?;
-        (lists, ()) = end(life(&rt, both, part))?;
+        let asks = asks().get(from..to).ok_or("a part of the list")?;
+        (lists, ()) = live(&rt, path, Plain, lists, Asked { rt: &rt, asks })?;
     }
     remove(rt.alloc(), &rt, path)
 }

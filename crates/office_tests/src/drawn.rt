@@ -2,7 +2,7 @@
 
 use crate::draws::Draws;
 use office_testing::both::{Both, agree, ask, in_memory};
-use office_testing::in_file::{end, open, remove};
+use office_testing::in_file::{Life, live, remove};
 use office_testing::values::{import, meter, meter_no, operator, order_of, tariff_name};
 use sqlite::Alter;
 use std::alloc::Global;
@@ -166,16 +166,24 @@ fn requests_in_memory(rt: HostRuntime) -> Result<(), Fail> {
 }
 
 // A life of so many drawn requests.
-fn life<S: Alter + Drop, T: BlockTransform + Drop>(
-    rt: &(impl Abort + AllocGlobal),
-    both: Both<S, T>,
-    draws: &mut Draws,
-    clock: &mut Clock,
+#[derive(Drop)]
+struct Drawn<'a, A> {
+    rt: &'a A,
+    draws: &'a mut Draws,
+    clock: &'a mut Clock,
     many: u32,
-) -> (Both<S, T>, Result<Counts, Fail>) {
-    let mut both = both;
-    let counts = compare(rt, &mut both, draws, clock, many);
-    (both, counts)
+}
+
+impl<T: BlockTransform, A: Abort + AllocGlobal> Life<T, Counts> for Drawn<'_, A> {
+    fn live<S: Alter>(self, both: &mut Both<S, T>) -> Result<Counts, Fail> {
+        let Drawn {
+            rt,
+            draws,
+            clock,
+            many,
+        } = self;
+        compare(rt, both, draws, clock, many)
+    }
 }
 
 // Drawn requests in a file, which is closed and opened again after every fifty.
@@ -195,8 +203,13 @@ fn compare_in_file(
     };
     let mut lists = Lists::new(rt.alloc(), Demo);
     for _ in 0..times {
-        let both = open(host, path, Demo, lists)?;
-        (lists, _) = end(life(rt, both, &mut draws, &mut clock, 50))?;
+        let fifty = Drawn {
+            rt,
+            draws: &mut draws,
+            clock: &mut clock,
+            many: 50,
+        };
+        (lists, _) = live(host, path, Demo, lists, fifty)?;
     }
     assert!(rt; !lists.sales().is_empty(), "nothing was sold");
     remove(rt.alloc(), host, path)

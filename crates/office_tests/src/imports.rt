@@ -1,7 +1,7 @@
 //! Imports: sent twice, with a bad row, and at their greatest size in a file.
 
 use office_testing::both::{Both, agree, ask, in_memory, office, refuses};
-use office_testing::in_file::{end, open, remove};
+use office_testing::in_file::{Life, live, remove};
 use office_testing::values::{
     FIRST_DAY, METER, NO_METER, OTHER_METER, flat, flat_with_meters, import, meter, meter_no,
     numbered, tariff_name,
@@ -85,44 +85,35 @@ fn spoiled(alloc: Global, meters: u32) -> Result<Vec<Row>, Fail> {
 }
 
 // An import with a bad last row adds none, and one of as many rows as there may be adds them all.
-fn first_whole<S: Alter, T: BlockTransform>(
-    rt: &(impl Abort + AllocGlobal),
-    both: &mut Both<S, T>,
-) -> Result<(), Fail> {
-    let alloc = rt.alloc();
-    let bad = import(spoiled(alloc, 9_998)?)?;
-    let last = Refusal::ImportRow(10_000, RowCause::NoTariff);
-    refuses(both, bad, last)?;
-    let new = imported(both, flat_with_meters(alloc, 9_999)?)?;
-    assert_eq!(rt; new, 10_000);
-    Ok(())
+#[derive(Drop)]
+struct Whole<'a, A> {
+    rt: &'a A,
 }
 
-fn first_life<S: Alter + Drop, T: BlockTransform + Drop>(
-    rt: &(impl Abort + AllocGlobal),
-    both: Both<S, T>,
-) -> (Both<S, T>, Result<(), Fail>) {
-    let mut both = both;
-    let came = first_whole(rt, &mut both);
-    (both, came)
+impl<T: BlockTransform, A: Abort + AllocGlobal> Life<T, ()> for Whole<'_, A> {
+    fn live<S: Alter>(self, both: &mut Both<S, T>) -> Result<(), Fail> {
+        let alloc = self.rt.alloc();
+        let bad = import(spoiled(alloc, 9_998)?)?;
+        let last = Refusal::ImportRow(10_000, RowCause::NoTariff);
+        refuses(both, bad, last)?;
+        let new = imported(both, flat_with_meters(alloc, 9_999)?)?;
+        assert_eq!(self.rt; new, 10_000);
+        Ok(())
+    }
 }
 
-fn whole_again<S: Alter, T: BlockTransform>(
-    rt: &(impl Abort + AllocGlobal),
-    both: &mut Both<S, T>,
-) -> Result<(), Fail> {
-    let new = imported(both, flat_with_meters(rt.alloc(), 9_999)?)?;
-    assert_eq!(rt; new, 0);
-    agree(both)
+// The same import again adds none.
+#[derive(Drop)]
+struct WholeAgain<'a, A> {
+    rt: &'a A,
 }
 
-fn second_life<S: Alter + Drop, T: BlockTransform + Drop>(
-    rt: &(impl Abort + AllocGlobal),
-    both: Both<S, T>,
-) -> (Both<S, T>, Result<(), Fail>) {
-    let mut both = both;
-    let came = whole_again(rt, &mut both);
-    (both, came)
+impl<T: BlockTransform, A: Abort + AllocGlobal> Life<T, ()> for WholeAgain<'_, A> {
+    fn live<S: Alter>(self, both: &mut Both<S, T>) -> Result<(), Fail> {
+        let new = imported(both, flat_with_meters(self.rt.alloc(), 9_999)?)?;
+        assert_eq!(self.rt; new, 0);
+        agree(both)
+    }
 }
 
 #[test]
@@ -130,9 +121,8 @@ fn the_greatest_import_in_a_file(rt: HostRuntime) -> Result<(), Fail> {
     let alloc = rt.alloc();
     let path = "import.db";
     remove(alloc, &rt, path)?;
-    let both = open(&rt, path, Plain, Lists::new(alloc, Plain))?;
-    let (lists, ()) = end(first_life(&rt, both))?;
-    let both = open(&rt, path, Plain, lists)?;
-    let _ = end(second_life(&rt, both))?;
+    let lists = Lists::new(alloc, Plain);
+    let (lists, ()) = live(&rt, path, Plain, lists, Whole { rt: &rt })?;
+    let _ = live(&rt, path, Plain, lists, WholeAgain { rt: &rt })?;
     remove(alloc, &rt, path)
 }
