@@ -8,7 +8,7 @@ use Rattle.std.proofs.lemmas.List.Elements.{All-contains_itself, All-weaker, Con
 use Rattle.std.proofs.lemmas.List.Sums.{sum_by-cons, sum_by-le-sum_by}
 use Rattle.sts_fields.specs.Amount.{IsRepresentable}
 use Rattle.sts_token.specs.Fields.{AreFields, TokenFields}
-use Rattle.sts_token.specs.Meter.{Accepts, Entry, Reader, Taken, credit_of, entered, is_among, taken_over}
+use Rattle.sts_token.specs.Meter.{Accepts, Entry, Reader, Taken, credit_of, entered, is_member, taken_over}
 use Rattle.sts_token.specs.Sold.{AreSold, later_come, sold_accepted, tid_of}
 use Rattle.sts_token.proofs.MeterLemmas.{IsNew, accepted_from_new, new_from_accepted}
 use Rattle.sts_token.proofs.SoldLemmas.{Follows, IsIn, IsReadAs, Rises, comes, each, follows, holds_at, is_in, rises, weight}
@@ -22,12 +22,12 @@ contains f (g ∷ came) (inr i) =
     let there = contains f came i in (suc there.0, omega (arith, there.1), there.2)
 
 -- an identifier that came is that of a token that came
-token_of_tid : (came : List TokenFields) (t : ℕ) → is_among (map tid_of came) t ≡ true
+token_of_tid : (came : List TokenFields) (t : ℕ) → is_member (map tid_of came) t ≡ true
     → (g : TokenFields) × IsIn g came × (t ≡ g.tid)
 unfolding IsIn
 token_of_tid [] t h = absurd (false≢true h)
 token_of_tid (g ∷ came) t h =
-    elim (or_cases (eqb t g.tid) (is_among (map tid_of came) t) h) [
+    elim (or_cases (eqb t g.tid) (is_member (map tid_of came) t) h) [
       | inl same ↦ (g, inl refl, eqb-true t g.tid same)
       | inr later ↦ let there = token_of_tid came t later in (there.0, inr there.1, there.2)
     ]
@@ -47,9 +47,9 @@ same_sold f g (h ∷ sold) rising (inr i) (inr j) same = same_sold f g sold risi
 
 tid_not_came : (sold came : List TokenFields) (f : TokenFields) → AreSold sold
     → All (Contains sold) came → Contains sold f → ¬ Contains came f
-    → is_among (map tid_of came) f.tid ≡ false
+    → is_member (map tid_of came) f.tid ≡ false
 tid_not_came sold came f are all there not_came =
-    false_from_ne_true (is_among (map tid_of came) f.tid) (λ h.
+    false_from_ne_true (is_member (map tid_of came) f.tid) (λ h.
     let g = token_of_tid came f.tid h in
     let sold_too =
     holds_at (Contains sold) g.0 came (recursion_from_All (Contains sold) came all) g.1 in
@@ -82,9 +82,9 @@ greater_taken : (sold came : List TokenFields) (f : TokenFields) (taken : Taken)
     → count_by (ltb f.tid) taken.tids ≤ later_come sold came f
 unfolding weight
 greater_taken sold came f taken follows =
-    let le = sum_by-le-sum_by (weight (λ g. cond (ltb f.tid g.tid) 1 0) taken.tids) (λ g. cond (ltb f.tid g.tid && is_among (map tid_of came) g.tid) 1 0) sold
-    (λ g. taken_le_came (is_among taken.tids g.tid) (ltb f.tid g.tid)
-    (is_among (map tid_of came) g.tid) (follows.taken_came g.tid)) in
+    let le = sum_by-le-sum_by (weight (λ g. cond (ltb f.tid g.tid) 1 0) taken.tids) (λ g. cond (ltb f.tid g.tid && is_member (map tid_of came) g.tid) 1 0) sold
+    (λ g. taken_le_came (is_member taken.tids g.tid) (ltb f.tid g.tid)
+    (is_member (map tid_of came) g.tid) (follows.taken_came g.tid)) in
     omega (arith, follows.counted (ltb f.tid), le)
 
 -- while they are fewer than fifty, each greater one that came is taken
@@ -94,9 +94,9 @@ greater_came : (sold came : List TokenFields) (f : TokenFields) (taken : Taken)
     → later_come sold came f ≤ count_by (ltb f.tid) taken.tids
 unfolding weight
 greater_came sold came f taken follows few =
-    let le = sum_by-le-sum_by (λ g. cond (ltb f.tid g.tid && is_among (map tid_of came) g.tid) 1 0) (weight (λ g. cond (ltb f.tid g.tid) 1 0) taken.tids) sold
-    (λ g. came_le_taken (is_among taken.tids g.tid) (ltb f.tid g.tid)
-    (is_among (map tid_of came) g.tid)
+    let le = sum_by-le-sum_by (λ g. cond (ltb f.tid g.tid && is_member (map tid_of came) g.tid) 1 0) (weight (λ g. cond (ltb f.tid g.tid) 1 0) taken.tids) sold
+    (λ g. came_le_taken (is_member taken.tids g.tid) (ltb f.tid g.tid)
+    (is_member (map tid_of came) g.tid)
     (λ greater there. elim (follows.passed g.tid there) [
       | inl now ↦ now
       | inr many ↦ absurd (omega (arith, many, count_below f.tid g.tid taken.tids (ltb-true f.tid g.tid greater)))
@@ -117,8 +117,8 @@ first_entry read token sold came f is are all there not_came =
           omega (arith, new.few_greater, greater_came sold came f taken now new.few_greater),
       λ few.
           let le = greater_taken sold came f taken now in
-          let not_taken : is_among taken.tids f.tid ≡ false =
-          false_from_ne_true (is_among taken.tids f.tid)
+          let not_taken : is_member taken.tids f.tid ≡ false =
+          false_from_ne_true (is_member taken.tids f.tid)
           (λ h. false≢true (sym (tid_not_came sold came f are all there not_came)
           ∙ now.taken_came f.tid h)) in
           let new : IsNew taken.tids f.tid = record { few_greater = omega (arith, le, few); above_zero = let a = f_comes.above in omega arith; not_taken = not_taken } in
@@ -154,8 +154,8 @@ none_later true true h = absurd (h refl refl)
 no_later_came : (sold earlier : List TokenFields) (f : TokenFields)
     → AllByRecursion (λ g. g.tid < f.tid) earlier → later_come sold earlier f ≡ 0
 no_later_came sold earlier f below =
-    sum_none (λ g. cond (ltb f.tid g.tid && is_among (map tid_of earlier) g.tid) 1 0) sold
-    (λ g. none_later (ltb f.tid g.tid) (is_among (map tid_of earlier) g.tid)
+    sum_none (λ g. cond (ltb f.tid g.tid && is_member (map tid_of earlier) g.tid) 1 0) sold
+    (λ g. none_later (ltb f.tid g.tid) (is_member (map tid_of earlier) g.tid)
     (λ greater there.
     let h = token_of_tid earlier g.tid there in
     let under : h.0.tid < f.tid = holds_at (λ k. k.tid < f.tid) h.0 earlier below h.1 in
@@ -234,7 +234,7 @@ unfolding weight
 total_accepted read token sold came is are all =
     let history = map (λ f. entered (token f)) came in
     (follows read token sold came is are all).summed
-    ∙ sym (sum_by-filter (λ f. f.tenths) (λ f. is_among (taken_over read history).tids f.tid) sold)
+    ∙ sym (sum_by-filter (λ f. f.tenths) (λ f. is_member (taken_over read history).tids f.tid) sold)
 
 weight_le : (b : Bool) (n : ℕ) → cond b n 0 ≤ n
 weight_le true n = omega arith
@@ -244,9 +244,9 @@ accepted_le_sold : (read : Reader) (history : List Entry) (sold : List TokenFiel
     → sum_by (λ f. f.tenths) (sold_accepted read history sold) ≤ sum_by (λ f. f.tenths) sold
 accepted_le_sold read history sold =
     let kept =
-    sum_by-filter (λ f. f.tenths) (λ f. is_among (taken_over read history).tids f.tid) sold in
-    let le = sum_by-le-sum_by (λ f. cond (is_among (taken_over read history).tids f.tid) f.tenths 0) (λ f. f.tenths) sold
-    (λ f. weight_le (is_among (taken_over read history).tids f.tid) f.tenths) in
+    sum_by-filter (λ f. f.tenths) (λ f. is_member (taken_over read history).tids f.tid) sold in
+    let le = sum_by-le-sum_by (λ f. cond (is_member (taken_over read history).tids f.tid) f.tenths 0) (λ f. f.tenths) sold
+    (λ f. weight_le (is_member (taken_over read history).tids f.tid) f.tenths) in
     omega (arith, kept, le)
 
 pub credit_is_sum : Greatest

@@ -8,13 +8,13 @@ use Rattle.std.proofs.lemmas.List.{append_assoc, map-append}
 use Rattle.std.proofs.lemmas.List.Sums.{fold-append}
 use Rattle.sts_token.specs.Fields.{TokenFields}
 use Rattle.sts_token.specs.declared.fault.TokenFault.{TokenFault}
-use Rattle.sts_token.specs.Meter.{Accepts, Entry, Reader, Taken, TidAnswer, WasAccepted, accepted, after_entry, after_reading, answer_to, answered, entered, is_among, old, taken_over, used}
+use Rattle.sts_token.specs.Meter.{Accepts, Entry, Reader, Taken, TidAnswer, WasAccepted, accepted, after_entry, after_reading, answer_to, answered, entered, is_member, old, taken_over, used}
 
 -- an identifier is accepted exactly if it is neither old nor 0 nor among those taken
 pub record IsNew (taken : List ℕ) (t : ℕ) : Type 0 where
   pub few_greater : count_by (ltb t) taken < 50
   pub above_zero : t ≢ 0
-  pub not_taken : is_among taken t ≡ false
+  pub not_taken : is_member taken t ≡ false
 
 choice_accepted : (o z m : Bool) → cond o old (cond (z || m) used accepted) ≡ accepted
     → (o ≡ false) × (z ≡ false) × (m ≡ false)
@@ -38,7 +38,7 @@ choice_old false false false e = cc
 
 pub new_from_accepted : (taken : List ℕ) (t : ℕ) → answer_to taken t ≡ accepted → IsNew taken t
 new_from_accepted taken t e =
-    let is = choice_accepted (leb 50 (count_by (ltb t) taken)) (eqb t 0) (is_among taken t) e in
+    let is = choice_accepted (leb 50 (count_by (ltb t) taken)) (eqb t 0) (is_member taken t) e in
     let few = is.0 in
     let above = is.1 in
     record { few_greater = grind (arith, nat_tests); above_zero = grind (arith, nat_tests); not_taken = is.2 }
@@ -48,51 +48,51 @@ accepted_from_new taken t new =
     let few : leb 50 (count_by (ltb t) taken) ≡ false =
     let f = new.few_greater in grind (arith, nat_tests) in
     let above : eqb t 0 ≡ false = let f = new.above_zero in grind (arith, nat_tests) in
-    ap (λ (o : Bool). cond o old (cond (eqb t 0 || is_among taken t) used accepted)) few
-    ∙ ap (λ (z : Bool). cond (z || is_among taken t) used accepted) above
+    ap (λ (o : Bool). cond o old (cond (eqb t 0 || is_member taken t) used accepted)) few
+    ∙ ap (λ (z : Bool). cond (z || is_member taken t) used accepted) above
     ∙ ap (λ (m : Bool). cond m used accepted) new.not_taken
 
-pub among_from_used : (taken : List ℕ) (t : ℕ) → answer_to taken t ≡ used → 1 ≤ t → is_among taken t
+pub among_from_used : (taken : List ℕ) (t : ℕ) → answer_to taken t ≡ used → 1 ≤ t → is_member taken t
     ≡ true
 among_from_used taken t e above =
-    choice_used (leb 50 (count_by (ltb t) taken)) (eqb t 0) (is_among taken t) e
+    choice_used (leb 50 (count_by (ltb t) taken)) (eqb t 0) (is_member taken t) e
     (grind (arith, nat_tests))
 
 pub greater_from_old : (taken : List ℕ) (t : ℕ) → answer_to taken t ≡ old
     → 50 ≤ count_by (ltb t) taken
 greater_from_old taken t e =
-    let is = choice_old (leb 50 (count_by (ltb t) taken)) (eqb t 0) (is_among taken t) e in
+    let is = choice_old (leb 50 (count_by (ltb t) taken)) (eqb t 0) (is_member taken t) e in
     grind (arith, nat_tests)
 
 -- ---- an identifier is among those taken
-pub among_cons : (u : ℕ) (taken : List ℕ) (t : ℕ) → is_among taken t ≡ true → is_among (u ∷ taken) t
+pub among_cons : (u : ℕ) (taken : List ℕ) (t : ℕ) → is_member taken t ≡ true → is_member (u ∷ taken) t
     ≡ true
 among_cons u taken t h =
-    elim (eqb t u) as (λ b. (b || is_among taken t) ≡ true) [ true ↦ refl | false ↦ h ]
+    elim (eqb t u) as (λ b. (b || is_member taken t) ≡ true) [ true ↦ refl | false ↦ h ]
 
-pub among_first : (t : ℕ) (taken : List ℕ) → is_among (t ∷ taken) t ≡ true
+pub among_first : (t : ℕ) (taken : List ℕ) → is_member (t ∷ taken) t ≡ true
 among_first t taken = let same : eqb t t
-    ≡ true = grind (arith, nat_tests) in ap (λ (b : Bool). b || is_among taken t) same
+    ≡ true = grind (arith, nat_tests) in ap (λ (b : Bool). b || is_member taken t) same
 
-pub among_other : (u : ℕ) (taken : List ℕ) (t : ℕ) → t ≢ u → is_among (u ∷ taken) t
-    ≡ is_among taken t
+pub among_other : (u : ℕ) (taken : List ℕ) (t : ℕ) → t ≢ u → is_member (u ∷ taken) t
+    ≡ is_member taken t
 among_other u taken t other = let differ : eqb t u
-    ≡ false = grind (arith, nat_tests) in ap (λ (b : Bool). b || is_among taken t) differ
+    ≡ false = grind (arith, nat_tests) in ap (λ (b : Bool). b || is_member taken t) differ
 
-among_answered : (taken : Taken) (f : TokenFields) (a : TidAnswer) (t : ℕ) → is_among taken.tids t
-    ≡ true → is_among (answered taken f a).tids t ≡ true
+among_answered : (taken : Taken) (f : TokenFields) (a : TidAnswer) (t : ℕ) → is_member taken.tids t
+    ≡ true → is_member (answered taken f a).tids t ≡ true
 among_answered taken f accepted t h = among_cons f.tid taken.tids t h
 among_answered taken f used t h = h
 among_answered taken f old t h = h
 
-among_reading : (taken : Taken) (r : Result TokenFields TokenFault) (t : ℕ) → is_among taken.tids t
-    ≡ true → is_among (after_reading taken r).tids t ≡ true
+among_reading : (taken : Taken) (r : Result TokenFields TokenFault) (t : ℕ) → is_member taken.tids t
+    ≡ true → is_member (after_reading taken r).tids t ≡ true
 among_reading taken (Ok f) t h = among_answered taken f (answer_to taken.tids f.tid) t h
 among_reading taken (Err fault) t h = h
 
 among_later : (read : Reader) (taken : Taken) (later : List (List ℕ)) (t : ℕ)
-    → is_among taken.tids t ≡ true
-    → is_among (fold (after_entry read) taken (map entered later)).tids t ≡ true
+    → is_member taken.tids t ≡ true
+    → is_member (fold (after_entry read) taken (map entered later)).tids t ≡ true
 among_later read taken [] t h = h
 among_later read taken (text ∷ later) t h =
     among_later read (after_reading taken (read text)) later t (among_reading taken (read text) t h)
@@ -112,15 +112,15 @@ pub identifier_once : (read : Reader) (history : List Entry) (later : List (List
     → Accepts read (history ++ entered first ∷ map entered later) again g → f.tid ≢ g.tid
 identifier_once read history later first again f g a b same =
     let here = taken_over read history in
-    let gained : is_among (after_reading here (read first)).tids f.tid ≡ true =
-    ap (λ (n : Taken). is_among n.tids f.tid) (taken_from_accepts read history first f a)
+    let gained : is_member (after_reading here (read first)).tids f.tid ≡ true =
+    ap (λ (n : Taken). is_member n.tids f.tid) (taken_from_accepts read history first f a)
     ∙ among_first f.tid here.tids in
     let stays = among_later read (after_reading here (read first)) later f.tid gained in
     let whole = fold-append (after_entry read) (record { tids = []; amounts = [] }) history (entered first ∷ map entered later) in
-    let among : is_among (taken_over read (history ++ entered first ∷ map entered later)).tids g.tid
+    let among : is_member (taken_over read (history ++ entered first ∷ map entered later)).tids g.tid
     ≡ true =
-    ap (λ (n : Taken). is_among n.tids g.tid) whole
-    ∙ ap (is_among (fold (after_entry read) here (entered first ∷ map entered later)).tids)
+    ap (λ (n : Taken). is_member n.tids g.tid) whole
+    ∙ ap (is_member (fold (after_entry read) here (entered first ∷ map entered later)).tids)
     (sym same) ∙ stays in
     let new = new_from_accepted (taken_over read (history ++ entered first ∷ map entered later)).tids g.tid b.answer in
     false≢true (sym new.not_taken ∙ among)
@@ -137,10 +137,10 @@ token_once read history later text f g a b =
 -- ---- the identifiers taken are those of the texts accepted
 -- a token that is not accepted adds none
 among_before : (taken : Taken) (f : TokenFields) (a : TidAnswer) (t : ℕ)
-    → is_among (answered taken f a).tids t ≡ true
-    → (is_among taken.tids t ≡ true) ⊎ ((a ≡ accepted) × (f.tid ≡ t))
+    → is_member (answered taken f a).tids t ≡ true
+    → (is_member taken.tids t ≡ true) ⊎ ((a ≡ accepted) × (f.tid ≡ t))
 among_before taken f accepted t h =
-    elim (or_cases (eqb t f.tid) (is_among taken.tids t) h) [
+    elim (or_cases (eqb t f.tid) (is_member taken.tids t) h) [
       | inl same ↦ inr (refl, sym (eqb-true t f.tid same))
       | inr before ↦ inl before
     ]
@@ -157,8 +157,8 @@ taken_more read done text =
 
 accepted_last : (read : Reader) (done : List (List ℕ)) (text : List ℕ)
     (r : Result TokenFields TokenFault) (more : List (List ℕ)) (t : ℕ)
-    → read text ≡ r → is_among (after_reading (taken_over read (map entered done)) r).tids t ≡ true
-    → (is_among (taken_over read (map entered done)).tids t ≡ true) ⊎ WasAccepted read
+    → read text ≡ r → is_member (after_reading (taken_over read (map entered done)) r).tids t ≡ true
+    → (is_member (taken_over read (map entered done)).tids t ≡ true) ⊎ WasAccepted read
     (done ++ text ∷ more) t
 accepted_last read done text (Ok f) more t e h =
     let taken = taken_over read (map entered done) in
@@ -169,32 +169,32 @@ accepted_last read done text (Ok f) more t e h =
 accepted_last read done text (Err fault) more t e h = inl h
 
 accepted_along : (read : Reader) (done rest : List (List ℕ)) (t : ℕ)
-    → is_among (fold (after_entry read) (taken_over read (map entered done))
+    → is_member (fold (after_entry read) (taken_over read (map entered done))
     (map entered rest)).tids t ≡ true
-    → (is_among (taken_over read (map entered done)).tids t ≡ true) ⊎ WasAccepted read
+    → (is_member (taken_over read (map entered done)).tids t ≡ true) ⊎ WasAccepted read
     (done ++ rest) t
 accepted_along read done [] t h = inl h
 accepted_along read done (text ∷ rest) t h =
-    let next = subst (λ (n : Taken). is_among (fold (after_entry read) n (map entered rest)).tids t ≡ true) (sym (taken_more read done text)) h in
+    let next = subst (λ (n : Taken). is_member (fold (after_entry read) n (map entered rest)).tids t ≡ true) (sym (taken_more read done text)) h in
     elim (accepted_along read (done ++ text ∷ []) rest t next) [
-      | inl here ↦ accepted_last read done text (read text) rest t refl (subst (λ (n : Taken). is_among n.tids t ≡ true) (taken_more read done text) here)
+      | inl here ↦ accepted_last read done text (read text) rest t refl (subst (λ (n : Taken). is_member n.tids t ≡ true) (taken_more read done text) here)
       | inr was ↦ inr (subst (λ (texts : List (List ℕ)). WasAccepted read texts t) (append_assoc done (text ∷ []) rest) was)
     ]
 
 pub taken_iff : (read : Reader) (texts : List (List ℕ)) (t : ℕ)
-    → (is_among (taken_over read (map entered texts)).tids t ≡ true) ↔ WasAccepted read texts t
+    → (is_member (taken_over read (map entered texts)).tids t ≡ true) ↔ WasAccepted read texts t
 taken_iff read texts t = (
   λ among. elim (accepted_along read [] texts t among) [ inl none ↦ absurd (false≢true none) | inr was ↦ was ],
   λ was.
       let here = taken_over read (map entered was.earlier) in
-      let gained : is_among (after_reading here (read was.text)).tids t ≡ true =
-      ap (λ (n : Taken). is_among n.tids t)
+      let gained : is_member (after_reading here (read was.text)).tids t ≡ true =
+      ap (λ (n : Taken). is_member n.tids t)
       (taken_from_accepts read (map entered was.earlier) was.text was.fields was.accepts)
-      ∙ ap (is_among (was.fields.tid ∷ here.tids)) (sym was.identifier)
+      ∙ ap (is_member (was.fields.tid ∷ here.tids)) (sym was.identifier)
       ∙ among_first was.fields.tid here.tids in
       let stays = among_later read (after_reading here (read was.text)) was.later t gained in
       let whole = ap (λ (ts : List (List ℕ)). taken_over read (map entered ts)) was.one_of
       ∙ ap (taken_over read) (map-append entered was.earlier (was.text ∷ was.later))
       ∙ fold-append (after_entry read) (record { tids = []; amounts = [] }) (map entered was.earlier) (entered was.text ∷ map entered was.later) in
-      ap (λ (n : Taken). is_among n.tids t) whole ∙ stays,
+      ap (λ (n : Taken). is_member n.tids t) whole ∙ stays,
 )

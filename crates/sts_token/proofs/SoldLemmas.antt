@@ -8,7 +8,7 @@ use Rattle.std.proofs.lemmas.List.Elements.{All-contains, recursion_from_All}
 use Rattle.std.proofs.lemmas.List.Folds.{list_any-append}
 use Rattle.std.proofs.lemmas.List.Sums.{sum_by-cons}
 use Rattle.sts_token.specs.Fields.{AreFields, TokenFields}
-use Rattle.sts_token.specs.Meter.{Reader, Taken, TidAnswer, accepted, after_entry, after_reading, answer_to, answered, entered, is_among, old, taken_over, used}
+use Rattle.sts_token.specs.Meter.{Reader, Taken, TidAnswer, accepted, after_entry, after_reading, answer_to, answered, entered, is_member, old, taken_over, used}
 use Rattle.sts_token.specs.Sold.{AreSold, tid_of}
 use Rattle.sts_token.proofs.MeterLemmas.{IsNew, among_cons, among_first, among_from_used, among_other, greater_from_old, new_from_accepted}
 
@@ -58,14 +58,14 @@ each P Q step (g ∷ sold) all = (step g all.0, each P Q step sold all.1)
 
 -- the weight of a token that is among the taken
 unfoldable pub weight : (TokenFields → ℕ) → List ℕ → TokenFields → ℕ
-weight w tids g = cond (is_among tids g.tid) (w g) 0
+weight w tids g = cond (is_member tids g.tid) (w g) 0
 
 weight_other : (w : TokenFields → ℕ) (u : ℕ) (tids : List ℕ) (g : TokenFields) → g.tid ≢ u
     → weight w (u ∷ tids) g ≡ weight w tids g
 unfolding weight
 weight_other w u tids g other = ap (λ (b : Bool). cond b (w g) 0) (among_other u tids g.tid other)
 
-weight_gained : (w : TokenFields → ℕ) (f : TokenFields) (tids : List ℕ) → is_among tids f.tid
+weight_gained : (w : TokenFields → ℕ) (f : TokenFields) (tids : List ℕ) → is_member tids f.tid
     ≡ false → weight w (f.tid ∷ tids) f ≡ weight w tids f + w f
 unfolding weight
 weight_gained w f tids none =
@@ -75,7 +75,7 @@ weight_gained w f tids none =
 
 -- a token that was sold is taken: the sum over the taken gains its weight, once
 gained : (w : TokenFields → ℕ) (f : TokenFields) (tids : List ℕ) (sold : List TokenFields)
-    → Rises sold → IsIn f sold → is_among tids f.tid ≡ false
+    → Rises sold → IsIn f sold → is_member tids f.tid ≡ false
     → sum_by (weight w (f.tid ∷ tids)) sold ≡ sum_by (weight w tids) sold + w f
 unfolding Rises IsIn
 gained w f tids [] rising i none = absurd i
@@ -95,11 +95,11 @@ gained w f tids (g ∷ sold) rising (inr i) none =
 
 -- ---- what a meter has taken, where the tokens that came were sold
 pub record Follows (sold : List TokenFields) (came : List ℕ) (taken : Taken) : Type 0 where
-  pub taken_came : (t : ℕ) → is_among taken.tids t ≡ true → is_among came t ≡ true
+  pub taken_came : (t : ℕ) → is_member taken.tids t ≡ true → is_member came t ≡ true
   pub counted : (p : ℕ → Bool) → count_by p taken.tids
       ≡ sum_by (weight (λ g. cond (p g.tid) 1 0) taken.tids) sold
-  pub passed : (t : ℕ) → is_among came t ≡ true
-      → (is_among taken.tids t ≡ true) ⊎ (50 ≤ count_by (ltb t) taken.tids)
+  pub passed : (t : ℕ) → is_member came t ≡ true
+      → (is_member taken.tids t ≡ true) ⊎ (50 ≤ count_by (ltb t) taken.tids)
   pub summed : sum taken.amounts ≡ sum_by (weight (λ g. g.tenths) taken.tids) sold
 
 none_taken : (w : TokenFields → ℕ) (sold : List TokenFields) → sum_by (weight w []) sold ≡ 0
@@ -117,26 +117,26 @@ follows_none sold =
     }
 
 -- one more came: it is the last one or one of the earlier ones
-push_among : (came : List ℕ) (u t : ℕ) → is_among (came ++ u ∷ []) t
-    ≡ (is_among came t || (eqb t u || false))
+push_among : (came : List ℕ) (u t : ℕ) → is_member (came ++ u ∷ []) t
+    ≡ (is_member came t || (eqb t u || false))
 push_among came u t = list_any-append (eqb t) came (u ∷ [])
 
-among_push : (came : List ℕ) (u t : ℕ) → is_among (came ++ u ∷ []) t ≡ true
-    → (is_among came t ≡ true) ⊎ (t ≡ u)
+among_push : (came : List ℕ) (u t : ℕ) → is_member (came ++ u ∷ []) t ≡ true
+    → (is_member came t ≡ true) ⊎ (t ≡ u)
 among_push came u t h =
-    elim (or_cases (is_among came t) (eqb t u || false) (sym (push_among came u t) ∙ h)) [
+    elim (or_cases (is_member came t) (eqb t u || false) (sym (push_among came u t) ∙ h)) [
       | inl earlier ↦ inl earlier
       | inr last ↦ inr (elim (or_cases (eqb t u) false last) [ inl same ↦ eqb-true t u same | inr none ↦ absurd (false≢true none) ])
     ]
 
-push_earlier : (came : List ℕ) (u t : ℕ) → is_among came t ≡ true → is_among (came ++ u ∷ []) t
+push_earlier : (came : List ℕ) (u t : ℕ) → is_member came t ≡ true → is_member (came ++ u ∷ []) t
     ≡ true
-push_earlier came u t h = push_among came u t ∙ or_left (is_among came t) (eqb t u || false) h
+push_earlier came u t h = push_among came u t ∙ or_left (is_member came t) (eqb t u || false) h
 
-push_last : (came : List ℕ) (t : ℕ) → is_among (came ++ t ∷ []) t ≡ true
+push_last : (came : List ℕ) (t : ℕ) → is_member (came ++ t ∷ []) t ≡ true
 push_last came t =
     push_among came t t
-    ∙ or_right (is_among came t) (eqb t t || false) (or_left (eqb t t) false (eq-eqb t t refl))
+    ∙ or_right (is_member came t) (eqb t t || false) (or_left (eqb t t) false (eq-eqb t t refl))
 
 -- an accepted token is among the taken, and the greater ones stay as many or gain one
 follows_accepted : (sold : List TokenFields) (came : List ℕ) (taken : Taken) (f : TokenFields)
@@ -145,8 +145,8 @@ follows_accepted : (sold : List TokenFields) (came : List ℕ) (taken : Taken) (
 follows_accepted sold came taken f follows rising i new =
     record {
       taken_came = λ t h.
-          elim (or_cases (eqb t f.tid) (is_among taken.tids t) h) [
-            | inl same ↦ subst (λ (u : ℕ). is_among (came ++ f.tid ∷ []) u ≡ true) (sym (eqb-true t f.tid same)) (push_last came f.tid)
+          elim (or_cases (eqb t f.tid) (is_member taken.tids t) h) [
+            | inl same ↦ subst (λ (u : ℕ). is_member (came ++ f.tid ∷ []) u ≡ true) (sym (eqb-true t f.tid same)) (push_last came f.tid)
             | inr earlier ↦ push_earlier came f.tid t (follows.taken_came t earlier)
           ];
       counted = λ p.
@@ -162,7 +162,7 @@ follows_accepted sold came taken f follows rising i new =
               | inl there ↦ inl (among_cons f.tid taken.tids t there)
               | inr greater ↦ inr (omega (arith, count, greater))
             ]
-            | inr last ↦ inl (subst (λ (u : ℕ). is_among (f.tid ∷ taken.tids) u ≡ true) (sym last) (among_first f.tid taken.tids))
+            | inr last ↦ inl (subst (λ (u : ℕ). is_member (f.tid ∷ taken.tids) u ≡ true) (sym last) (among_first f.tid taken.tids))
           ];
       summed =
           let more = gained (λ g. g.tenths) f taken.tids sold rising i new.not_taken in
@@ -174,7 +174,7 @@ follows_accepted sold came taken f follows rising i new =
 -- a token that is not accepted leaves the taken as they are, and is among them or passed by fifty
 follows_refused : (sold : List TokenFields) (came : List ℕ) (taken : Taken) (f : TokenFields)
     → Follows sold came taken
-    → (is_among taken.tids f.tid ≡ true) ⊎ (50 ≤ count_by (ltb f.tid) taken.tids)
+    → (is_member taken.tids f.tid ≡ true) ⊎ (50 ≤ count_by (ltb f.tid) taken.tids)
     → Follows sold (came ++ f.tid ∷ []) taken
 follows_refused sold came taken f follows why =
     record {
@@ -183,7 +183,7 @@ follows_refused sold came taken f follows why =
       passed = λ t h.
           elim (among_push came f.tid t h) [
             | inl earlier ↦ follows.passed t earlier
-            | inr last ↦ subst (λ (u : ℕ). (is_among taken.tids u ≡ true) ⊎ (50 ≤ count_by (ltb u) taken.tids)) (sym last) why
+            | inr last ↦ subst (λ (u : ℕ). (is_member taken.tids u ≡ true) ⊎ (50 ≤ count_by (ltb u) taken.tids)) (sym last) why
           ];
       summed = follows.summed;
     }

@@ -2,7 +2,7 @@
 use Rattle.std.specs.Prelude.{ℕ, ◌+◌, ◌*◌, ◌/◌, ◌%◌, ◌^◌, List, [], ◌∷◌, bit_xor, reverse}
 use Rattle.std.specs.Int.{rotate_left, w32}
 use Rattle.std.specs.List.{fold}
-use Rattle.sts_token.specs.Token.{Way}
+use Rattle.sts_token.specs.Token.{BlockFunction}
 use Rattle.sts_token.specs.declared.demo.Halves.{Halves}
 
 -- a number of 64 bits as its halves, and back
@@ -35,8 +35,8 @@ round_keys key =
     high ∷ low ∷ bit_xor high 0xA5A5A5A5 ∷ bit_xor low 0x5A5A5A5A ∷ []
 
 -- the rounds in order, and undone from the last one back
-unfoldable pub demo_forward : Way
+unfoldable pub demo_forward : BlockFunction
 demo_forward key block = joined (fold after_round (halves_of block) (round_keys key))
 
-unfoldable pub demo_inverse : Way
+unfoldable pub demo_inverse : BlockFunction
 demo_inverse key block = joined (fold before_round (halves_of block) (reverse (round_keys key)))

@@ -25,14 +25,14 @@ abbrev pub is_old : List ℕ → ℕ → Bool
 is_old taken t = nat_le 50 (count_by (nat_lt t) taken)
 
 -- the identifier is among these
-abbrev pub is_among : List ℕ → ℕ → Bool
-is_among taken t = list_any (nat_eq t) taken
+abbrev pub is_member : List ℕ → ℕ → Bool
+is_member taken t = list_any (nat_eq t) taken
 
 -- the answer where these identifiers were accepted since the start or the last clearing
 abbrev pub answer_to : List ℕ → ℕ → TidAnswer
 answer_to taken t =
     if is_old taken t then old
-    else (if t == 0 || is_among taken t then used
+    else (if t == 0 || is_member taken t then used
     else accepted)
 
 -- what a meter took: the identifiers accepted since the start or the last clearing, and the

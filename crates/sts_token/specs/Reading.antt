@@ -7,7 +7,7 @@ use Rattle.sts_fields.specs.Amount.{amount_of_code}
 use Rattle.sts_fields.specs.Text.{Text}
 use Rattle.sts_token.specs.Block.{block_of, check_of_payload, number_of}
 use Rattle.sts_token.specs.Fields.{AreFields, TokenFields}
-use Rattle.sts_token.specs.Token.{AreTwentyDigits, IsToken, Way}
+use Rattle.sts_token.specs.Token.{AreTwentyDigits, IsToken, BlockFunction}
 use Rattle.sts_token.specs.declared.fault.TokenFault.{TokenFault}
 use Rattle.sts_token.specs.declared.fault.TokenFault.TheVariants.{NotTwentyDigits, TooLarge, WrongClass, BadCheck, WrongSubclass}
 
@@ -27,7 +27,7 @@ pub record IsOfClassZero (text : Text) : Type 0 where
 
 -- the text has the number of a transformed block that is, inverted, the block of these fields in
 -- this subclass
-pub record Carries (inverse : Way) (key : ℕ) (text : Text) (subclass : ℕ) (f : TokenFields) :
+pub record Carries (inverse : BlockFunction) (key : ℕ) (text : Text) (subclass : ℕ) (f : TokenFields) :
     Type 0 where
   pub subclass_bits : subclass < 2 ^ 4
   pub fields : AreFields f
@@ -38,7 +38,7 @@ pub record Carries (inverse : Way) (key : ℕ) (text : Text) (subclass : ℕ) (f
 
 -- the text reads so: as the fields whose token it is, or else with the first of the faults, in
 -- their order
-abbrev pub Reads : (forward inverse : Way) (key : ℕ) (text : Text)
+abbrev pub Reads : (forward inverse : BlockFunction) (key : ℕ) (text : Text)
     → Result TokenFields TokenFault → Type 0
 Reads forward inverse key text (Ok f) = AreFields f × IsToken forward key f text
 Reads forward inverse key text (Err NotTwentyDigits) = ¬ AreTwentyDigits text
@@ -75,7 +75,7 @@ block_reading block =
     else (if not (block / 2 ^ 60 == 0) then Err WrongSubclass
     else Ok (fields_in block))
 
-unfoldable pub reading_of : (inverse : Way) (key : ℕ) (text : Text) → Result TokenFields TokenFault
+unfoldable pub reading_of : (inverse : BlockFunction) (key : ℕ) (text : Text) → Result TokenFields TokenFault
 reading_of inverse key text =
     if not (is_twenty_digits text) then Err NotTwentyDigits
     else (if nat_le (2 ^ 66) (number_in text) then Err TooLarge

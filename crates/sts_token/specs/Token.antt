@@ -9,8 +9,8 @@ use Rattle.sts_token.specs.Digits.{digits_text}
 use Rattle.sts_token.specs.Fields.{TokenFields}
 
 -- a way of a block transform: the block that it gives for a key and a block
-abbrev pub Way : Type 0
-Way = ℕ → ℕ → ℕ
+abbrev pub BlockFunction : Type 0
+BlockFunction = ℕ → ℕ → ℕ
 
 -- a text of twenty decimal digits
 pub record AreTwentyDigits (text : Text) : Type 0 where
@@ -18,14 +18,14 @@ pub record AreTwentyDigits (text : Text) : Type 0 where
   pub digits : AllPass is_ascii_digit text
 
 -- the text is the token of the fields: its number is that of their block, transformed with the key
-pub record IsToken (forward : Way) (key : ℕ) (f : TokenFields) (text : Text) : Type 0 where
+pub record IsToken (forward : BlockFunction) (key : ℕ) (f : TokenFields) (text : Text) : Type 0 where
   pub digits : AreTwentyDigits text
   pub number : digits_value 10 text ≡ number_of (forward key (block_of 0 f))
 
 -- the one token of the fields: `IsToken` says what it is
-unfoldable pub token_of : Way → ℕ → TokenFields → Text
+unfoldable pub token_of : BlockFunction → ℕ → TokenFields → Text
 token_of forward key f = digits_text 10 20 (number_of (forward key (block_of 0 f)))
 
 -- the way gives a block of 64 bits for each key and block of 64 bits
-abbrev pub KeepsRange : Way → Type 0
+abbrev pub KeepsRange : BlockFunction → Type 0
 KeepsRange forward = (key block : ℕ) → key < 2 ^ 64 → block < 2 ^ 64 → forward key block < 2 ^ 64

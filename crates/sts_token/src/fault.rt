@@ -1,5 +1,5 @@
 ghost use Rattle.std.specs.Prelude.{◌≡◌};
-ghost use Rattle.sts_token.specs.TokenFault.{fault_name, fault_number};
+ghost use Rattle.sts_token.specs.TokenFault.{token_fault_name, token_fault_number};
 
 use thiserror::Error;
 
@@ -21,7 +21,7 @@ pub enum TokenFault {
 impl TokenFault {
     /// The fault's number, from 1 to 5 (`docs/PROFILE.md`, "Faults").
     pub fn number(self) -> u8
-        ensures { result ≡ fault_number self }
+        ensures { result ≡ token_fault_number self }
     {
         match self {
             TokenFault::NotTwentyDigits => 1,
@@ -34,7 +34,7 @@ impl TokenFault {
 
     /// The fault's name, as it is printed.
     pub fn name(self) -> &'static str
-        ensures { result.now ≡ fault_name self }
+        ensures { result.now ≡ token_fault_name self }
     {
         match self {
             TokenFault::NotTwentyDigits => "NotTwentyDigits",

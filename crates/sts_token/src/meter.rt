@@ -1,10 +1,10 @@
 ghost use Rattle.std.specs.Prelude.{◌≡◌, ◌≢◌, ◌-◌, ◌<◌, ◌≤◌, ◌^◌, ◌↔◌, ℕ, List, ◌∷◌, ◌++◌, All, Contains, map, true};
 ghost use Rattle.std.specs.List.{sum_by};
 ghost use Rattle.sts_token.specs.Fields.{TokenFields};
-ghost use Rattle.sts_token.specs.Meter.{Accepts, Entry, Reader, WasAccepted, credit_of, entered, is_among, taken_over};
+ghost use Rattle.sts_token.specs.Meter.{Accepts, Entry, Reader, WasAccepted, credit_of, entered, is_member, taken_over};
 ghost use Rattle.sts_token.specs.Reading.{reading_of};
 ghost use Rattle.sts_token.specs.Sold.{AreSold, entries_of, later_come, sold_accepted};
-ghost use Rattle.sts_token.specs.Token.{Way, token_of};
+ghost use Rattle.sts_token.specs.Token.{BlockFunction, token_of};
 ghost use Rattle.sts_fields.specs.Text.{Text};
 ghost use Rattle.sts_token.specs.Transform.{IsTransform};
 
@@ -24,31 +24,31 @@ pub fn meter_law()
         → Accepts read history text f
         → ¬ Accepts read (history ++ entered text ∷ map entered later) text g }
     ensures taken { (read : Reader) (texts : List Text) (t : ℕ)
-        → ((is_among (taken_over read (map entered texts)).tids t ≡ true)
+        → ((is_member (taken_over read (map entered texts)).tids t ≡ true)
         ↔ WasAccepted read texts t) }
 
     // Tokens that were sold come to a new meter in any order, with repeats. One that had not come
     // yet is accepted exactly if fewer than fifty of those sold later came before it; so in order
     // all are.
-    ensures first_entry { (forward inverse : Way) (key : ℕ) (sold came : List TokenFields)
+    ensures first_entry { (forward inverse : BlockFunction) (key : ℕ) (sold came : List TokenFields)
         (f : TokenFields)
         → IsTransform forward inverse → key < 2 ^ 64 → AreSold sold → All (Contains sold) came
         → Contains sold f → ¬ Contains came f
         → (Accepts (reading_of inverse key) (entries_of forward key came) (token_of forward key f) f
         ↔ (later_come sold came f < 50)) }
-    ensures in_order { (forward inverse : Way) (key : ℕ) (earlier later : List TokenFields)
+    ensures in_order { (forward inverse : BlockFunction) (key : ℕ) (earlier later : List TokenFields)
         (f : TokenFields)
         → IsTransform forward inverse → key < 2 ^ 64 → AreSold (earlier ++ f ∷ later)
         → Accepts (reading_of inverse key) (entries_of forward key earlier)
         (token_of forward key f) f }
 
     // The credit is then the sum of the tokens accepted, each once. It never reaches its bound.
-    ensures credit { (forward inverse : Way) (key : ℕ) (sold came : List TokenFields)
+    ensures credit { (forward inverse : BlockFunction) (key : ℕ) (sold came : List TokenFields)
         → IsTransform forward inverse → key < 2 ^ 64 → AreSold sold → All (Contains sold) came
         → credit_of (reading_of inverse key) (entries_of forward key came)
         ≡ sum_by (λ f. f.tenths)
         (sold_accepted (reading_of inverse key) (entries_of forward key came) sold) }
-    ensures at_most_sold { (forward inverse : Way) (key : ℕ) (sold came : List TokenFields)
+    ensures at_most_sold { (forward inverse : BlockFunction) (key : ℕ) (sold came : List TokenFields)
         → IsTransform forward inverse → key < 2 ^ 64 → AreSold sold → All (Contains sold) came
         → credit_of (reading_of inverse key) (entries_of forward key came)
         ≤ sum_by (λ f. f.tenths) sold }

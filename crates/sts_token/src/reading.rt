@@ -1,7 +1,7 @@
 ghost use Rattle.std.specs.Prelude.{◌≡◌, ◌≢◌, ◌/◌, ◌<◌, ◌≤◌, ◌^◌, ◌==◌, ◌↔◌, ℕ, Option, Result, not, if◌then◌else◌, nat_le};
 ghost use Rattle.sts_token.specs.Fields.{AreFields, TokenFields};
 ghost use Rattle.sts_token.specs.Reading.{Carries, IsOfClassZero, Reads, block_numbered, block_reading, class_of, is_twenty_digits, number_in, reading_of};
-ghost use Rattle.sts_token.specs.Token.{AreTwentyDigits, IsToken, Way, token_of};
+ghost use Rattle.sts_token.specs.Token.{AreTwentyDigits, IsToken, BlockFunction, token_of};
 ghost use Rattle.sts_fields.specs.Text.{Text};
 ghost use Rattle.sts_token.specs.Transform.{IsTransform};
 ghost use Rattle.sts_token.specs.declared.fault.TokenFault.{TokenFault};
@@ -53,17 +53,17 @@ pub fn read<T: BlockTransform>(transform: &T, key: u64, text: &[u8]) -> Result<F
 /// What reading means, whatever the transform and the key: a text has one reading, and the texts
 /// that read as some fields are the one token that is written of them.
 pub fn read_law()
-    ensures computed { (forward inverse : Way) (key : ℕ) (text : Text)
+    ensures computed { (forward inverse : BlockFunction) (key : ℕ) (text : Text)
         → IsTransform forward inverse → key < 2 ^ 64
         → Reads forward inverse key text (reading_of inverse key text) }
-    ensures one_reading { (forward inverse : Way) (key : ℕ) (text : Text)
+    ensures one_reading { (forward inverse : BlockFunction) (key : ℕ) (text : Text)
         (r s : Result TokenFields TokenFault)
         → IsTransform forward inverse → key < 2 ^ 64
         → Reads forward inverse key text r → Reads forward inverse key text s → r ≡ s }
-    ensures written { (forward inverse : Way) (key : ℕ) (f : TokenFields)
+    ensures written { (forward inverse : BlockFunction) (key : ℕ) (f : TokenFields)
         → IsTransform forward inverse → key < 2 ^ 64 → AreFields f
         → Reads forward inverse key (token_of forward key f) (Ok f) }
-    ensures one_text { (forward inverse : Way) (key : ℕ) (f : TokenFields) (text : Text)
+    ensures one_text { (forward inverse : BlockFunction) (key : ℕ) (f : TokenFields) (text : Text)
         → IsTransform forward inverse → key < 2 ^ 64
         → Reads forward inverse key text (Ok f) → text ≡ token_of forward key f }
 {

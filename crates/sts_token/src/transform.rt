@@ -1,6 +1,6 @@
 ghost use Rattle.std.specs.Prelude.{◌≡◌, ◌<◌, ◌^◌, ℕ};
 ghost use Rattle.std.proofs.Common.{rules};
-ghost use Rattle.sts_token.specs.Token.{Way};
+ghost use Rattle.sts_token.specs.Token.{BlockFunction};
 
 /// A way to scramble a block of 64 bits with a key of 64 bits, and back.
 ///
@@ -8,10 +8,10 @@ ghost use Rattle.sts_token.specs.Token.{Way};
 /// secrecy (`docs/PROFILE.md`, "Transforms").
 pub trait BlockTransform {
     /// What `forward` gives for a key and a block.
-    ghost forwards: { Self → Way };
+    ghost forwards: { Self → BlockFunction };
 
     /// What `inverse` gives for a key and a block.
-    ghost inverses: { Self → Way };
+    ghost inverses: { Self → BlockFunction };
 
     /// The block as it is sent.
     fn forward(&self, key: u64, block: u64) -> u64
