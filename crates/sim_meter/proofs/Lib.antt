@@ -1,2 +1,4 @@
 pub mod MeterLemmas
+pub mod PlaceLemmas
+pub mod ProbeLemmas
 pub mod StoreLemmas

@@ -1,14 +1,15 @@
--- Fifty places that hold the greatest identifiers tell what was taken.
-use Rattle.std.proofs.Common.{◌≡◌, ◌≢◌, ℕ, zero, suc, ◌+◌, ◌-◌, ◌<◌, ◌≤◌, ◌^◌, min, Bool, true, false, cond, eqb, ltb, ◌||◌, List, [], ◌∷◌, length, get_or, set, count_by, sum, inl, inr, refl, sym, ◌∙◌, ap, arith}
+-- Fifty sorted places that hold the greatest identifiers tell what was taken.
+use Rattle.std.proofs.Common.{◌≡◌, ◌≢◌, ℕ, zero, suc, ◌+◌, ◌-◌, ◌<◌, ◌≤◌, ◌^◌, min, Bool, true, false, cond, eqb, ltb, ◌||◌, List, [], ◌∷◌, length, get_or, drop, count_by, sum, inl, inr, refl, sym, ◌∙◌, ap, arith}
 use Rattle.std.specs.Prelude.{All}
-use Rattle.std.specs.List.{list_any}
+use Rattle.std.specs.List.Sorted.{IsPermutation}
 use Rattle.std.proofs.lemmas.Bool.{cases_Bool, cases_lt, eq-eqb, false_from_ne_true, false≢true, le-leb, lt-leb, ne_eqb, or_cases, or_parts, or_right, true_from_ne_false}
 use Rattle.std.proofs.lemmas.Bool.Decides.{nat_tests}
 use Rattle.std.proofs.lemmas.List.Folds.{list_any_at}
-use Rattle.std.proofs.lemmas.List.Sums.{count_by-le-length, sum_by-cons, sum_by-set}
-use Rattle.std.proofs.lemmas.List.{length-set}
-use Rattle.sts_token.specs.Meter.{accepted, answer_to, is_among, old, used}
-use Rattle.sim_meter.specs.Meter.{HoldsGreatest}
+use Rattle.std.proofs.lemmas.List.Sorted.{length_permutation, sum_by-IsPermutation}
+use Rattle.std.proofs.lemmas.List.Sums.{count_by-le-length, sum_by-cons, sum_by-drop_more}
+use Rattle.std.proofs.lemmas.List.{get_or_default, length-drop}
+use Rattle.sts_token.specs.Meter.{accepted, answer_to, is_member, old, used}
+use Rattle.sim_meter.specs.Store.{AreSorted, HoldsGreatest}
 
 -- ---- counts over any list
 abbrev one_if : Bool → ℕ
@@ -56,83 +57,75 @@ from_and_above t (x ∷ xs) some =
     )
 
 -- one that is there is counted, and the other way round
-counted : (t : ℕ) (xs : List ℕ) → is_among xs t ≡ true → 1 ≤ count_by (eqb t) xs
+counted : (t : ℕ) (xs : List ℕ) → is_member xs t ≡ true → 1 ≤ count_by (eqb t) xs
 counted t [] there = absurd (false≢true there)
 counted t (x ∷ xs) there =
     let cons = sum_by-cons (λ y. cond (eqb t y) 1 0) x xs in
-    elim (or_cases (eqb t x) (is_among xs t) there) [
+    elim (or_cases (eqb t x) (is_member xs t) there) [
       | inl here ↦ let one = ap one_if here in omega (arith, cons, one)
       | inr later ↦ omega (arith, cons, counted t xs later)
     ]
 
-not_counted : (t : ℕ) (xs : List ℕ) → is_among xs t ≡ false → count_by (eqb t) xs ≡ 0
+not_counted : (t : ℕ) (xs : List ℕ) → is_member xs t ≡ false → count_by (eqb t) xs ≡ 0
 not_counted t [] none = refl
 not_counted t (x ∷ xs) none =
-    let parts = or_parts (eqb t x) (is_among xs t) none in
+    let parts = or_parts (eqb t x) (is_member xs t) none in
     let here = ap one_if parts.0 in
     omega (arith, sum_by-cons (λ y. cond (eqb t y) 1 0) x xs, here, not_counted t xs parts.1)
 
--- the test that `contains` makes has its sides the other way
-contained : (t : ℕ) (xs : List ℕ) → list_any (λ y. eqb y t) xs ≡ is_among xs t
-contained t [] = refl
-contained t (x ∷ xs) =
-    let turned : eqb x t ≡ eqb t x = grind (arith, nat_tests) in
-    ap (λ (b : Bool). b || list_any (λ y. eqb y t) xs) turned
-    ∙ ap (λ (b : Bool). eqb t x || b) (contained t xs)
+-- ---- the sorted places
+least_first : (store : List ℕ) → AreSorted store → All (λ x. get_or store 0 0 ≤ x) store
+least_first store are =
+    let fifty = are.fifty in
+    λ k d h.
+    omega (arith, are.upward 0 k d (omega arith) h, get_or_default store 0 d 0 (omega arith))
 
--- ---- the store against the least place
-pub record IsLeast (store : List ℕ) (i : ℕ) : Type 0 where
-  pub within : i < 50
-  pub least : All (λ x. get_or store i 0 ≤ x) store
+all_greater : (store : List ℕ) (t : ℕ) → AreSorted store → t < get_or store 0 0
+    → count_by (ltb t) store ≡ 50
+all_greater store t are below =
+    all_pass (ltb t) store
+    (λ k d h. let m = least_first store are k d h in grind (arith, nat_tests)) ∙ are.fifty
 
-all_greater : (store taken : List ℕ) (i t : ℕ) → HoldsGreatest store taken → IsLeast store i
-    → t < get_or store i 0 → count_by (ltb t) store ≡ 50
-all_greater store taken i t holds is below =
-    all_pass (ltb t) store (λ k d h. let m = is.least k d h in grind (arith, nat_tests)) ∙ holds.fifty
-
-some_not_greater : (store taken : List ℕ) (i t : ℕ) → HoldsGreatest store taken → IsLeast store i
-    → get_or store i 0 ≤ t → count_by (ltb t) store < 50
-some_not_greater store taken i t holds is above =
-    let within = is.within in
-    let fifty = holds.fifty in
-    let fails : ltb t (get_or store i 0) ≡ false = grind (arith, nat_tests) in
-    omega (arith, place_fails (ltb t) store i (omega arith) fails)
+some_not_greater : (store : List ℕ) (t : ℕ) → AreSorted store → get_or store 0 0 ≤ t
+    → count_by (ltb t) store < 50
+some_not_greater store t are above =
+    let fifty = are.fifty in
+    let fails : ltb t (get_or store 0 0) ≡ false = grind (arith, nat_tests) in
+    omega (arith, place_fails (ltb t) store 0 (omega arith) fails)
 
 -- ---- the three answers
-
-pub answer_old : (store taken : List ℕ) (i t : ℕ) → HoldsGreatest store taken → IsLeast store i
-    → t < get_or store i 0 → answer_to taken t ≡ old
-answer_old store taken i t holds is below =
+pub answer_old : (store taken : List ℕ) (t : ℕ) → HoldsGreatest store taken → AreSorted store
+    → t < get_or store 0 0 → answer_to taken t ≡ old
+answer_old store taken t holds are below =
     let many : 50 ≤ count_by (ltb t) taken =
-    omega (arith, all_greater store taken i t holds is below, holds.greater t) in
-    ap (λ (o : Bool). cond o old (cond (eqb t 0 || is_among taken t) used accepted))
+    omega (arith, all_greater store t are below, holds.greater t) in
+    ap (λ (o : Bool). cond o old (cond (eqb t 0 || is_member taken t) used accepted))
     (le-leb 50 (count_by (ltb t) taken) many)
 
-few : (store taken : List ℕ) (i t : ℕ) → HoldsGreatest store taken → IsLeast store i
-    → get_or store i 0 ≤ t → count_by (ltb t) taken < 50
-few store taken i t holds is above =
-    omega (arith, some_not_greater store taken i t holds is above, holds.greater t)
+few : (store taken : List ℕ) (t : ℕ) → HoldsGreatest store taken → AreSorted store
+    → get_or store 0 0 ≤ t → count_by (ltb t) taken < 50
+few store taken t holds are above =
+    omega (arith, some_not_greater store t are above, holds.greater t)
 
 not_old : (taken : List ℕ) (t : ℕ) → count_by (ltb t) taken < 50 → answer_to taken t
-    ≡ cond (eqb t 0 || is_among taken t) used accepted
+    ≡ cond (eqb t 0 || is_member taken t) used accepted
 not_old taken t less = ap
-    (λ (o : Bool). cond o old (cond (eqb t 0 || is_among taken t) used accepted))
+    (λ (o : Bool). cond o old (cond (eqb t 0 || is_member taken t) used accepted))
     (lt-leb 50 (count_by (ltb t) taken) less)
 
-pub answer_used : (store taken : List ℕ) (i t : ℕ) → HoldsGreatest store taken → IsLeast store i
-    → get_or store i 0 ≤ t → list_any (λ y. eqb y t) store ≡ true
-    → answer_to taken t ≡ used
-answer_used store taken i t holds is above stored =
-    let less = few store taken i t holds is above in
-    let there = counted t store (sym (contained t store) ∙ stored) in
+pub answer_used : (store taken : List ℕ) (t : ℕ) → HoldsGreatest store taken → AreSorted store
+    → get_or store 0 0 ≤ t → is_member store t ≡ true → answer_to taken t ≡ used
+answer_used store taken t holds are above stored =
+    let less = few store taken t holds are above in
+    let there = counted t store stored in
     not_old taken t less
     ∙ elim (cases_Bool (eqb t 0)) [
-      | inl none ↦ ap (λ (z : Bool). cond (z || is_among taken t) used accepted) none
+      | inl none ↦ ap (λ (z : Bool). cond (z || is_member taken t) used accepted) none
       | inr some ↦
           let one : 1 ≤ t = grind (arith, nat_tests) in
           let now = from_and_above t store one in
           let before = from_and_above t taken one in
-          let among : is_among taken t ≡ true = true_from_ne_false (is_among taken t) (λ none.
+          let among : is_member taken t ≡ true = true_from_ne_false (is_member taken t) (λ none.
           omega (
             arith,
             there,
@@ -148,21 +141,19 @@ answer_used store taken i t holds is above stored =
           ∙ ap (λ (b : Bool). cond b used accepted) (or_right (eqb t 0) true refl)
     ]
 
-pub answer_accepted : (store taken : List ℕ) (i t : ℕ) → HoldsGreatest store taken → IsLeast store i
-    → get_or store i 0 ≤ t → list_any (λ y. eqb y t) store ≡ false
-    → answer_to taken t ≡ accepted
-answer_accepted store taken i t holds is above stored =
-    let less = few store taken i t holds is above in
-    let none = not_counted t store (sym (contained t store) ∙ stored) in
-    let within = is.within in
-    let fifty = holds.fifty in
+pub answer_accepted : (store taken : List ℕ) (t : ℕ) → HoldsGreatest store taken → AreSorted store
+    → get_or store 0 0 ≤ t → is_member store t ≡ false → answer_to taken t ≡ accepted
+answer_accepted store taken t holds are above stored =
+    let less = few store taken t holds are above in
+    let none = not_counted t store stored in
+    let fifty = are.fifty in
     let above_zero : t ≢ 0 = λ e.
-    let same : eqb (get_or store i 0) t ≡ true = eq-eqb (get_or store i 0) t (omega arith) in
-    false≢true (sym stored ∙ list_any_at (λ y. eqb y t) store i 0 (omega arith) same) in
+    let same : eqb t (get_or store 0 0) ≡ true = eq-eqb t (get_or store 0 0) (omega arith) in
+    false≢true (sym stored ∙ list_any_at (eqb t) store 0 0 (omega arith) same) in
     let one : 1 ≤ t = omega arith in
     let now = from_and_above t store one in
     let before = from_and_above t taken one in
-    let among : is_among taken t ≡ false = false_from_ne_true (is_among taken t) (λ there.
+    let among : is_member taken t ≡ false = false_from_ne_true (is_member taken t) (λ there.
     omega (
       arith,
       counted t taken there,
@@ -174,38 +165,40 @@ answer_accepted store taken i t holds is above stored =
       less,
     )) in
     not_old taken t less
-    ∙ ap (λ (z : Bool). cond (z || is_among taken t) used accepted) (ne_eqb t 0 above_zero)
+    ∙ ap (λ (z : Bool). cond (z || is_member taken t) used accepted) (ne_eqb t 0 above_zero)
     ∙ ap (λ (m : Bool). cond m used accepted) among
 
--- an accepted identifier in the place of the least
-pub holds_more : (store taken : List ℕ) (i t : ℕ) → HoldsGreatest store taken → IsLeast store i
-    → get_or store i 0 ≤ t → list_any (λ y. eqb y t) store ≡ false
-    → HoldsGreatest (set store i t) (t ∷ taken)
-holds_more store taken i t holds is above stored =
-    let within = is.within in
-    let fifty = holds.fifty in
-    let differ : get_or store i 0 ≢ t = λ same.
-    false≢true (sym stored
-    ∙ list_any_at (λ y. eqb y t) store i 0 (omega arith) (eq-eqb (get_or store i 0) t same)) in
+-- an accepted identifier comes and the least goes
+pub holds_more : (store after taken : List ℕ) (t : ℕ) → HoldsGreatest store taken → AreSorted store
+    → get_or store 0 0 < t → IsPermutation (t ∷ drop 1 store) after
+    → HoldsGreatest after (t ∷ taken)
+holds_more store after taken t holds are above moved =
+    let fifty = are.fifty in
     record {
-      fifty = length-set store i t ∙ fifty;
+      fifty = omega (
+        arith,
+        length_permutation (t ∷ drop 1 store) after moved,
+        length-drop 1 store,
+      );
       greater = λ s.
-          let write = sum_by-set (λ x. cond (ltb s x) 1 0) store i t 0 (omega arith) in
+          let counts = sum_by-IsPermutation (λ x. cond (ltb s x) 1 0) (t ∷ drop 1 store) after moved in
+          let write = sum_by-cons (λ x. cond (ltb s x) 1 0) t (drop 1 store) in
+          let least = sum_by-drop_more (λ x. cond (ltb s x) 1 0) store 0 0 (omega arith) in
           let more = sum_by-cons (λ x. cond (ltb s x) 1 0) t taken in
           let kept = holds.greater s in
-          elim (cases_lt s (get_or store i 0)) [
+          elim (cases_lt s (get_or store 0 0)) [
             | inl under ↦
-                let all = all_greater store taken i s holds is under in
-                let least_counts : one_if (ltb s (get_or store i 0)) ≡ 1 =
+                let all = all_greater store s are under in
+                let least_counts : one_if (ltb s (get_or store 0 0)) ≡ 1 =
                 grind (arith, nat_tests) in
                 let t_counts : one_if (ltb s t) ≡ 1 = grind (arith, nat_tests) in
-                omega (arith, write, more, kept, all, least_counts, t_counts)
+                omega (arith, counts, write, least, more, kept, all, least_counts, t_counts)
             | inr over ↦
-                let some = some_not_greater store taken i s holds is over in
-                let least_counts : one_if (ltb s (get_or store i 0)) ≡ 0 =
+                let some = some_not_greater store s are over in
+                let least_counts : one_if (ltb s (get_or store 0 0)) ≡ 0 =
                 grind (arith, nat_tests) in
                 let t_counts = one_if_le (ltb s t) in
-                omega (arith, write, more, kept, some, least_counts, t_counts)
+                omega (arith, counts, write, least, more, kept, some, least_counts, t_counts)
           ];
     }
 

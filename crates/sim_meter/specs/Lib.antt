@@ -1,1 +1,4 @@
 pub mod Meter
+pub mod Probe
+pub mod Store
+pub mod StoreLaws

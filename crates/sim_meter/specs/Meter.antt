@@ -1,11 +1,12 @@
 -- What a meter answers, and the entries that it may come from.
-use Rattle.std.specs.Prelude.{◌≡◌, ℕ, ◌-◌, ◌^◌, Bool, true, false, min, List, length, Result, Ok, Err, count_by, nat_lt, sum}
+use Rattle.std.specs.Prelude.{◌≡◌, ℕ, ◌-◌, ◌^◌, Bool, true, false, min, List, Result, Ok, Err, sum}
 use Rattle.sts_fields.specs.Text.{Text}
 use Rattle.sts_token.specs.Fields.{TokenFields}
 use Rattle.sts_token.specs.Meter.{Entry, Reader, Taken, TidAnswer, accepted, answer_to, old, taken_over, used}
 use Rattle.sts_token.specs.Reading.{reading_of}
-use Rattle.sts_token.specs.Token.{Way}
+use Rattle.sts_token.specs.Token.{BlockFunction}
 use Rattle.sts_token.specs.declared.fault.TokenFault.{TokenFault}
+use Rattle.sim_meter.specs.Store.{HoldsGreatest}
 use Rattle.sim_meter.specs.declared.answer.Answer.{Answer}
 use Rattle.sim_meter.specs.declared.answer.Answer.TheVariants.{Accepted, Used, Old, Refused}
 use Rattle.sim_meter.specs.declared.meter.Meter.{Meter}
@@ -32,19 +33,13 @@ is_accepted Used = false
 is_accepted Old = false
 is_accepted (Refused fault) = false
 
--- fifty places hold the greatest of the identifiers taken, and 0 where there are fewer:
--- above each number they have as many as were taken, or all fifty
-pub record HoldsGreatest (store taken : List ℕ) : Type 0 where
-  pub fifty : length store ≡ 50
-  pub greater : (t : ℕ) → count_by (nat_lt t) store ≡ min 50 (count_by (nat_lt t) taken)
-
 -- the meter holds what is left of all that was taken: the greatest identifiers, and the credit
-pub record Holds {T : Type 0} (taken : Taken) (meter : Meter T) : Type 0 where
-  pub greatest : HoldsGreatest meter.store taken.tids
+pub record MeterHolds {T : Type 0} (taken : Taken) (meter : Meter T) : Type 0 where
+  pub greatest : HoldsGreatest meter.store.places taken.tids
   pub credit : meter.credit ≡ min (2 ^ 64 - 1) (sum taken.amounts)
 
 -- the meter reads texts as `read`, and was given these entries since it was new
-pub record ComesFrom {T : Type 0} (inverses : T → Way) (read : Reader) (history : List Entry)
+pub record ComesFrom {T : Type 0} (inverses : T → BlockFunction) (read : Reader) (history : List Entry)
     (meter : Meter T) : Type 0 where
   pub reads : (text : Text) → reading_of (inverses meter.transform) meter.key text ≡ read text
-  pub holds : Holds (taken_over read history) meter
+  pub holds : MeterHolds (taken_over read history) meter

@@ -5,7 +5,10 @@
 
 pub use answer::Answer;
 pub use meter::Meter;
+pub use probe::{Probe, place};
 
 mod answer;
+mod call_count;
 mod meter;
+mod probe;
 mod store;

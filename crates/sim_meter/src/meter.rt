@@ -2,10 +2,10 @@ ghost use Rattle.std.specs.Prelude.{◌≡◌, List, [], ◌∷◌, ◌++◌, fa
 ghost use Rattle.sts_token.specs.Fields.{TokenFields};
 ghost use Rattle.sts_token.specs.Meter.{Entry, Reader, Taken, answer_to, answered, cleared, credit_of, entered};
 ghost use Rattle.sts_token.specs.Reading.{reading_of};
-ghost use Rattle.sim_meter.specs.Meter.{ComesFrom, Holds, answer_after, answer_for, is_accepted};
+ghost use Rattle.sim_meter.specs.Meter.{ComesFrom, MeterHolds, answer_after, answer_for, is_accepted};
 
 use crate::answer::Answer;
-use crate::store::{PLACES, least_place};
+use crate::store::Store;
 use sts_token::{BlockTransform, Fields, read};
 
 /// A meter with its transform and key.
@@ -17,8 +17,7 @@ use sts_token::{BlockTransform, Fields, read};
 pub struct Meter<T> {
     transform: T,
     key: u64,
-    // The greatest identifiers that were accepted, in no order; at first all are 0.
-    store: [u32; PLACES],
+    store: Store,
     // The sum of all amounts accepted, in tenths of a kWh.
     credit: u64,
 }
@@ -31,7 +30,7 @@ impl<T: BlockTransform> Meter<T> {
         Meter {
             transform,
             key,
-            store: [0; PLACES],
+            store: Store::new(),
             credit: 0,
         }
     }
@@ -68,27 +67,27 @@ impl<T: BlockTransform> Meter<T> {
             → ComesFrom T.inverses reader history self.old
             → ComesFrom T.inverses reader (history ++ cleared ∷ []) self.new }
     {
-        self.store = [0; PLACES];
+        self.store = Store::new();
     }
 
     // Enters a token that was read.
     fn take(&mut self, fields: Fields) -> Answer
-        ensures answer { (taken : Taken) → Holds taken self.old
+        ensures answer { (taken : Taken) → MeterHolds taken self.old
             → result ≡ answer_for fields (answer_to taken.tids fields.tid) }
-        ensures holds { (taken : Taken) → Holds taken self.old
-            → Holds (answered taken fields (answer_to taken.tids fields.tid)) self.new }
+        ensures holds { (taken : Taken) → MeterHolds taken self.old
+            → MeterHolds (answered taken fields (answer_to taken.tids fields.tid)) self.new }
         ensures unchanged { is_accepted result ≡ false → self.new ≡ self.old }
         ensures same_transform { self.new.transform ≡ self.old.transform }
         ensures same_key { self.new.key ≡ self.old.key }
     {
-        let least = least_place(&self.store);
-        if fields.tid < self.store[least] {
-            return Answer::Old;
-        }
-        if self.store.contains(&fields.tid) {
+        let place = self.store.place_of(fields.tid);
+        if self.store.has(place, fields.tid) {
             return Answer::Used;
         }
-        self.store[least] = fields.tid;
+        if place == 0 {
+            return Answer::Old;
+        }
+        self.store.replace_least(place, fields.tid);
         self.credit = self
             .credit
             .saturating_add(u64::from(fields.amount.tenths()));
