@@ -145,7 +145,7 @@ unfolding month_at
 month_at-threshold secs = count_threshold (has_begun secs) 1 1283 (has_begun-on secs)
 
 -- the days from 1 January of the year -10000 to what a clock in UTC shows
-civil-day : (secs : ℕ) (c : Civil) → IsCivil secs c → day_count (pos c.year) c.month c.day
+pub civil-day : (secs : ℕ) (c : Civil) → IsCivil secs c → day_count (pos c.year) c.month c.day
     ≡ 4_371_953 + secs / 86400
 civil-day secs c i =
     let seconds = i.seconds in
@@ -226,7 +226,7 @@ month_at-mono s t h =
 
 -- the first days of the first year, of its successors with a base date, and of the year after the
 -- last
-count_1993 : day_count (pos 1993) 1 1 ≡ 4_380_354
+pub count_1993 : day_count (pos 1993) 1 1 ≡ 4_380_354
 count_1993 = day_count-early (pos 1993) 11992 1 1 refl (omega arith) (omega arith) (omega arith)
 
 count_2014 : day_count (pos 2014) 1 1 ≡ 4_388_024

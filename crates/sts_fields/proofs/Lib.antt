@@ -1,3 +1,4 @@
 pub mod AmountLemmas
 pub mod CalendarLemmas
+pub mod DayLemmas
 pub mod TidLemmas

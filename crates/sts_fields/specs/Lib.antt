@@ -1,6 +1,8 @@
 pub mod Amount
 pub mod Base
 pub mod Calendar
+pub mod Day
+pub mod DayFault
 pub mod Moment
 pub mod Text
 pub mod Tid

@@ -1,5 +1,5 @@
 ghost use Rattle.std.specs.Prelude.{◌≡◌};
-ghost use Rattle.sts_fields.specs.TidFault.{fault_name, fault_number};
+ghost use Rattle.sts_fields.specs.TidFault.{tid_fault_name, tid_fault_number};
 
 use thiserror::Error;
 
@@ -19,7 +19,7 @@ pub enum TidFault {
 impl TidFault {
     /// The fault's number, from 1 to 4 (`docs/PROFILE.md`, "Faults").
     pub fn number(self) -> u8
-        ensures { result ≡ fault_number self }
+        ensures { result ≡ tid_fault_number self }
     {
         match self {
             TidFault::BeforeBase => 1,
@@ -31,7 +31,7 @@ impl TidFault {
 
     /// The fault's name, as it is printed.
     pub fn name(self) -> &'static str
-        ensures { result.now ≡ fault_name self }
+        ensures { result.now ≡ tid_fault_name self }
     {
         match self {
             TidFault::BeforeBase => "BeforeBase",

@@ -6,6 +6,8 @@
 pub use amount::{Amount, amount_law};
 pub use base::Base;
 pub use calendar::{Civil, Memory, calendar_law, civil, month_of};
+pub use day::{Day, day_law, day_of};
+pub use day_fault::DayFault;
 pub use fault::TidFault;
 pub use moment::Moment;
 pub use tid::{LAST_TID, fresh_law, minute, next_tid};
@@ -13,6 +15,8 @@ pub use tid::{LAST_TID, fresh_law, minute, next_tid};
 mod amount;
 mod base;
 mod calendar;
+mod day;
+mod day_fault;
 mod fault;
 mod moment;
 mod tid;
