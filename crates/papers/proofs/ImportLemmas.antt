@@ -1,8 +1,8 @@
 -- Files that are read so far, and their first faults.
 use Rattle.std.proofs.Common.{◌≡◌, ◌≢◌, ◌∙◌, ◌+◌, ◌-◌, ◌<◌, ◌≤◌, ℕ, zero, suc, [], ◌∷◌, ◌++◌, List, length, slice_get, Some, Result, Ok, Err, true, ap, refl, subst, arith, sym, length-append}
 use Rattle.std.specs.Result.{OnOk, is_ok}
-use Rattle.papers.specs.File.{Fields, KeepsRuleAt, Says, base_text, header_of}
-use Rattle.papers.specs.Import.{AreRows, AreSaid, HasCause, HasFault, IsFault, IsFirstFault, IsNoRow, IsReadSoFar, IsRow, IsRowFault}
+use Rattle.papers.specs.File.{Fields, KeepsRuleAt, RecordSays, base_text, header_of}
+use Rattle.papers.specs.Import.{AreRows, AreSaid, HasCause, FileHasFault, IsFault, IsFirstFault, IsNoRow, IsReadSoFar, IsRowAt, IsRowFault}
 use Rattle.papers.specs.declared.row_fault.RowFault.{RowFault}
 use Rattle.papers.specs.declared.row_fault.RowFault.TheVariants.{At, Memory}
 use Rattle.vend_core.specs.Rows.{greatest_rows}
@@ -14,13 +14,13 @@ use Rattle.vend_core.specs.declared.row_cause.RowCause.{RowCause}
 use Rattle.vend_core.specs.declared.row_cause.RowCause.TheVariants.{Header, Columns, Field, TooManyRows, Differs, NoTariff}
 
 -- a record that says a row has the fields of the header, and each keeps its rule
-pub says-count : (kind : FileKind) (fields : Fields) (row : Row) → Says kind fields row → length fields ≡ length (header_of kind)
+pub says-count : (kind : FileKind) (fields : Fields) (row : Row) → RecordSays kind fields row → length fields ≡ length (header_of kind)
 says-count Meters fields (Meter number m) says = rw says.four
 says-count Meters fields (Tariff name steps) says = absurd says
 says-count Tariffs fields (Meter number m) says = absurd says
 says-count Tariffs fields (Tariff name steps) says = rw says.two
 
-pub says-rules : (kind : FileKind) (fields : Fields) (row : Row) (place : ℕ) → Says kind fields row → place < length fields → KeepsRuleAt kind fields place
+pub says-rules : (kind : FileKind) (fields : Fields) (row : Row) (place : ℕ) → RecordSays kind fields row → place < length fields → KeepsRuleAt kind fields place
 says-rules Meters fields (Meter number m) place says within = rw says.four (at place (rw says.four at within))
   where
     at : (place : ℕ) → place < 4 → KeepsRuleAt Meters (number ∷ base_text m.base ∷ m.tariff ∷ says.key_text ∷ []) place
@@ -39,7 +39,7 @@ says-rules Tariffs fields (Tariff name steps) place says within = rw says.two (a
     at (suc (suc n)) h = absurd (omega (arith, h))
 
 -- so there is no cause to refuse it
-no-cause : (kind : FileKind) (fields : Fields) (row : Row) (cause : RowCause) → Says kind fields row → ¬ HasCause kind fields cause
+no-cause : (kind : FileKind) (fields : Fields) (row : Row) (cause : RowCause) → RecordSays kind fields row → ¬ HasCause kind fields cause
 no-cause kind fields row Header says h = h
 no-cause kind fields row Columns says h = h (says-count kind fields row says)
 no-cause kind fields row (Field k) says h = h.1.outside (says-rules kind fields row (k - 1) says (omega (arith, h.1.from_one, h.1.within)))
@@ -49,7 +49,7 @@ no-cause kind fields row NoTariff says h = h
 
 -- one more record that says one more row
 AreSaid-more : (kind : FileKind) (records : List Fields) (rows : List Row) (fields : Fields) (row : Row)
-    → AreSaid kind records rows → Says kind fields row → AreSaid kind (records ++ fields ∷ []) (rows ++ row ∷ [])
+    → AreSaid kind records rows → RecordSays kind fields row → AreSaid kind (records ++ fields ∷ []) (rows ++ row ∷ [])
 unfolding AreSaid
 AreSaid-more kind [] [] fields row said says = (says, tt)
 AreSaid-more kind [] (r ∷ rows) fields row said says = absurd said
@@ -66,7 +66,7 @@ said-count kind (f ∷ records) (r ∷ rows) said = omega (arith, said-count kin
 
 -- the record at a place says a row
 said-at : (kind : FileKind) (records : List Fields) (rows : List Row) (more : List Fields) (i : ℕ) (fields : Fields)
-    → AreSaid kind records rows → i < length records → slice_get (records ++ more) i ≡ Some fields → (row : Row) × Says kind fields row
+    → AreSaid kind records rows → i < length records → slice_get (records ++ more) i ≡ Some fields → (row : Row) × RecordSays kind fields row
 unfolding AreSaid
 said-at kind [] rows more i fields said within there = absurd (omega (arith, within))
 said-at kind (f ∷ records) [] more i fields said within there = absurd said
@@ -83,7 +83,7 @@ says-none kind body more rows (suc i) other said within h =
 
 -- rows that were read have no fault
 pub no-fault-within : (kind : FileKind) (body more : List Fields) (rows : List Row) (earlier : ℕ) (other : RowCause) → AreSaid kind body rows
-    → length rows ≤ greatest_rows → earlier < length body + 1 → ¬ HasFault kind (header_of kind ∷ (body ++ more)) earlier other
+    → length rows ≤ greatest_rows → earlier < length body + 1 → ¬ FileHasFault kind (header_of kind ∷ (body ++ more)) earlier other
 no-fault-within kind body more rows earlier Header said few within h = h.1 refl
 no-fault-within kind body more rows earlier Columns said few within h = says-none kind body more rows earlier Columns said within h
 no-fault-within kind body more rows earlier (Field k) said few within h = says-none kind body more rows earlier (Field k) said within h
@@ -93,15 +93,15 @@ no-fault-within kind body more rows earlier NoTariff said few within h = h
 
 -- a file that was read so far has no fault before what comes next
 no-fault-before : (kind : FileKind) (before more : List Fields) (rows : List Row) (earlier : ℕ) (other : RowCause)
-    → IsReadSoFar kind before rows → earlier < length before → ¬ HasFault kind (before ++ more) earlier other
+    → IsReadSoFar kind before rows → earlier < length before → ¬ FileHasFault kind (before ++ more) earlier other
 no-fault-before kind [] more rows earlier other so_far within = absurd (omega (arith, within))
 no-fault-before kind (f ∷ before) more rows earlier other so_far within =
-    let P : List Fields → Type 0 = λ records. earlier < length records → ¬ HasFault kind (records ++ more) earlier other in
+    let P : List Fields → Type 0 = λ records. earlier < length records → ¬ FileHasFault kind (records ++ more) earlier other in
     subst P (sym so_far.headed) (λ h. no-fault-within kind so_far.body more rows earlier other so_far.said so_far.few (omega (arith, h))) within
 
 -- a fault of what comes next is the first one
 pub first-fault : (kind : FileKind) (before more : List Fields) (rows : List Row) (number : ℕ) (cause : RowCause)
-    → IsReadSoFar kind before rows → number ≡ length before → HasFault kind (before ++ more) number cause → IsFirstFault kind (before ++ more) number cause
+    → IsReadSoFar kind before rows → number ≡ length before → FileHasFault kind (before ++ more) number cause → IsFirstFault kind (before ++ more) number cause
 first-fault kind before more rows number cause so_far at here = record {
   here = here;
   before = λ earlier other less. no-fault-before kind before more rows earlier other so_far (omega (arith, less, at));
@@ -147,10 +147,10 @@ one-too-many kind before after rows fields number so_far at many =
 pub no-row : (kind : FileKind) (before after : List Fields) (rows : List Row) (fields : Fields) (number : ℕ) (cause : RowCause) → IsReadSoFar kind before rows
     → number ≡ length before → 1 ≤ number → number ≤ greatest_rows → HasCause kind fields cause → IsFirstFault kind (before ++ fields ∷ after) number cause
 no-row kind before after rows fields number cause so_far at some few has =
-    let row : IsRow (before ++ fields ∷ after) number fields = record { from_one = some; few = few; there = slice_get-behind before after fields number at } in
+    let row : IsRowAt (before ++ fields ∷ after) number fields = record { from_one = some; few = few; there = slice_get-behind before after fields number at } in
     first-fault kind before (fields ∷ after) rows number cause so_far at (fault cause row has)
   where
-    fault : (cause : RowCause) → IsRow (before ++ fields ∷ after) number fields → HasCause kind fields cause → HasFault kind (before ++ fields ∷ after) number cause
+    fault : (cause : RowCause) → IsRowAt (before ++ fields ∷ after) number fields → HasCause kind fields cause → FileHasFault kind (before ++ fields ∷ after) number cause
     fault Header row h = absurd h
     fault Columns row h = (fields, row, h)
     fault (Field k) row h = (fields, row, h)
@@ -166,7 +166,7 @@ row-fault kind before after rows fields number Memory so_far at some few h = tt
 
 -- a record that says a row adds it
 pub row-read : (kind : FileKind) (before : List Fields) (rows : List Row) (fields : Fields) (row : Row) → IsReadSoFar kind before rows → 1 ≤ length before
-    → length before ≤ greatest_rows → Says kind fields row → IsReadSoFar kind (before ++ fields ∷ []) (rows ++ row ∷ [])
+    → length before ≤ greatest_rows → RecordSays kind fields row → IsReadSoFar kind (before ++ fields ∷ []) (rows ++ row ∷ [])
 row-read kind [] rows fields row so_far some few says = absurd (omega (arith, some))
 row-read kind (f ∷ before) rows fields row so_far some few says =
     let count = read-count kind (f ∷ before) rows so_far some in

@@ -5,8 +5,8 @@ use Rattle.csv.specs.Machine.{next_record}
 use Rattle.csv.specs.Reading.{AreRecords, Reached, default_config}
 use Rattle.csv.specs.declared.parser.State.{State}
 use Rattle.papers.proofs.ImportLemmas.{no-fault-within}
-use Rattle.papers.specs.File.{Fields, IsFirstOutside, Says, base_text, header_of}
-use Rattle.papers.specs.Import.{AreRows, AreSaid, HasFault, IsFirstFault}
+use Rattle.papers.specs.File.{Fields, IsFirstOutside, RecordSays, base_text, header_of}
+use Rattle.papers.specs.Import.{AreRows, AreSaid, FileHasFault, IsFirstFault}
 use Rattle.papers.specs.declared.file_kind.FileKind.{FileKind}
 use Rattle.papers.specs.declared.file_kind.FileKind.TheVariants.{Meters, Tariffs}
 use Rattle.sts_fields.specs.declared.base.Base.{Base}
@@ -40,7 +40,7 @@ place-within (y ∷ xs) zero x there = omega arith
 place-within (y ∷ xs) (suc i) x there = let less = place-within xs i x there in omega (arith, less)
 
 -- a fault behind the header is at a record
-row-within : (kind : FileKind) (body : List Fields) (number : ℕ) (cause : RowCause) → HasFault kind (header_of kind ∷ body) number cause → number < length body + 1
+row-within : (kind : FileKind) (body : List Fields) (number : ℕ) (cause : RowCause) → FileHasFault kind (header_of kind ∷ body) number cause → number < length body + 1
 row-within kind body number Header h = omega (arith, h.0)
 row-within kind body number Columns h = let less = place-within (header_of kind ∷ body) number h.0 h.1.there in omega (arith, less)
 row-within kind body number (Field k) h = let less = place-within (header_of kind ∷ body) number h.0 h.1.there in omega (arith, less)
@@ -49,9 +49,9 @@ row-within kind body number Differs h = absurd h
 row-within kind body number NoTariff h = absurd h
 
 -- a file that has rows has no fault
-pub no-fault : (kind : FileKind) (records : List Fields) (rows : List Row) (number : ℕ) (cause : RowCause) → AreRows kind records rows → ¬ HasFault kind records number cause
+pub no-fault : (kind : FileKind) (records : List Fields) (rows : List Row) (number : ℕ) (cause : RowCause) → AreRows kind records rows → ¬ FileHasFault kind records number cause
 no-fault kind records rows number cause are =
-    let P : List Fields → Type 0 = λ all. ¬ HasFault kind all number cause in
+    let P : List Fields → Type 0 = λ all. ¬ FileHasFault kind all number cause in
     subst P (sym are.headed) (λ h.
     let within = row-within kind are.body number cause h in
     no-fault-within kind are.body [] rows number cause are.said are.few within (rw append-nil h))
@@ -72,7 +72,7 @@ same-fields : (records : List Fields) (number : ℕ) (f g : Fields) → slice_ge
 same-fields records number f g a b = cc
 
 -- at one number a file has one fault
-same-cause : (kind : FileKind) (records : List Fields) (n : ℕ) (c d : RowCause) → HasFault kind records n c → HasFault kind records n d → c ≡ d
+same-cause : (kind : FileKind) (records : List Fields) (n : ℕ) (c d : RowCause) → FileHasFault kind records n c → FileHasFault kind records n d → c ≡ d
 same-cause kind records n Header Header h k = refl
 same-cause kind records n Header Columns h k = absurd (omega (arith, h.0, k.1.from_one))
 same-cause kind records n Header (Field j) h k = absurd (omega (arith, h.0, k.1.from_one))
@@ -123,7 +123,7 @@ base-same Y2035 Y2035 e = refl
 
 -- a record says one row, where a text is that of one list of steps
 says-one : (one : (text : List ℕ) (steps others : List Step) → IsStepsText text steps → IsStepsText text others → steps ≡ others)
-    (kind : FileKind) (fields : Fields) (row other : Row) → Says kind fields row → Says kind fields other → row ≡ other
+    (kind : FileKind) (fields : Fields) (row other : Row) → RecordSays kind fields row → RecordSays kind fields other → row ≡ other
 says-one one Meters fields (Meter number m) (Meter number' m') a b =
     let same = sym a.four ∙ b.four in
     let numbers : number ≡ number' = cc in

@@ -62,7 +62,7 @@ pub record IsFirstOutside (kind : FileKind) (fields : Fields) (number : ℕ) : T
   pub before : (place : ℕ) → place < number - 1 → KeepsRuleAt kind fields place
 
 -- a record says a meter: its number, the year of its base date, the name of its tariff and its key
-pub record SaysMeter (fields : Fields) (number : List ℕ) (m : declared.Meter) : Type 0 where
+pub record RecordSaysMeter (fields : Fields) (number : List ℕ) (m : declared.Meter) : Type 0 where
   pub key_text : List ℕ
   pub four : fields ≡ number ∷ base_text m.base ∷ m.tariff ∷ key_text ∷ []
   pub numbered : IsMeterNo number
@@ -70,7 +70,7 @@ pub record SaysMeter (fields : Fields) (number : List ℕ) (m : declared.Meter) 
   pub keyed : IsKeyText m.key key_text
 
 -- a record says a tariff: its name and the text of its steps
-pub record SaysTariff (fields : Fields) (name : List ℕ) (steps : List Step) : Type 0 where
+pub record RecordSaysTariff (fields : Fields) (name : List ℕ) (steps : List Step) : Type 0 where
   pub steps_text : List ℕ
   pub two : fields ≡ name ∷ steps_text ∷ []
   pub named : IsName name
@@ -78,8 +78,8 @@ pub record SaysTariff (fields : Fields) (name : List ℕ) (steps : List Step) : 
   pub priced : IsSteps steps
 
 -- a record of a file says this row
-abbrev pub Says : FileKind → Fields → Row → Type 0
-Says Meters fields (Meter number m) = SaysMeter fields number m
-Says Meters fields (Tariff name steps) = ⊥
-Says Tariffs fields (Meter number m) = ⊥
-Says Tariffs fields (Tariff name steps) = SaysTariff fields name steps
+abbrev pub RecordSays : FileKind → Fields → Row → Type 0
+RecordSays Meters fields (Meter number m) = RecordSaysMeter fields number m
+RecordSays Meters fields (Tariff name steps) = ⊥
+RecordSays Tariffs fields (Meter number m) = ⊥
+RecordSays Tariffs fields (Tariff name steps) = RecordSaysTariff fields name steps

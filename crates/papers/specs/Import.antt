@@ -1,6 +1,6 @@
 -- What a file of rows reads as: its rows, or the first fault.
 use Rattle.std.specs.Prelude.{◌≡◌, ◌≢◌, ℕ, ◌+◌, ◌<◌, ◌≤◌, ⊤, List, [], ◌∷◌, length, slice_get, Some, Result, Ok, Err}
-use Rattle.papers.specs.File.{Fields, IsFirstOutside, Says, header_of}
+use Rattle.papers.specs.File.{Fields, IsFirstOutside, RecordSays, header_of}
 use Rattle.papers.specs.declared.file_kind.FileKind.{FileKind}
 use Rattle.papers.specs.declared.row_fault.RowFault.{RowFault}
 use Rattle.papers.specs.declared.row_fault.RowFault.TheVariants.{At, Memory}
@@ -14,7 +14,7 @@ unfoldable pub AreSaid : FileKind → List Fields → List Row → Type 0
 AreSaid kind [] [] = ⊤
 AreSaid kind [] (row ∷ rows) = ⊥
 AreSaid kind (fields ∷ records) [] = ⊥
-AreSaid kind (fields ∷ records) (row ∷ rows) = Says kind fields row × AreSaid kind records rows
+AreSaid kind (fields ∷ records) (row ∷ rows) = RecordSays kind fields row × AreSaid kind records rows
 
 -- the rows of a file, at most 10000: its records are the header, and then one that says each row
 pub record AreRows (kind : FileKind) (records : List Fields) (rows : List Row) : Type 0 where
@@ -24,7 +24,7 @@ pub record AreRows (kind : FileKind) (records : List Fields) (rows : List Row) :
   pub few : length rows ≤ greatest_rows
 
 -- the row of a number has these fields; rows count from 1 on, behind the header
-pub record IsRow (records : List Fields) (number : ℕ) (fields : Fields) : Type 0 where
+pub record IsRowAt (records : List Fields) (number : ℕ) (fields : Fields) : Type 0 where
   pub from_one : 1 ≤ number
   pub few : number ≤ greatest_rows
   pub there : slice_get records number ≡ Some fields
@@ -48,24 +48,24 @@ IsRowFault kind fields number Memory = ⊤
 -- the record of a row says none, for this cause
 abbrev pub IsNoRow : FileKind → List Fields → ℕ → RowCause → Type 0
 IsNoRow kind records number cause =
-    (fields : Fields) × IsRow records number fields × HasCause kind fields cause
+    (fields : Fields) × IsRowAt records number fields × HasCause kind fields cause
 
 -- the fault that a file has at a number: at 0 it has not the header, from 1 to 10000 a record that
 -- says no row, and at 10001 a record too many, whatever it holds
-abbrev pub HasFault : FileKind → List Fields → ℕ → RowCause → Type 0
-HasFault kind records number Header = (number ≡ 0) × (slice_get records 0 ≢ Some (header_of kind))
-HasFault kind records number Columns = IsNoRow kind records number Columns
-HasFault kind records number (Field k) = IsNoRow kind records number (Field k)
-HasFault kind records number TooManyRows = (number ≡ greatest_rows + 1) × (number < length records)
-HasFault kind records number Differs = ⊥
-HasFault kind records number NoTariff = ⊥
+abbrev pub FileHasFault : FileKind → List Fields → ℕ → RowCause → Type 0
+FileHasFault kind records number Header = (number ≡ 0) × (slice_get records 0 ≢ Some (header_of kind))
+FileHasFault kind records number Columns = IsNoRow kind records number Columns
+FileHasFault kind records number (Field k) = IsNoRow kind records number (Field k)
+FileHasFault kind records number TooManyRows = (number ≡ greatest_rows + 1) × (number < length records)
+FileHasFault kind records number Differs = ⊥
+FileHasFault kind records number NoTariff = ⊥
 
 -- the file has the fault there, and none before it
 pub record IsFirstFault (kind : FileKind) (records : List Fields) (number : ℕ) (cause : RowCause)
     : Type 0 where
-  pub here : HasFault kind records number cause
+  pub here : FileHasFault kind records number cause
   pub before : (earlier : ℕ) (other : RowCause) → earlier < number
-      → ¬ HasFault kind records earlier other
+      → ¬ FileHasFault kind records earlier other
 
 -- the fault that a reader answers for these records; want of memory tells nothing of them
 abbrev pub IsFault : FileKind → List Fields → RowFault → Type 0

@@ -1,7 +1,7 @@
 ghost use Rattle.std.specs.Prelude.{◌≡◌, ◌++◌, ℕ, List, Bool, false};
 ghost use Rattle.papers.specs.Export.{export_of};
 ghost use Rattle.papers.specs.File.{AreFileRecords, Fields};
-ghost use Rattle.papers.specs.Import.{AreRows, HasFault, IsFirstFault};
+ghost use Rattle.papers.specs.Import.{AreRows, FileHasFault, IsFirstFault};
 ghost use Rattle.papers.specs.declared.file_kind.FileKind.{FileKind};
 ghost use Rattle.vend_core.specs.declared.row.Row.{Row};
 ghost use Rattle.vend_core.specs.declared.row_cause.RowCause.{RowCause};
@@ -20,7 +20,7 @@ pub fn import_law()
         → IsFirstFault kind records n c → IsFirstFault kind records m d → (n ≡ m) × (c ≡ d) }
     ensures never_both { (kind : FileKind) (records : List Fields) (rows : List Row)
         (number : ℕ) (cause : RowCause)
-        → AreRows kind records rows → ¬ HasFault kind records number cause }
+        → AreRows kind records rows → ¬ FileHasFault kind records number cause }
 {
     steps_text_law();
 }

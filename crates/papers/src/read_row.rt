@@ -1,6 +1,6 @@
 ghost use Rattle.std.specs.Prelude.{◌≡◌, ◌↔◌, IsSome, IfOk, IfErr, IfSome};
 ghost use Rattle.csv.specs.Records.{fields_of};
-ghost use Rattle.papers.specs.File.{IsBaseText, Says, base_text};
+ghost use Rattle.papers.specs.File.{IsBaseText, RecordSays, base_text};
 ghost use Rattle.papers.specs.Import.{HasCause, IsRowFault};
 
 use crate::file_kind::FileKind;
@@ -20,7 +20,7 @@ pub(crate) fn read_row(
     number: u32,
     raw: &ByteRecord,
 ) -> Result<Row, RowFault>
-    ensures says { IfOk result (Says kind (fields_of raw.now)) }
+    ensures says { IfOk result (RecordSays kind (fields_of raw.now)) }
     ensures fault { IfErr result (IsRowFault kind (fields_of raw.now) number) }
 {
     match kind {
@@ -31,7 +31,7 @@ pub(crate) fn read_row(
 
 // The meter that a record says, or why it says none.
 fn read_meter(raw: &ByteRecord) -> Result<Row, RowCause>
-    ensures says { IfOk result (Says FileKind.Meters (fields_of raw.now)) }
+    ensures says { IfOk result (RecordSays FileKind.Meters (fields_of raw.now)) }
     ensures cause { IfErr result (HasCause FileKind.Meters (fields_of raw.now)) }
 {
     if raw.len() != 4 {
@@ -54,7 +54,7 @@ fn read_meter(raw: &ByteRecord) -> Result<Row, RowCause>
 
 // The tariff that a record says, or its fault at the row of this number.
 fn read_tariff(alloc: Global, number: u32, raw: &ByteRecord) -> Result<Row, RowFault>
-    ensures says { IfOk result (Says FileKind.Tariffs (fields_of raw.now)) }
+    ensures says { IfOk result (RecordSays FileKind.Tariffs (fields_of raw.now)) }
     ensures fault { IfErr result (IsRowFault FileKind.Tariffs (fields_of raw.now) number) }
 {
     if raw.len() != 2 {

@@ -17,21 +17,21 @@ FirstFault steps Memory = IsSteps steps
 FirstFault steps BadText = ⊥
 
 -- the number that a user meets
-abbrev pub fault_number : StepsFault → ℕ
-fault_number NoStep = 1
-fault_number TooMany = 2
-fault_number NotRising = 3
-fault_number BadPrice = 4
-fault_number EndMissing = 5
-fault_number Memory = 6
-fault_number BadText = 7
+abbrev pub steps_fault_number : StepsFault → ℕ
+steps_fault_number NoStep = 1
+steps_fault_number TooMany = 2
+steps_fault_number NotRising = 3
+steps_fault_number BadPrice = 4
+steps_fault_number EndMissing = 5
+steps_fault_number Memory = 6
+steps_fault_number BadText = 7
 
 -- the name that a user meets
-abbrev pub fault_name : StepsFault → Text
-fault_name NoStep = codes "NoStep"
-fault_name TooMany = codes "TooMany"
-fault_name NotRising = codes "NotRising"
-fault_name BadPrice = codes "BadPrice"
-fault_name EndMissing = codes "EndMissing"
-fault_name Memory = codes "Memory"
-fault_name BadText = codes "BadText"
+abbrev pub steps_fault_name : StepsFault → Text
+steps_fault_name NoStep = codes "NoStep"
+steps_fault_name TooMany = codes "TooMany"
+steps_fault_name NotRising = codes "NotRising"
+steps_fault_name BadPrice = codes "BadPrice"
+steps_fault_name EndMissing = codes "EndMissing"
+steps_fault_name Memory = codes "Memory"
+steps_fault_name BadText = codes "BadText"

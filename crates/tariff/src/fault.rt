@@ -1,5 +1,5 @@
 ghost use Rattle.std.specs.Prelude.{◌≡◌};
-ghost use Rattle.tariff.specs.StepsFault.{fault_name, fault_number};
+ghost use Rattle.tariff.specs.StepsFault.{steps_fault_name, steps_fault_number};
 
 use thiserror::Error;
 
@@ -25,7 +25,7 @@ pub enum StepsFault {
 impl StepsFault {
     /// The fault's number, from 1 to 7 (`docs/PROFILE.md`, "Faults").
     pub fn number(self) -> u8
-        ensures { result ≡ fault_number self }
+        ensures { result ≡ steps_fault_number self }
     {
         match self {
             StepsFault::NoStep => 1,
@@ -40,7 +40,7 @@ impl StepsFault {
 
     /// The fault's name, as it is printed.
     pub fn name(self) -> &'static str
-        ensures { result.now ≡ fault_name self }
+        ensures { result.now ≡ steps_fault_name self }
     {
         match self {
             StepsFault::NoStep => "NoStep",

@@ -7,7 +7,7 @@ use Rattle.std.proofs.lemmas.Slice.Eq.{bytes_eq-Decides}
 use Rattle.std.proofs.lemmas.Bool.Decides.{Decides-eqb}
 use Rattle.tariff.specs.StepsEq.{steps_eq-equiv}
 use Rattle.tariff.specs.declared.step.Step.{Step}
-use Rattle.vend_core.specs.Decision.{◌>>=◌, Buyer, at_row, add_meter, add_rows, add_tariff, buyer_of, changed, close_shift, decision_of, import, meter_eq, new_rows, next_number, open_a_shift, report, reprint, row_decision, sell, sell_once, steps_eq, unchanged}
+use Rattle.vend_core.specs.Decision.{◌>>=◌, MeterAccount, at_row, add_meter, add_rows, add_tariff, account_of, changed, close_shift, decision_of, import, meter_eq, new_rows, next_number, open_a_shift, report, reprint, row_decision, sell, sell_once, steps_eq, unchanged}
 use Rattle.vend_core.specs.Edits.{office_after, with_rows}
 use Rattle.vend_core.specs.Fold.{after, reply, reply_of, step}
 use Rattle.vend_core.specs.Growth.{HaveStayed}
@@ -50,15 +50,15 @@ module _ (o : Office) where
   stayed_by_close moment None = stayed_none o
   stayed_by_close moment (Some s) = record { tariffs = λ name steps at. at; meters = λ number m at. at }
 
-  stayed_by_new : (forward : ℕ → ℕ → ℕ) (moment nibble : ℕ) (order : Order) (shift : Option Shift) (buyer : Option Buyer) (count : ℕ) (r : Result Change Refusal) → sell forward moment nibble order shift buyer count ≡ r → HaveStayed o (office_after o r)
-  stayed_by_new forward moment nibble order shift buyer count (Err refusal) e = stayed_none o
-  stayed_by_new forward moment nibble order shift buyer count (Ok change) e =
-      let is = (sell_ok forward moment nibble order shift buyer count change e).change_is in
+  stayed_by_new : (forward : ℕ → ℕ → ℕ) (moment nibble : ℕ) (order : Order) (shift : Option Shift) (account : Option MeterAccount) (count : ℕ) (r : Result Change Refusal) → sell forward moment nibble order shift account count ≡ r → HaveStayed o (office_after o r)
+  stayed_by_new forward moment nibble order shift account count (Err refusal) e = stayed_none o
+  stayed_by_new forward moment nibble order shift account count (Ok change) e =
+      let is = (sell_ok forward moment nibble order shift account count change e).change_is in
       subst (λ (c : Change). HaveStayed o (office_after o (Ok c))) (sym is) (record { tariffs = λ name steps at. at; meters = λ number m at. at })
 
-  stayed_by_sell : (forward : ℕ → ℕ → ℕ) (moment nibble : ℕ) (order : Order) (first : Option Sale) (shift : Option Shift) (buyer : Option Buyer) (count : ℕ) → HaveStayed o (office_after o (sell_once forward moment nibble order first shift buyer count))
-  stayed_by_sell forward moment nibble order None shift buyer count = stayed_by_new forward moment nibble order shift buyer count _ refl
-  stayed_by_sell forward moment nibble order (Some first) shift buyer count = stayed_if o _ _ _
+  stayed_by_sell : (forward : ℕ → ℕ → ℕ) (moment nibble : ℕ) (order : Order) (first : Option Sale) (shift : Option Shift) (account : Option MeterAccount) (count : ℕ) → HaveStayed o (office_after o (sell_once forward moment nibble order first shift account count))
+  stayed_by_sell forward moment nibble order None shift account count = stayed_by_new forward moment nibble order shift account count _ refl
+  stayed_by_sell forward moment nibble order (Some first) shift account count = stayed_if o _ _ _
 
   stayed_by_reprint : (sale : Option Sale) → HaveStayed o (office_after o (reprint sale))
   stayed_by_reprint None = stayed_none o
@@ -76,7 +76,7 @@ module _ (o : Office) where
   stayed_by forward at (requests.OpenShift operator) e other = stayed_by_open at.moment operator (open_shift o operator) (length o.shifts)
   stayed_by forward at (requests.CloseShift operator) e other = stayed_by_close at.moment (open_shift o operator)
   stayed_by forward at (requests.Sell order) e other =
-      stayed_by_sell forward at.moment at.nibble order (sale_of_ref o order.operator order.order_ref) (open_shift o order.operator) (buyer_of o order.meter at.moment) (length o.sales)
+      stayed_by_sell forward at.moment at.nibble order (sale_of_ref o order.operator order.order_ref) (open_shift o order.operator) (account_of o order.meter at.moment) (length o.sales)
   stayed_by forward at (requests.Reprint number) e other = stayed_by_reprint (sale_numbered o number)
   stayed_by forward at (requests.ShiftReport number) e other = stayed_by_report (shift_numbered o number) (sales_of_shift o number)
 

@@ -4,7 +4,7 @@ use Rattle.std.specs.Prelude.{◌==◌, All, Contains, bytes_eq, if◌then◌els
 use Rattle.std.proofs.lemmas.List.Elements.{All-contains_itself, All-cons, All-filter, All-nil, Contains-push}
 use Rattle.sts_token.specs.Token.{KeepsRange}
 use Rattle.tariff.specs.declared.step.Step.{Step}
-use Rattle.vend_core.specs.Decision.{Buyer, add_meter, add_rows, add_tariff, changed, close_shift, decision_of, import, meter_eq, new_rows, buyer_of, next_number, open_a_shift, report, reprint, sell, sell_once, set_tariff, steps_eq, unchanged}
+use Rattle.vend_core.specs.Decision.{MeterAccount, add_meter, add_rows, add_tariff, changed, close_shift, decision_of, import, meter_eq, new_rows, account_of, next_number, open_a_shift, report, reprint, sell, sell_once, set_tariff, steps_eq, unchanged}
 use Rattle.vend_core.specs.Edits.{with_row, with_rows}
 use Rattle.vend_core.specs.Fold.{office_after, reply, reply_of, step}
 use Rattle.vend_core.specs.Handed.{sales_in, sales_of}
@@ -109,7 +109,7 @@ module _ (o : Office) (New : Sale → Type 0) where
       let sold = sells change refl in
       subst (λ (c : Change). IsHonest o New (Ok c)) (sym sold.2) (stand_added sold.0 sold.1)
 
-  stand_sell : (forward : ℕ → ℕ → ℕ) (moment nibble : ℕ) (order : Order) (first : Option Sale) (shift : Option Shift) (meter : Option Buyer) (count : ℕ) → sale_of_ref o order.operator order.order_ref ≡ first → SellsNew (sell forward moment nibble order shift meter count) → IsHonest o New (sell_once forward moment nibble order first shift meter count)
+  stand_sell : (forward : ℕ → ℕ → ℕ) (moment nibble : ℕ) (order : Order) (first : Option Sale) (shift : Option Shift) (meter : Option MeterAccount) (count : ℕ) → sale_of_ref o order.operator order.order_ref ≡ first → SellsNew (sell forward moment nibble order shift meter count) → IsHonest o New (sell_once forward moment nibble order first shift meter count)
   stand_sell forward moment nibble order None shift meter count e sells = stand_new_sale _ sells
   stand_sell forward moment nibble order (Some first) shift meter count e sells = stand_if _ (answers.Sold first) _ (one_standing first (found _ o.sales first e).0)
 
@@ -124,7 +124,7 @@ module _ (o : Office) (New : Sale → Type 0) where
   module _ (forward : ℕ → ℕ → ℕ) (moment nibble : ℕ) where
     -- the sale that an order makes where it was not served before
     abbrev pub sold_to : Order → Result Change Refusal
-    sold_to order = sell forward moment nibble order (open_shift o order.operator) (buyer_of o order.meter moment) (length o.sales)
+    sold_to order = sell forward moment nibble order (open_shift o order.operator) (account_of o order.meter moment) (length o.sales)
 
     pub honest : (request : Request) → ((order : Order) → request ≡ requests.Sell order → SellsNew (sold_to order)) → IsHonest o New (decision_of forward o moment nibble request)
     honest (requests.AddTariff name steps) sells = stand_add_tariff name steps (o.tariffs name)
@@ -134,7 +134,7 @@ module _ (o : Office) (New : Sale → Type 0) where
     honest (requests.OpenShift operator) sells = stand_open_shift moment operator (open_shift o operator) (length o.shifts)
     honest (requests.CloseShift operator) sells = stand_close_shift moment (open_shift o operator)
     honest (requests.Sell order) sells =
-        stand_sell forward moment nibble order (sale_of_ref o order.operator order.order_ref) (open_shift o order.operator) (buyer_of o order.meter moment) (length o.sales) refl (sells order refl)
+        stand_sell forward moment nibble order (sale_of_ref o order.operator order.order_ref) (open_shift o order.operator) (account_of o order.meter moment) (length o.sales) refl (sells order refl)
     honest (requests.Reprint number) sells = stand_reprint number (sale_numbered o number) refl
     honest (requests.ShiftReport number) sells = stand_report (shift_numbered o number) number
 
@@ -142,7 +142,7 @@ module _ (o : Office) (New : Sale → Type 0) where
 pub answered_stand : (forward : ℕ → ℕ → ℕ) (o : Office) (at : Stamped) → All (Contains (step forward o at).sales) (sales_of (reply forward o at))
 answered_stand forward o at =
     (honest o (λ s. Unit {0}) forward at.moment at.nibble at.request (λ order asks change e.
-    let s = sell_ok forward at.moment at.nibble order (open_shift o order.operator) (buyer_of o order.meter at.moment) (length o.sales) change e in
+    let s = sell_ok forward at.moment at.nibble order (open_shift o order.operator) (account_of o order.meter at.moment) (length o.sales) change e in
     (_, tt, s.change_is))).stand
 
 -- a step of an office leaves the sales, or adds the new one of an order

@@ -8,7 +8,7 @@ use Rattle.sts_fields.specs.declared.fault.TidFault.{TidFault}
 use Rattle.sts_token.specs.Token.{token_of}
 use Rattle.tariff.specs.Purchase.{purchase_of}
 use Rattle.tariff.specs.declared.bought.Buy.{Buy}
-use Rattle.vend_core.specs.Decision.{◌>>=◌, Buyer, next_number, or_refusal, sell}
+use Rattle.vend_core.specs.Decision.{◌>>=◌, MeterAccount, next_number, or_refusal, sell}
 use Rattle.vend_core.specs.Office.{greatest_count}
 use Rattle.vend_core.specs.declared.answer.Answer.TheVariants as answers
 use Rattle.vend_core.specs.declared.change.Change.{Change}
@@ -45,7 +45,7 @@ pub next_number_ok : (count number : ℕ) → next_number count ≡ Ok number �
 next_number_ok count number e = room_at count number (nat_lt count greatest_count) refl e
 
 -- the sale that an order makes
-abbrev pub sale_made : (ℕ → ℕ → ℕ) → ℕ → ℕ → Order → Shift → Buyer → ℕ → Buy → ℕ → Sale
+abbrev pub sale_made : (ℕ → ℕ → ℕ) → ℕ → ℕ → Order → Shift → MeterAccount → ℕ → Buy → ℕ → Sale
 sale_made forward moment nibble order opened facts tid buy number = record {
   number = number;
   moment = moment;
@@ -69,9 +69,9 @@ pub same_Ok : {A : Type 0} (x y : A) → ◌≡◌ {A = Result A Refusal} (Ok x)
 same_Ok x y e = cc
 
 -- what a granted sale found at each test
-pub record Selling (forward : ℕ → ℕ → ℕ) (moment nibble : ℕ) (order : Order) (shift : Option Shift) (meter : Option Buyer) (count : ℕ) (change : Change) : Type 0 where
+pub record Selling (forward : ℕ → ℕ → ℕ) (moment nibble : ℕ) (order : Order) (shift : Option Shift) (meter : Option MeterAccount) (count : ℕ) (change : Change) : Type 0 where
   pub opened : Shift
-  pub facts : Buyer
+  pub facts : MeterAccount
   pub now : ℕ
   pub tid : ℕ
   pub buy : Buy
@@ -83,11 +83,11 @@ pub record Selling (forward : ℕ → ℕ → ℕ) (moment nibble : ℕ) (order 
   pub room : count < greatest_count
   pub change_is : change ≡ sale_change (sale_made forward moment nibble order opened facts tid buy (count + 1))
 
-made_is : (forward : ℕ → ℕ → ℕ) (moment nibble : ℕ) (order : Order) (opened : Shift) (facts : Buyer) (tid : ℕ) (buy : Buy) (number next : ℕ) (change : Change) → ◌≡◌ {A = Result Change Refusal} (Ok (sale_change (sale_made forward moment nibble order opened facts tid buy number))) (Ok change) → number ≡ next → change ≡ sale_change (sale_made forward moment nibble order opened facts tid buy next)
+made_is : (forward : ℕ → ℕ → ℕ) (moment nibble : ℕ) (order : Order) (opened : Shift) (facts : MeterAccount) (tid : ℕ) (buy : Buy) (number next : ℕ) (change : Change) → ◌≡◌ {A = Result Change Refusal} (Ok (sale_change (sale_made forward moment nibble order opened facts tid buy number))) (Ok change) → number ≡ next → change ≡ sale_change (sale_made forward moment nibble order opened facts tid buy next)
 made_is forward moment nibble order opened facts tid buy number next change e is =
     sym (same_Ok _ _ e) ∙ ap (λ n. sale_change (sale_made forward moment nibble order opened facts tid buy n)) is
 
-pub sell_ok : (forward : ℕ → ℕ → ℕ) (moment nibble : ℕ) (order : Order) (shift : Option Shift) (meter : Option Buyer) (count : ℕ) (change : Change) → sell forward moment nibble order shift meter count ≡ Ok change → Selling forward moment nibble order shift meter count change
+pub sell_ok : (forward : ℕ → ℕ → ℕ) (moment nibble : ℕ) (order : Order) (shift : Option Shift) (meter : Option MeterAccount) (count : ℕ) (change : Change) → sell forward moment nibble order shift meter count ≡ Ok change → Selling forward moment nibble order shift meter count change
 sell_ok forward moment nibble order shift meter count change e =
     let a = bind_ok (ok_or shift refusals.NoShift) _ change e in
     let b = bind_ok (ok_or meter refusals.NoMeter) _ change a.2 in

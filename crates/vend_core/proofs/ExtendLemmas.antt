@@ -6,7 +6,7 @@ use Rattle.std.proofs.lemmas.List.Elements.{All-append, All-cons, All-head, All-
 use Rattle.sts_token.specs.Token.{KeepsRange}
 use Rattle.vend_core.specs.Fold.{after, replies_to, reply, step}
 use Rattle.vend_core.specs.Life.{Exchange, IsLife, Life, MayLeave, StopsAtDoubt, acknowledged, acknowledges, doubts, in_doubt, present, replies_acknowledged}
-use Rattle.vend_core.specs.LifeLaws.{GoesOn, IsRunning, OnlyReads, extended, extended_by, opened}
+use Rattle.vend_core.specs.LifeLaws.{GoesOn, IsRunning, IsReadingRequest, extended, extended_by, opened}
 use Rattle.vend_core.specs.Office.{Office}
 use Rattle.vend_core.specs.Request.{IsStamped}
 use Rattle.vend_core.specs.declared.answer.Answer.{Answer}
@@ -172,7 +172,7 @@ sole x y there = elim
 
 -- a request that only reads leaves the office
 only_reads : (forward : ℕ → ℕ → ℕ) (o : Office) (at : Stamped) (request : Request)
-    → at.request ≡ request → OnlyReads request → step forward o at ≡ o
+    → at.request ≡ request → IsReadingRequest request → step forward o at ≡ o
 only_reads forward o at (Reprint number) is reads = reprints_stay forward o at number is
 only_reads forward o at (ShiftReport number) is reads = reports_stay forward o at number is
 only_reads forward o at request is reads = absurd reads
@@ -238,7 +238,7 @@ module _ (life : Life) (o : Office) (at : Stamped) (is : IsRunning life o)
     ],
   )
 
-  pub read_leaves : (p : Office) → OnlyReads at.request
+  pub read_leaves : (p : Office) → IsReadingRequest at.request
       → MayLeave (extended_by life at (Err Store)) p ↔ (p ≡ o)
   read_leaves p reads =
       let same = only_reads life.forward o at at.request refl reads in

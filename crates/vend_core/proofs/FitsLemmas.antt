@@ -7,7 +7,7 @@ use Rattle.std.specs.Option.{ok_or}
 use Rattle.sts_fields.specs.Tid.{fresh_after, last_tid, minute_of}
 use Rattle.tariff.specs.Purchase.{purchase_of}
 use Rattle.tariff.specs.declared.step.Step.{Step}
-use Rattle.vend_core.specs.Decision.{◌>>=◌, Buyer, add_meter, add_rows, add_tariff, changed, close_shift, decision, decision_of, import, meter_eq, new_rows, buyer_of, next_number, open_a_shift, or_refusal, report, reprint, sell, sell_again, sell_once, set_tariff, steps_eq, unchanged}
+use Rattle.vend_core.specs.Decision.{◌>>=◌, MeterAccount, add_meter, add_rows, add_tariff, changed, close_shift, decision, decision_of, import, meter_eq, new_rows, account_of, next_number, open_a_shift, or_refusal, report, reprint, sell, sell_again, sell_once, set_tariff, steps_eq, unchanged}
 use Rattle.vend_core.specs.Facts.{IsUnlessMemory, keeps_lists}
 use Rattle.vend_core.specs.Lists.{Fits, RowsFit, sets_only}
 use Rattle.vend_core.specs.Lookup.{open_shift, sale_numbered, sale_of_ref, sales_of_shift, shift_numbered}
@@ -101,7 +101,7 @@ has_room count number is = grind (arith, nat_tests)
 in_range : (now : ℕ) (last : Option ℕ) (tid : ℕ) → or_refusal (fresh_after now last) ≡ Ok tid → tid ≤ last_tid
 in_range now last tid is = grind (arith, nat_tests)
 
-if_sell : (o : Office) (forward : ℕ → ℕ → ℕ) (moment nibble : ℕ) (order : Order) (shift : Option Shift) (meter : Option Buyer)
+if_sell : (o : Office) (forward : ℕ → ℕ → ℕ) (moment nibble : ℕ) (order : Order) (shift : Option Shift) (meter : Option MeterAccount)
     → EditFits o (sell forward moment nibble order shift meter (length o.sales))
 if_sell o forward moment nibble order None meter = tt
 if_sell o forward moment nibble order (Some s) None = tt
@@ -112,7 +112,7 @@ if_sell o forward moment nibble order (Some s) (Some m) =
     if_bound o (next_number (length o.sales)) _ (λ number room.
     if_changed o _ (in_range now m.last tid fresh, has_room (length o.sales) number room)))))
 
-if_sell_once : (o : Office) (forward : ℕ → ℕ → ℕ) (moment nibble : ℕ) (order : Order) (first : Option Sale) (shift : Option Shift) (meter : Option Buyer)
+if_sell_once : (o : Office) (forward : ℕ → ℕ → ℕ) (moment nibble : ℕ) (order : Order) (first : Option Sale) (shift : Option Shift) (meter : Option MeterAccount)
     → EditFits o (sell_once forward moment nibble order first shift meter (length o.sales))
 if_sell_once o forward moment nibble order (Some first) shift meter = if_sell_again o order first
 if_sell_once o forward moment nibble order None shift meter = if_sell o forward moment nibble order shift meter
@@ -125,7 +125,7 @@ decision_fits forward o moment nibble (SetTariff number name) = if_set_tariff o 
 decision_fits forward o moment nibble (OpenShift operator) = if_open_shift o moment operator (open_shift o operator) (length o.shifts)
 decision_fits forward o moment nibble (CloseShift operator) = if_close_shift o moment (open_shift o operator)
 decision_fits forward o moment nibble (Sell order) =
-    if_sell_once o forward moment nibble order (sale_of_ref o order.operator order.order_ref) (open_shift o order.operator) (buyer_of o order.meter moment)
+    if_sell_once o forward moment nibble order (sale_of_ref o order.operator order.order_ref) (open_shift o order.operator) (account_of o order.meter moment)
 decision_fits forward o moment nibble (Reprint number) = if_reprint o (sale_numbered o number)
 decision_fits forward o moment nibble (ShiftReport number) = if_report o (shift_numbered o number) (sales_of_shift o number)
 

@@ -8,7 +8,7 @@ use Rattle.std.proofs.lemmas.List.Elements.{All-head, All-tail, Contains-append_
 use Rattle.std.proofs.lemmas.Option.{get_or_from_slice_get, slice_get-get_or, slice_get-map, slice_get_within}
 use Rattle.sts_token.specs.Token.{KeepsRange}
 use Rattle.tariff.specs.declared.step.Step.{Step}
-use Rattle.vend_core.specs.Decision.{Buyer, add_meter, add_tariff, changed, close_shift, decision_of, import, meter_eq, buyer_of, next_number, open_a_shift, report, reprint, row_decision, sell, sell_once, set_tariff, steps_eq, unchanged}
+use Rattle.vend_core.specs.Decision.{MeterAccount, add_meter, add_tariff, changed, close_shift, decision_of, import, meter_eq, account_of, next_number, open_a_shift, report, reprint, row_decision, sell, sell_once, set_tariff, steps_eq, unchanged}
 use Rattle.vend_core.specs.Fold.{after, applied, closed_at, office_after, step}
 use Rattle.vend_core.specs.Growth.{HasGrown, IsSameShift}
 use Rattle.vend_core.specs.Lookup.{open_shift, sale_numbered, sale_of_ref, sales_of_shift, shift_numbered}
@@ -147,13 +147,13 @@ module _ (o : Office) (office : IsOffice o) where
       let is = found _ o.shifts s e in
       grown_close o s moment office is.0 (open_is_open _ s.closed is.1)
 
-  grown_by_new : (forward : ℕ → ℕ → ℕ) (moment nibble : ℕ) (order : Order) (shift : Option Shift) (meter : Option Buyer) (count : ℕ) (r : Result Change Refusal) → sell forward moment nibble order shift meter count ≡ r → HasGrown o (office_after o r)
+  grown_by_new : (forward : ℕ → ℕ → ℕ) (moment nibble : ℕ) (order : Order) (shift : Option Shift) (meter : Option MeterAccount) (count : ℕ) (r : Result Change Refusal) → sell forward moment nibble order shift meter count ≡ r → HasGrown o (office_after o r)
   grown_by_new forward moment nibble order shift meter count (Err refusal) e = grown_none o
   grown_by_new forward moment nibble order shift meter count (Ok change) e =
       let is = (sell_ok forward moment nibble order shift meter count change e).change_is in
       subst (λ (c : Change). HasGrown o (office_after o (Ok c))) (sym is) (grown_sale o _)
 
-  grown_by_sell : (forward : ℕ → ℕ → ℕ) (moment nibble : ℕ) (order : Order) (first : Option Sale) (shift : Option Shift) (meter : Option Buyer) (count : ℕ) → HasGrown o (office_after o (sell_once forward moment nibble order first shift meter count))
+  grown_by_sell : (forward : ℕ → ℕ → ℕ) (moment nibble : ℕ) (order : Order) (first : Option Sale) (shift : Option Shift) (meter : Option MeterAccount) (count : ℕ) → HasGrown o (office_after o (sell_once forward moment nibble order first shift meter count))
   grown_by_sell forward moment nibble order None shift meter count = grown_by_new forward moment nibble order shift meter count _ refl
   grown_by_sell forward moment nibble order (Some first) shift meter count = grown_if o _ _ _
 
@@ -173,7 +173,7 @@ module _ (o : Office) (office : IsOffice o) where
   grown_by forward moment nibble (requests.OpenShift operator) = grown_by_open moment operator (open_shift o operator) (length o.shifts)
   grown_by forward moment nibble (requests.CloseShift operator) = grown_by_close moment operator (open_shift o operator) refl
   grown_by forward moment nibble (requests.Sell order) =
-      grown_by_sell forward moment nibble order (sale_of_ref o order.operator order.order_ref) (open_shift o order.operator) (buyer_of o order.meter moment) (length o.sales)
+      grown_by_sell forward moment nibble order (sale_of_ref o order.operator order.order_ref) (open_shift o order.operator) (account_of o order.meter moment) (length o.sales)
   grown_by forward moment nibble (requests.Reprint number) = grown_by_reprint (sale_numbered o number)
   grown_by forward moment nibble (requests.ShiftReport number) = grown_by_report (shift_numbered o number) (sales_of_shift o number)
 

@@ -5,7 +5,7 @@ use Rattle.std.proofs.lemmas.Bool.{false≢true}
 use Rattle.std.proofs.lemmas.Bool.Decides.{Decides-eqb}
 use Rattle.std.proofs.lemmas.Slice.Eq.{bytes_eq-Decides}
 use Rattle.sts_token.specs.Token.{KeepsRange}
-use Rattle.vend_core.specs.Decision.{decision_of, buyer_of, report, reprint, sell, sell_again, sell_once, unchanged}
+use Rattle.vend_core.specs.Decision.{decision_of, account_of, report, reprint, sell, sell_again, sell_once, unchanged}
 use Rattle.vend_core.specs.Fold.{office_after, reply, reply_of, step}
 use Rattle.vend_core.specs.Lookup.{open_shift, sale_numbered, sale_of_ref, sales_of_shift, shift_numbered}
 use Rattle.vend_core.specs.NewSale.{IsNewSale}
@@ -68,7 +68,7 @@ pub sold_again : (forward : ℕ → ℕ → ℕ) (o : Office) (at : Stamped) (or
     → (step forward o at ≡ o) × (IsSameOrder order first → reply forward o at ≡ Ok (answers.Sold first)) × (¬ IsSameOrder order first → reply forward o at ≡ Err refusals.RefReused)
 sold_again forward o at order first office asks was =
     subst (λ request. Repeats o order first (decision_of forward o at.moment at.nibble request)) (sym asks)
-    (subst (λ found. Repeats o order first (sell_once forward at.moment at.nibble order found (open_shift o order.operator) (buyer_of o order.meter at.moment) (length o.sales))) (sym (first_found o order first office was)) (repeats o order first))
+    (subst (λ found. Repeats o order first (sell_once forward at.moment at.nibble order found (open_shift o order.operator) (account_of o order.meter at.moment) (length o.sales))) (sym (first_found o order first office was)) (repeats o order first))
 
 -- a refusal changes nothing
 refused_result : (o : Office) (r : Result Change Refusal) (refusal : Refusal) → reply_of r ≡ Err refusal → office_after o r ≡ o
@@ -112,7 +112,7 @@ sold_same s t e = cc
 
 -- a new sale that was answered is what the rules say
 new_of_result : (laws : LowerLaws) (forward : ℕ → ℕ → ℕ) (o : Office) (at : Stamped) (order : Order) (s : Sale) (r : Result Change Refusal) → IsOffice o → KeepsRange forward
-    → sell forward at.moment at.nibble order (open_shift o order.operator) (buyer_of o order.meter at.moment) (length o.sales) ≡ r → reply_of r ≡ Ok (answers.Sold s)
+    → sell forward at.moment at.nibble order (open_shift o order.operator) (account_of o order.meter at.moment) (length o.sales) ≡ r → reply_of r ≡ Ok (answers.Sold s)
     → IsNewSale forward o at order s × ((office_after o r).sales ≡ o.sales ++ s ∷ [])
 new_of_result laws forward o at order s (Err refusal) office range e answered = cc
 new_of_result laws forward o at order s (Ok change) office range e answered =
@@ -126,7 +126,7 @@ pub new_sale_is : (laws : LowerLaws) (forward : ℕ → ℕ → ℕ) (o : Office
     → sale_of_ref o order.operator order.order_ref ≡ None → reply forward o at ≡ Ok (answers.Sold s)
     → IsNewSale forward o at order s × ((step forward o at).sales ≡ o.sales ++ s ∷ [])
 new_sale_is laws forward o at order s office range asks alone answered =
-    let is : decision_of forward o at.moment at.nibble at.request ≡ sell forward at.moment at.nibble order (open_shift o order.operator) (buyer_of o order.meter at.moment) (length o.sales) =
+    let is : decision_of forward o at.moment at.nibble at.request ≡ sell forward at.moment at.nibble order (open_shift o order.operator) (account_of o order.meter at.moment) (length o.sales) =
     ap (λ request. decision_of forward o at.moment at.nibble request) asks
-    ∙ ap (λ first. sell_once forward at.moment at.nibble order first (open_shift o order.operator) (buyer_of o order.meter at.moment) (length o.sales)) alone in
+    ∙ ap (λ first. sell_once forward at.moment at.nibble order first (open_shift o order.operator) (account_of o order.meter at.moment) (length o.sales)) alone in
     new_of_result laws forward o at order s (decision_of forward o at.moment at.nibble at.request) office range (sym is) answered

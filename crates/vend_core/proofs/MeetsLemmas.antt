@@ -9,7 +9,7 @@ use Rattle.std.proofs.lemmas.Option.{none-some, same_Some}
 use Rattle.sts_token.specs.Token.{KeepsRange}
 use Rattle.tariff.specs.Steps.{IsSteps}
 use Rattle.tariff.specs.declared.step.Step.{Step}
-use Rattle.vend_core.specs.Decision.{add_meter, add_rows, add_tariff, changed, close_shift, decision, decision_of, import, meter_eq, buyer_of, new_rows, next_number, open_a_shift, report, reprint, row_decision, sell, sell_once, set_tariff, steps_eq, unchanged}
+use Rattle.vend_core.specs.Decision.{add_meter, add_rows, add_tariff, changed, close_shift, decision, decision_of, import, meter_eq, account_of, new_rows, next_number, open_a_shift, report, reprint, row_decision, sell, sell_once, set_tariff, steps_eq, unchanged}
 use Rattle.vend_core.specs.Edits.{office_after}
 use Rattle.vend_core.specs.Lookup.{open_shift, sale_numbered, sale_of_ref, sales_of_shift, shift_numbered, used}
 use Rattle.vend_core.specs.Names.{IsName, IsOperator}
@@ -232,7 +232,7 @@ module _ (o : Office) (office : IsOffice o) where
     if_sold : (order : Order) (r : Result Change Refusal) → IsOrder order
         → sale_of_ref o order.operator order.order_ref ≡ None
         → sell forward at.moment at.nibble order (open_shift o order.operator)
-        (buyer_of o order.meter at.moment) (length o.sales) ≡ r → EditMeets o r
+        (account_of o order.meter at.moment) (length o.sales) ≡ r → EditMeets o r
     if_sold order (Err refusal) ordered alone e = tt
     if_sold order (Ok change) ordered alone e =
         let granted = granted_sale laws forward o at order change range office e in
@@ -243,7 +243,7 @@ module _ (o : Office) (office : IsOffice o) where
     if_sell : (order : Order) (first : Option Sale) → IsOrder order
         → sale_of_ref o order.operator order.order_ref ≡ first
         → EditMeets o (sell_once forward at.moment at.nibble order first
-        (open_shift o order.operator) (buyer_of o order.meter at.moment) (length o.sales))
+        (open_shift o order.operator) (account_of o order.meter at.moment) (length o.sales))
     if_sell order (Some first) ordered e = if_tested o _ _ _
     if_sell order None ordered e = if_sold order _ ordered e refl
 

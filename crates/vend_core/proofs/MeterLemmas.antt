@@ -5,7 +5,7 @@ use Rattle.std.proofs.lemmas.Bool.Decides.{Decides-eqb, Decides-ltb, same_from_d
 use Rattle.std.proofs.lemmas.List.{map-append}
 use Rattle.std.proofs.lemmas.List.Elements.{All-contains, All-map, Contains-append_left, Contains-append_right}
 use Rattle.sts_token.specs.Fields.{AreFields, TokenFields}
-use Rattle.sts_token.specs.Meter.{Accepts, Entry, Reader, WasAccepted, credit_of, entered, is_among, taken_over}
+use Rattle.sts_token.specs.Meter.{Accepts, Entry, Reader, WasAccepted, credit_of, entered, is_member, taken_over}
 use Rattle.sts_token.specs.Reading.{reading_of}
 use Rattle.sts_token.specs.Sold.{AreSold, entries_of, sold_accepted, tid_of}
 use Rattle.sts_token.specs.Sold as sold
@@ -27,7 +27,7 @@ use Rattle.vend_core.proofs.SaleLemmas.{handed_tid}
 -- what the meter's law says
 pub record MeterLaws : Type 0 where
   pub one_text : (forward : ℕ → ℕ → ℕ) (key : ℕ) (f : TokenFields) (a b : List ℕ) → IsToken forward key f a → IsToken forward key f b → a ≡ b
-  pub taken : (read : Reader) (texts : List (List ℕ)) (t : ℕ) → (is_among (taken_over read (map entered texts)).tids t ≡ true) ↔ WasAccepted read texts t
+  pub taken : (read : Reader) (texts : List (List ℕ)) (t : ℕ) → (is_member (taken_over read (map entered texts)).tids t ≡ true) ↔ WasAccepted read texts t
   pub first_entry : (forward inverse : ℕ → ℕ → ℕ) (key : ℕ) (fs came : List TokenFields) (f : TokenFields)
       → IsTransform forward inverse → key < 2 ^ 64 → AreSold fs → All (Contains fs) came → Contains fs f → ¬ Contains came f
       → (Accepts (reading_of inverse key) (entries_of forward key came) (token_of forward key f) f ↔ (sold.later_come fs came f < 50))
@@ -130,7 +130,7 @@ module _ (laws : LowerLaws) (meter_laws : MeterLaws) (lives : List Life) (o : Of
     pub credit_is : credit_of (reads_by m) (tokens_of came) ≡ sum_by (λ s. s.tenths) (accepted_of (reads_by m) (tokens_of came) sales)
     credit_is =
         let read = reads_by m in
-        let accepted = λ (f : TokenFields). is_among (taken_over read (tokens_of came)).tids f.tid in
+        let accepted = λ (f : TokenFields). is_member (taken_over read (tokens_of came)).tids f.tid in
         subst (λ (history : List Entry). credit_of read history ≡ sum_by (λ f. f.tenths) (sold_accepted read history (map fields_of sales))) entries (meter_laws.credit m.forward m.inverse m.key (map fields_of sales) (map fields_of came) to.transform to.key_bits are_sold fields_from)
         ∙ ap (λ fs. sum_by (λ (f : TokenFields). f.tenths) fs) (kept_of_map fields_of accepted sales)
         ∙ sum_of_map fields_of (λ f. f.tenths) (accepted_of read (tokens_of came) sales)
@@ -143,24 +143,24 @@ module _ (laws : LowerLaws) (meter_laws : MeterLaws) (lives : List Life) (o : Of
     pub accepted_is : (s : Sale) → Contains (accepted_of (reads_by m) (tokens_of came) sales) s ↔ (Contains sales s × WasAccepted (reads_by m) (map digits_of came) s.tid)
     accepted_is s =
         let read = reads_by m in
-        let accepted = λ (s : Sale). is_among (taken_over read (tokens_of came)).tids s.tid in (
+        let accepted = λ (s : Sale). is_member (taken_over read (tokens_of came)).tids s.tid in (
           λ in_accepted. let k = kept_from accepted sales s in_accepted in (k.0, (meter_laws.taken read (map digits_of came) s.tid).0 k.1),
           λ both. kept accepted sales s both.0 ((meter_laws.taken read (map digits_of came) s.tid).1 both.1),
         )
 
     -- the same sales are later, and the same came
-    came_same : (t : Sale) → Contains sales t → is_among (map tid_of (map fields_of came)) t.tid ≡ has_come came t
+    came_same : (t : Sale) → Contains sales t → is_member (map tid_of (map fields_of came)) t.tid ≡ has_come came t
     came_same t in_sales =
-        ap (λ tids. is_among tids t.tid) (map_twice tid_of fields_of came)
+        ap (λ tids. is_member tids t.tid) (map_twice tid_of fields_of came)
         ∙ any_same (λ (s : Sale). s.tid) (nat_eq t.tid) (λ (c : Sale). c.number == t.number) came (all_from_contains (λ (c : Sale). nat_eq t.tid c.tid ≡ (c.number == t.number)) came (λ c in_came.
         let in_c = came_from c in_came in
         same_test o office rise t c (there t in_sales) (there c in_c) (meter_of t in_sales ∙ sym (meter_of c in_c)) (base_of t in_sales ∙ sym (base_of c in_c))))
 
     later_same : (s : Sale) → Contains sales s → sold.later_come (map fields_of sales) (map fields_of came) (fields_of s) ≡ later_sales_come sales came s
     later_same s in_s =
-        count_same fields_of (λ (g : TokenFields). nat_lt s.tid g.tid && is_among (map tid_of (map fields_of came)) g.tid) (λ (t : Sale). nat_lt s.number t.number && has_come came t) sales
-        (all_from_contains (λ (t : Sale). (nat_lt s.tid t.tid && is_among (map tid_of (map fields_of came)) t.tid) ≡ (nat_lt s.number t.number && has_come came t)) sales (λ t in_t.
-        ap (λ b. b && is_among (map tid_of (map fields_of came)) t.tid) (same_order o office rise s t (there s in_s) (there t in_t) (meter_of s in_s ∙ sym (meter_of t in_t)) (base_of s in_s ∙ sym (base_of t in_t)))
+        count_same fields_of (λ (g : TokenFields). nat_lt s.tid g.tid && is_member (map tid_of (map fields_of came)) g.tid) (λ (t : Sale). nat_lt s.number t.number && has_come came t) sales
+        (all_from_contains (λ (t : Sale). (nat_lt s.tid t.tid && is_member (map tid_of (map fields_of came)) t.tid) ≡ (nat_lt s.number t.number && has_come came t)) sales (λ t in_t.
+        ap (λ b. b && is_member (map tid_of (map fields_of came)) t.tid) (same_order o office rise s t (there s in_s) (there t in_t) (meter_of s in_s ∙ sym (meter_of t in_t)) (base_of s in_s ∙ sym (base_of t in_t)))
         ∙ ap (λ b. nat_lt s.number t.number && b) (came_same t in_t)))
 
     not_come : (s : Sale) → Contains sales s → ¬ Contains came s → ¬ Contains (map fields_of came) (fields_of s)

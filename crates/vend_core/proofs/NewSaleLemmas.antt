@@ -10,7 +10,7 @@ use Rattle.sts_token.specs.Token.{IsToken, KeepsRange, token_of}
 use Rattle.tariff.specs.Purchase.{IsPurchase, purchase_of}
 use Rattle.tariff.specs.declared.bought.Buy.{Buy}
 use Rattle.tariff.specs.declared.step.Step.{Step}
-use Rattle.vend_core.specs.Decision.{Buyer, buyer_of, sell}
+use Rattle.vend_core.specs.Decision.{MeterAccount, account_of, sell}
 use Rattle.vend_core.specs.Lookup.{greatest_of, open_shift, prior, steps_for, used}
 use Rattle.vend_core.specs.NewSale.{IsNewSale}
 use Rattle.vend_core.specs.Office.{IsOffice, Office, greatest_count}
@@ -47,7 +47,7 @@ greatest_is_last (n ∷ ns) = greatest_more n ns (greatest_of ns) (greatest_is_l
 
 -- the new sale
 module _ (laws : LowerLaws) (forward : ℕ → ℕ → ℕ) (o : Office) (at : Stamped) (order : Order) where
-  abbrev pub facts_of : Meter → Buyer
+  abbrev pub facts_of : Meter → MeterAccount
   facts_of m = record { meter = m; steps = steps_for o m; last = greatest_of (used o order.meter m.base); prior = prior o order.meter (month_at at.moment) }
 
   fresh_is : (m : Meter) (now tid : ℕ) → fresh_after now (greatest_of (used o order.meter m.base)) ≡ Ok tid → FreshOutcome (used o order.meter m.base) now (Ok tid)
@@ -60,13 +60,13 @@ module _ (laws : LowerLaws) (forward : ℕ → ℕ → ℕ) (o : Office) (at : S
     pub change_is : change ≡ sale_change sale
 
   abbrev Sells : Change → Type 0
-  Sells change = Selling forward at.moment at.nibble order (open_shift o order.operator) (buyer_of o order.meter at.moment) (length o.sales) change
+  Sells change = Selling forward at.moment at.nibble order (open_shift o order.operator) (account_of o order.meter at.moment) (length o.sales) change
 
   granted_at : (change : Change) (m : Meter) → KeepsRange forward → IsOffice o → o.meters order.meter ≡ Some m → (s : Sells change) → s.facts ≡ facts_of m → Granted change
   granted_at change m range office there s is =
-      let minute = subst (λ (f : Buyer). minute_of f.meter.base at.moment ≡ Ok s.now) is s.minute_is in
-      let fresh = fresh_is m s.now s.tid (subst (λ (f : Buyer). fresh_after s.now f.last ≡ Ok s.tid) is s.fresh_is) in
-      let buys = subst (λ (f : Buyer). purchase_of f.steps f.prior order.tender ≡ Some s.buy) is s.buy_is in
+      let minute = subst (λ (f : MeterAccount). minute_of f.meter.base at.moment ≡ Ok s.now) is s.minute_is in
+      let fresh = fresh_is m s.now s.tid (subst (λ (f : MeterAccount). fresh_after s.now f.last ≡ Ok s.tid) is s.fresh_is) in
+      let buys = subst (λ (f : MeterAccount). purchase_of f.steps f.prior order.tender ≡ Some s.buy) is s.buy_is in
       let bought = (laws.purchase _ _ _ s.buy).0 buys in
       record {
         sale = sale_made forward at.moment at.nibble order s.opened (facts_of m) s.tid s.buy (length o.sales + 1);
@@ -95,11 +95,11 @@ module _ (laws : LowerLaws) (forward : ℕ → ℕ → ℕ) (o : Office) (at : S
               (record { rnd = at.nibble_in_range; tid = omega (arith, fresh.0.may_sell.within); tenths = bought.representable });
         };
         room = s.room;
-        change_is = subst (λ (f : Buyer). change ≡ sale_change (sale_made forward at.moment at.nibble order s.opened f s.tid s.buy (length o.sales + 1))) is s.change_is;
+        change_is = subst (λ (f : MeterAccount). change ≡ sale_change (sale_made forward at.moment at.nibble order s.opened f s.tid s.buy (length o.sales + 1))) is s.change_is;
       }
 
-  pub granted_sale : (change : Change) → KeepsRange forward → IsOffice o → sell forward at.moment at.nibble order (open_shift o order.operator) (buyer_of o order.meter at.moment) (length o.sales) ≡ Ok change → Granted change
+  pub granted_sale : (change : Change) → KeepsRange forward → IsOffice o → sell forward at.moment at.nibble order (open_shift o order.operator) (account_of o order.meter at.moment) (length o.sales) ≡ Ok change → Granted change
   granted_sale change range office e =
-      let s = sell_ok forward at.moment at.nibble order (open_shift o order.operator) (buyer_of o order.meter at.moment) (length o.sales) change e in
+      let s = sell_ok forward at.moment at.nibble order (open_shift o order.operator) (account_of o order.meter at.moment) (length o.sales) change e in
       let m = option_map_some facts_of (o.meters order.meter) s.facts s.meter_is in
       granted_at change m.0 range office m.1 s (sym m.2)

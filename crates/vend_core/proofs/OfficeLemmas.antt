@@ -11,7 +11,7 @@ use Rattle.sts_token.specs.Token.{KeepsRange}
 use Rattle.tariff.specs.Steps.{IsSteps}
 use Rattle.tariff.specs.Tender.{IsTender}
 use Rattle.tariff.specs.declared.step.Step.{Step}
-use Rattle.vend_core.specs.Decision.{add_meter, add_tariff, changed, close_shift, decision_of, import, buyer_of, meter_eq, next_number, open_a_shift, report, reprint, row_decision, sell, sell_again, sell_once, set_tariff, steps_eq, unchanged}
+use Rattle.vend_core.specs.Decision.{add_meter, add_tariff, changed, close_shift, decision_of, import, account_of, meter_eq, next_number, open_a_shift, report, reprint, row_decision, sell, sell_again, sell_once, set_tariff, steps_eq, unchanged}
 use Rattle.vend_core.specs.Fold.{office_after, step}
 use Rattle.sts_fields.specs.Base.{base_eq}
 use Rattle.vend_core.specs.Lookup.{open_shift, sale_numbered, sale_of_ref, sales_of_shift, shift_numbered, used}
@@ -142,7 +142,7 @@ module _ (o : Office) (office : IsOffice o) where
       }
 
   module _ (laws : LowerLaws) (forward : ℕ → ℕ → ℕ) (range : KeepsRange forward) (at : Stamped) (moment : IsMoment at.moment) where
-    after_sell : (order : Order) → sale_of_ref o order.operator order.order_ref ≡ None → IsOrder order → (r : Result Change Refusal) → sell forward at.moment at.nibble order (open_shift o order.operator) (buyer_of o order.meter at.moment) (length o.sales) ≡ r → IsOffice (office_after o r)
+    after_sell : (order : Order) → sale_of_ref o order.operator order.order_ref ≡ None → IsOrder order → (r : Result Change Refusal) → sell forward at.moment at.nibble order (open_shift o order.operator) (account_of o order.meter at.moment) (length o.sales) ≡ r → IsOffice (office_after o r)
     after_sell order alone ordered (Err refusal) e = office
     after_sell order alone ordered (Ok change) e =
         let granted = granted_sale laws forward o at order change range office e in
@@ -150,10 +150,10 @@ module _ (o : Office) (office : IsOffice o) where
         (keeps_add_sale o granted.sale office (new_row forward at order granted.sale moment ordered granted.new) granted.new.number
         (λ a there. after_sales forward at order granted.sale a alone granted.new there) granted.room)
 
-    by_sell : (order : Order) (first : Option Sale) → sale_of_ref o order.operator order.order_ref ≡ first → IsOrder order → IsOffice (office_after o (sell_once forward at.moment at.nibble order first (open_shift o order.operator) (buyer_of o order.meter at.moment) (length o.sales)))
+    by_sell : (order : Order) (first : Option Sale) → sale_of_ref o order.operator order.order_ref ≡ first → IsOrder order → IsOffice (office_after o (sell_once forward at.moment at.nibble order first (open_shift o order.operator) (account_of o order.meter at.moment) (length o.sales)))
     by_sell order (Some first) e ordered = by_sell_again order first
     by_sell order None e ordered =
-        after_sell order e ordered (sell forward at.moment at.nibble order (open_shift o order.operator) (buyer_of o order.meter at.moment) (length o.sales)) refl
+        after_sell order e ordered (sell forward at.moment at.nibble order (open_shift o order.operator) (account_of o order.meter at.moment) (length o.sales)) refl
 
     by_reprint : (sale : Option Sale) → IsOffice (office_after o (reprint sale))
     by_reprint None = office

@@ -8,7 +8,7 @@ use Rattle.sts_fields.specs.declared.fault.TidFault.{TidFault}
 use Rattle.sts_fields.specs.declared.fault.TidFault.TheVariants.{BeforeBase, PastEnd, IdentifiersSpent, IdentifierAhead}
 use Rattle.tariff.specs.Purchase.{purchase_of}
 use Rattle.tariff.specs.declared.step.Step.{Step}
-use Rattle.vend_core.specs.Decision.{◌>>=◌, Buyer, add_meter, add_rows, add_tariff, at_row, changed, decision_of, import, meter_eq, new_rows, buyer_of, open_a_shift, or_refusal, row_decision, sell_once, set_tariff, steps_eq, unchanged}
+use Rattle.vend_core.specs.Decision.{◌>>=◌, MeterAccount, add_meter, add_rows, add_tariff, at_row, changed, decision_of, import, meter_eq, new_rows, account_of, open_a_shift, or_refusal, row_decision, sell_once, set_tariff, steps_eq, unchanged}
 use Rattle.vend_core.specs.Fold.{reply, reply_of}
 use Rattle.vend_core.specs.Life.{acknowledges}
 use Rattle.vend_core.specs.Lookup.{open_shift, sale_numbered, sale_of_ref, shift_numbered}
@@ -115,7 +115,7 @@ own_open : (moment : ℕ) (operator : List ℕ) (there : Option Shift) (count : 
 own_open moment operator (Some there) count = refl
 own_open moment operator None count = own_room count (nat_lt count greatest_count) _ (λ number. refl)
 
-own_sell : (forward : ℕ → ℕ → ℕ) (moment nibble : ℕ) (order : Order) (first : Option Sale) (shift : Option Shift) (meter : Option Buyer) (count : ℕ) → IsOwn (sell_once forward moment nibble order first shift meter count)
+own_sell : (forward : ℕ → ℕ → ℕ) (moment nibble : ℕ) (order : Order) (first : Option Sale) (shift : Option Shift) (meter : Option MeterAccount) (count : ℕ) → IsOwn (sell_once forward moment nibble order first shift meter count)
 own_sell forward moment nibble order (Some first) shift meter count = own_if _ _ refusals.RefReused refl
 own_sell forward moment nibble order None shift meter count =
     own_there shift refusals.NoShift _ refl (λ s. own_there meter refusals.NoMeter _ refl (λ m.
@@ -130,7 +130,7 @@ own_decision forward o moment nibble (requests.SetTariff number name) = own_set 
 own_decision forward o moment nibble (requests.OpenShift operator) = own_open moment operator (open_shift o operator) (length o.shifts)
 own_decision forward o moment nibble (requests.CloseShift operator) = own_there (open_shift o operator) refusals.NoShift _ refl (λ s. refl)
 own_decision forward o moment nibble (requests.Sell order) =
-    own_sell forward moment nibble order (sale_of_ref o order.operator order.order_ref) (open_shift o order.operator) (buyer_of o order.meter moment) (length o.sales)
+    own_sell forward moment nibble order (sale_of_ref o order.operator order.order_ref) (open_shift o order.operator) (account_of o order.meter moment) (length o.sales)
 own_decision forward o moment nibble (requests.Reprint number) = own_there (sale_numbered o number) refusals.NoSale _ refl (λ s. refl)
 own_decision forward o moment nibble (requests.ShiftReport number) = own_there (shift_numbered o number) refusals.NoSuchShift _ refl (λ s. refl)
 

@@ -1,6 +1,6 @@
 -- The money that sales took in, and what the reports say of it.
 use Rattle.std.specs.Prelude.{◌≡◌, ℕ, List, sum_by}
-use Rattle.sts_token.specs.Token.{Way}
+use Rattle.sts_token.specs.Token.{BlockFunction}
 use Rattle.vend_core.specs.Fold.{reply}
 use Rattle.vend_core.specs.Handed.{sales_of}
 use Rattle.vend_core.specs.Office.{Office}
@@ -17,6 +17,6 @@ abbrev pub AskForReports : (ℕ → Stamped) → Type 0
 AskForReports ats = (number : ℕ) → (ats number).request ≡ ShiftReport number
 
 -- the cash of the reports of all shifts, added
-abbrev pub cash_of_reports : Way → Office → (ℕ → Stamped) → ℕ
+abbrev pub cash_of_reports : BlockFunction → Office → (ℕ → Stamped) → ℕ
 cash_of_reports forward o ats =
     sum_by (λ shift. cash_of (sales_of (reply forward o (ats shift.number)))) o.shifts

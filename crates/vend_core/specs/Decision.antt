@@ -5,7 +5,7 @@ use Rattle.sts_fields.specs.Calendar.{month_at}
 use Rattle.sts_fields.specs.Tid.{fresh_after, minute_of}
 use Rattle.sts_fields.specs.declared.fault.TidFault.{TidFault}
 use Rattle.sts_fields.specs.declared.fault.TidFault.TheVariants.{BeforeBase, PastEnd, IdentifiersSpent, IdentifierAhead}
-use Rattle.sts_token.specs.Token.{Way, token_of}
+use Rattle.sts_token.specs.Token.{BlockFunction, token_of}
 use Rattle.tariff.specs.Purchase.{purchase_of}
 pub use Rattle.tariff.specs.StepsEq.{step_eq, steps_eq}
 use Rattle.tariff.specs.declared.step.Step.{Step}
@@ -152,7 +152,7 @@ sell_again order first =
 
 -- what a sale looks at of its meter: the meter, the steps of its tariff, the last identifier
 -- under its base, the month's tenths
-pub record Buyer : Type 0 where
+pub record MeterAccount : Type 0 where
   pub meter : Meter
   pub steps : List Step
   pub last : Option ℕ
@@ -160,7 +160,7 @@ pub record Buyer : Type 0 where
 
 -- a new sale: the operator's open shift, the meter, its minute, the fresh identifier,
 -- the purchase, and room for one more
-abbrev pub sell : Way → ℕ → ℕ → Order → Option Shift → Option Buyer → ℕ
+abbrev pub sell : BlockFunction → ℕ → ℕ → Order → Option Shift → Option MeterAccount → ℕ
     → Result Change Refusal
 sell forward moment nibble order shift meter count = do
   s ← ok_or shift refusals.NoShift
@@ -186,7 +186,7 @@ sell forward moment nibble order shift meter count = do
   } in changed (edits.AddSale sale) (answers.Sold sale)
 
 -- Sell, where the operator made this sale under the ref
-abbrev pub sell_once : Way → ℕ → ℕ → Order → Option Sale → Option Shift → Option Buyer → ℕ
+abbrev pub sell_once : BlockFunction → ℕ → ℕ → Order → Option Sale → Option Shift → Option MeterAccount → ℕ
     → Result Change Refusal
 sell_once forward moment nibble order (Some first) shift meter count = sell_again order first
 sell_once forward moment nibble order None shift meter count =
@@ -205,8 +205,8 @@ report shift sales = do
   unchanged (answers.Report s sales)
 
 -- what a sale at a moment looks at of the meter of this number
-abbrev pub buyer_of : Office → List ℕ → ℕ → Option Buyer
-buyer_of o number moment =
+abbrev pub account_of : Office → List ℕ → ℕ → Option MeterAccount
+account_of o number moment =
     option_map (λ m. record {
       meter = m;
       steps = steps_for o m;
@@ -215,7 +215,7 @@ buyer_of o number moment =
     }) (o.meters number)
 
 -- how an office decides a request
-abbrev pub decision_of : Way → Office → ℕ → ℕ → Request → Result Change Refusal
+abbrev pub decision_of : BlockFunction → Office → ℕ → ℕ → Request → Result Change Refusal
 decision_of forward o moment nibble (requests.AddTariff name steps) =
     add_tariff name steps (o.tariffs name)
 decision_of forward o moment nibble (requests.AddMeter number m) =
@@ -229,10 +229,10 @@ decision_of forward o moment nibble (requests.CloseShift operator) =
     close_shift moment (open_shift o operator)
 decision_of forward o moment nibble (requests.Sell order) =
     sell_once forward moment nibble order (sale_of_ref o order.operator order.order_ref)
-    (open_shift o order.operator) (buyer_of o order.meter moment) (length o.sales)
+    (open_shift o order.operator) (account_of o order.meter moment) (length o.sales)
 decision_of forward o moment nibble (requests.Reprint number) = reprint (sale_numbered o number)
 decision_of forward o moment nibble (requests.ShiftReport number) =
     report (shift_numbered o number) (sales_of_shift o number)
 
-abbrev pub decision : Way → Office → Stamped → Result Change Refusal
+abbrev pub decision : BlockFunction → Office → Stamped → Result Change Refusal
 decision forward o at = decision_of forward o at.moment at.nibble at.request

@@ -1,6 +1,6 @@
 -- What the tests of a request look at, and how an answer may fall short of the decision.
 use Rattle.std.specs.Prelude.{◌≡◌, ◌⊎◌, ℕ, Bool, true, false, List, [], ◌∷◌, Option, Some, None, IsNone, IsSome, Result, Err, is_some, length, option_map}
-use Rattle.vend_core.specs.Decision.{buyer_of, row_decision, unchanged}
+use Rattle.vend_core.specs.Decision.{account_of, row_decision, unchanged}
 use Rattle.vend_core.specs.Lookup.{open_shift, sale_numbered, sale_of_ref, sales_of_shift, shift_numbered}
 use Rattle.vend_core.specs.Office.{Office}
 use Rattle.vend_core.specs.declared.answer.Answer.TheVariants.{Report}
@@ -30,7 +30,7 @@ no_facts = record {
   open_shift = None;
   shift_count = 0;
   first_sale = None;
-  buyer = None;
+  account = None;
   sale_count = 0;
   sale = None;
   report = None;
@@ -56,8 +56,8 @@ pub record AreOpeningFacts (o : Office) (operator : List ℕ) (f : Facts) : Type
 -- there is a meter too
 pub record AreNewSaleFacts (o : Office) (moment : ℕ) (order : Order) (f : Facts) : Type 0 where
   pub open_shift : f.open_shift ≡ open_shift o order.operator
-  pub buyer : IsSome f.open_shift → f.buyer ≡ buyer_of o order.meter moment
-  pub sale_count : IsSome f.open_shift → IsSome f.buyer → f.sale_count ≡ length o.sales
+  pub account : IsSome f.open_shift → f.account ≡ account_of o order.meter moment
+  pub sale_count : IsSome f.open_shift → IsSome f.account → f.sale_count ≡ length o.sales
 
 -- an order looks at the sale under its ref, and at the rest only where there is none
 pub record AreSaleFacts (o : Office) (moment : ℕ) (order : Order) (f : Facts) : Type 0 where

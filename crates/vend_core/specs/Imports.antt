@@ -1,6 +1,6 @@
 -- An import that comes again.
 use Rattle.std.specs.Prelude.{◌≡◌, Ok}
-use Rattle.sts_token.specs.Token.{Way}
+use Rattle.sts_token.specs.Token.{BlockFunction}
 use Rattle.vend_core.specs.Fold.{reply, step}
 use Rattle.vend_core.specs.Life.{Exchange}
 use Rattle.vend_core.specs.Office.{Office}
@@ -22,5 +22,5 @@ abbrev pub AsksNoSetTariff : Exchange → Type 0
 AsksNoSetTariff e = SetsNoTariff e.request
 
 -- a request is answered that no row was new, and changes nothing
-abbrev pub ImportsNothing : Way → Office → Stamped → Type 0
+abbrev pub ImportsNothing : BlockFunction → Office → Stamped → Type 0
 ImportsNothing forward o at = (reply forward o at ≡ Ok (Imported 0)) × (step forward o at ≡ o)

@@ -1,7 +1,7 @@
 -- Lives of an office: what was asked and answered from an opening to a stop, what a stop may leave,
 -- and one life after another.
 use Rattle.std.specs.Prelude.{◌≡◌, ℕ, ◌⊎◌, Bool, true, false, List, [], ◌∷◌, map, filter, take, Result, Ok, Err, All, Contains}
-use Rattle.sts_token.specs.Token.{KeepsRange, Way}
+use Rattle.sts_token.specs.Token.{KeepsRange, BlockFunction}
 use Rattle.vend_core.specs.Fold.{after, replies_to, reply, step}
 use Rattle.vend_core.specs.Handed.{sales_of}
 use Rattle.vend_core.specs.Office.{Office, empty_office}
@@ -22,7 +22,7 @@ pub record Exchange : Type 0 where
 -- A stop inside a call counts as the reply of that call on a store that fails from there on
 pub record Life : Type 0 where
   pub opening : Office
-  pub forward : Way
+  pub forward : BlockFunction
   pub exchanges : List Exchange
 
 -- a reply acknowledges its request where it grants it, or refuses it for a reason of the request's

@@ -1,6 +1,6 @@
 -- How a life goes on: one exchange more, or many.
 use Rattle.std.specs.Prelude.{◌≡◌, ◌≢◌, List, [], ◌∷◌, ◌++◌, Result, Err, All}
-use Rattle.sts_token.specs.Token.{Way}
+use Rattle.sts_token.specs.Token.{BlockFunction}
 use Rattle.vend_core.specs.Life.{Exchange, IsLife, Life, present}
 use Rattle.vend_core.specs.Office.{Office}
 use Rattle.vend_core.specs.declared.answer.Answer.{Answer}
@@ -11,7 +11,7 @@ use Rattle.vend_core.specs.declared.request.Request.TheVariants.{Reprint, ShiftR
 use Rattle.vend_core.specs.declared.request.Stamped.{Stamped}
 
 -- the life that has just opened an office
-abbrev pub opened : Way → Office → Life
+abbrev pub opened : BlockFunction → Office → Life
 opened forward o = record { opening = o; forward = forward; exchanges = [] }
 
 -- the life after these exchanges more
@@ -36,10 +36,10 @@ abbrev pub GoesOn : Life → Type 0
 GoesOn life = All (λ e. (e.reply ≢ Err Store) × (e.reply ≢ Err Stopped)) life.exchanges
 
 -- a request that only reads
-abbrev pub OnlyReads : Request → Type 0
-OnlyReads (Reprint number) = Unit {0}
-OnlyReads (ShiftReport number) = Unit {0}
-OnlyReads request = ⊥
+abbrev pub IsReadingRequest : Request → Type 0
+IsReadingRequest (Reprint number) = Unit {0}
+IsReadingRequest (ShiftReport number) = Unit {0}
+IsReadingRequest request = ⊥
 
 -- a life that goes on, in which this is the present office
 pub record IsRunning (life : Life) (o : Office) : Type 0 where

@@ -1,7 +1,7 @@
 -- The office that plain lists keep, and what serving a request does to it.
 use Rattle.std.specs.Prelude.{◌≡◌, ◌⊎◌, ◌<◌, ◌≤◌, Bool, true, false, List, [], ◌∷◌, Result, Err, IsSome, length}
 use Rattle.sts_fields.specs.Tid.{last_tid}
-use Rattle.sts_token.specs.Token.{Way}
+use Rattle.sts_token.specs.Token.{BlockFunction}
 use Rattle.vend_core.specs.Edits.{with_row}
 use Rattle.vend_core.specs.Fold.{reply, step}
 use Rattle.vend_core.specs.Office.{Office, greatest_count}
@@ -46,12 +46,12 @@ sets_only (CloseShift number moment) = true
 sets_only edit = false
 
 -- one request is served with the step's reply and office
-abbrev pub IsStep : Way → Office → Stamped → Result Answer Refusal → Office → Type 0
+abbrev pub IsStep : BlockFunction → Office → Stamped → Result Answer Refusal → Office → Type 0
 IsStep forward before at result now =
     (result ≡ reply forward before at) × (now ≡ step forward before at)
 
 -- it is served so, or, for want of memory, with no change
-abbrev pub IsServed : Way → Office → Stamped → Result Answer Refusal → Office → Type 0
+abbrev pub IsServed : BlockFunction → Office → Stamped → Result Answer Refusal → Office → Type 0
 IsServed forward before at result now =
     IsStep forward before at result now ⊎ ((result ≡ Err Memory) × (now ≡ before))
 

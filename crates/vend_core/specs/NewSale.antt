@@ -3,7 +3,7 @@ use Rattle.std.specs.Prelude.{◌≡◌, ℕ, ◌+◌, length, Some, Ok}
 use Rattle.sts_fields.specs.Calendar.{month_at}
 use Rattle.sts_fields.specs.Tid.{FreshOutcome, minute_of}
 use Rattle.sts_token.specs.Fields.{TokenFields}
-use Rattle.sts_token.specs.Token.{IsToken, Way}
+use Rattle.sts_token.specs.Token.{IsToken, BlockFunction}
 use Rattle.tariff.specs.Purchase.{IsPurchase}
 use Rattle.tariff.specs.declared.bought.Buy.{Buy}
 use Rattle.vend_core.specs.Lookup.{open_shift, prior, steps_for, used}
@@ -19,7 +19,7 @@ abbrev pub fields_of : Sale → TokenFields
 fields_of s = record { rnd = s.rnd; tid = s.tid; tenths = s.tenths }
 
 -- s is the new sale of an order that is served at a moment, with a nibble, by an office
-pub record IsNewSale (forward : Way) (o : Office) (at : Stamped) (order : Order)
+pub record IsNewSale (forward : BlockFunction) (o : Office) (at : Stamped) (order : Order)
     (s : Sale) : Type 0 where
   -- the meter, the operator's open shift, the present minute under the meter's base, and what the
   -- tender buys

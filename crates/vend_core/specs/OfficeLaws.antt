@@ -1,6 +1,6 @@
 -- What the office's laws say of single requests.
 use Rattle.std.specs.Prelude.{◌≡◌, ◌⊎◌, ◌++◌, ◌∷◌, [], Ok}
-use Rattle.sts_token.specs.Token.{Way}
+use Rattle.sts_token.specs.Token.{BlockFunction}
 use Rattle.vend_core.specs.Fold.{reply, step}
 use Rattle.vend_core.specs.NewSale.{IsNewSale}
 use Rattle.vend_core.specs.Office.{Office}
@@ -20,7 +20,7 @@ abbrev pub IsSameOrder : Order → Sale → Type 0
 IsSameOrder order first = (first.meter ≡ order.meter) × (first.tender ≡ order.tender)
 
 -- a step leaves the sales, or adds the new one of an order, which it answers
-abbrev pub SellsOne : Way → Office → Stamped → Type 0
+abbrev pub SellsOne : BlockFunction → Office → Stamped → Type 0
 SellsOne forward o at =
     ((step forward o at).sales ≡ o.sales)
     ⊎ ((s : Sale)

@@ -3,9 +3,9 @@
 use Rattle.std.specs.Prelude.{◌≡◌, ℕ, ◌^◌, ◌<◌, ◌&&◌, ◌==◌, Bool, List, All, AllPairs, Contains, map, filter, nat_lt, count_by}
 use Rattle.std.specs.List.{list_any}
 use Rattle.sts_fields.specs.declared.base.Base.{Base}
-use Rattle.sts_token.specs.Meter.{Entry, Reader, entered, is_among, taken_over}
+use Rattle.sts_token.specs.Meter.{Entry, Reader, entered, is_member, taken_over}
 use Rattle.sts_token.specs.Reading.{reading_of}
-use Rattle.sts_token.specs.Token.{IsToken, Way}
+use Rattle.sts_token.specs.Token.{IsToken, BlockFunction}
 use Rattle.sts_token.specs.Transform.{IsTransform}
 use Rattle.vend_core.specs.Life.{IsHanded, Life}
 use Rattle.vend_core.specs.NewSale.{fields_of}
@@ -24,8 +24,8 @@ pub record WasWritten (lives : List Life) (s : Sale) : Type 0 where
 pub record SimMeter : Type 0 where
   pub number : List ℕ
   pub base : Base
-  pub forward : Way
-  pub inverse : Way
+  pub forward : BlockFunction
+  pub inverse : BlockFunction
   pub key : ℕ
 
 -- how it reads texts
@@ -60,4 +60,4 @@ later_sales_come sales came s = count_by (λ t. nat_lt s.number t.number && has_
 
 -- those of the sales whose identifiers the meter accepted over these entries
 abbrev pub accepted_of : Reader → List Entry → List Sale → List Sale
-accepted_of read history sales = filter (λ s. is_among (taken_over read history).tids s.tid) sales
+accepted_of read history sales = filter (λ s. is_member (taken_over read history).tids s.tid) sales

@@ -6,11 +6,11 @@ ghost use Rattle.vend_core.specs.Facts.{AreFacts, IsUnlessMemory, report_found, 
 ghost use Rattle.vend_core.specs.Office.{Office};
 
 use crate::answer::Answer;
-use crate::buyer::Buyer;
 use crate::change::{Change, Edit};
 use crate::facts::Facts;
 use crate::import::import;
 use crate::meter::Meter;
+use crate::meter_account::MeterAccount;
 use crate::meter_no::MeterNo;
 use crate::operator::Operator;
 use crate::refusal::Refusal;
@@ -71,7 +71,7 @@ pub fn decide<T: BlockTransform>(
                 at,
                 order,
                 facts.open_shift,
-                facts.buyer.as_ref(),
+                facts.account.as_ref(),
                 facts.sale_count,
             ),
         },
@@ -248,18 +248,18 @@ fn sell<T: BlockTransform>(
     at: &Stamped,
     order: &Order,
     open_shift: Option<Shift>,
-    buyer: Option<&Buyer>,
+    account: Option<&MeterAccount>,
     count: u64,
 ) -> Result<Change, Refusal>
     ensures { result ≡ sell (T.forwards transform.now) at.now.moment at.now.nibble order.now
-        open_shift (option_copied buyer.entry) count }
+        open_shift (option_copied account.entry) count }
 {
     let shift = open_shift.ok_or(Refusal::NoShift)?;
-    let buyer = buyer.ok_or(Refusal::NoMeter)?;
-    let meter = buyer.meter;
+    let account = account.ok_or(Refusal::NoMeter)?;
+    let meter = account.meter;
     let now = minute(meter.base, at.moment)?;
-    let tid = next_tid(now, buyer.last)?;
-    let bought = bought(buyer, order.tender).ok_or(Refusal::TooLittle)?;
+    let tid = next_tid(now, account.last)?;
+    let bought = bought(account, order.tender).ok_or(Refusal::TooLittle)?;
     let tenths = bought.tenths;
     let number = next_number(count)?;
     let fields = Fields {
@@ -293,11 +293,11 @@ fn sold(sale: &Sale) -> Result<Change, Refusal>
 }
 
 // What the tender buys.
-fn bought(buyer: &Buyer, tender: Tender) -> Option<Buy>
-    ensures { result ≡ purchase_of buyer.now.steps buyer.now.prior tender }
+fn bought(account: &MeterAccount, tender: Tender) -> Option<Buy>
+    ensures { result ≡ purchase_of account.now.steps account.now.prior tender }
 {
-    let prior = buyer.prior;
-    buy(&buyer.steps, prior, tender)
+    let prior = account.prior;
+    buy(&account.steps, prior, tender)
 }
 
 fn reprint(sale: Option<Sale>) -> Result<Change, Refusal>

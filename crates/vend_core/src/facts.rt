@@ -1,6 +1,6 @@
-use crate::buyer::Buyer;
 use crate::import_facts::ImportFacts;
 use crate::meter::Meter;
+use crate::meter_account::MeterAccount;
 use crate::sale::Sale;
 use crate::sales::Sales;
 use crate::shift::Shift;
@@ -26,7 +26,7 @@ pub struct Facts {
     /// The sale that the operator made under the order's ref.
     pub first_sale: Option<Sale>,
     /// What the sale looks at of the order's meter.
-    pub buyer: Option<Buyer>,
+    pub account: Option<MeterAccount>,
     /// How many sales there are.
     pub sale_count: u64,
     /// The sale of the request's number.
@@ -51,7 +51,7 @@ impl Facts {
             open_shift: None,
             shift_count: 0,
             first_sale: None,
-            buyer: None,
+            account: None,
             sale_count: 0,
             sale: None,
             report: None,

@@ -1,18 +1,18 @@
 ghost use Rattle.std.specs.Prelude.{◌≡◌, IfOk, IsNone, IsOk, List, Err, Some, is_some, length, true};
 ghost use Rattle.std.specs.Option.{option_copied};
-ghost use Rattle.vend_core.specs.Decision.{buyer_of, row_decision};
+ghost use Rattle.vend_core.specs.Decision.{account_of, row_decision};
 ghost use Rattle.vend_core.specs.Facts.{AreFacts, AreMeterFacts, AreNewSaleFacts, AreOpeningFacts, AreRowsFacts, AreSaleFacts, AreSettingFacts, keeps_lists, report_of, row_facts};
 ghost use Rattle.vend_core.specs.Lists.{recorded};
 ghost use Rattle.vend_core.specs.Lookup.{steps_for};
 ghost use Rattle.vend_core.specs.Office.{Office};
 ghost use Rattle.vend_core.specs.declared.row_facts.RowFacts.{RowFacts};
 
-use crate::buyer::Buyer;
 use crate::decisions::{same_meter, same_steps};
 use crate::facts::Facts;
 use crate::import_facts::ImportFacts;
 use crate::look_up;
 use crate::meter::Meter;
+use crate::meter_account::MeterAccount;
 use crate::meter_no::MeterNo;
 use crate::operator::Operator;
 use crate::records::Records;
@@ -184,22 +184,26 @@ fn new_sale_facts(records: &Records, moment: Moment, order: &Order) -> Result<Fa
     }
     Ok(Facts {
         open_shift,
-        buyer: buyer(records, &order.meter, moment)?,
+        account: account(records, &order.meter, moment)?,
         sale_count: records.sales.len() as u64,
         ..Facts::none()
     })
 }
 
 // What a sale at a moment looks at of the meter of this number.
-fn buyer(records: &Records, number: &MeterNo, moment: Moment) -> Result<Option<Buyer>, AllocError>
-    ensures { IfOk result (λ found. found ≡ buyer_of (recorded records.now) number.now moment) }
+fn account(
+    records: &Records,
+    number: &MeterNo,
+    moment: Moment,
+) -> Result<Option<MeterAccount>, AllocError>
+    ensures { IfOk result (λ found. found ≡ account_of (recorded records.now) number.now moment) }
 {
     let Some(meter) = look_up::meter_under(&records.meters, number) else {
         return Ok(None);
     };
     let steps = own_tariff_of(records, number, &meter)?;
     let month = month_of(moment).unwrap();
-    Ok(Some(Buyer {
+    Ok(Some(MeterAccount {
         meter,
         steps,
         last: look_up::last_tid(&records.sales, number, meter.base),

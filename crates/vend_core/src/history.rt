@@ -1,7 +1,7 @@
 ghost use Rattle.std.specs.Prelude.{◌≡◌, ◌-◌, ◌<◌, ◌≤◌, ◌^◌, ◌↔◌, ◌++◌, ◌∷◌, [], ℕ, List, Option, Ok, Some, All, AllPairs, Contains, map, sum_by};
 ghost use Rattle.sts_fields.specs.Tid.{IsReserved};
 ghost use Rattle.sts_token.specs.Meter.{Accepts, WasAccepted, credit_of};
-ghost use Rattle.sts_token.specs.Token.{KeepsRange, Way};
+ghost use Rattle.sts_token.specs.Token.{KeepsRange, BlockFunction};
 ghost use Rattle.vend_core.specs.Cash.{AskForReports, cash_of, cash_of_reports};
 ghost use Rattle.vend_core.specs.Imports.{AsksNoSetTariff, ImportsNothing};
 ghost use Rattle.vend_core.specs.Life.{Answered, AreLives, Exchange, IsHanded, IsLife, Life, MayLeave};
@@ -56,7 +56,7 @@ pub fn history_law()
     // SetTariff in between, changes nothing and has no new row, whatever transform is there then.
     ensures imported_again { (earlier later : List Life) (life : Life) (o : Office)
         (before between : List Exchange) (e : Exchange) (rows : List Row) (new : ℕ)
-        (forward : Way) (again : Stamped)
+        (forward : BlockFunction) (again : Stamped)
         → AreLives (earlier ++ life ∷ later) o → life.exchanges ≡ before ++ e ∷ between
         → e.request.request ≡ Request.Import rows → e.reply ≡ Ok (Answer.Imported new)
         → All AsksNoSetTariff between → All (λ l. All AsksNoSetTariff l.exchanges) later
@@ -108,7 +108,7 @@ pub fn history_law()
         → sum_by (λ s. s.tenths) sales < 2 ^ 64 - 1 }
 
     // The reports of all shifts hold the money of all sales.
-    ensures cash { (lives : List Life) (forward : Way) (o : Office) (ats : ℕ → Stamped)
+    ensures cash { (lives : List Life) (forward : BlockFunction) (o : Office) (ats : ℕ → Stamped)
         → AreLives lives o → AskForReports ats → cash_of_reports forward o ats ≡ cash_of o.sales }
 {
     fresh_law();

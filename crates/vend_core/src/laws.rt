@@ -1,7 +1,7 @@
 ghost use Rattle.std.specs.Prelude.{◌≡◌, ◌≢◌, ◌≤◌, ◌++◌, ◌∷◌, [], ℕ, List, None, Ok, Err, All, AllPairs, Contains};
 ghost use Rattle.sts_fields.specs.Tid.{FreshOutcome, IsLast, fresh_after};
 ghost use Rattle.sts_fields.specs.declared.base.Base.{Base};
-ghost use Rattle.sts_token.specs.Token.{KeepsRange, Way};
+ghost use Rattle.sts_token.specs.Token.{KeepsRange, BlockFunction};
 ghost use Rattle.vend_core.specs.Cash.{AskForReports, cash_of, cash_of_reports};
 ghost use Rattle.vend_core.specs.Fold.{after, reply, step};
 ghost use Rattle.vend_core.specs.Growth.{HasGrown, HaveStayed};
@@ -29,9 +29,9 @@ use tariff::purchase_law;
 pub fn office_law()
     // The empty office is an office, and each request leads from an office to one.
     ensures empty { IsOffice empty_office }
-    ensures keeps_office { (forward : Way) (o : Office) (at : Stamped)
+    ensures keeps_office { (forward : BlockFunction) (o : Office) (at : Stamped)
         → IsOffice o → IsStamped at → KeepsRange forward → IsOffice (step forward o at) }
-    ensures keeps_along { (forward : Way) (o : Office) (ats : List Stamped)
+    ensures keeps_along { (forward : BlockFunction) (o : Office) (ats : List Stamped)
         → IsOffice o → All IsStamped ats → KeepsRange forward → IsOffice (after forward o ats) }
 
     // The identifier that a sale gets by the greatest one sold is the fresh one, or there is none.
@@ -40,16 +40,16 @@ pub fn office_law()
         → FreshOutcome (used o meter base) now (fresh_after now (greatest_of (used o meter base))) }
 
     // A new sale is what the rules say, and stands at the end; nothing else adds a sale.
-    ensures new_sale { (forward : Way) (o : Office) (at : Stamped) (order : Order) (s : Sale)
+    ensures new_sale { (forward : BlockFunction) (o : Office) (at : Stamped) (order : Order) (s : Sale)
         → IsOffice o → KeepsRange forward → at.request ≡ Request.Sell order
         → sale_of_ref o order.operator order.order_ref ≡ None
         → reply forward o at ≡ Ok (Answer.Sold s)
         → IsNewSale forward o at order s × ((step forward o at).sales ≡ o.sales ++ s ∷ []) }
-    ensures at_most_one { (forward : Way) (o : Office) (at : Stamped)
+    ensures at_most_one { (forward : BlockFunction) (o : Office) (at : Stamped)
         → IsOffice o → KeepsRange forward → SellsOne forward o at }
 
     // A ref that comes again changes nothing: the same order gets its sale, another one is refused.
-    ensures again { (forward : Way) (o : Office) (at : Stamped) (order : Order) (first : Sale)
+    ensures again { (forward : BlockFunction) (o : Office) (at : Stamped) (order : Order) (first : Sale)
         → IsOffice o → at.request ≡ Request.Sell order → WasSold o order first
         → (step forward o at ≡ o)
         × (IsSameOrder order first → reply forward o at ≡ Ok (Answer.Sold first))
@@ -57,33 +57,33 @@ pub fn office_law()
 
     // The rules themselves never answer that memory or the store failed, or that the office
     // stopped.
-    ensures rules_alone { (forward : Way) (o : Office) (at : Stamped)
+    ensures rules_alone { (forward : BlockFunction) (o : Office) (at : Stamped)
         → (reply forward o at ≢ Err Refusal.Memory)
         × (reply forward o at ≢ Err Refusal.Store)
         × (reply forward o at ≢ Err Refusal.Stopped) }
 
     // A refusal leaves the office as it was, and so do a reprint and a report, which give what
     // stands.
-    ensures refused { (forward : Way) (o : Office) (at : Stamped) (refusal : Refusal)
+    ensures refused { (forward : BlockFunction) (o : Office) (at : Stamped) (refusal : Refusal)
         → reply forward o at ≡ Err refusal → step forward o at ≡ o }
-    ensures reprints { (forward : Way) (o : Office) (at : Stamped) (number : ℕ)
+    ensures reprints { (forward : BlockFunction) (o : Office) (at : Stamped) (number : ℕ)
         → at.request ≡ Request.Reprint number → step forward o at ≡ o }
-    ensures reprinted { (forward : Way) (o : Office) (at : Stamped) (s : Sale)
+    ensures reprinted { (forward : BlockFunction) (o : Office) (at : Stamped) (s : Sale)
         → IsOffice o → Contains o.sales s → at.request ≡ Request.Reprint s.number
         → reply forward o at ≡ Ok (Answer.Reprinted s) }
-    ensures reports { (forward : Way) (o : Office) (at : Stamped) (number : ℕ)
+    ensures reports { (forward : BlockFunction) (o : Office) (at : Stamped) (number : ℕ)
         → at.request ≡ Request.ShiftReport number → step forward o at ≡ o }
-    ensures reported { (forward : Way) (o : Office) (at : Stamped) (shift : Shift)
+    ensures reported { (forward : BlockFunction) (o : Office) (at : Stamped) (shift : Shift)
         → IsOffice o → Contains o.shifts shift → at.request ≡ Request.ShiftReport shift.number
         → reply forward o at ≡ Ok (Answer.Report shift (sales_of_shift o shift.number)) }
-    ensures answers_stand { (forward : Way) (o : Office) (at : Stamped)
+    ensures answers_stand { (forward : BlockFunction) (o : Office) (at : Stamped)
         → All (Contains (step forward o at).sales) (sales_of (reply forward o at)) }
 
     // Tariffs and meters stand as they are, whatever is asked but SetTariff. So an import that was
     // granted and comes again, with no SetTariff in between, changes nothing and has no new row.
-    ensures stays { (forward : Way) (o : Office) (at : Stamped)
+    ensures stays { (forward : BlockFunction) (o : Office) (at : Stamped)
         → SetsNoTariff at → HaveStayed o (step forward o at) }
-    ensures imported_again { (forward : Way) (o : Office) (at again : Stamped)
+    ensures imported_again { (forward : BlockFunction) (o : Office) (at again : Stamped)
         (between : List Stamped)
         (rows : List Row) (new : ℕ)
         → at.request ≡ Request.Import rows → again.request ≡ Request.Import rows
@@ -91,11 +91,11 @@ pub fn office_law()
         → ImportsNothing forward (after forward (step forward o at) between) again }
 
     // Rows only come at the end, and a sale stays as it was made.
-    ensures grows { (forward : Way) (o : Office) (ats : List Stamped)
+    ensures grows { (forward : BlockFunction) (o : Office) (ats : List Stamped)
         → IsOffice o → All IsStamped ats → KeepsRange forward → HasGrown o (after forward o ats) }
 
     // Along any requests the identifiers of a meter under a base rise and never come again.
-    ensures rising { (forward : Way) (o : Office) (ats : List Stamped)
+    ensures rising { (forward : BlockFunction) (o : Office) (ats : List Stamped)
         → IsOffice o → All IsStamped ats → KeepsRange forward
         → AllPairs Rises o.sales → AllPairs Rises (after forward o ats).sales }
     ensures never_again { (o : Office) (a b : Sale)
@@ -103,13 +103,13 @@ pub fn office_law()
         → a.meter ≡ b.meter → a.base ≡ b.base → a.tid ≡ b.tid → a ≡ b }
 
     // A sale that a request makes has a tenth at least. (Of rows alone an office does not ask it.)
-    ensures some_tenths { (forward : Way) (o : Office) (ats : List Stamped)
+    ensures some_tenths { (forward : BlockFunction) (o : Office) (ats : List Stamped)
         → IsOffice o → All IsStamped ats → KeepsRange forward
         → All (λ s. 1 ≤ s.tenths) o.sales → All (λ s. 1 ≤ s.tenths) (after forward o ats).sales }
 
     // A sale costs at most its tender, and the reports of all shifts hold the money of all sales.
     ensures within_tender { (o : Office) → IsOffice o → All (λ s. s.price ≤ s.tender) o.sales }
-    ensures cash { (forward : Way) (o : Office) (ats : ℕ → Stamped)
+    ensures cash { (forward : BlockFunction) (o : Office) (ats : ℕ → Stamped)
         → IsOffice o → AskForReports ats → cash_of_reports forward o ats ≡ cash_of o.sales }
 {
     fresh_law();

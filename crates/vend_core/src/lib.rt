@@ -4,7 +4,6 @@
 #![tactic(auto)]
 
 pub use answer::{Answer, Reply};
-pub use buyer::Buyer;
 pub use change::{Change, Edit};
 pub use decisions::decide;
 pub use facts::Facts;
@@ -14,6 +13,7 @@ pub use laws::office_law;
 pub use life::life_law;
 pub use lists::Lists;
 pub use meter::Meter;
+pub use meter_account::MeterAccount;
 pub use meter_no::MeterNo;
 pub use operator::Operator;
 pub use order_ref::Ref;
@@ -33,7 +33,6 @@ pub use tariff_name::TariffName;
 
 mod answer;
 mod apply;
-mod buyer;
 mod change;
 mod decisions;
 mod facts;
@@ -46,6 +45,7 @@ mod life;
 mod lists;
 mod look_up;
 mod meter;
+mod meter_account;
 mod meter_no;
 mod operator;
 mod order_ref;

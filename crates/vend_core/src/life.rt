@@ -1,10 +1,10 @@
 ghost use Rattle.std.specs.Prelude.{◌≡◌, ◌≢◌, ◌⊎◌, ◌↔◌, ◌++◌, ◌∷◌, [], ℕ, List, Result, Err, All, Contains, length};
-ghost use Rattle.sts_token.specs.Token.{KeepsRange, Way};
+ghost use Rattle.sts_token.specs.Token.{KeepsRange, BlockFunction};
 ghost use Rattle.vend_core.specs.Fold.{after, replies_to, reply, step};
 ghost use Rattle.vend_core.specs.Growth.{HasGrown};
 ghost use Rattle.vend_core.specs.Handed.{sales_of};
 ghost use Rattle.vend_core.specs.Life.{HandsOut, IsLife, Life, MayLeave};
-ghost use Rattle.vend_core.specs.LifeLaws.{IsRunning, OnlyReads, extended_along, extended_by, opened};
+ghost use Rattle.vend_core.specs.LifeLaws.{IsRunning, IsReadingRequest, extended_along, extended_by, opened};
 ghost use Rattle.vend_core.specs.Office.{IsOffice, Office};
 ghost use Rattle.vend_core.specs.Request.{IsStamped};
 ghost use Rattle.vend_core.specs.declared.answer.Answer.{Answer};
@@ -21,7 +21,7 @@ use tariff::purchase_law;
 /// By it a store keeps a life: it begins when an office is opened, and each call adds an exchange.
 pub fn life_law()
     // An office is opened: a life begins that goes on.
-    ensures opens { (forward : Way) (o : Office)
+    ensures opens { (forward : BlockFunction) (o : Office)
         → KeepsRange forward → IsRunning (opened forward o) o }
     ensures running { (life : Life) (o p : Office)
         → IsRunning life o → (MayLeave life p ↔ (p ≡ o)) }
@@ -43,7 +43,7 @@ pub fn life_law()
 
     // One that only reads leaves no doubt.
     ensures read { (life : Life) (o p : Office) (at : Stamped)
-        → IsRunning life o → IsStamped at → OnlyReads at.request
+        → IsRunning life o → IsStamped at → IsReadingRequest at.request
         → (MayLeave (extended_by life at (Err Refusal.Store)) p ↔ (p ≡ o)) }
 
     // Once the store failed, at a request or in a call beside them, nothing changes any more.

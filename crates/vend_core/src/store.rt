@@ -2,7 +2,7 @@ ghost use Rattle.std.specs.Prelude.{◌≡◌, ◌≢◌, ◌↔◌, ◌&&◌, �
 ghost use Rattle.sts_fields.specs.Calendar.{month_at};
 ghost use Rattle.sts_fields.specs.Tid.{IsLast, last_tid};
 ghost use Rattle.sts_fields.specs.declared.base.Base.{Base};
-ghost use Rattle.sts_token.specs.Token.{KeepsRange, Way};
+ghost use Rattle.sts_token.specs.Token.{KeepsRange, BlockFunction};
 ghost use Rattle.vend_core.specs.Decision.{decision};
 ghost use Rattle.vend_core.specs.Fold.{applied};
 ghost use Rattle.sts_fields.specs.Base.{base_eq};
@@ -87,11 +87,11 @@ pub fn store_law()
         → IsOffice o → prior o number month ≤ 10 ^ 17 }
 
     // What the office has where an edit that it decided is made.
-    ensures meets { (forward : Way) (o : Office) (at : Stamped)
+    ensures meets { (forward : BlockFunction) (o : Office) (at : Stamped)
         (change : Change) (edit : Edit)
         → IsOffice o → IsStamped at → KeepsRange forward
         → decision forward o at ≡ Ok change → change.edit ≡ Some edit → Meets edit o }
-    ensures closes { (forward : Way) (o : Office) (at : Stamped)
+    ensures closes { (forward : BlockFunction) (o : Office) (at : Stamped)
         (name : List ℕ) (change : Change)
         → at.request ≡ Request.CloseShift name → decision forward o at ≡ Ok change
         → (s : Shift) × (open_shift o name ≡ Some s)

@@ -4,7 +4,7 @@ use tariff::Steps;
 
 /// What a sale looks at of its meter.
 #[derive(Debug, Drop)]
-pub struct Buyer {
+pub struct MeterAccount {
     pub meter: Meter,
     /// The steps of the meter's tariff.
     pub steps: Steps,
@@ -14,10 +14,10 @@ pub struct Buyer {
     pub prior: u64,
 }
 
-impl Model for Buyer {
-    ghost use Rattle.vend_core.specs.Decision.{Buyer};
+impl Model for MeterAccount {
+    ghost use Rattle.vend_core.specs.Decision.{MeterAccount};
 
-    ghost Value = { Buyer };
+    ghost Value = { MeterAccount };
 
     ghost use Rattle.std.specs.Prelude.{◌^◌, ◌≤◌};
     ghost use Rattle.std.specs.Option.{ForSome};
