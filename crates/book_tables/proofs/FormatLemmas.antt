@@ -9,7 +9,6 @@ use Rattle.sqlite.specs.Order.{Row, column}
 use Rattle.sqlite.specs.State.{State}
 use Rattle.sqlite.proofs.Callers.{one_permutation}
 use Rattle.sqlite_resolve.specs.Scope.{Name}
-use Rattle.sqlite_schema.specs.declared.schema.Schema.{Schema}
 use Rattle.sqlite_schema.specs.Rules.{are_typed, passes}
 use Rattle.sqlite_schema.specs.declared.schema.Constraint.TheVariants.{Datatype}
 use Rattle.sqlite_sql.specs.Ops.{is_null}
@@ -20,17 +19,17 @@ use Rattle.sqlite_value.specs.declared.value.Value.{Value}
 use Rattle.sqlite_value.specs.declared.value.Value.TheVariants.{Null, Int, Real, Text, Blob}
 use Rattle.one_table.specs.Listed.{IsListing, no_limit, query_on}
 use Rattle.one_table.specs.Answer.{GivesAll}
-use Rattle.one_table.specs.Place.{Has}
 use Rattle.one_table.specs.Reading.{is_whole, meant, select_meant, text_meant}
-use Rattle.one_table.specs.Standing.{place_in, tree_in}
+use Rattle.one_table.specs.Standing.{tree_in}
 use Rattle.one_table.proofs.ListedLemmas.{all_rows}
-use Rattle.book_tables.specs.Format.{HasFormat, IsFormatOf, shown_format}
-use Rattle.book_tables.specs.Holds.{HasOffice, rows_in}
+use Rattle.book_tables.specs.Format.{HasFormat, IsFormatOf}
+use Rattle.book_tables.specs.Holds.{IsKept, rows_in}
+use Rattle.book_tables.specs.Kept.{about_kept}
 use Rattle.book_tables.specs.ReadBack.{ReadsBack}
-use Rattle.book_tables.specs.Rows.{keyed, number}
+use Rattle.book_tables.specs.Rows.{keyed, number, shown_format}
 use Rattle.book_tables.specs.Tables.{about_table}
 use Rattle.book_tables.specs.declared.format.Told.{Told}
-use Rattle.book_tables.specs.Reading.{HasTables}
+use Rattle.book_tables.specs.Reading.{HasTable}
 use Rattle.book_tables.proofs.KeptLemmas.{listed_holds}
 use Rattle.book_tables.proofs.ReadLemmas.{Asks, answer_is}
 
@@ -51,9 +50,6 @@ format_query tree = query_on tree [] format_terms [] (lit (number 2))
 pub format_asks : Asks about_table format_query format_names format_text []
 unfolding everything is_whole meant select_meant text_meant
 format_asks = record { is = λ tree. record { means = refl; from = refl }; bare = λ tree. refl; typed = λ tree. refl; whole = refl }
-
-pub about_stands : (s : Schema) → HasOffice s → Has s (place_in s (codes "about")) (about_table (tree_in s (codes "about")))
-about_stands s has = has.about.has
 
 -- ---- the rows
 
@@ -88,9 +84,9 @@ by_rows n [] kinds e = absurd (cc)
 by_rows n (r ∷ []) kinds e = let one : about_shown r ≡ shown_format n = cc in ap (λ x. x ∷ []) (by_row n r kinds.0 one)
 by_rows n (r ∷ s ∷ more) kinds e = absurd (let f = ap length e in omega arith)
 
-format_shown : (db : Database) → IsDatabase db → HasOffice db.schema → (n : ℕ) → (map about_shown (rows_in db (codes "about")) ≡ shown_format n ∷ []) ↔ HasFormat db n
+format_shown : (db : Database) → IsDatabase db → IsKept db.schema about_kept → (n : ℕ) → (map about_shown (rows_in db (codes "about")) ≡ shown_format n ∷ []) ↔ HasFormat db n
 format_shown db sound has n =
-    let kinds = listed_holds (λ t. AllByRecursion (λ row. passes Datatype db.schema db.trees t row ≡ true) (db.trees t.tree)) db.schema.tables _ (about_table (tree_in db.schema (codes "about"))) has.about.has.listed (sound.obeys.rules Datatype) in
+    let kinds = listed_holds (λ t. AllByRecursion (λ row. passes Datatype db.schema db.trees t row ≡ true) (db.trees t.tree)) db.schema.tables _ (about_table (tree_in db.schema (codes "about"))) has.0.has.listed (sound.obeys.rules Datatype) in
     (by_rows n (rows_in db (codes "about")) kinds, λ e. ap (map about_shown) e)
 
 -- ---- the answer: at most two of the rows
@@ -130,7 +126,7 @@ lone (y ∷ z ∷ more) x one first = absurd (omega (arith, one))
 abbrev pub TellsOne : Row → Told → Type 0
 TellsOne row told = ReadsBack shown_format (λ n. n < 2 ^ 32) row told.format
 
-module _ (db : Database) (sound : IsDatabase db) (has : HasOffice db.schema) (rows : List Row) (answer : IsAnswer (format_query (tree_in db.schema (codes "about"))) db.trees [] rows) where
+module _ (db : Database) (sound : IsDatabase db) (has : IsKept db.schema about_kept) (rows : List Row) (answer : IsAnswer (format_query (tree_in db.schema (codes "about"))) db.trees [] rows) where
   shown_alone : (n : ℕ) → (rows ≡ shown_format n ∷ []) ↔ HasFormat db n
   shown_alone n =
       let two = two_of db rows answer in
@@ -161,9 +157,9 @@ module _ (db : Database) (sound : IsDatabase db) (has : HasOffice db.schema) (ro
           (λ e. whole.0 (is ∙ ap (λ x. x ∷ []) (here.0 e)), λ has. here.1 (let e = sym is ∙ whole.1 has in cc))
       go (r ∷ s ∷ more) is told = absurd told.1
 
-module _ (old new : State) (has : HasTables old) (sound : IsTrue old.is_open → IsDatabase old.now) where
+module _ (old new : State) (has : HasTable about_kept old) (sound : IsTrue old.is_open → IsDatabase old.now) where
   told_rows : (values : List Told) → (given : GivesAll TellsOne format_text [] old new values) → IsTrue old.is_open → IsAnswer (format_query (tree_in old.now.schema (codes "about"))) old.now.trees [] given.rows
-  told_rows values given runs = answer_is format_asks (codes "about") about_stands old new (has runs) given.rows given.shown
+  told_rows values given runs = answer_is format_asks about_kept (λ s has. has.0.has) old new (has runs) given.rows given.shown
 
   pub given_none : (values : List Told) → GivesAll TellsOne format_text [] old new values → IsTrue old.is_open → ¬ (length values ≡ 1) → IsFormatOf old.now None
   given_none values given runs other = none_told old.now (sound runs) (has runs) given.rows (told_rows values given runs) values given.read other

@@ -69,7 +69,7 @@ module _ (old new : State) where
       record {
         only = only;
         rows = λ rows held.
-            let it = stands_after meter_columns meters four_terms (meter_columns (number, m)) (number, m) (meter_source number m) old new h rows.meters held.meters held.meters_in_order in
+            let it = stands_after meter_columns meters four_terms (meter_columns (number, m)) (number, m) (meter_source number m) old new h rows.meters held.are.1.1.1.0.0 held.are.1.1.1.0.1 in
             meters_changed old.now new.now rows held (rows.meters ++ (number, m) ∷ []) kept it.0 it.1;
       }
 
@@ -89,7 +89,7 @@ module _ (old new : State) where
       record {
         only = only;
         rows = λ rows held.
-            let it = stands_after tariff_columns tariffs one_term (tariff_columns name) name (name_source name) old new h rows.tariffs held.tariffs held.tariffs_in_order in
+            let it = stands_after tariff_columns tariffs one_term (tariff_columns name) name (name_source name) old new h rows.tariffs held.are.1.0.0 held.are.1.0.1 in
             tariffs_changed old.now new.now rows held (rows.tariffs ++ name ∷ []) kept it.0 it.1;
       }
 
@@ -109,7 +109,7 @@ module _ (old new : State) where
       record {
         only = only;
         rows = λ rows held.
-            let it = stands_after step_columns steps four_terms (step_columns r) r (step_source r) old new h rows.steps held.steps held.steps_in_order in
+            let it = stands_after step_columns steps four_terms (step_columns r) r (step_source r) old new h rows.steps held.are.1.1.0.0 held.are.1.1.0.1 in
             steps_changed old.now new.now rows held (rows.steps ++ r ∷ []) kept it.0 it.1;
       }
 
@@ -140,9 +140,9 @@ module _ (old new : State) where
       record {
         only = only;
         rows = λ rows held apart.
-            let order = held.meters_in_order in
+            let order = held.are.1.1.1.0.1 in
             let set = sets_hidden meter_columns (is_that number) (renamed name) meters is_that_meter tariff_set_terms (Text number ∷ Text name ∷ []) (setting number name) (λ r none. cc)
-            old new rows.meters h held.meters order.rises order.are_numbers (one_at_most number rows.meters apart) in
+            old new rows.meters h held.are.1.1.1.0.0 order.rises order.are_numbers (one_at_most number rows.meters apart) in
             let in_order : IsInOrder set.rows = record { rises = set.rises; are_numbers = set.are_numbers } in
             meters_changed old.now new.now rows held (map (row_with_tariff number name) rows.meters) (changes_only (codes "meters") old new only)
             (ap (map (drop 1)) set.changed.rows_are ∙ set.holds) (subst IsInOrder (sym set.changed.rows_are) in_order);

@@ -1,5 +1,5 @@
 -- A database stands for at most one office.
-use Rattle.std.proofs.Common.{◌≡◌, ℕ, inl, inr, Bool, true, false, List, [], ◌∷◌, map, refl, sym, ◌∙◌, ap, subst}
+use Rattle.std.proofs.Common.{◌≡◌, ◌≤◌, ◌⊎◌, ℕ, zero, suc, arith, inl, inr, Bool, true, false, List, [], ◌∷◌, map, refl, sym, ◌∙◌, ap, subst}
 use Rattle.std.specs.Prelude.{◌&&◌, ◌||◌, Contains, codes, is_some, not}
 use Rattle.std.specs.List.{list_all}
 use Rattle.std.proofs.lemmas.Bool.{false≢true}
@@ -7,12 +7,15 @@ use Rattle.sqlite.specs.Effect.{Database}
 use Rattle.sqlite_catalog.specs.Change.{is_used}
 use Rattle.sqlite_schema.specs.Names.{table_named}
 use Rattle.sqlite_schema.specs.declared.schema.Schema.{Schema}
-use Rattle.vend_core.specs.Office.{IsOffice, Office}
+use Rattle.vend_core.specs.Office.{IsOffice, Office, empty_office}
+use Rattle.vend_core.proofs.OfficeLemmas.{empty_is_office}
 use Rattle.vend_core.specs.declared.meter.Meter.{Meter}
-use Rattle.book_tables.specs.Holds.{HasOffice, Holds, HoldsMembers, IsUntaken, StandsFor}
-use Rattle.book_tables.specs.Rows.{Rows, meter_columns, sale_row, shift_row, step_columns, tariff_columns}
+use Rattle.book_tables.specs.Holds.{HasOffice, HasOfficeOf, Holds, HoldsMembers, HoldsMembersOf, IsUntaken, StandsFor}
+use Rattle.book_tables.specs.Edited.{no_rows}
+use Rattle.book_tables.specs.Rows.{Rows, present_format, meter_columns, sale_row, shift_row, step_columns, tariff_columns}
 use Rattle.book_tables.specs.Stands.{AreMembersOf}
 use Rattle.book_tables.specs.Values.{IsKey}
+use Rattle.book_tables.proofs.EditLemmas.{no_members}
 use Rattle.book_tables.proofs.ListLemmas.{contains_first, contains_further}
 use Rattle.book_tables.proofs.MemberLemmas.{one_office}
 use Rattle.book_tables.proofs.RowLemmas.{one_list, one_meter, one_sale, one_shift, one_step, one_tariff}
@@ -34,11 +37,11 @@ small_keys rows o office are m there = (office.meters m.0 m.1 ((are.meters m.0 m
 
 one_rows : (db : Database) (a b : Rows) (o p : Office) → IsOffice o → IsOffice p → Holds db a → Holds db b → AreMembersOf a o → AreMembersOf b p → a ≡ b
 one_rows db a b o p is_o is_p in_a in_b are_a are_b =
-    let tariffs = one_list tariff_columns one_tariff a.tariffs b.tariffs (sym in_a.tariffs ∙ in_b.tariffs) in
-    let steps = one_list step_columns one_step a.steps b.steps (sym in_a.steps ∙ in_b.steps) in
-    let meters = one_meters a.meters b.meters (small_keys a o is_o are_a) (small_keys b p is_p are_b) (sym in_a.meters ∙ in_b.meters) in
-    let shifts = one_list shift_row one_shift a.shifts b.shifts (sym in_a.shifts ∙ in_b.shifts) in
-    let sales = one_list sale_row one_sale a.sales b.sales (sym in_a.sales ∙ in_b.sales) in
+    let tariffs = one_list tariff_columns one_tariff a.tariffs b.tariffs (sym in_a.are.1.0.0 ∙ in_b.are.1.0.0) in
+    let steps = one_list step_columns one_step a.steps b.steps (sym in_a.are.1.1.0.0 ∙ in_b.are.1.1.0.0) in
+    let meters = one_meters a.meters b.meters (small_keys a o is_o are_a) (small_keys b p is_p are_b) (sym in_a.are.1.1.1.0.0 ∙ in_b.are.1.1.1.0.0) in
+    let shifts = one_list shift_row one_shift a.shifts b.shifts (sym in_a.are.1.1.1.1.0 ∙ in_b.are.1.1.1.1.0) in
+    let sales = one_list sale_row one_sale a.sales b.sales (sym in_a.are.1.1.1.1.1.0 ∙ in_b.are.1.1.1.1.1.0) in
     let A : Rows = record { tariffs = a.tariffs; steps = a.steps; meters = a.meters; shifts = a.shifts; sales = a.sales } in
     let B : Rows = record { tariffs = b.tariffs; steps = b.steps; meters = b.meters; shifts = b.shifts; sales = b.sales } in
     let same : A ≡ B = cc in
@@ -57,7 +60,7 @@ pub not_untaken : (s : Schema) → HasOffice s → IsUntaken s → ⊥
 not_untaken s has untaken =
     let rest = list_all (λ name. not (is_used s name)) (codes "tariffs" ∷ codes "tariff_steps" ∷ codes "meters" ∷ codes "shifts" ∷ codes "sales" ∷ []) in
     let free : not (is_used s (codes "about")) ≡ true = first_true (not (is_used s (codes "about"))) rest untaken.free in
-    let named : is_some (table_named s (codes "about")) ≡ true = ap is_some has.about.has.named in
+    let named : is_some (table_named s (codes "about")) ≡ true = ap is_some has.tables.0.0.has.named in
     let used : is_used s (codes "about") ≡ true = first_is_enough _ _ _ named in
     false≢true (sym (ap not used) ∙ free)
 
@@ -65,14 +68,35 @@ held_once : (db : Database) (o p : Office) → IsOffice o → IsOffice p → Hol
 held_once db o p is_o is_p (a, in_a, are_a) (b, in_b, are_b) =
     one_office a o p are_a (subst (λ (rows : Rows). AreMembersOf rows p) (sym (one_rows db a b o p is_o is_p in_a in_b are_a are_b)) are_b)
 
+-- ---- the formats
+
+by_format : (n : ℕ) → n ≤ present_format → (n ≡ 0) ⊎ (n ≡ present_format)
+by_format zero known = inl refl
+by_format (suc zero) known = inr refl
+by_format (suc (suc n)) known = absurd (omega (arith, known))
+
+-- it has the tables of the present format, or nothing
+pub holds_or_empty : (db : Database) (o : Office) → StandsFor db o → HoldsMembers db o ⊎ (IsUntaken db.schema × (o ≡ empty_office))
+holds_or_empty db o stands = elim (by_format stands.format stands.known) [
+  | inl none ↦ inr (subst (λ n. HasOfficeOf n db.schema) none stands.held.1.has, stands.empty none)
+  | inr now ↦ inl (subst (λ n. HoldsMembersOf n db o) now stands.held)
+]
+
+pub stands_present : (db : Database) (o : Office) → IsOffice o → HoldsMembers db o → StandsFor db o
+stands_present db o office held = record { office = office; format = present_format; known = omega arith; held = held; empty = λ none. absurd (omega (arith, none)) }
+
+pub untaken_stands : (db : Database) → IsUntaken db.schema → StandsFor db empty_office
+untaken_stands db untaken =
+    record { office = empty_is_office; format = 0; known = omega arith; held = (no_rows, record { has = untaken; are = tt }, no_members); empty = λ none. refl }
+
 pub stands_once : (db : Database) (o p : Office) → StandsFor db o → StandsFor db p → o ≡ p
 stands_once db o p these those =
-    elim these.held [
-      | inl a ↦ elim those.held [
+    elim (holds_or_empty db o these) [
+      | inl a ↦ elim (holds_or_empty db p those) [
         | inl b ↦ held_once db o p these.office those.office a b
         | inr b ↦ absurd (not_untaken db.schema a.1.has b.0)
       ]
-      | inr a ↦ elim those.held [
+      | inr a ↦ elim (holds_or_empty db p those) [
         | inl b ↦ absurd (not_untaken db.schema b.1.has a.0)
         | inr b ↦ a.1 ∙ sym b.1
       ]

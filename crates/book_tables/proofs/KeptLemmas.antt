@@ -1,25 +1,22 @@
 -- Where the rows of one of the office's tables change, the others stay: what the database then holds.
-use Rattle.std.proofs.Common.{◌≡◌, ◌≢◌, ℕ, zero, suc, true, List, [], ◌∷◌, drop, map, Some, refl, sym, ◌∙◌, ap, subst}
-use Rattle.std.specs.Prelude.{◌==◌, bytes_eq, codes, false, find, slice_get}
+use Rattle.std.proofs.Common.{◌≡◌, ◌≢◌, ℕ, zero, suc, List, [], ◌∷◌, drop, map, Some, inl, inr, refl, sym, ◌∙◌, ap, subst}
+use Rattle.std.specs.Prelude.{◌==◌, ◌⊎◌, bytes_eq, codes, false, find, slice_get}
 use Rattle.std.specs.List.{AllByRecursion}
 use Rattle.std.proofs.lemmas.Bool.{false≢true}
 use Rattle.std.proofs.lemmas.Option.{same_Some}
 use Rattle.std.proofs.lemmas.Slice.Eq.{bytes_eq-Decides}
 use Rattle.sqlite.specs.Effect.{Database}
-use Rattle.sqlite.specs.State.{Shows, State}
+use Rattle.sqlite.specs.Order.{Row}
 use Rattle.sqlite_schema.specs.declared.schema.Schema.{Schema}
 use Rattle.sqlite_schema.specs.declared.schema.Table.{Table}
 use Rattle.one_table.specs.Standing.{Stands, tree_in}
 use Rattle.vend_core.specs.declared.meter.Meter.{Meter}
 use Rattle.vend_core.specs.declared.sale.Sale.{Sale}
 use Rattle.vend_core.specs.declared.shift.Shift.{Shift}
-use Rattle.book_tables.specs.Holds.{HasOffice, Holds, IsInOrder, rows_in}
-use Rattle.book_tables.specs.Rows.{Rows, StepRow, meter_columns, sale_row, shift_row, step_columns, tariff_columns}
-use Rattle.book_tables.specs.Tables.{about_table, meters_table, sales_table, shifts_table, tariff_steps_table, tariffs_table}
-
--- a write after a write
-pub shows_more : (old mid new : State) → Shows old mid mid.now old.committed true → Shows mid new new.now mid.committed true → Shows old new new.now old.committed true
-shows_more old mid new first second = record { was_open = first.was_open; is_open = second.is_open; now_is = refl; committed_is = second.committed_is ∙ first.committed_is; mode = second.mode }
+use Rattle.book_tables.specs.Holds.{AreStoredRows, HasOfficeOf, Holds, HoldsOf, HoldsRows, IsInOrder, IsKept, rows_in}
+use Rattle.book_tables.specs.Kept.{Kept, meters_kept, sales_kept, shifts_kept, steps_kept, tariffs_kept, upto}
+use Rattle.book_tables.specs.Rows.{Rows, StepRow, present_format, meter_columns, sale_row, shift_row, step_columns, tariff_columns}
+use Rattle.book_tables.proofs.OfficeTableLemmas.{meters_in, sales_in, shifts_in, steps_in, tariffs_in}
 
 -- only the rows of the table of this name may differ
 pub record ChangesOnly (name : List ℕ) (a b : Database) : Type 0 where
@@ -51,91 +48,92 @@ rows_kept a b t changed only in_t in_changed apart =
     (trees_differ a.schema t changed in_t in_changed apart) in
     ap (λ (s : Schema). b.trees (tree_in s t.name)) only.schema ∙ kept
 
-order_kept : (a b : Database) (t changed : Table) → ChangesOnly changed.name a b → Stands a.schema t → Stands a.schema changed → t.name ≢ changed.name → IsInOrder (rows_in a t.name) → IsInOrder (rows_in b t.name)
-order_kept a b t changed only in_t in_changed apart order = subst IsInOrder (sym (rows_kept a b t changed only in_t in_changed apart)) order
+-- ---- what a database holds where one of its tables is changed
+
+-- what becomes of a table where the table of this name is changed: it is another, of which the same
+-- is stored, or it holds the new rows
+abbrev pub Becomes : Database → ℕ → Rows → Rows → List ℕ → Kept → Type 0
+Becomes b told rows new name k = ((k.table.name ≢ name) × (k.stored told new ≡ k.stored told rows)) ⊎ HoldsRows b told new k
+
+module _ (told : ℕ) (a b : Database) (rows new : Rows) (k : Kept) (there : IsKept a.schema k) (only : ChangesOnly k.table.name a b) where
+  held_still : (j : Kept) → IsKept a.schema j → HoldsRows a told rows j → Becomes b told rows new k.table.name j → HoldsRows b told new j
+  held_still j stands holds (inr now) = now
+  held_still j stands holds (inl (apart, same)) =
+      let kept = rows_kept a b j.table k.table only stands.0 there.0 apart in
+      subst (λ stored. AreStoredRows j.is_numbered (rows_in b j.table.name) stored) (sym same) (subst (λ found. AreStoredRows j.is_numbered found (j.stored told rows)) (sym kept) holds)
+
+  all_still : (ks : List Kept) → AllByRecursion (IsKept a.schema) ks → AllByRecursion (HoldsRows a told rows) ks → AllByRecursion (Becomes b told rows new k.table.name) ks → AllByRecursion (HoldsRows b told new) ks
+  all_still [] stand hold become = tt
+  all_still (j ∷ ks) stand hold become = (held_still j stand.0 hold.0 become.0, all_still ks stand.1 hold.1 become.1)
+
+  pub changed : (n : ℕ) → HoldsOf n told a rows → AllByRecursion (Becomes b told rows new k.table.name) (upto n) → HoldsOf n told b new
+  changed n held become = record { has = subst (HasOfficeOf n) (sym only.schema) held.has; are = all_still (upto n) held.has.tables held.are become }
+
+-- ---- the tables of the present format
+
+-- the changed table's own rows
+own_rows : (a b : Database) (name : List ℕ) → b.schema ≡ a.schema → rows_in b name ≡ b.trees (tree_in a.schema name)
+own_rows a b name same = ap (λ (s : Schema). b.trees (tree_in s name)) same
+
+own_hidden : (a b : Database) (name : List ℕ) (stored : List Row) → b.schema ≡ a.schema → map (drop 1) (b.trees (tree_in a.schema name)) ≡ stored → IsInOrder (b.trees (tree_in a.schema name)) → AreStoredRows false (rows_in b name) stored
+own_hidden a b name stored same are order = (ap (map (drop 1)) (own_rows a b name same) ∙ are, subst IsInOrder (sym (own_rows a b name same)) order)
 
 module _ (a b : Database) (rows : Rows) (in_a : Holds a rows) where
-  has : HasOffice a.schema
-  has = in_a.has
-
-  -- the changed table's own rows
-  own_rows : (name : List ℕ) → b.schema ≡ a.schema → rows_in b name ≡ b.trees (tree_in a.schema name)
-  own_rows name same = ap (λ (s : Schema). b.trees (tree_in s name)) same
-
-  own_order : (name : List ℕ) → b.schema ≡ a.schema → IsInOrder (b.trees (tree_in a.schema name)) → IsInOrder (rows_in b name)
-  own_order name same order = subst IsInOrder (sym (own_rows name same)) order
-
   pub sales_changed : (sales : List Sale) → ChangesOnly (codes "sales") a b → b.trees (tree_in a.schema (codes "sales")) ≡ map sale_row sales → Holds b (record rows { sales = sales })
-  unfolding has
-  sales_changed sales only are = record {
-    has = subst HasOffice (sym only.schema) in_a.has;
-    about = rows_kept a b (about_table 0) (sales_table 0) only has.about has.sales (names_differ _ _ refl) ∙ in_a.about;
-    tariffs = ap (map (drop 1)) (rows_kept a b (tariffs_table 0) (sales_table 0) only has.tariffs has.sales (names_differ _ _ refl)) ∙ in_a.tariffs;
-    steps = ap (map (drop 1)) (rows_kept a b (tariff_steps_table 0) (sales_table 0) only has.tariff_steps has.sales (names_differ _ _ refl)) ∙ in_a.steps;
-    meters = ap (map (drop 1)) (rows_kept a b (meters_table 0) (sales_table 0) only has.meters has.sales (names_differ _ _ refl)) ∙ in_a.meters;
-    shifts = rows_kept a b (shifts_table 0) (sales_table 0) only has.shifts has.sales (names_differ _ _ refl) ∙ in_a.shifts;
-    sales = own_rows (codes "sales") only.schema ∙ are;
-    tariffs_in_order = order_kept a b (tariffs_table 0) (sales_table 0) only has.tariffs has.sales (names_differ _ _ refl) in_a.tariffs_in_order;
-    steps_in_order = order_kept a b (tariff_steps_table 0) (sales_table 0) only has.tariff_steps has.sales (names_differ _ _ refl) in_a.steps_in_order;
-    meters_in_order = order_kept a b (meters_table 0) (sales_table 0) only has.meters has.sales (names_differ _ _ refl) in_a.meters_in_order;
-  }
+  sales_changed sales only are =
+      changed present_format a b rows (record rows { sales = sales }) sales_kept (sales_in.there a.schema in_a.has) only present_format in_a (
+        inl (names_differ _ _ refl, refl),
+        (
+          inl (names_differ _ _ refl, refl),
+          (inl (names_differ _ _ refl, refl), (inl (names_differ _ _ refl, refl), (inl (names_differ _ _ refl, refl), (inr (own_rows a b (codes "sales") only.schema ∙ are), tt)))),
+        ),
+      )
 
   pub shifts_changed : (shifts : List Shift) → ChangesOnly (codes "shifts") a b → b.trees (tree_in a.schema (codes "shifts")) ≡ map shift_row shifts → Holds b (record rows { shifts = shifts })
-  unfolding has
-  shifts_changed shifts only are = record {
-    has = subst HasOffice (sym only.schema) in_a.has;
-    about = rows_kept a b (about_table 0) (shifts_table 0) only has.about has.shifts (names_differ _ _ refl) ∙ in_a.about;
-    tariffs = ap (map (drop 1)) (rows_kept a b (tariffs_table 0) (shifts_table 0) only has.tariffs has.shifts (names_differ _ _ refl)) ∙ in_a.tariffs;
-    steps = ap (map (drop 1)) (rows_kept a b (tariff_steps_table 0) (shifts_table 0) only has.tariff_steps has.shifts (names_differ _ _ refl)) ∙ in_a.steps;
-    meters = ap (map (drop 1)) (rows_kept a b (meters_table 0) (shifts_table 0) only has.meters has.shifts (names_differ _ _ refl)) ∙ in_a.meters;
-    shifts = own_rows (codes "shifts") only.schema ∙ are;
-    sales = rows_kept a b (sales_table 0) (shifts_table 0) only has.sales has.shifts (names_differ _ _ refl) ∙ in_a.sales;
-    tariffs_in_order = order_kept a b (tariffs_table 0) (shifts_table 0) only has.tariffs has.shifts (names_differ _ _ refl) in_a.tariffs_in_order;
-    steps_in_order = order_kept a b (tariff_steps_table 0) (shifts_table 0) only has.tariff_steps has.shifts (names_differ _ _ refl) in_a.steps_in_order;
-    meters_in_order = order_kept a b (meters_table 0) (shifts_table 0) only has.meters has.shifts (names_differ _ _ refl) in_a.meters_in_order;
-  }
+  shifts_changed shifts only are =
+      changed present_format a b rows (record rows { shifts = shifts }) shifts_kept (shifts_in.there a.schema in_a.has) only present_format in_a (
+        inl (names_differ _ _ refl, refl),
+        (
+          inl (names_differ _ _ refl, refl),
+          (inl (names_differ _ _ refl, refl), (inl (names_differ _ _ refl, refl), (inr (own_rows a b (codes "shifts") only.schema ∙ are), (inl (names_differ _ _ refl, refl), tt)))),
+        ),
+      )
 
-  pub meters_changed : (meters : List (List ℕ × Meter)) → ChangesOnly (codes "meters") a b → map (drop 1) (b.trees (tree_in a.schema (codes "meters"))) ≡ map meter_columns meters → IsInOrder (b.trees (tree_in a.schema (codes "meters"))) → Holds b (record rows { meters = meters })
-  unfolding has
-  meters_changed meters only are order = record {
-    has = subst HasOffice (sym only.schema) in_a.has;
-    about = rows_kept a b (about_table 0) (meters_table 0) only has.about has.meters (names_differ _ _ refl) ∙ in_a.about;
-    tariffs = ap (map (drop 1)) (rows_kept a b (tariffs_table 0) (meters_table 0) only has.tariffs has.meters (names_differ _ _ refl)) ∙ in_a.tariffs;
-    steps = ap (map (drop 1)) (rows_kept a b (tariff_steps_table 0) (meters_table 0) only has.tariff_steps has.meters (names_differ _ _ refl)) ∙ in_a.steps;
-    meters = ap (map (drop 1)) (own_rows (codes "meters") only.schema) ∙ are;
-    shifts = rows_kept a b (shifts_table 0) (meters_table 0) only has.shifts has.meters (names_differ _ _ refl) ∙ in_a.shifts;
-    sales = rows_kept a b (sales_table 0) (meters_table 0) only has.sales has.meters (names_differ _ _ refl) ∙ in_a.sales;
-    tariffs_in_order = order_kept a b (tariffs_table 0) (meters_table 0) only has.tariffs has.meters (names_differ _ _ refl) in_a.tariffs_in_order;
-    steps_in_order = order_kept a b (tariff_steps_table 0) (meters_table 0) only has.tariff_steps has.meters (names_differ _ _ refl) in_a.steps_in_order;
-    meters_in_order = own_order (codes "meters") only.schema order;
-  }
+  pub meters_changed : (meters : List (List ℕ × Meter)) → ChangesOnly (codes "meters") a b → map (drop 1) (b.trees (tree_in a.schema (codes "meters"))) ≡ map meter_columns meters → IsInOrder (b.trees (tree_in a.schema (codes "meters")))
+      → Holds b (record rows { meters = meters })
+  meters_changed meters only are order =
+      changed present_format a b rows (record rows { meters = meters }) meters_kept (meters_in.there a.schema in_a.has) only present_format in_a (
+        inl (names_differ _ _ refl, refl),
+        (
+          inl (names_differ _ _ refl, refl),
+          (
+            inl (names_differ _ _ refl, refl),
+            (inr (own_hidden a b (codes "meters") (map meter_columns meters) only.schema are order), (inl (names_differ _ _ refl, refl), (inl (names_differ _ _ refl, refl), tt))),
+          ),
+        ),
+      )
 
-  pub steps_changed : (steps : List StepRow) → ChangesOnly (codes "tariff_steps") a b → map (drop 1) (b.trees (tree_in a.schema (codes "tariff_steps"))) ≡ map step_columns steps → IsInOrder (b.trees (tree_in a.schema (codes "tariff_steps"))) → Holds b (record rows { steps = steps })
-  unfolding has
-  steps_changed steps only are order = record {
-    has = subst HasOffice (sym only.schema) in_a.has;
-    about = rows_kept a b (about_table 0) (tariff_steps_table 0) only has.about has.tariff_steps (names_differ _ _ refl) ∙ in_a.about;
-    tariffs = ap (map (drop 1)) (rows_kept a b (tariffs_table 0) (tariff_steps_table 0) only has.tariffs has.tariff_steps (names_differ _ _ refl)) ∙ in_a.tariffs;
-    steps = ap (map (drop 1)) (own_rows (codes "tariff_steps") only.schema) ∙ are;
-    meters = ap (map (drop 1)) (rows_kept a b (meters_table 0) (tariff_steps_table 0) only has.meters has.tariff_steps (names_differ _ _ refl)) ∙ in_a.meters;
-    shifts = rows_kept a b (shifts_table 0) (tariff_steps_table 0) only has.shifts has.tariff_steps (names_differ _ _ refl) ∙ in_a.shifts;
-    sales = rows_kept a b (sales_table 0) (tariff_steps_table 0) only has.sales has.tariff_steps (names_differ _ _ refl) ∙ in_a.sales;
-    tariffs_in_order = order_kept a b (tariffs_table 0) (tariff_steps_table 0) only has.tariffs has.tariff_steps (names_differ _ _ refl) in_a.tariffs_in_order;
-    steps_in_order = own_order (codes "tariff_steps") only.schema order;
-    meters_in_order = order_kept a b (meters_table 0) (tariff_steps_table 0) only has.meters has.tariff_steps (names_differ _ _ refl) in_a.meters_in_order;
-  }
+  pub steps_changed : (steps : List StepRow) → ChangesOnly (codes "tariff_steps") a b → map (drop 1) (b.trees (tree_in a.schema (codes "tariff_steps"))) ≡ map step_columns steps → IsInOrder (b.trees (tree_in a.schema (codes "tariff_steps")))
+      → Holds b (record rows { steps = steps })
+  steps_changed steps only are order =
+      changed present_format a b rows (record rows { steps = steps }) steps_kept (steps_in.there a.schema in_a.has) only present_format in_a (
+        inl (names_differ _ _ refl, refl),
+        (
+          inl (names_differ _ _ refl, refl),
+          (
+            inr (own_hidden a b (codes "tariff_steps") (map step_columns steps) only.schema are order),
+            (inl (names_differ _ _ refl, refl), (inl (names_differ _ _ refl, refl), (inl (names_differ _ _ refl, refl), tt))),
+          ),
+        ),
+      )
 
-  pub tariffs_changed : (tariffs : List (List ℕ)) → ChangesOnly (codes "tariffs") a b → map (drop 1) (b.trees (tree_in a.schema (codes "tariffs"))) ≡ map tariff_columns tariffs → IsInOrder (b.trees (tree_in a.schema (codes "tariffs"))) → Holds b (record rows { tariffs = tariffs })
-  unfolding has
-  tariffs_changed tariffs only are order = record {
-    has = subst HasOffice (sym only.schema) in_a.has;
-    about = rows_kept a b (about_table 0) (tariffs_table 0) only has.about has.tariffs (names_differ _ _ refl) ∙ in_a.about;
-    tariffs = ap (map (drop 1)) (own_rows (codes "tariffs") only.schema) ∙ are;
-    steps = ap (map (drop 1)) (rows_kept a b (tariff_steps_table 0) (tariffs_table 0) only has.tariff_steps has.tariffs (names_differ _ _ refl)) ∙ in_a.steps;
-    meters = ap (map (drop 1)) (rows_kept a b (meters_table 0) (tariffs_table 0) only has.meters has.tariffs (names_differ _ _ refl)) ∙ in_a.meters;
-    shifts = rows_kept a b (shifts_table 0) (tariffs_table 0) only has.shifts has.tariffs (names_differ _ _ refl) ∙ in_a.shifts;
-    sales = rows_kept a b (sales_table 0) (tariffs_table 0) only has.sales has.tariffs (names_differ _ _ refl) ∙ in_a.sales;
-    tariffs_in_order = own_order (codes "tariffs") only.schema order;
-    steps_in_order = order_kept a b (tariff_steps_table 0) (tariffs_table 0) only has.tariff_steps has.tariffs (names_differ _ _ refl) in_a.steps_in_order;
-    meters_in_order = order_kept a b (meters_table 0) (tariffs_table 0) only has.meters has.tariffs (names_differ _ _ refl) in_a.meters_in_order;
-  }
+  pub tariffs_changed : (tariffs : List (List ℕ)) → ChangesOnly (codes "tariffs") a b → map (drop 1) (b.trees (tree_in a.schema (codes "tariffs"))) ≡ map tariff_columns tariffs → IsInOrder (b.trees (tree_in a.schema (codes "tariffs")))
+      → Holds b (record rows { tariffs = tariffs })
+  tariffs_changed tariffs only are order =
+      changed present_format a b rows (record rows { tariffs = tariffs }) tariffs_kept (tariffs_in.there a.schema in_a.has) only present_format in_a (
+        inl (names_differ _ _ refl, refl),
+        (
+          inr (own_hidden a b (codes "tariffs") (map tariff_columns tariffs) only.schema are order),
+          (inl (names_differ _ _ refl, refl), (inl (names_differ _ _ refl, refl), (inl (names_differ _ _ refl, refl), (inl (names_differ _ _ refl, refl), tt)))),
+        ),
+      )

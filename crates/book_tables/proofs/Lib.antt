@@ -14,11 +14,12 @@ pub mod MakingLemmas
 pub mod MemberLemmas
 pub mod MeterLemmas
 pub mod NewLemmas
+pub mod OfficeTableLemmas
 pub mod OneRowTexts
-pub mod OnlyReadsLemmas
 pub mod PartLemmas
 pub mod ReadLemmas
 pub mod RecognisingLemmas
+pub mod RefusalLemmas
 pub mod RowLemmas
 pub mod SaleLemmas
 pub mod SaleListLemmas

@@ -1,7 +1,7 @@
 -- The six tables are made where their names were free, and then the row of their format: the empty office.
 use Rattle.std.proofs.Common.{◌≡◌, ◌≢◌, ℕ, ◌+◌, ◌==◌, Bool, true, false, List, [], ◌∷◌, drop, find, map, Option, None, Some, refl, sym, ap, subst, ◌∙◌, inl, inr}
 use Rattle.std.specs.Prelude.{codes, pos}
-use Rattle.std.specs.List.{list_all, position_from}
+use Rattle.std.specs.List.{AllByRecursion, list_all, position_from}
 use Rattle.std.proofs.lemmas.Bool.{cases_Bool, eq-eqb, false≢true}
 use Rattle.std.proofs.lemmas.Option.{same_Some}
 use Rattle.sqlite.specs.Effect.{Database}
@@ -18,25 +18,28 @@ use Rattle.sqlite_sql.specs.Term.{Term, lit}
 use Rattle.sqlite_tied.specs.Compute.{everything}
 use Rattle.sqlite_trees.specs.Tree.{put_row}
 use Rattle.sqlite_value.specs.declared.value.Value.TheVariants.{Null}
-use Rattle.one_table.specs.InTransaction.{PutsRow}
+use Rattle.one_table.specs.InTransaction.{PutsRow, StaysInside}
 use Rattle.one_table.specs.Inserting.{IsInsert, insert_in, insert_meant, new_row, puts_meant}
-use Rattle.one_table.specs.Making.{AreAmong, AreDefined, AreIdle, MakesTables, StaysInside, is_creation}
+use Rattle.one_table.specs.Making.{AreAmong, AreDefined, AreIdle, IsNewTable, MakesTables, is_creation}
 use Rattle.one_table.specs.Place.{Has}
-use Rattle.one_table.specs.Referring.{AreUntaken}
-use Rattle.one_table.specs.Standing.{Stands, tree_in}
+use Rattle.one_table.specs.Referring.{is_left_alone}
+use Rattle.one_table.specs.Standing.{tree_in}
+use Rattle.one_table.proofs.ChangeLemmas.{stays_then}
 use Rattle.one_table.proofs.CastLemmas.{cast_int, cast_no_int}
 use Rattle.one_table.proofs.GrowthLemmas.{Grows, found_stays}
 use Rattle.one_table.proofs.MakingLemmas.{all_grow}
-use Rattle.one_table.proofs.ReferenceLemmas.{untaken_harmless}
+use Rattle.vend_core.specs.Office.{empty_office}
 use Rattle.vend_core.proofs.OfficeLemmas.{empty_is_office}
 use Rattle.book_tables.specs.Edited.{no_rows}
-use Rattle.book_tables.specs.Holds.{HasOffice, Holds, IsInOrder, IsUntaken, rows_in, table_names}
+use Rattle.book_tables.specs.Holds.{AreStoredRows, HasOffice, Holds, IsInOrder, IsKept, IsUntaken, rows_in, table_names}
+use Rattle.book_tables.specs.Kept.{Kept, meters_kept, sales_kept, shifts_kept, steps_kept, kept_tables, tariffs_kept, upto}
 use Rattle.book_tables.specs.Making.{HasRoom, MakesOffice, office_tables}
-use Rattle.book_tables.specs.Rows.{about_row, number}
-use Rattle.book_tables.specs.Tables.{about_table, meters_table, sales_table, shifts_table, tariff_steps_table, tariffs_table}
+use Rattle.book_tables.specs.Rows.{about_row, number, present_format}
+use Rattle.book_tables.specs.Tables.{about_table}
 use Rattle.book_tables.specs.Texts.{about_text, meters_text, sales_text, shifts_text, tariff_steps_text, tariffs_text}
 use Rattle.book_tables.proofs.EditLemmas.{no_members}
-use Rattle.book_tables.proofs.KeptLemmas.{ChangesOnly, names_differ, rows_kept, shows_more}
+use Rattle.book_tables.proofs.HoldsLemmas.{stands_present}
+use Rattle.book_tables.proofs.KeptLemmas.{ChangesOnly, names_differ, rows_kept}
 use Rattle.book_tables.proofs.TextLemmas.{about_defined, meters_defined, sales_defined, shifts_defined, tariff_steps_defined, tariffs_defined}
 
 abbrev pub office_texts : List (List ℕ)
@@ -58,21 +61,18 @@ are_idle = (refl, (refl, (refl, (refl, (refl, (refl, tt))))))
 
 -- ---- the tables
 
+-- tables that were made are tables that are kept
+all_made : (b : Database) (ks : List Kept) → AllByRecursion (IsNewTable b) (kept_tables ks) → AllByRecursion (λ t. is_left_alone b.schema (tree_in b.schema t.name) ≡ true) (kept_tables ks) → AllByRecursion (IsKept b.schema) ks
+all_made b [] new alone = tt
+all_made b (k ∷ ks) new alone = ((new.0.0, alone.0), all_made b ks new.1 alone.1)
+
 pub makes_tables_of_office : (a b : Database) → IsUntaken a.schema → MakesTables office_tables a b → HasOffice b.schema
-makes_tables_of_office a b untaken m =
-    let free : AreUntaken table_names a.schema = record { free = untaken.free; unreferred = untaken.unreferred } in
-    let alone = m.left_alone table_names are_among are_idle (untaken_harmless table_names a.schema free) in
-    record {
-      about = m.new.0.0;
-      tariffs = m.new.1.0.0;
-      tariff_steps = m.new.1.1.0.0;
-      meters = m.new.1.1.1.0.0;
-      shifts = m.new.1.1.1.1.0.0;
-      sales = m.new.1.1.1.1.1.0.0;
-      unreferred = m.unreferred table_names are_among untaken.unreferred;
-      meters_alone = alone.1.1.1.0;
-      shifts_alone = alone.1.1.1.1.0;
-    }
+makes_tables_of_office a b untaken m = record {
+  tables = all_made b (upto present_format) m.new (m.left_alone table_names are_among are_idle untaken.harmless);
+  free = refl;
+  unreferred = m.unreferred table_names are_among untaken.unreferred;
+  harmless = m.harmless table_names are_idle untaken.harmless;
+}
 
 -- ---- the row of the format
 
@@ -86,7 +86,7 @@ pub new_format_means : (tree : ℕ) → IsInsert (about_table tree) new_format_t
 unfolding everything insert_meant insert_in puts_meant
 new_format_means tree = record { means = refl; whole = refl; uncounted = refl; unstamped = refl }
 
-format_is : (tree : ℕ) (rows : List Row) → rows ≡ [] → put_row (new_row (about_table tree) new_format_terms [] rows) rows ≡ about_row ∷ []
+format_is : (tree : ℕ) (rows : List Row) → rows ≡ [] → put_row (new_row (about_table tree) new_format_terms [] rows) rows ≡ about_row present_format ∷ []
 format_is tree rows none = rw (none, cast_int (pos 1), cast_no_int) refl
 
 -- ---- the others
@@ -140,23 +140,35 @@ module _ (old mid new : State) (room : HasRoom old) (shows : StaysInside old mid
   only = record { schema = put.changed.schema; tables = put.changed.tables }
 
   -- the tables of other names stay empty
-  still_empty : (t : Table) → Stands mid.now.schema t → mid.now.trees (tree_in mid.now.schema t.name) ≡ [] → t.name ≢ codes "about" → rows_in new.now t.name ≡ []
-  still_empty t stands none other = rows_kept mid.now new.now t (about_table 0) only stands has.about other ∙ none
+  still_empty : (k : Kept) → IsKept mid.now.schema k → mid.now.trees (tree_in mid.now.schema k.table.name) ≡ [] → k.table.name ≢ codes "about" → rows_in new.now k.table.name ≡ []
+  still_empty k kept none other = rows_kept mid.now new.now k.table (about_table 0) only kept.0 has.tables.0.0 other ∙ none
+
+  none_hidden : (k : Kept) → IsKept mid.now.schema k → mid.now.trees (tree_in mid.now.schema k.table.name) ≡ [] → k.table.name ≢ codes "about" → AreStoredRows false (rows_in new.now k.table.name) []
+  none_hidden k kept none other =
+      let empty = still_empty k kept none other in
+      (ap (map (drop 1)) empty, none_in_order (rows_in new.now k.table.name) empty)
 
   holds : Holds new.now no_rows
   unfolding has
   holds = record {
     has = subst HasOffice (sym put.changed.schema) has;
-    about = ap (λ (s : Schema). new.now.trees (tree_in s (codes "about"))) put.changed.schema ∙ put.changed.rows_are
-        ∙ format_is (tree_in mid.now.schema (codes "about")) (mid.now.trees (tree_in mid.now.schema (codes "about"))) m.new.0.1;
-    tariffs = ap (map (drop 1)) (still_empty (tariffs_table 0) m.new.1.0.0 m.new.1.0.1 (names_differ _ _ refl));
-    steps = ap (map (drop 1)) (still_empty (tariff_steps_table 0) m.new.1.1.0.0 m.new.1.1.0.1 (names_differ _ _ refl));
-    meters = ap (map (drop 1)) (still_empty (meters_table 0) m.new.1.1.1.0.0 m.new.1.1.1.0.1 (names_differ _ _ refl));
-    shifts = still_empty (shifts_table 0) m.new.1.1.1.1.0.0 m.new.1.1.1.1.0.1 (names_differ _ _ refl);
-    sales = still_empty (sales_table 0) m.new.1.1.1.1.1.0.0 m.new.1.1.1.1.1.0.1 (names_differ _ _ refl);
-    tariffs_in_order = none_in_order (rows_in new.now (codes "tariffs")) (still_empty (tariffs_table 0) m.new.1.0.0 m.new.1.0.1 (names_differ _ _ refl));
-    steps_in_order = none_in_order (rows_in new.now (codes "tariff_steps")) (still_empty (tariff_steps_table 0) m.new.1.1.0.0 m.new.1.1.0.1 (names_differ _ _ refl));
-    meters_in_order = none_in_order (rows_in new.now (codes "meters")) (still_empty (meters_table 0) m.new.1.1.1.0.0 m.new.1.1.1.0.1 (names_differ _ _ refl));
+    are = (
+      ap (λ (s : Schema). new.now.trees (tree_in s (codes "about"))) put.changed.schema ∙ put.changed.rows_are
+          ∙ format_is (tree_in mid.now.schema (codes "about")) (mid.now.trees (tree_in mid.now.schema (codes "about"))) m.new.0.1,
+      (
+        none_hidden tariffs_kept has.tables.1.0 m.new.1.0.1 (names_differ _ _ refl),
+        (
+          none_hidden steps_kept has.tables.1.1.0 m.new.1.1.0.1 (names_differ _ _ refl),
+          (
+            none_hidden meters_kept has.tables.1.1.1.0 m.new.1.1.1.0.1 (names_differ _ _ refl),
+            (
+              still_empty shifts_kept has.tables.1.1.1.1.0 m.new.1.1.1.1.0.1 (names_differ _ _ refl),
+              (still_empty sales_kept has.tables.1.1.1.1.1.0 m.new.1.1.1.1.1.0.1 (names_differ _ _ refl), tt),
+            ),
+          ),
+        ),
+      ),
+    );
   }
 
   rows_stay : KeepsRows old.now.schema.tables old.now.trees new.now.trees
@@ -168,9 +180,9 @@ module _ (old mid new : State) (room : HasRoom old) (shows : StaysInside old mid
 
   pub makes_office : MakesOffice old new
   makes_office = record {
-    inside = shows_more old mid new shows put.changed.inside;
+    inside = stays_then old mid new shows put.changed.inside;
     empty = holds;
-    stands = record { office = empty_is_office; held = inl (no_rows, holds, no_members) };
+    stands = stands_present new.now empty_office empty_is_office (no_rows, holds, no_members);
     schema = put.changed.schema ∙ m.schema;
     places = λ at t there. subst (λ (s : Schema). Has s at t) (sym put.changed.schema) (m.places at t there);
     rows = rows_stay;

@@ -7,7 +7,7 @@ use Rattle.sts_fields.specs.Tid.{fresh_after, minute_of}
 use Rattle.tariff.specs.Purchase.{purchase_of}
 use Rattle.tariff.specs.StepsEq.{steps_eq}
 use Rattle.tariff.specs.declared.step.Step.{Step}
-use Rattle.vend_core.specs.Decision.{◌>>=◌, Buyer, add_meter, add_rows, add_tariff, at_row, buyer_of, decision, decision_of, meter_eq, new_rows, next_number, open_a_shift, or_refusal, sell_once, set_tariff, unchanged}
+use Rattle.vend_core.specs.Decision.{◌>>=◌, MeterAccount, add_meter, add_rows, add_tariff, at_row, account_of, decision, decision_of, meter_eq, new_rows, next_number, open_a_shift, or_refusal, sell_once, set_tariff, unchanged}
 use Rattle.vend_core.specs.Edits.{office_after, with_row}
 use Rattle.vend_core.specs.Lookup.{open_shift, sale_numbered, sale_of_ref, shift_numbered}
 use Rattle.vend_core.specs.Office.{Office}
@@ -118,7 +118,7 @@ shift_is_new : (o : Office) (moment : ℕ) (operator : List ℕ) (there : Option
 shift_is_new o moment operator (Some there) count = tt
 shift_is_new o moment operator None count = next o (next_number count) _ (λ number. one o (edits.OpenShift _) tt)
 
-sale_is_new : (forward : ℕ → ℕ → ℕ) (o : Office) (moment nibble : ℕ) (order : Order) (first : Option Sale) (shift : Option Shift) (meter : Option Buyer) (count : ℕ) → AddsNew o (sell_once forward moment nibble order first shift meter count)
+sale_is_new : (forward : ℕ → ℕ → ℕ) (o : Office) (moment nibble : ℕ) (order : Order) (first : Option Sale) (shift : Option Shift) (meter : Option MeterAccount) (count : ℕ) → AddsNew o (sell_once forward moment nibble order first shift meter count)
 sale_is_new forward o moment nibble order (Some first) shift meter count =
     either o (bytes_eq first.meter order.meter && (first.tender == order.tender)) _ _ (nothing o) tt
 sale_is_new forward o moment nibble order None shift meter count =
@@ -139,7 +139,7 @@ request_is_new forward o moment nibble (requests.CloseShift operator) =
     next o (ok_or (open_shift o operator) refusals.NoShift) _ (λ s. one o (edits.CloseShift _ _) tt)
 request_is_new forward o moment nibble (requests.Sell order) =
     sale_is_new forward o moment nibble order (sale_of_ref o order.operator order.order_ref) (open_shift o order.operator)
-    (buyer_of o order.meter moment) (length o.sales)
+    (account_of o order.meter moment) (length o.sales)
 request_is_new forward o moment nibble (requests.Reprint number) =
     next o (ok_or (sale_numbered o number) refusals.NoSale) _ (λ s. nothing o)
 request_is_new forward o moment nibble (requests.ShiftReport number) =

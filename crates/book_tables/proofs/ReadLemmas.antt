@@ -21,8 +21,9 @@ use Rattle.one_table.specs.declared.read_fault.ReadFault.TheVariants as fault
 use Rattle.one_table.proofs.FaultLemmas.{fails_plainly}
 use Rattle.one_table.proofs.ListedLemmas.{answered, begun, is_plain}
 use Rattle.one_table.proofs.UnderstandLemmas.{selects}
-use Rattle.book_tables.specs.Holds.{HasOffice, Holds}
-use Rattle.book_tables.specs.Reading.{AreOfOffice, FailsToRead, FailsToShow, HasRows, HasTables, IsShown, told}
+use Rattle.book_tables.specs.Holds.{IsKept}
+use Rattle.book_tables.specs.Kept.{Kept}
+use Rattle.book_tables.specs.Reading.{AreOfOffice, FailsToReadOf, FailsToShow, HasTable, HasTableRows, IsShown, TableHolds, told}
 use Rattle.book_tables.specs.Rows.{Rows}
 use Rattle.book_tables.specs.declared.error.TableError.{TableError}
 
@@ -59,23 +60,23 @@ first_is shown keeps one sql params old new (Some m) kept rows are (Some x) firs
     ap Some (one x m first.3.1 kept (first.3.0 ∙ row))
 
 module _ {table : ℕ → Table} {query : ℕ → Query} {names : List Name} {sql : List ℕ} {params : Row} (asks : Asks table query names sql params)
-    (name : List ℕ) (stands : (s : Schema) → HasOffice s → Has s (place_in s name) (table (tree_in s name))) where
+    (k : Kept) (stands : (s : Schema) → IsKept s k → Has s (place_in s k.table.name) (table (tree_in s k.table.name))) where
   abbrev asked : Schema → Query
-  asked s = query (tree_in s name)
+  asked s = query (tree_in s k.table.name)
 
-  pub means : (s : Schema) → HasOffice s → Means s sql (select_as (asked s) names)
-  means s has = selects s (place_in s name) (table (tree_in s name)) (stands s has) (asked s) names sql (asks.is (tree_in s name))
+  pub means : (s : Schema) → IsKept s k → Means s sql (select_as (asked s) names)
+  means s has = selects s (place_in s k.table.name) (table (tree_in s k.table.name)) (stands s has) (asked s) names sql (asks.is (tree_in s k.table.name))
 
-  pub only_asks : (s : State) → HasTables s → OnlyAsks s sql
+  pub only_asks : (s : State) → HasTable k s → OnlyAsks sql s
   only_asks s has runs = is_plain (means s.now.schema (has runs))
 
-  pub answer_is : (old new : State) → HasOffice old.now.schema → (rows : List Row) → Shown sql params old new rows → IsAnswer (asked old.now.schema) old.now.trees params rows
+  pub answer_is : (old new : State) → IsKept old.now.schema k → (rows : List Row) → Shown sql params old new rows → IsAnswer (asked old.now.schema) old.now.trees params rows
   answer_is old new has rows shown =
       let s = old.now.schema in
-      answered s (place_in s name) (table (tree_in s name)) (stands s has) (asked s) names sql (asks.is (tree_in s name)) params old new refl rows shown
+      answered s (place_in s k.table.name) (table (tree_in s k.table.name)) (stands s has) (asked s) names sql (asks.is (tree_in s k.table.name)) params old new refl rows shown
 
   -- where each row of an answer can be read, none of the first ones is bad
-  none_bad : (IsReadable : Row → Type 0) (db : Database) (new : State) → new.now ≡ db → HasOffice db.schema
+  none_bad : (IsReadable : Row → Type 0) (db : Database) (new : State) → new.now ≡ db → IsKept db.schema k
       → ((rows : List Row) → IsAnswer (asked db.schema) db.trees params rows → All IsReadable rows)
       → (rows : List Row) → Begins sql params new rows → ¬ Any (λ row. ¬ IsReadable row) rows
   none_bad IsReadable db new is has all rows begins (k, row, within, there, bad) =
@@ -85,37 +86,37 @@ module _ {table : ℕ → Table} {query : ℕ → Query} {names : List Name} {sq
       bad (subst IsReadable there_too (all (rows ++ so_far.0) answer k row (omega (arith, length-append rows so_far.0, within))))
 
   -- what the database says
-  pub fails_plain : (old new : State) → HasOffice old.now.schema → (e : Error) → FailsToQuery sql params old new e → FailsPlainly old new e
+  pub fails_plain : (old new : State) → IsKept old.now.schema k → (e : Error) → FailsToQuery sql params old new e → FailsPlainly old new e
   fails_plain old new has e fails =
       let s = old.now.schema in
-      fails_plainly (asked s) names (means s has) (place_in s name) (table (tree_in s name)) (stands s has) (asks.is (tree_in s name)).from (asks.bare (tree_in s name)) params (asks.typed (tree_in s name)) old new refl e asks.whole fails
+      fails_plainly (asked s) names (means s has) (place_in s k.table.name) (table (tree_in s k.table.name)) (stands s has) (asks.is (tree_in s k.table.name)).from (asks.bare (tree_in s k.table.name)) params (asks.typed (tree_in s k.table.name)) old new refl e asks.whole fails
 
-  said : (IsReadable : Row → Type 0) (old new : State) → HasTables old
-      → ((rows : Rows) → Holds old.now rows → AreOfOffice rows → (found : List Row) → IsAnswer (asked old.now.schema) old.now.trees params found → All IsReadable found)
-      → (why : ReadFault) → FailsToAnswer IsReadable sql params old new why → FailsToRead old new (told why)
+  said : (IsReadable : Row → Type 0) (old new : State) → HasTable k old
+      → ((rows : Rows) → TableHolds k old.now rows → AreOfOffice rows → (found : List Row) → IsAnswer (asked old.now.schema) old.now.trees params found → All IsReadable found)
+      → (why : ReadFault) → FailsToAnswer IsReadable sql params old new why → FailsToReadOf (TableHolds k) old new (told why)
   said IsReadable old new has all (fault.Database e) (inl why) = inl (λ runs. fails_plain old new (has runs) e why)
   said IsReadable old new has all (fault.Database e) (inr none) = inr (cc, none.1)
   said IsReadable old new has all fault.Row (bad, same) = (
-    λ rows held of_office. none_bad IsReadable old.now new same.0.now_is held.has (all rows held of_office) bad.rows bad.begins bad.bad,
+    λ rows held of_office. none_bad IsReadable old.now new same.0.now_is held.0 (all rows held of_office) bad.rows bad.begins bad.bad,
     same,
   )
   said IsReadable old new has all fault.TooMuch never = absurd never
 
   -- why it fails, where the rows of an office can all be read
-  pub fails : {A : Type 0} (IsReadable : Row → Type 0) (old new : State) → HasTables old
-      → ((rows : Rows) → Holds old.now rows → AreOfOffice rows → (found : List Row) → IsAnswer (asked old.now.schema) old.now.trees params found → All IsReadable found)
-      → (r : Result A TableError) (values : Row) → values ≡ params → IfErr r (FailsToShow IsReadable sql values old new) → IfErr r (FailsToRead old new)
+  pub fails : {A : Type 0} (IsReadable : Row → Type 0) (old new : State) → HasTable k old
+      → ((rows : Rows) → TableHolds k old.now rows → AreOfOffice rows → (found : List Row) → IsAnswer (asked old.now.schema) old.now.trees params found → All IsReadable found)
+      → (r : Result A TableError) (values : Row) → values ≡ params → IfErr r (FailsToShow IsReadable sql values old new) → IfErr r (FailsToReadOf (TableHolds k) old new)
   fails IsReadable old new has all (Ok x) values are none = none
   fails IsReadable old new has all (Err e) values are (why, is, answer) =
-      subst (FailsToRead old new) (sym is) (said IsReadable old new has all why (subst (λ ps. FailsToAnswer IsReadable sql ps old new why) are answer))
+      subst (FailsToReadOf (TableHolds k) old new) (sym is) (said IsReadable old new has all why (subst (λ ps. FailsToAnswer IsReadable sql ps old new why) are answer))
 
   -- what it gives, where at most one record is found
   pub gives : {M : Type 0} (shown : M → Row) (keeps : M → Type 0) → ((a b : M) → keeps a → keeps b → shown a ≡ shown b → a ≡ b)
-      → (old new : State) (rows : Rows) → HasRows old rows → (found : Option M) → IfSome found keeps
-      → ((answer : List Row) → Holds old.now rows → IsAnswer (asked old.now.schema) old.now.trees params answer → answer ≡ map shown (option_to_list found))
+      → (old new : State) (rows : Rows) → HasTableRows k old rows → (found : Option M) → IfSome found keeps
+      → ((answer : List Row) → TableHolds k old.now rows → IsAnswer (asked old.now.schema) old.now.trees params answer → answer ≡ map shown (option_to_list found))
       → (r : Result (Option M) TableError) (values : Row) → values ≡ params → OnOk r (IsUnchanged old new) → IfOk r (GivesFirst (IsShown shown keeps) sql values old new) → IfOk r (λ x. x ≡ found)
   gives shown keeps one old new rows has found kept all (Err e) values are same none = none
   gives shown keeps one old new rows has found kept all (Ok x) values are same is =
       let held = has same.0.was_open in
       let given = subst (λ ps. GivesFirst (IsShown shown keeps) sql ps old new x) are is in
-      first_is shown keeps one sql params old new found kept given.rows (all given.rows held (answer_is old new held.has given.rows given.shown)) x given.first
+      first_is shown keeps one sql params old new found kept given.rows (all given.rows held (answer_is old new held.0 given.rows given.shown)) x given.first

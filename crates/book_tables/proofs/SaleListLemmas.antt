@@ -1,6 +1,6 @@
 -- What the statements that list sales find.
 use Rattle.std.proofs.Common.{◌≡◌, ◌+◌, ◌<◌, ◌<ℤ◌, ℕ, suc, List, [], ◌∷◌, filter, pos, slice_get, take, Some, arith, nat_lt, refl, sym, subst, ◌∙◌}
-use Rattle.std.specs.Prelude.{◌==◌, Bool, codes}
+use Rattle.std.specs.Prelude.{◌==◌, Bool}
 use Rattle.std.specs.List.{AllByRecursion}
 use Rattle.std.proofs.lemmas.Int.{ints}
 use Rattle.std.proofs.lemmas.List.{take-map}
@@ -14,12 +14,13 @@ use Rattle.one_table.proofs.TestsLemmas.{number_above, number_is}
 use Rattle.vend_core.specs.Office.{AreNumbered}
 use Rattle.vend_core.specs.declared.sale.Sale.{Sale}
 use Rattle.book_tables.specs.Reading.{AreOfOffice}
+use Rattle.book_tables.specs.Kept.{sales_kept}
 use Rattle.book_tables.specs.Rows.{Rows, number, shown_sale}
 use Rattle.book_tables.specs.Tables.{sales_table}
 use Rattle.book_tables.specs.Values.{AreSaleValues}
 use Rattle.book_tables.proofs.ListingLemmas.{Lists}
 use Rattle.book_tables.proofs.RowLemmas.{one_shown_sale}
-use Rattle.book_tables.proofs.SaleLemmas.{sales_keep_values, sales_stand}
+use Rattle.book_tables.proofs.SaleLemmas.{sales_keep_values}
 use Rattle.book_tables.proofs.SaleListTexts.{sales_after_asks, sales_after_query, sales_after_text, sales_of_shift_asks, sales_of_shift_query, sales_of_shift_text}
 use Rattle.book_tables.proofs.SaleTexts.{sale_names}
 
@@ -59,14 +60,13 @@ module _ (after limit : ℕ) where
   abbrev is_after : Sale → Bool
   is_after s = nat_lt after s.number
 
-  pub sales_after : Lists sales_after_text (number after ∷ number limit ∷ []) shown_sale AreSaleValues (λ rows found. found ≡ take limit (filter is_after rows.sales))
+  pub sales_after : Lists sales_kept sales_after_text (number after ∷ number limit ∷ []) shown_sale AreSaleValues (λ rows found. found ≡ take limit (filter is_after rows.sales))
   sales_after = record {
     table = sales_table;
     query = sales_after_query;
     names = sale_names;
     asks = sales_after_asks after limit;
-    name = codes "sales";
-    stands = sales_stand;
+    stands = λ s has. has.0.has;
     one = λ a b keeps_a keeps_b same. one_shown_sale a b same;
     kept = λ rows of_office found is.
         All-same AreSaleValues found (take limit (filter is_after rows.sales)) is
@@ -74,7 +74,7 @@ module _ (after limit : ℕ) where
     answers = λ db rows held of_office answer is. (
       take limit (filter is_after rows.sales),
       refl,
-      first_by_key (record { holds_them = held.sales; passes = λ s. last_term (number_above s.number after); shows = λ s. refl }) 0 (λ s. pos s.number) (λ s. refl) (col 0 1) answer (sales_rise rows of_office) is
+      first_by_key (record { holds_them = held.1.1; passes = λ s. last_term (number_above s.number after); shows = λ s. refl }) 0 (λ s. pos s.number) (λ s. refl) (col 0 1) answer (sales_rise rows of_office) is
           ∙ take-map shown_sale limit (filter is_after rows.sales),
     );
   }
@@ -85,20 +85,19 @@ module _ (shift : ℕ) where
   abbrev is_of_shift : Sale → Bool
   is_of_shift s = s.shift == shift
 
-  pub sales_of_shift : Lists sales_of_shift_text (number shift ∷ []) shown_sale AreSaleValues (λ rows found. found ≡ filter is_of_shift rows.sales)
+  pub sales_of_shift : Lists sales_kept sales_of_shift_text (number shift ∷ []) shown_sale AreSaleValues (λ rows found. found ≡ filter is_of_shift rows.sales)
   sales_of_shift = record {
     table = sales_table;
     query = sales_of_shift_query;
     names = sale_names;
     asks = sales_of_shift_asks shift;
-    name = codes "sales";
-    stands = sales_stand;
+    stands = λ s has. has.0.has;
     one = λ a b keeps_a keeps_b same. one_shown_sale a b same;
     kept = λ rows of_office found is.
         All-same AreSaleValues found (filter is_of_shift rows.sales) is (All-filter is_of_shift AreSaleValues rows.sales (sales_keep_values rows of_office));
     answers = λ db rows held of_office answer is. (
       filter is_of_shift rows.sales,
       refl,
-      first_by_key (record { holds_them = held.sales; passes = λ s. last_term (number_is s.shift shift); shows = λ s. refl }) 0 (λ s. pos s.number) (λ s. refl) no_limit answer (sales_rise rows of_office) is,
+      first_by_key (record { holds_them = held.1.1; passes = λ s. last_term (number_is s.shift shift); shows = λ s. refl }) 0 (λ s. pos s.number) (λ s. refl) no_limit answer (sales_rise rows of_office) is,
     );
   }

@@ -1,6 +1,6 @@
 -- What is gathered of the sales to a meter.
 use Rattle.std.proofs.Common.{◌≡◌, ◌≤◌, ◌<◌, ◌+◌, ◌*◌, ◌^◌, ℕ, List, [], ◌∷◌, ◌++◌, Option, Some, None, filter, fold, get_or, length, map, max, not, sum_by, unwrap_or, arith, refl, sym, ap, subst, ◌∙◌, IsPermutation}
-use Rattle.std.specs.Prelude.{◌&&◌, ◌==◌, ⊤, All, Bool, Contains, bytes_eq, codes}
+use Rattle.std.specs.Prelude.{◌&&◌, ◌==◌, ⊤, All, Bool, Contains, bytes_eq}
 use Rattle.std.proofs.lemmas.List.{length-map, map-append}
 use Rattle.std.proofs.lemmas.List.Elements.{All-filter, All-map, All-same}
 use Rattle.std.proofs.lemmas.List.Filters.{length-filter_both}
@@ -21,6 +21,7 @@ use Rattle.vend_core.specs.Lookup.{greatest_of}
 use Rattle.vend_core.specs.Office.{greatest_count}
 use Rattle.vend_core.specs.declared.sale.Sale.{Sale}
 use Rattle.book_tables.specs.Reading.{AreOfOffice}
+use Rattle.book_tables.specs.Kept.{sales_kept}
 use Rattle.book_tables.specs.Rows.{Rows, number, shown_number}
 use Rattle.book_tables.specs.Tables.{sales_table}
 use Rattle.book_tables.specs.Values.{AreSaleValues, IsSoldAmount, IsTid}
@@ -31,7 +32,7 @@ use Rattle.book_tables.proofs.GatherLemmas.{IsWithin}
 use Rattle.book_tables.proofs.ListLemmas.{contains_none}
 use Rattle.book_tables.proofs.ListingLemmas.{Lists}
 use Rattle.book_tables.proofs.RowLemmas.{one_number}
-use Rattle.book_tables.proofs.SaleLemmas.{sales_keep_values, sales_stand}
+use Rattle.book_tables.proofs.SaleLemmas.{sales_keep_values}
 use Rattle.book_tables.proofs.SoldTexts.{tenths_sold_asks, tenths_sold_names, tenths_sold_query, tenths_sold_text, tids_sold_asks, tids_sold_names, tids_sold_query, tids_sold_text}
 
 module _ {M : Type 0} (p : Sale → Bool) (f : Sale → M) where
@@ -73,18 +74,17 @@ module _ (meter : List ℕ) (base : Base) where
       let is : A ≡ B = cc in
       is
 
-  pub tids_sold : Lists tids_sold_text (Text meter ∷ number (year_of base) ∷ []) (λ (t : Tid). shown_number t.number) (λ (t : Tid). IsTid t.number) (AreOf is_under tid_of)
+  pub tids_sold : Lists sales_kept tids_sold_text (Text meter ∷ number (year_of base) ∷ []) (λ (t : Tid). shown_number t.number) (λ (t : Tid). IsTid t.number) (AreOf is_under tid_of)
   tids_sold = record {
     table = sales_table;
     query = tids_sold_query;
     names = tids_sold_names;
     asks = tids_sold_asks meter (year_of base);
-    name = codes "sales";
-    stands = sales_stand;
+    stands = λ s has. has.0.has;
     one = λ a b keeps_a keeps_b same. one_tid a b same;
     kept = found_keep is_under tid_of (λ (t : Tid). IsTid t.number) (λ s values. values.tid);
     answers = λ db rows held of_office answer is.
-        let found = all_listed (record { holds_them = held.sales; passes = λ s. then_term (text_is s.meter meter) (last_term (number_is (year_of s.base) (year_of base))); shows = λ (s : Sale). refl }) answer is in
+        let found = all_listed (record { holds_them = held.1.1; passes = λ s. then_term (text_is s.meter meter) (last_term (number_is (year_of s.base) (year_of base))); shows = λ (s : Sale). refl }) answer is in
         (map tid_of found.0, (found.0, found.1, refl), found.2 ∙ sym (map-map (λ (t : Tid). shown_number t.number) tid_of found.0));
   }
 
@@ -97,18 +97,17 @@ module _ (meter : List ℕ) (month : ℕ) where
   abbrev pub tenths_of : Sale → ℕ
   tenths_of s = s.tenths
 
-  pub tenths_sold : Lists tenths_sold_text (Text meter ∷ number month ∷ []) shown_number IsSoldAmount (AreOf is_in_month tenths_of)
+  pub tenths_sold : Lists sales_kept tenths_sold_text (Text meter ∷ number month ∷ []) shown_number IsSoldAmount (AreOf is_in_month tenths_of)
   tenths_sold = record {
     table = sales_table;
     query = tenths_sold_query;
     names = tenths_sold_names;
     asks = tenths_sold_asks meter month;
-    name = codes "sales";
-    stands = sales_stand;
+    stands = λ s has. has.0.has;
     one = λ a b keeps_a keeps_b same. one_number a b same;
     kept = found_keep is_in_month tenths_of IsSoldAmount (λ s values. values.tenths);
     answers = λ db rows held of_office answer is.
-        let found = all_listed (record { holds_them = held.sales; passes = λ s. then_term (text_is s.meter meter) (last_term (number_is (month_at s.moment) month)); shows = λ (s : Sale). refl }) answer is in
+        let found = all_listed (record { holds_them = held.1.1; passes = λ s. then_term (text_is s.meter meter) (last_term (number_is (month_at s.moment) month)); shows = λ (s : Sale). refl }) answer is in
         (map tenths_of found.0, (found.0, found.1, refl), found.2 ∙ sym (map-map shown_number tenths_of found.0));
   }
 

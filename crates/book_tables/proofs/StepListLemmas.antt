@@ -1,5 +1,5 @@
 -- What the statement that lists a tariff's steps finds.
-use Rattle.std.proofs.Common.{◌≡◌, ◌∙◌, ◌+◌, ◌-◌, ℕ, List, [], ◌∷◌, ◌≢◌, ◌⊎◌, inl, inr, Option, None, Some, IfSome, Result, Ok, Err, IfOk, IfErr, arith, codes, filter, length, map, pos, slice_get, unwrap_or, refl, sym, ap, subst, IsPermutation}
+use Rattle.std.proofs.Common.{◌≡◌, ◌∙◌, ◌+◌, ◌-◌, ℕ, List, [], ◌∷◌, ◌≢◌, ◌⊎◌, inl, inr, Option, None, Some, IfSome, Result, Ok, Err, IfOk, IfErr, arith, filter, length, map, pos, slice_get, unwrap_or, refl, sym, ap, subst, IsPermutation}
 use Rattle.std.specs.Prelude.{All, Bool, Contains, bytes_eq}
 use Rattle.std.proofs.lemmas.List.Elements.{All-nil, All-same}
 use Rattle.std.proofs.lemmas.Slice.Eq.{bytes_eq-Decides}
@@ -7,18 +7,15 @@ use Rattle.sqlite.specs.State.{IsUnchanged, State}
 use Rattle.sqlite.specs.declared.error.Error.TheVariants.{SqliteFailure}
 use Rattle.sqlite.specs.declared.error.ErrorCode.TheVariants.{OutOfMemory}
 use Rattle.sqlite.specs.declared.types.Value.TheVariants.{Text}
-use Rattle.sqlite_schema.specs.declared.schema.Schema.{Schema}
 use Rattle.sqlite_typed.proofs.TestLemmas.{last_term}
 use Rattle.tariff.specs.Steps.{IsSteps}
 use Rattle.tariff.specs.declared.step.Step.{Step}
 use Rattle.vend_core.specs.Office.{IsOffice, Office}
 use Rattle.one_table.specs.Listed.{no_limit}
-use Rattle.one_table.specs.Place.{Has}
-use Rattle.one_table.specs.Standing.{place_in, tree_in}
 use Rattle.one_table.proofs.HiddenLemmas.{rising_hidden}
 use Rattle.one_table.proofs.TestsLemmas.{text_is}
-use Rattle.book_tables.specs.Holds.{HasOffice, Holds}
-use Rattle.book_tables.specs.Reading.{AreOfOffice, FailsToRead}
+use Rattle.book_tables.specs.Reading.{AreOfOffice, FailsToReadOf, TableHolds}
+use Rattle.book_tables.specs.Kept.{steps_kept}
 use Rattle.book_tables.specs.Rows.{Rows, StepRow, shown_step}
 use Rattle.book_tables.specs.Stands.{AreApart, AreMembersOf}
 use Rattle.book_tables.specs.Tables.{tariff_steps_table}
@@ -31,9 +28,6 @@ use Rattle.book_tables.proofs.RowLemmas.{one_shown_step}
 use Rattle.book_tables.proofs.StepLemmas.{DifferInKey, pairs_that_pass, passes_there, permuted, row_there, rows_differ, rows_from, rows_rise, there_passes, there_row}
 use Rattle.book_tables.proofs.StepTexts.{step_names, steps_of_asks, steps_of_query, steps_of_text}
 use Rattle.book_tables.proofs.ValueLemmas.{steps_keep}
-
-steps_stand : (s : Schema) → HasOffice s → Has s (place_in s (codes "tariff_steps")) (tariff_steps_table (tree_in s (codes "tariff_steps")))
-steps_stand s has = has.tariff_steps.has
 
 abbrev place_of : StepRow → ℕ
 place_of r = r.place
@@ -115,26 +109,25 @@ module _ (name : List ℕ) where
   abbrev pub AreStepsOf : Rows → List Step → Type 0
   AreStepsOf rows found = (o : Office) → AreMembersOf rows o → found ≡ listed_of (o.tariffs name)
 
-  pub fails_to_make : (shown : List Step) (old new : State) → IsUnchanged old new → ((rows : Rows) → Holds old.now rows → AreOfOffice rows → AreStepsOf rows shown)
-      → {A : Type 0} (r : Result A TableError) → IfErr r (λ e. IsMemory e ⊎ ((e ≡ RowOfNoOffice) × (shown ≢ []) × ¬ IsSteps shown)) → IfErr r (FailsToRead old new)
+  pub fails_to_make : (shown : List Step) (old new : State) → IsUnchanged old new → ((rows : Rows) → TableHolds steps_kept old.now rows → AreOfOffice rows → AreStepsOf rows shown)
+      → {A : Type 0} (r : Result A TableError) → IfErr r (λ e. IsMemory e ⊎ ((e ≡ RowOfNoOffice) × (shown ≢ []) × ¬ IsSteps shown)) → IfErr r (FailsToReadOf (TableHolds steps_kept) old new)
   fails_to_make shown old new same are (Ok x) why = why
-  fails_to_make shown old new same are (Err e) (inl is) = subst (FailsToRead old new) (sym is) (inr (refl, same))
+  fails_to_make shown old new same are (Err e) (inl is) = subst (FailsToReadOf (TableHolds steps_kept) old new) (sym is) (inr (refl, same))
   fails_to_make shown old new same are (Err e) (inr (is, some, none)) =
-      subst (FailsToRead old new) (sym is) (
+      subst (FailsToReadOf (TableHolds steps_kept) old new) (sym is) (
         λ rows held of_office.
             let (o, office, members) = of_office in
             none (of_a_tariff shown (o.tariffs name) (tariff_keeps o office name (o.tariffs name) refl) (are rows held of_office o members) some),
         same,
       )
 
-  pub steps_of : Lists steps_of_text (Text name ∷ []) shown_step AreStepValues AreStepsOf
+  pub steps_of : Lists steps_kept steps_of_text (Text name ∷ []) shown_step AreStepValues AreStepsOf
   steps_of = record {
     table = tariff_steps_table;
     query = steps_of_query;
     names = step_names;
     asks = steps_of_asks name;
-    name = codes "tariff_steps";
-    stands = steps_stand;
+    stands = λ s has. has.0.has;
     one = λ a b keeps_a keeps_b same. one_shown_step a b same;
     kept = λ rows of_office found are. All-same AreStepValues found (listed_of (of_office.0.tariffs name)) (are of_office.0 of_office.2) (values_keep of_office.0 of_office.1 name (of_office.0.tariffs name) refl);
     answers = λ db rows held of_office answer is.
@@ -142,7 +135,7 @@ module _ (name : List ℕ) where
         let found = listed_of (o.tariffs name) in (
           found,
           λ other those. ap (λ (o : Office). listed_of (o.tariffs name)) (one_office rows o other of_office.2 those),
-          rising_hidden (record { holds_them = held.steps; some = λ r none. cc; passes = λ hidden r. last_term (text_is r.tariff name); shows = λ hidden r. refl }) 2 (λ r. pos r.place) (λ hidden r. refl) no_limit answer
+          rising_hidden (record { holds_them = held.1.1.0; some = λ r none. cc; passes = λ hidden r. last_term (text_is r.tariff name); shows = λ hidden r. refl }) 2 (λ r. pos r.place) (λ hidden r. refl) no_limit answer
               (rows_from name 0 found) (rows_are rows o of_office.2) (rows_rise name 0 found) is ∙ shown_are 0 found,
         );
   }

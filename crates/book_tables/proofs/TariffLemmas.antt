@@ -6,26 +6,20 @@ use Rattle.std.proofs.lemmas.List.Elements.{Contains-get_or}
 use Rattle.std.proofs.lemmas.Bool.{false≢true}
 use Rattle.std.proofs.lemmas.Slice.Eq.{bytes_eq-Decides}
 use Rattle.sqlite.specs.declared.types.Value.TheVariants.{Text}
-use Rattle.sqlite_schema.specs.declared.schema.Schema.{Schema}
 use Rattle.sqlite_typed.proofs.TestLemmas.{last_term}
-use Rattle.one_table.specs.Place.{Has}
-use Rattle.one_table.specs.Standing.{place_in, tree_in}
 use Rattle.one_table.proofs.HiddenLemmas.{one_hidden}
 use Rattle.one_table.proofs.TestsLemmas.{text_is}
-use Rattle.book_tables.specs.Holds.{HasOffice}
 use Rattle.book_tables.specs.Reading.{AreOfOffice}
 use Rattle.book_tables.proofs.FindLemmas.{Finds}
 use Rattle.book_tables.proofs.ReadLemmas.{few, found_keeps}
 use Rattle.book_tables.proofs.ListLemmas.{NotBothPass, contains_cases, contains_first, contains_further, contains_none, first_is_all, pairs_weaker}
 use Rattle.vend_core.specs.Names.{IsName}
+use Rattle.book_tables.specs.Kept.{tariffs_kept}
 use Rattle.book_tables.specs.Rows.{Rows, tariff_columns}
 use Rattle.book_tables.specs.Tables.{tariffs_table}
 use Rattle.book_tables.proofs.RowLemmas.{one_tariff}
 use Rattle.book_tables.proofs.OneRowTexts.{tariff_named_asks, tariff_named_query, tariff_named_text}
 use Rattle.book_tables.proofs.ValueLemmas.{tariff_name}
-
-pub tariffs_stand : (s : Schema) → HasOffice s → Has s (place_in s (codes "tariffs")) (tariffs_table (tree_in s (codes "tariffs")))
-tariffs_stand s has = has.tariffs.has
 
 pub tariff_names_keep : (rows : Rows) → AreOfOffice rows → All IsName rows.tariffs
 tariff_names_keep rows (o, office, are) i d within =
@@ -57,18 +51,17 @@ module _ (name : List ℕ) where
   there_is [] = (λ there. absurd (false≢true there), λ there. absurd (contains_none name there))
   there_is (r ∷ rs) = by_test r rs (has_name r) refl (there_is rs)
 
-  pub tariff_named : Finds tariff_named_text (Text name ∷ []) tariff_columns IsName (λ rows. find has_name rows.tariffs)
+  pub tariff_named : Finds tariffs_kept tariff_named_text (Text name ∷ []) tariff_columns IsName (λ rows. find has_name rows.tariffs)
   tariff_named = record {
     table = tariffs_table;
     query = tariff_named_query;
     names = codes "name" ∷ [];
     asks = tariff_named_asks name;
-    name = codes "tariffs";
-    stands = tariffs_stand;
+    stands = λ s has. has.0.has;
     one = λ a b keeps_a keeps_b same. one_tariff a b same;
     kept = λ rows of_office. found_keeps has_name IsName rows.tariffs (tariff_names_keep rows of_office);
     answers = λ db rows held of_office answer is.
         let one = only_one rows of_office in
-        one_hidden (record { holds_them = held.tariffs; some = λ r none. cc; passes = λ hidden r. last_term (text_is r name); shows = λ hidden r. refl }) answer is
+        one_hidden (record { holds_them = held.1.1.0; some = λ r none. cc; passes = λ hidden r. last_term (text_is r name); shows = λ hidden r. refl }) answer is
         (subst (λ (l : List (List ℕ)). length l ≤ 1) (sym one) (few (find has_name rows.tariffs))) ∙ ap (map tariff_columns) one;
   }

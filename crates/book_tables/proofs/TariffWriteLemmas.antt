@@ -10,7 +10,7 @@ use Rattle.tariff.specs.declared.step.Step.{Step}
 use Rattle.book_tables.specs.Edited.{step_rows}
 use Rattle.book_tables.specs.Holds.{HasOffice, Holds}
 use Rattle.book_tables.specs.Rows.{StepRow}
-use Rattle.book_tables.proofs.KeptLemmas.{shows_more}
+use Rattle.one_table.proofs.ChangeLemmas.{stays_then}
 use Rattle.book_tables.specs.Writing.{AddsName, AddsStep, AddsTariff, IsOfNone, WritesOnly}
 
 -- ---- lists
@@ -40,7 +40,7 @@ first_only old new only = record {
 
 then_second : (old mid new : State) → WritesOnly both old mid → WritesOnly (codes "tariff_steps" ∷ []) mid new → WritesOnly both old new
 then_second old mid new first second = record {
-  inside = shows_more old mid new first.inside second.inside;
+  inside = stays_then old mid new first.inside second.inside;
   marks = second.marks ∙ first.marks;
   schema = second.schema ∙ first.schema;
   tables = all_both _ _ _ (λ u kept later apart. later (there u.tree apart) ∙ kept apart) old.now.schema.tables first.tables

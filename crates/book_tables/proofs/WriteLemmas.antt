@@ -37,7 +37,7 @@ use Rattle.sts_fields.specs.Base.{year_of}
 use Rattle.sts_fields.specs.Calendar.{month_at}
 use Rattle.book_tables.specs.Rows.{sale_columns, sale_row}
 use Rattle.book_tables.specs.Tables.{sales_table}
-use Rattle.book_tables.specs.Writing.{AddsSale, IsNext, WritesOnly}
+use Rattle.book_tables.specs.Writing.{AddsSale, IsNextNumber, WritesOnly}
 use Rattle.book_tables.proofs.KeptLemmas.{ChangesOnly, sales_changed}
 use Rattle.book_tables.proofs.WriteTexts.{new_sale_terms}
 
@@ -76,7 +76,7 @@ module _ {X : Type 0} (number : X → ℕ) where
   pub numbers_rise : (xs : List X) → AreNumbered number xs → IsKeyedBy key xs
   numbers_rise xs count = keyed_from 1 xs count
 
-  pub next_number : (xs : List X) (n : ℕ) → IsNext number xs n → pos n ≡ next_key key xs
+  pub next_number : (xs : List X) (n : ℕ) → IsNextNumber number xs n → pos n ≡ next_key key xs
   next_number xs n next = ap pos next.next_is ∙ sym (next_from 1 xs next.numbered)
 
 -- ---- one table
@@ -128,7 +128,7 @@ module _ (old new : State) (s : Sale) (params : Row) (bound : params ≡ sale_co
             let row : new_row sales new_sale_terms params (old.now.trees sales.tree) ≡ sale_row s =
             ap (λ (p : Row). new_row sales new_sale_terms p (old.now.trees sales.tree)) bound ∙ sale_is sales.tree s (old.now.trees sales.tree) in
             let put = h.changed.rows_are ∙ ap (λ (r : Row). put_row r (old.now.trees sales.tree)) row
-            ∙ ap (put_row (sale_row s)) held.sales
+            ∙ ap (put_row (sale_row s)) held.are.1.1.1.1.1.0
             ∙ appends (λ (x : Sale). pos x.number) sale_row (λ x. refl) rows.sales s (numbers_rise (λ (x : Sale). x.number) rows.sales next.numbered) (next_number (λ (x : Sale). x.number) rows.sales s.number next) in
             sales_changed old.now new.now rows held (rows.sales ++ s ∷ []) (changes_only (codes "sales") old new only) put;
       }
@@ -150,7 +150,7 @@ module _ (old new : State) where
         rows = λ rows held next.
             let row : new_row shifts new_shift_terms params (old.now.trees shifts.tree) ≡ shift_row s =
             ap (λ (p : Row). new_row shifts new_shift_terms p (old.now.trees shifts.tree)) bound ∙ shift_is shifts.tree s (old.now.trees shifts.tree) in
-            let put = h.changed.rows_are ∙ ap (λ (r : Row). put_row r (old.now.trees shifts.tree)) row ∙ ap (put_row (shift_row s)) held.shifts
+            let put = h.changed.rows_are ∙ ap (λ (r : Row). put_row r (old.now.trees shifts.tree)) row ∙ ap (put_row (shift_row s)) held.are.1.1.1.1.0
             ∙ appends (λ (x : Shift). pos x.number) shift_row (λ x. refl) rows.shifts s (numbers_rise (λ (x : Shift). x.number) rows.shifts next.numbered) (next_number (λ (x : Shift). x.number) rows.shifts s.number next) in
             shifts_changed old.now new.now rows held (rows.shifts ++ s ∷ []) (changes_only (codes "shifts") old new only) put;
       }
@@ -178,6 +178,6 @@ module _ (old new : State) where
         rows = λ rows held numbered.
             let one : length (filter (is_that number) rows.shifts) ≤ 1 = subst (λ (l : List Shift). length l ≤ 1) (sym (found_numbered (λ (s : Shift). s.number) rows.shifts number numbered)) (few (find (is_that number) rows.shifts)) in
             let changed = sets_listed shifts is_that_shift shift_closed_terms (Int (pos number) ∷ Int (pos moment) ∷ []) (λ (s : Shift). pos s.number) shift_row (is_that number) (closed_at moment) (closing number moment)
-            old new rows.shifts set held.shifts (numbers_rise (λ (s : Shift). s.number) rows.shifts numbered) one in
+            old new rows.shifts set held.are.1.1.1.1.0 (numbers_rise (λ (s : Shift). s.number) rows.shifts numbered) one in
             shifts_changed old.now new.now rows held (map (shift_closed number moment) rows.shifts) (changes_only (codes "shifts") old new only) changed.rows_are;
       }

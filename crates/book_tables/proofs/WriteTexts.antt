@@ -1,5 +1,5 @@
 -- What the text of each write means.
-use Rattle.std.proofs.Common.{ℕ, List, [], ◌∷◌, refl, codes}
+use Rattle.std.proofs.Common.{◌≡◌, true, ℕ, List, [], ◌∷◌, refl, codes}
 use Rattle.sqlite_value.specs.declared.value.Value.TheVariants.{Null}
 use Rattle.sqlite_sql.specs.Term.{Term, lit, col}
 use Rattle.sqlite_tied.specs.Compute.{everything}
@@ -10,6 +10,7 @@ use Rattle.sqlite_sql.specs.declared.ops.BinaryOp.TheVariants.{Compare}
 use Rattle.sqlite_sql.specs.declared.ops.CompareOp.TheVariants.{Eq}
 use Rattle.one_table.specs.Changing.{IsUpdate, sets_meant, update_in, update_meant}
 use Rattle.one_table.specs.Listed.{no_limit, query_on}
+use Rattle.one_table.specs.Reading.{is_whole}
 use Rattle.one_table.specs.Inserting.{IsInsert, insert_in, insert_meant, puts_meant}
 use Rattle.book_tables.specs.Tables.{meters_table, sales_table, shifts_table, tariff_steps_table, tariffs_table}
 
@@ -27,6 +28,10 @@ pub new_sale_means : (tree : ℕ) → IsInsert (sales_table tree) new_sale_terms
 unfolding everything insert_meant insert_in puts_meant
 new_sale_means tree = record { means = refl; whole = refl; uncounted = refl; unstamped = refl }
 
+pub new_sale_whole : is_whole new_sale_text 14 ≡ true
+unfolding everything is_whole
+new_sale_whole = refl
+
 -- ---- a new shift, and its closing
 
 abbrev pub new_shift_text : List ℕ
@@ -38,6 +43,10 @@ new_shift_terms = col 0 0 ∷ lit Null ∷ col 0 1 ∷ col 0 2 ∷ col 0 3 ∷ [
 pub new_shift_means : (tree : ℕ) → IsInsert (shifts_table tree) new_shift_terms new_shift_text
 unfolding everything insert_meant insert_in puts_meant
 new_shift_means tree = record { means = refl; whole = refl; uncounted = refl; unstamped = refl }
+
+pub new_shift_whole : is_whole new_shift_text 4 ≡ true
+unfolding everything is_whole
+new_shift_whole = refl
 
 abbrev pub shift_closed_text : List ℕ
 shift_closed_text = codes "UPDATE shifts SET closed = ?2 WHERE number = ?1"
@@ -55,6 +64,10 @@ pub shift_closed_means : (tree : ℕ) → IsUpdate (shifts_table tree) (shift_cl
 unfolding everything update_meant update_in sets_meant
 shift_closed_means tree = record { means = refl; from = refl }
 
+pub shift_closed_whole : is_whole shift_closed_text 2 ≡ true
+unfolding everything is_whole
+shift_closed_whole = refl
+
 -- ---- rows whose numbers SQLite chooses
 
 abbrev pub new_meter_text : List ℕ
@@ -67,6 +80,10 @@ pub new_meter_means : (tree : ℕ) → IsInsert (meters_table tree) four_terms n
 unfolding everything insert_meant insert_in puts_meant
 new_meter_means tree = record { means = refl; whole = refl; uncounted = refl; unstamped = refl }
 
+pub new_meter_whole : is_whole new_meter_text 4 ≡ true
+unfolding everything is_whole
+new_meter_whole = refl
+
 abbrev pub new_tariff_text : List ℕ
 new_tariff_text = codes "INSERT INTO tariffs (name) VALUES (?1)"
 
@@ -77,12 +94,20 @@ pub new_tariff_means : (tree : ℕ) → IsInsert (tariffs_table tree) one_term n
 unfolding everything insert_meant insert_in puts_meant
 new_tariff_means tree = record { means = refl; whole = refl; uncounted = refl; unstamped = refl }
 
+pub new_tariff_whole : is_whole new_tariff_text 1 ≡ true
+unfolding everything is_whole
+new_tariff_whole = refl
+
 abbrev pub new_step_text : List ℕ
 new_step_text = codes "INSERT INTO tariff_steps (tariff, place, ends, price) VALUES (?1, ?2, ?3, ?4)"
 
 pub new_step_means : (tree : ℕ) → IsInsert (tariff_steps_table tree) four_terms new_step_text
 unfolding everything insert_meant insert_in puts_meant
 new_step_means tree = record { means = refl; whole = refl; uncounted = refl; unstamped = refl }
+
+pub new_step_whole : is_whole new_step_text 4 ≡ true
+unfolding everything is_whole
+new_step_whole = refl
 
 -- ---- the tariff of a meter
 
@@ -101,3 +126,7 @@ tariff_set_query tree = query_on tree is_that_meter tariff_set_terms [] no_limit
 pub tariff_set_means : (tree : ℕ) → IsUpdate (meters_table tree) (tariff_set_query tree) tariff_set_text
 unfolding everything update_meant update_in sets_meant
 tariff_set_means tree = record { means = refl; from = refl }
+
+pub tariff_set_whole : is_whole tariff_set_text 2 ≡ true
+unfolding everything is_whole
+tariff_set_whole = refl

@@ -1,17 +1,12 @@
 -- What the table `about` tells of the format of the tables.
 use Rattle.std.specs.Prelude.{◌≡◌, ◌↔◌, ◌<◌, ◌^◌, ℕ, [], ◌∷◌, codes, Option, Some}
 use Rattle.sqlite.specs.Effect.{Database}
-use Rattle.sqlite.specs.Order.{Row}
 use Rattle.book_tables.specs.Holds.{rows_in}
-use Rattle.book_tables.specs.Rows.{keyed, number}
-
--- the columns of the row that tells a format: its own number is 1
-abbrev pub shown_format : ℕ → Row
-shown_format n = number 1 ∷ number n ∷ []
+use Rattle.book_tables.specs.Rows.{about_row}
 
 -- the table has the row of this format, and no other
 abbrev pub HasFormat : Database → ℕ → Type 0
-HasFormat db n = rows_in db (codes "about") ≡ keyed (shown_format n) ∷ []
+HasFormat db n = rows_in db (codes "about") ≡ about_row n ∷ []
 
 -- a format is found where the table has it, and none where the table has none of 32 bits
 abbrev pub IsFormatOf : Database → Option ℕ → Type 0

@@ -1,6 +1,6 @@
 -- The office's tables in a database, and the office that a database stands for. Other tables do not
 -- count.
-use Rattle.std.specs.Prelude.{◌≡◌, ◌⊎◌, ℕ, true, not, List, [], ◌∷◌, codes, drop, map, IsTrue}
+use Rattle.std.specs.Prelude.{◌≡◌, ◌≤◌, ℕ, Bool, true, false, not, List, map, drop, IsTrue}
 use Rattle.std.specs.List.{AllByRecursion, list_all}
 use Rattle.sqlite.specs.Effect.{Database}
 use Rattle.sqlite.specs.Order.{Row}
@@ -8,73 +8,80 @@ use Rattle.sqlite_catalog.specs.Change.{is_used}
 use Rattle.sqlite_schema.specs.declared.schema.Schema.{Schema}
 use Rattle.sqlite_trees.specs.Tree.{IsTable, rowid}
 use Rattle.sqlite_trees.specs.View.{is_int}
-use Rattle.one_table.specs.Referring.{is_left_alone, is_unreferred}
+use Rattle.one_table.specs.Referring.{is_harmless, is_left_alone, is_unreferred}
 use Rattle.one_table.specs.Standing.{Stands, tree_in}
 use Rattle.vend_core.specs.Office.{IsOffice, Office, empty_office}
-use Rattle.book_tables.specs.Rows.{Rows, about_row, meter_columns, sale_row, shift_row, step_columns, tariff_columns}
+use Rattle.book_tables.specs.Kept.{Kept, kept, later, kept_names, upto}
+use Rattle.book_tables.specs.Rows.{Rows, present_format}
 use Rattle.book_tables.specs.Stands.{AreMembersOf}
-use Rattle.book_tables.specs.Tables.{about_table, meters_table, sales_table, shifts_table, tariff_steps_table, tariffs_table}
 
--- the names of the six tables
+-- the names of the tables of all formats
 abbrev pub table_names : List (List ℕ)
-table_names =
-    codes "about" ∷ codes "tariffs" ∷ codes "tariff_steps" ∷ codes "meters" ∷ codes "shifts"
-    ∷ codes "sales" ∷ []
+table_names = kept_names kept
+
+-- the table is there as its text defines it and with no index but its own, and no reference to it
+-- takes an action
+abbrev pub IsKept : Schema → Kept → Type 0
+IsKept s k = Stands s k.table × (is_left_alone s (tree_in s k.table.name) ≡ true)
+
+-- The tables of a format are there, and the names of later ones are free. No other table refers to
+-- one of the names of any format, and no reference to one takes an action.
+pub record HasOfficeOf (n : ℕ) (s : Schema) : Type 0 where
+  pub tables : AllByRecursion (IsKept s) (upto n)
+  pub free : list_all (λ name. not (is_used s name)) (kept_names (later n)) ≡ true
+  pub unreferred : is_unreferred table_names s ≡ true
+  pub harmless : is_harmless table_names s ≡ true
+
+-- the tables of the present format are there
+abbrev pub HasOffice : Schema → Type 0
+HasOffice s = HasOfficeOf present_format s
 
 -- none of the names is taken, and no table refers to one of them
-pub record IsUntaken (s : Schema) : Type 0 where
-  pub free : list_all (λ name. not (is_used s name)) table_names ≡ true
-  pub unreferred : is_unreferred table_names s ≡ true
-
--- the six tables are there, each as its text defines it and with no index but its own; no other
--- table refers to them,
--- and no reference to a table whose rows are updated takes an action
-pub record HasOffice (s : Schema) : Type 0 where
-  pub about : Stands s (about_table 0)
-  pub tariffs : Stands s (tariffs_table 0)
-  pub tariff_steps : Stands s (tariff_steps_table 0)
-  pub meters : Stands s (meters_table 0)
-  pub shifts : Stands s (shifts_table 0)
-  pub sales : Stands s (sales_table 0)
-  pub unreferred : is_unreferred table_names s ≡ true
-  pub meters_alone : is_left_alone s (tree_in s (codes "meters")) ≡ true
-  pub shifts_alone : is_left_alone s (tree_in s (codes "shifts")) ≡ true
+abbrev pub IsUntaken : Schema → Type 0
+IsUntaken s = HasOfficeOf 0 s
 
 -- the rows of the table of a name, as they are stored: the number of a row stands in front of its
 -- columns
 abbrev pub rows_in : Database → List ℕ → List Row
 rows_in db name = db.trees (tree_in db.schema name)
 
--- the same without the numbers, where the columns of the table have none
-abbrev pub columns_in : Database → List ℕ → List Row
-columns_in db name = map (drop 1) (rows_in db name)
-
 -- the numbers of the rows, which stand in front of their columns, are whole and rise
 pub record IsInOrder (rows : List Row) : Type 0 where
   pub rises : IsTable rows
   pub are_numbers : AllByRecursion (λ r. IsTrue (is_int (rowid r))) rows
 
--- The database has the office's tables, and exactly these rows in them. The rows of tariffs, steps
--- and meters have hidden numbers, in whose order SQLite keeps them. No clause of `sqlite` says that
--- of a database that is found, so it is said here: then a new row stands last.
-pub record Holds (db : Database) (rows : Rows) : Type 0 where
-  pub has : HasOffice db.schema
-  pub about : rows_in db (codes "about") ≡ about_row ∷ []
-  pub tariffs : columns_in db (codes "tariffs") ≡ map tariff_columns rows.tariffs
-  pub steps : columns_in db (codes "tariff_steps") ≡ map step_columns rows.steps
-  pub meters : columns_in db (codes "meters") ≡ map meter_columns rows.meters
-  pub shifts : rows_in db (codes "shifts") ≡ map shift_row rows.shifts
-  pub sales : rows_in db (codes "sales") ≡ map sale_row rows.sales
-  pub tariffs_in_order : IsInOrder (rows_in db (codes "tariffs"))
-  pub steps_in_order : IsInOrder (rows_in db (codes "tariff_steps"))
-  pub meters_in_order : IsInOrder (rows_in db (codes "meters"))
+-- The rows are these, or these after their hidden numbers. SQLite keeps rows in the order of their
+-- numbers, but no clause of `sqlite` says that of a database that is found, so it is said here: then
+-- a new row stands last.
+abbrev pub AreStoredRows : Bool → List Row → List Row → Type 0
+AreStoredRows true rows stored = rows ≡ stored
+AreStoredRows false rows stored = (map (drop 1) rows ≡ stored) × IsInOrder rows
 
--- the database holds the members of the office
+-- the table has what is stored of these rows, where `about` tells this format
+abbrev pub HoldsRows : Database → ℕ → Rows → Kept → Type 0
+HoldsRows db told rows k = AreStoredRows k.is_numbered (rows_in db k.table.name) (k.stored told rows)
+
+-- The database has the tables of a format, with exactly these rows in them, and `about` tells a
+-- format: this one, or an older one while the tables are brought up to this one.
+pub record HoldsOf (n told : ℕ) (db : Database) (rows : Rows) : Type 0 where
+  pub has : HasOfficeOf n db.schema
+  pub are : AllByRecursion (HoldsRows db told rows) (upto n)
+
+abbrev pub Holds : Database → Rows → Type 0
+Holds db rows = HoldsOf present_format present_format db rows
+
+-- the database holds the members of the office, in the tables of a format
+abbrev pub HoldsMembersOf : ℕ → Database → Office → Type 0
+HoldsMembersOf n db o = (rows : Rows) × HoldsOf n n db rows × AreMembersOf rows o
+
 abbrev pub HoldsMembers : Database → Office → Type 0
-HoldsMembers db o = (rows : Rows) × Holds db rows × AreMembersOf rows o
+HoldsMembers db o = HoldsMembersOf present_format db o
 
--- the database stands for the office: it holds its members, or it has none of the tables and the
--- office is empty
+-- the database stands for the office: it holds its members in the tables of a format, and where that
+-- has none the office is empty
 pub record StandsFor (db : Database) (o : Office) : Type 0 where
   pub office : IsOffice o
-  pub held : HoldsMembers db o ⊎ (IsUntaken db.schema × (o ≡ empty_office))
+  pub format : ℕ
+  pub known : format ≤ present_format
+  pub held : HoldsMembersOf format db o
+  pub empty : format ≡ 0 → o ≡ empty_office

@@ -2,6 +2,7 @@ pub mod Edited
 pub mod Format
 pub mod Found
 pub mod Holds
+pub mod Kept
 pub mod Making
 pub mod Parts
 pub mod ReadBack

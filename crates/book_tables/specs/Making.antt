@@ -1,5 +1,5 @@
 -- The tables of an office that are made in a database, beside whatever other tables it has.
-use Rattle.std.specs.Prelude.{◌≡◌, ℕ, true, List, [], ◌∷◌, fold, IsTrue}
+use Rattle.std.specs.Prelude.{◌≡◌, ℕ, true, List, fold, IsTrue}
 use Rattle.sqlite.specs.Effect.{IsDatabase}
 use Rattle.sqlite.specs.State.{Shows, State}
 use Rattle.sqlite.specs.Table.{Table}
@@ -9,13 +9,12 @@ use Rattle.one_table.specs.Place.{Has}
 use Rattle.vend_core.specs.Office.{empty_office}
 use Rattle.book_tables.specs.Edited.{no_rows}
 use Rattle.book_tables.specs.Holds.{Holds, IsUntaken, StandsFor}
-use Rattle.book_tables.specs.Tables.{about_table, meters_table, sales_table, shifts_table, tariff_steps_table, tariffs_table}
+use Rattle.book_tables.specs.Kept.{kept_tables, upto}
+use Rattle.book_tables.specs.Rows.{present_format}
 
--- the six tables, in the order in which they are made
+-- the tables of the present format, in the order in which they are made
 abbrev pub office_tables : List Table
-office_tables =
-    about_table 0 ∷ tariffs_table 0 ∷ tariff_steps_table 0 ∷ meters_table 0
-    ∷ shifts_table 0 ∷ sales_table 0 ∷ []
+office_tables = kept_tables (upto present_format)
 
 -- while the connection is open, its database is sound and has room for the office's tables
 abbrev pub HasRoom : State → Type 0

@@ -1,57 +1,86 @@
--- What a connection has of the office, and why a read of its tables fails.
-use Rattle.std.specs.Prelude.{◌≡◌, ◌⊎◌, ℕ, false, List, Result, IfErr, IsTrue, OnErr, OnOk}
+-- What a connection has of the office's tables, and why a read or a write of them fails.
+use Rattle.std.specs.Prelude.{◌≡◌, ◌⊎◌, ℕ, List, Result, IsTrue}
+use Rattle.sqlite.specs.Effect.{Database}
 use Rattle.sqlite.specs.Order.{Row}
-use Rattle.sqlite.specs.State.{HasCleanDisk, IsUnchanged, State, Survives}
+use Rattle.sqlite.specs.State.{IsUnchanged, State}
 use Rattle.sqlite.specs.declared.error.Error.TheVariants.{SqliteFailure}
 use Rattle.sqlite.specs.declared.error.ErrorCode.TheVariants.{OutOfMemory}
-use Rattle.one_table.specs.Answer.{FailsToRead as FailsToAnswer, IsLeft}
+use Rattle.sqlite_schema.specs.declared.command.Command.{Command}
+use Rattle.one_table.specs.Answer.{FailsToRead as FailsToAnswer}
+use Rattle.one_table.specs.InTransaction.{FailsToWrite}
 use Rattle.one_table.specs.Reading.{FailsPlainly}
+use Rattle.one_table.specs.ReadsOnly.{ReadsOnly}
 use Rattle.one_table.specs.declared.read_fault.ReadFault.{ReadFault}
 use Rattle.one_table.specs.declared.read_fault.ReadFault.TheVariants as fault
 use Rattle.vend_core.specs.Office.{IsOffice, Office}
-use Rattle.book_tables.specs.Holds.{HasOffice, Holds}
+use Rattle.book_tables.specs.Holds.{HasOffice, Holds, HoldsRows, IsKept}
+use Rattle.book_tables.specs.Kept.{Kept}
 use Rattle.book_tables.specs.Rows.{Rows}
 use Rattle.book_tables.specs.Stands.{AreMembersOf}
 use Rattle.book_tables.specs.declared.error.TableError.{TableError}
-use Rattle.book_tables.specs.declared.error.TableError.TheVariants.{Database, RowOfNoOffice}
-
--- while the connection is open, it has the office's tables; one that is shut shows nothing
-abbrev pub HasTables : State → Type 0
-HasTables s = IsTrue s.is_open → HasOffice s.now.schema
-
--- while the connection is open, it has the office's tables with these rows
-abbrev pub HasRows : State → Rows → Type 0
-HasRows s rows = IsTrue s.is_open → Holds s.now rows
+use Rattle.book_tables.specs.declared.error.TableError.TheVariants as fails
 
 -- the rows are the members of an office
 abbrev pub AreOfOffice : Rows → Type 0
 AreOfOffice rows = (o : Office) × IsOffice o × AreMembersOf rows o
 
--- a row is no office's only where the rows are not those of an office
--- an open connection fails else only for want of memory, by the disk, or at a limit on steps that
--- was set
-abbrev pub FailsToRead : State → State → TableError → Type 0
-FailsToRead old new (Database e) =
+-- why a read fails: a row is no office's only where the rows are not those of an office; and an open
+-- connection fails else only for want of memory, by the disk, or at a limit on steps that was set
+abbrev pub FailsToReadOf : (Database → Rows → Type 0) → State → State → TableError → Type 0
+FailsToReadOf Has old new (fails.Database e) =
     (IsTrue old.is_open → FailsPlainly old new e)
     ⊎ ((e ≡ SqliteFailure OutOfMemory) × IsUnchanged old new)
-FailsToRead old new RowOfNoOffice =
-    ((rows : Rows) → Holds old.now rows → ¬ AreOfOffice rows) × IsUnchanged old new
+FailsToReadOf Has old new fails.RowOfNoOffice =
+    ((rows : Rows) → Has old.now rows → ¬ AreOfOffice rows) × IsUnchanged old new
 
--- tables that are only read: what is the same where the read succeeds; what is left where it fails,
--- and why it does; that no transaction is begun; and that a crash leaves nothing else
-pub record OnlyReads {T : Type 0} (Same : State → State → Type 0) (old new : State)
-    (result : Result T TableError) : Type 0 where
-  pub same : HasCleanDisk new → HasTables old → OnOk result (Same old new)
-  pub kept : HasCleanDisk new → HasTables old → OnErr result (IsLeft old new)
-  pub mode : old.in_transaction ≡ false → new.in_transaction ≡ false
-  pub faults : HasCleanDisk new → HasTables old → IfErr result (FailsToRead old new)
-  pub survives : HasTables old → Survives old new (λ _. ⊥)
+-- ---- one table
+
+-- the table is there, and has what is stored of these rows, whatever format `about` tells
+abbrev pub TableHolds : Kept → Database → Rows → Type 0
+TableHolds k db rows = IsKept db.schema k × ((told : ℕ) × HoldsRows db told rows k)
+
+-- while the connection is open, it has the table, or the table with these rows; one that is shut
+-- shows nothing
+abbrev pub HasTable : Kept → State → Type 0
+HasTable k s = IsTrue s.is_open → IsKept s.now.schema k
+
+abbrev pub HasTableRows : Kept → State → Rows → Type 0
+HasTableRows k s rows = IsTrue s.is_open → TableHolds k s.now rows
+
+-- the table is only read, wherever it stands, and whatever other tables there are
+abbrev pub ReadsTable : {T : Type 0} → Kept → State → State → Result T TableError → Type 0
+ReadsTable k old new result =
+    ReadsOnly (HasTable k) IsUnchanged (FailsToReadOf (TableHolds k)) old new result
+
+-- ---- all tables
+
+-- the same of the tables of the present format
+abbrev pub HasTables : State → Type 0
+HasTables s = IsTrue s.is_open → HasOffice s.now.schema
+
+abbrev pub HasRows : State → Rows → Type 0
+HasRows s rows = IsTrue s.is_open → Holds s.now rows
+
+abbrev pub FailsToRead : State → State → TableError → Type 0
+FailsToRead old new e = FailsToReadOf Holds old new e
+
+abbrev pub OnlyReads : {T : Type 0} → (State → State → Type 0) → State → State
+    → Result T TableError → Type 0
+OnlyReads Same old new result = ReadsOnly HasTables Same FailsToRead old new result
+
+-- ---- writes
+
+-- a write fails as a write of one table does
+abbrev pub FailsToStore : State → State → TableError → Type 0
+FailsToStore old new (fails.Database e) =
+    (command : Command) × (params : Row) × FailsToWrite command params old new e
+FailsToStore old new fails.RowOfNoOffice = ⊥
 
 -- what is told of a reader's fault: rows that add up to too much are no office's either
 abbrev pub told : ReadFault → TableError
-told (fault.Database e) = Database e
-told fault.Row = RowOfNoOffice
-told fault.TooMuch = RowOfNoOffice
+told (fault.Database e) = fails.Database e
+told fault.Row = fails.RowOfNoOffice
+told fault.TooMuch = fails.RowOfNoOffice
 
 module _ {T : Type 0} (shown : T → Row) (keeps : T → Type 0) where
   -- the row has the columns of the record, whose values keep their rules

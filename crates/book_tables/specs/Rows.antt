@@ -1,6 +1,6 @@
 -- The rows of the office's tables: the records that they are, and the values that are stored of
 -- each.
-use Rattle.std.specs.Prelude.{ℕ, pos, List, [], ◌∷◌, Option, Some, None}
+use Rattle.std.specs.Prelude.{ℕ, zero, suc, pos, List, [], ◌∷◌, Option, Some, None}
 use Rattle.sqlite.specs.Order.{Row}
 use Rattle.sqlite.specs.declared.types.Value.{Value}
 use Rattle.sqlite.specs.declared.types.Value.TheVariants.{Null, Int, Text}
@@ -39,9 +39,9 @@ optional (Some n) = number n
 abbrev pub secret_of : ℕ → List ℕ
 secret_of key = digits_text 16 16 key
 
--- the format number of these tables
-abbrev pub format : ℕ
-format = 1
+-- the format of the tables that are made
+abbrev pub present_format : ℕ
+present_format = 1
 
 -- what is stored of columns of which the first is the row's number: the number stands in front, and
 -- NULL in its column
@@ -49,9 +49,10 @@ abbrev pub keyed : Row → Row
 keyed [] = []
 keyed (n ∷ columns) = n ∷ Null ∷ columns
 
--- the columns of each table's rows, in the order of the table
-abbrev pub about_columns : Row
-about_columns = number 1 ∷ number format ∷ []
+-- the columns of each table's rows, in the order of the table; the one row of `about` has its own
+-- number 1 and that of the format
+abbrev pub shown_format : ℕ → Row
+shown_format n = number 1 ∷ number n ∷ []
 
 abbrev pub tariff_columns : List ℕ → Row
 tariff_columns name = Text name ∷ []
@@ -73,8 +74,13 @@ sale_columns s =
     ∷ number s.rnd ∷ number s.tenths ∷ number s.price ∷ number s.tender ∷ Text s.digits ∷ []
 
 -- what is stored of the rows that have a number
-abbrev pub about_row : Row
-about_row = keyed about_columns
+abbrev pub about_row : ℕ → Row
+about_row n = keyed (shown_format n)
+
+-- no row tells that there is nothing yet
+abbrev pub about_rows : ℕ → List Row
+about_rows zero = []
+about_rows (suc n) = about_row (suc n) ∷ []
 
 abbrev pub shift_row : Shift → Row
 shift_row s = keyed (shift_columns s)

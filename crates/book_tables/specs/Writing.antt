@@ -34,20 +34,20 @@ pub record WritesOnly (names : List (List ℕ)) (old new : State) : Type 0 where
   pub sound : IsDatabase new.now
 
 -- the rows are numbered from 1, and this is the next number
-pub record IsNext {X : Type 0} (number : X → ℕ) (rows : List X) (next : ℕ) : Type 0 where
+pub record IsNextNumber {X : Type 0} (number : X → ℕ) (rows : List X) (next : ℕ) : Type 0 where
   pub numbered : AreNumbered number rows
   pub next_is : next ≡ length rows + 1
 
 -- a sale with the next number stands after the others
 pub record AddsSale (s : Sale) (old new : State) : Type 0 where
   pub only : WritesOnly (codes "sales" ∷ []) old new
-  pub rows : (rows : Rows) → Holds old.now rows → IsNext (λ s. s.number) rows.sales s.number
+  pub rows : (rows : Rows) → Holds old.now rows → IsNextNumber (λ s. s.number) rows.sales s.number
       → Holds new.now (record rows { sales = rows.sales ++ s ∷ [] })
 
 -- a shift with the next number stands after the others
 pub record AddsShift (s : Shift) (old new : State) : Type 0 where
   pub only : WritesOnly (codes "shifts" ∷ []) old new
-  pub rows : (rows : Rows) → Holds old.now rows → IsNext (λ s. s.number) rows.shifts s.number
+  pub rows : (rows : Rows) → Holds old.now rows → IsNextNumber (λ s. s.number) rows.shifts s.number
       → Holds new.now (record rows { shifts = rows.shifts ++ s ∷ [] })
 
 -- the shift of this number is closed at this moment, and stays in its place

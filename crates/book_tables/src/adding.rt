@@ -1,16 +1,16 @@
 //! The statements that add rows to the tables.
 
-ghost use Rattle.std.specs.Prelude.{◌≡◌, ◌⊎◌, ◌≤◌, length, true, IsTrue, OnOk, OnErr};
-ghost use Rattle.sqlite.specs.State.{HasCleanDisk, KeepsCommit, Shows, Survives};
+ghost use Rattle.std.specs.Prelude.{◌≡◌, ◌≤◌, length, IfErr, OnOk};
+ghost use Rattle.sqlite.specs.State.{HasCleanDisk};
 ghost use Rattle.sqlite.specs.Held.{state};
-ghost use Rattle.one_table.specs.Answer.{IsLeft};
-ghost use Rattle.book_tables.specs.Holds.{HasOffice};
+ghost use Rattle.one_table.specs.InTransaction.{KeepsTransaction};
+ghost use Rattle.book_tables.specs.Reading.{FailsToStore, HasTables};
 ghost use Rattle.book_tables.specs.Writing.{AddsMeter, AddsName, AddsSale, AddsShift, AddsStep, AddsTariff};
 
 use crate::error::TableError;
+use crate::storing::put;
 use crate::texts::{NEW_METER, NEW_SALE, NEW_SHIFT, NEW_STEP, NEW_TARIFF};
 use crate::values::{meter_values, sale_values, shift_values, step_values, tariff_values};
-use one_table::insert;
 use sqlite::{Alter, Transaction};
 use sts_token::key_text;
 use tariff::Step;
@@ -24,23 +24,17 @@ use vend_core::{Meter, MeterNo, Sale, Shift, TariffName};
 pub fn add_sale<S: Alter>(tx: &mut Transaction<'_, S>, sale: &Sale) -> Result<(), TableError>
     ensures same_reference { tx.new.conn.ghost_name ≡ tx.old.conn.ghost_name }
     ensures added { HasCleanDisk (state S.Store tx.new.conn.now)
-        → (IsTrue (state S.Store tx.old.conn.now).is_open
-        → HasOffice (state S.Store tx.old.conn.now).now.schema)
+        → HasTables (state S.Store tx.old.conn.now)
         → OnOk result (AddsSale sale.now
         (state S.Store tx.old.conn.now) (state S.Store tx.new.conn.now)) }
-    ensures inside { HasCleanDisk (state S.Store tx.new.conn.now)
-        → OnOk result (Shows (state S.Store tx.old.conn.now) (state S.Store tx.new.conn.now)
-        (state S.Store tx.new.conn.now).now (state S.Store tx.old.conn.now).committed true) }
-    ensures kept { HasCleanDisk (state S.Store tx.new.conn.now)
-        → KeepsCommit (state S.Store tx.old.conn.now) (state S.Store tx.new.conn.now) }
+    ensures transaction { KeepsTransaction
+        (state S.Store tx.old.conn.now) (state S.Store tx.new.conn.now) result }
     ensures refused { HasCleanDisk (state S.Store tx.new.conn.now)
-        → OnErr result (IsLeft (state S.Store tx.old.conn.now) (state S.Store tx.new.conn.now)
-        ⊎ (tx.new.conn.now ≡ tx.old.conn.now)) }
-    ensures survives { Survives
-        (state S.Store tx.old.conn.now) (state S.Store tx.new.conn.now) (λ _. ⊥) }
+        → HasTables (state S.Store tx.old.conn.now)
+        → IfErr result (FailsToStore
+        (state S.Store tx.old.conn.now) (state S.Store tx.new.conn.now)) }
 {
-    insert(tx, NEW_SALE, &sale_values(sale))?;
-    Ok(())
+    put(tx, NEW_SALE, &sale_values(sale))
 }
 
 /// Adds a shift.
@@ -50,23 +44,17 @@ pub fn add_sale<S: Alter>(tx: &mut Transaction<'_, S>, sale: &Sale) -> Result<()
 pub fn add_shift<S: Alter>(tx: &mut Transaction<'_, S>, shift: &Shift) -> Result<(), TableError>
     ensures same_reference { tx.new.conn.ghost_name ≡ tx.old.conn.ghost_name }
     ensures added { HasCleanDisk (state S.Store tx.new.conn.now)
-        → (IsTrue (state S.Store tx.old.conn.now).is_open
-        → HasOffice (state S.Store tx.old.conn.now).now.schema)
+        → HasTables (state S.Store tx.old.conn.now)
         → OnOk result (AddsShift shift.now
         (state S.Store tx.old.conn.now) (state S.Store tx.new.conn.now)) }
-    ensures inside { HasCleanDisk (state S.Store tx.new.conn.now)
-        → OnOk result (Shows (state S.Store tx.old.conn.now) (state S.Store tx.new.conn.now)
-        (state S.Store tx.new.conn.now).now (state S.Store tx.old.conn.now).committed true) }
-    ensures kept { HasCleanDisk (state S.Store tx.new.conn.now)
-        → KeepsCommit (state S.Store tx.old.conn.now) (state S.Store tx.new.conn.now) }
+    ensures transaction { KeepsTransaction
+        (state S.Store tx.old.conn.now) (state S.Store tx.new.conn.now) result }
     ensures refused { HasCleanDisk (state S.Store tx.new.conn.now)
-        → OnErr result (IsLeft (state S.Store tx.old.conn.now) (state S.Store tx.new.conn.now)
-        ⊎ (tx.new.conn.now ≡ tx.old.conn.now)) }
-    ensures survives { Survives
-        (state S.Store tx.old.conn.now) (state S.Store tx.new.conn.now) (λ _. ⊥) }
+        → HasTables (state S.Store tx.old.conn.now)
+        → IfErr result (FailsToStore
+        (state S.Store tx.old.conn.now) (state S.Store tx.new.conn.now)) }
 {
-    insert(tx, NEW_SHIFT, &shift_values(shift))?;
-    Ok(())
+    put(tx, NEW_SHIFT, &shift_values(shift))
 }
 
 /// Adds a meter, with its number and its key.
@@ -81,24 +69,18 @@ pub fn add_meter<S: Alter>(
 ) -> Result<(), TableError>
     ensures same_reference { tx.new.conn.ghost_name ≡ tx.old.conn.ghost_name }
     ensures added { HasCleanDisk (state S.Store tx.new.conn.now)
-        → (IsTrue (state S.Store tx.old.conn.now).is_open
-        → HasOffice (state S.Store tx.old.conn.now).now.schema)
+        → HasTables (state S.Store tx.old.conn.now)
         → OnOk result (AddsMeter number.now meter.now
         (state S.Store tx.old.conn.now) (state S.Store tx.new.conn.now)) }
-    ensures inside { HasCleanDisk (state S.Store tx.new.conn.now)
-        → OnOk result (Shows (state S.Store tx.old.conn.now) (state S.Store tx.new.conn.now)
-        (state S.Store tx.new.conn.now).now (state S.Store tx.old.conn.now).committed true) }
-    ensures kept { HasCleanDisk (state S.Store tx.new.conn.now)
-        → KeepsCommit (state S.Store tx.old.conn.now) (state S.Store tx.new.conn.now) }
+    ensures transaction { KeepsTransaction
+        (state S.Store tx.old.conn.now) (state S.Store tx.new.conn.now) result }
     ensures refused { HasCleanDisk (state S.Store tx.new.conn.now)
-        → OnErr result (IsLeft (state S.Store tx.old.conn.now) (state S.Store tx.new.conn.now)
-        ⊎ (tx.new.conn.now ≡ tx.old.conn.now)) }
-    ensures survives { Survives
-        (state S.Store tx.old.conn.now) (state S.Store tx.new.conn.now) (λ _. ⊥) }
+        → HasTables (state S.Store tx.old.conn.now)
+        → IfErr result (FailsToStore
+        (state S.Store tx.old.conn.now) (state S.Store tx.new.conn.now)) }
 {
     let secret = key_text(meter.key);
-    insert(tx, NEW_METER, &meter_values(number, meter, &secret))?;
-    Ok(())
+    put(tx, NEW_METER, &meter_values(number, meter, &secret))
 }
 
 /// Adds the name of a tariff, with no steps.
@@ -108,23 +90,17 @@ pub fn add_meter<S: Alter>(
 pub fn add_name<S: Alter>(tx: &mut Transaction<'_, S>, name: &TariffName) -> Result<(), TableError>
     ensures same_reference { tx.new.conn.ghost_name ≡ tx.old.conn.ghost_name }
     ensures added { HasCleanDisk (state S.Store tx.new.conn.now)
-        → (IsTrue (state S.Store tx.old.conn.now).is_open
-        → HasOffice (state S.Store tx.old.conn.now).now.schema)
+        → HasTables (state S.Store tx.old.conn.now)
         → OnOk result (AddsName name.now
         (state S.Store tx.old.conn.now) (state S.Store tx.new.conn.now)) }
-    ensures inside { HasCleanDisk (state S.Store tx.new.conn.now)
-        → OnOk result (Shows (state S.Store tx.old.conn.now) (state S.Store tx.new.conn.now)
-        (state S.Store tx.new.conn.now).now (state S.Store tx.old.conn.now).committed true) }
-    ensures kept { HasCleanDisk (state S.Store tx.new.conn.now)
-        → KeepsCommit (state S.Store tx.old.conn.now) (state S.Store tx.new.conn.now) }
+    ensures transaction { KeepsTransaction
+        (state S.Store tx.old.conn.now) (state S.Store tx.new.conn.now) result }
     ensures refused { HasCleanDisk (state S.Store tx.new.conn.now)
-        → OnErr result (IsLeft (state S.Store tx.old.conn.now) (state S.Store tx.new.conn.now)
-        ⊎ (tx.new.conn.now ≡ tx.old.conn.now)) }
-    ensures survives { Survives
-        (state S.Store tx.old.conn.now) (state S.Store tx.new.conn.now) (λ _. ⊥) }
+        → HasTables (state S.Store tx.old.conn.now)
+        → IfErr result (FailsToStore
+        (state S.Store tx.old.conn.now) (state S.Store tx.new.conn.now)) }
 {
-    insert(tx, NEW_TARIFF, &tariff_values(name))?;
-    Ok(())
+    put(tx, NEW_TARIFF, &tariff_values(name))
 }
 
 /// Adds a step of a tariff at a place, from 0.
@@ -140,23 +116,17 @@ pub fn add_step<S: Alter>(
 ) -> Result<(), TableError>
     ensures same_reference { tx.new.conn.ghost_name ≡ tx.old.conn.ghost_name }
     ensures added { HasCleanDisk (state S.Store tx.new.conn.now)
-        → (IsTrue (state S.Store tx.old.conn.now).is_open
-        → HasOffice (state S.Store tx.old.conn.now).now.schema)
+        → HasTables (state S.Store tx.old.conn.now)
         → OnOk result (AddsStep (record { tariff = name.now; place = place; step = step })
         (state S.Store tx.old.conn.now) (state S.Store tx.new.conn.now)) }
-    ensures inside { HasCleanDisk (state S.Store tx.new.conn.now)
-        → OnOk result (Shows (state S.Store tx.old.conn.now) (state S.Store tx.new.conn.now)
-        (state S.Store tx.new.conn.now).now (state S.Store tx.old.conn.now).committed true) }
-    ensures kept { HasCleanDisk (state S.Store tx.new.conn.now)
-        → KeepsCommit (state S.Store tx.old.conn.now) (state S.Store tx.new.conn.now) }
+    ensures transaction { KeepsTransaction
+        (state S.Store tx.old.conn.now) (state S.Store tx.new.conn.now) result }
     ensures refused { HasCleanDisk (state S.Store tx.new.conn.now)
-        → OnErr result (IsLeft (state S.Store tx.old.conn.now) (state S.Store tx.new.conn.now)
-        ⊎ (tx.new.conn.now ≡ tx.old.conn.now)) }
-    ensures survives { Survives
-        (state S.Store tx.old.conn.now) (state S.Store tx.new.conn.now) (λ _. ⊥) }
+        → HasTables (state S.Store tx.old.conn.now)
+        → IfErr result (FailsToStore
+        (state S.Store tx.old.conn.now) (state S.Store tx.new.conn.now)) }
 {
-    insert(tx, NEW_STEP, &step_values(name, place, step))?;
-    Ok(())
+    put(tx, NEW_STEP, &step_values(name, place, step))
 }
 
 /// Adds a tariff with its steps, in their order and from place 0.
@@ -173,17 +143,11 @@ pub fn add_tariff<S: Alter>(
     requires { length steps.now ≤ 8 }
     ensures same_reference { tx.new.conn.ghost_name ≡ tx.old.conn.ghost_name }
     ensures added { HasCleanDisk (state S.Store tx.new.conn.now)
-        → (IsTrue (state S.Store tx.old.conn.now).is_open
-        → HasOffice (state S.Store tx.old.conn.now).now.schema)
+        → HasTables (state S.Store tx.old.conn.now)
         → OnOk result (AddsTariff name.now steps.now
         (state S.Store tx.old.conn.now) (state S.Store tx.new.conn.now)) }
-    ensures inside { HasCleanDisk (state S.Store tx.new.conn.now)
-        → OnOk result (Shows (state S.Store tx.old.conn.now) (state S.Store tx.new.conn.now)
-        (state S.Store tx.new.conn.now).now (state S.Store tx.old.conn.now).committed true) }
-    ensures kept { HasCleanDisk (state S.Store tx.new.conn.now)
-        → KeepsCommit (state S.Store tx.old.conn.now) (state S.Store tx.new.conn.now) }
-    ensures survives { Survives
-        (state S.Store tx.old.conn.now) (state S.Store tx.new.conn.now) (λ _. ⊥) }
+    ensures transaction { KeepsTransaction
+        (state S.Store tx.old.conn.now) (state S.Store tx.new.conn.now) result }
 {
     add_name(tx, name)?;
     let mut place = 0;

@@ -1,16 +1,16 @@
 //! The statements that change rows of the tables.
 
-ghost use Rattle.std.specs.Prelude.{◌≡◌, ◌⊎◌, true, IsTrue, OnOk, OnErr};
-ghost use Rattle.sqlite.specs.State.{HasCleanDisk, KeepsCommit, Shows, Survives};
+ghost use Rattle.std.specs.Prelude.{◌≡◌, IfErr, OnOk};
+ghost use Rattle.sqlite.specs.State.{HasCleanDisk};
 ghost use Rattle.sqlite.specs.Held.{state};
-ghost use Rattle.one_table.specs.Answer.{IsLeft};
-ghost use Rattle.book_tables.specs.Holds.{HasOffice};
+ghost use Rattle.one_table.specs.InTransaction.{KeepsTransaction};
+ghost use Rattle.book_tables.specs.Reading.{FailsToStore, HasTables};
 ghost use Rattle.book_tables.specs.Writing.{ClosesShift, SetsTariff};
 
 use crate::error::TableError;
+use crate::storing::set;
 use crate::texts::{SHIFT_CLOSED, TARIFF_SET};
 use crate::values::{seconds, whole};
-use one_table::update;
 use sqlite::types::ValueRef;
 use sqlite::{Alter, Transaction};
 use sts_fields::Moment;
@@ -27,23 +27,17 @@ pub fn close_shift<S: Alter>(
 ) -> Result<(), TableError>
     ensures same_reference { tx.new.conn.ghost_name ≡ tx.old.conn.ghost_name }
     ensures changed { HasCleanDisk (state S.Store tx.new.conn.now)
-        → (IsTrue (state S.Store tx.old.conn.now).is_open
-        → HasOffice (state S.Store tx.old.conn.now).now.schema)
+        → HasTables (state S.Store tx.old.conn.now)
         → OnOk result (ClosesShift number moment
         (state S.Store tx.old.conn.now) (state S.Store tx.new.conn.now)) }
-    ensures inside { HasCleanDisk (state S.Store tx.new.conn.now)
-        → OnOk result (Shows (state S.Store tx.old.conn.now) (state S.Store tx.new.conn.now)
-        (state S.Store tx.new.conn.now).now (state S.Store tx.old.conn.now).committed true) }
-    ensures kept { HasCleanDisk (state S.Store tx.new.conn.now)
-        → KeepsCommit (state S.Store tx.old.conn.now) (state S.Store tx.new.conn.now) }
+    ensures transaction { KeepsTransaction
+        (state S.Store tx.old.conn.now) (state S.Store tx.new.conn.now) result }
     ensures refused { HasCleanDisk (state S.Store tx.new.conn.now)
-        → OnErr result (IsLeft (state S.Store tx.old.conn.now) (state S.Store tx.new.conn.now)
-        ⊎ (tx.new.conn.now ≡ tx.old.conn.now)) }
-    ensures survives { Survives
-        (state S.Store tx.old.conn.now) (state S.Store tx.new.conn.now) (λ _. ⊥) }
+        → HasTables (state S.Store tx.old.conn.now)
+        → IfErr result (FailsToStore
+        (state S.Store tx.old.conn.now) (state S.Store tx.new.conn.now)) }
 {
-    update(tx, SHIFT_CLOSED, &[whole(number), seconds(moment)])?;
-    Ok(())
+    set(tx, SHIFT_CLOSED, &[whole(number), seconds(moment)])
 }
 
 /// Sets the tariff of the meter of a number.
@@ -57,25 +51,19 @@ pub fn set_tariff<S: Alter>(
 ) -> Result<(), TableError>
     ensures same_reference { tx.new.conn.ghost_name ≡ tx.old.conn.ghost_name }
     ensures changed { HasCleanDisk (state S.Store tx.new.conn.now)
-        → (IsTrue (state S.Store tx.old.conn.now).is_open
-        → HasOffice (state S.Store tx.old.conn.now).now.schema)
+        → HasTables (state S.Store tx.old.conn.now)
         → OnOk result (SetsTariff number.now name.now
         (state S.Store tx.old.conn.now) (state S.Store tx.new.conn.now)) }
-    ensures inside { HasCleanDisk (state S.Store tx.new.conn.now)
-        → OnOk result (Shows (state S.Store tx.old.conn.now) (state S.Store tx.new.conn.now)
-        (state S.Store tx.new.conn.now).now (state S.Store tx.old.conn.now).committed true) }
-    ensures kept { HasCleanDisk (state S.Store tx.new.conn.now)
-        → KeepsCommit (state S.Store tx.old.conn.now) (state S.Store tx.new.conn.now) }
+    ensures transaction { KeepsTransaction
+        (state S.Store tx.old.conn.now) (state S.Store tx.new.conn.now) result }
     ensures refused { HasCleanDisk (state S.Store tx.new.conn.now)
-        → OnErr result (IsLeft (state S.Store tx.old.conn.now) (state S.Store tx.new.conn.now)
-        ⊎ (tx.new.conn.now ≡ tx.old.conn.now)) }
-    ensures survives { Survives
-        (state S.Store tx.old.conn.now) (state S.Store tx.new.conn.now) (λ _. ⊥) }
+        → HasTables (state S.Store tx.old.conn.now)
+        → IfErr result (FailsToStore
+        (state S.Store tx.old.conn.now) (state S.Store tx.new.conn.now)) }
 {
     let values = [
         ValueRef::Text(number.as_bytes()),
         ValueRef::Text(name.as_bytes()),
     ];
-    update(tx, TARIFF_SET, &values)?;
-    Ok(())
+    set(tx, TARIFF_SET, &values)
 }

@@ -2,11 +2,13 @@
 
 ghost use Rattle.std.specs.Prelude.{◌<◌, ◌^◌, IsTrue, IfOk};
 ghost use Rattle.sqlite.specs.Effect.{IsDatabase};
-ghost use Rattle.sqlite.specs.State.{HasCleanDisk, IsUnchanged};
+ghost use Rattle.sqlite.specs.State.{HasCleanDisk};
 ghost use Rattle.sqlite.specs.Held.{state};
-ghost use Rattle.book_tables.specs.Format.{IsFormatOf, shown_format};
+ghost use Rattle.book_tables.specs.Format.{IsFormatOf};
+ghost use Rattle.book_tables.specs.Kept.{about_kept};
 ghost use Rattle.book_tables.specs.ReadBack.{ReadsBack};
-ghost use Rattle.book_tables.specs.Reading.{HasTables, OnlyReads};
+ghost use Rattle.book_tables.specs.Rows.{shown_format};
+ghost use Rattle.book_tables.specs.Reading.{HasTable, ReadsTable};
 
 use crate::cells;
 use crate::error::TableError;
@@ -36,7 +38,7 @@ pub(crate) struct Told {
 
 impl FromRow for Told {
     ghost use Rattle.std.specs.Prelude.{◌<◌, ◌^◌, ⊤};
-    ghost use Rattle.book_tables.specs.Format.{shown_format};
+    ghost use Rattle.book_tables.specs.Rows.{shown_format};
     ghost use Rattle.book_tables.specs.ReadBack.{ReadsBack};
 
     ghost reads_as = { λ row told. ReadsBack shown_format (λ n. n < 2 ^ 32) row told.format };
@@ -60,10 +62,10 @@ pub fn format_number<S: Alter>(
     conn: &mut Connection<S>,
 ) -> Result<Option<u32>, TableError>
     ensures given { HasCleanDisk (state S.Store conn.new)
-        → HasTables (state S.Store conn.old)
+        → HasTable about_kept (state S.Store conn.old)
         → (IsTrue (state S.Store conn.old).is_open → IsDatabase (state S.Store conn.old).now)
         → IfOk result (IsFormatOf (state S.Store conn.old).now) }
-    ensures reads { OnlyReads IsUnchanged
+    ensures reads { ReadsTable about_kept
         (state S.Store conn.old) (state S.Store conn.new) result }
 {
     let told: Vec<Told> = read_rows(alloc, conn, FORMAT, &[])?;

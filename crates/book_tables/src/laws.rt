@@ -1,6 +1,6 @@
 //! What holds of the office's tables, whatever statement is run on them.
 
-ghost use Rattle.std.specs.Prelude.{◌≡◌, ◌≤◌, ◌<◌, ◌&&◌, ◌==◌, ℕ, List, Option, None, Some, All, Ok, bytes_eq, filter, is_none, length, map, option_map, slice_get};
+ghost use Rattle.std.specs.Prelude.{◌≡◌, ◌⊎◌, ◌≤◌, ◌<◌, ◌&&◌, ◌==◌, ℕ, List, Option, None, Some, All, Ok, bytes_eq, filter, is_none, length, map, option_map, slice_get};
 ghost use Rattle.std.specs.Option.{option_to_list};
 ghost use Rattle.sqlite.specs.Effect.{Database};
 ghost use Rattle.sqlite_resolve.specs.Compile.{table_defined_by};
@@ -17,7 +17,7 @@ ghost use Rattle.vend_core.specs.declared.sale.Sale.{Sale};
 ghost use Rattle.vend_core.specs.declared.shift.Shift.{Shift};
 ghost use Rattle.book_tables.specs.Edited.{IsNew, edited, no_rows};
 ghost use Rattle.book_tables.specs.Found.{meters_numbered, step_at, steps_at, tariffs_named};
-ghost use Rattle.book_tables.specs.Holds.{IsUntaken, StandsFor};
+ghost use Rattle.book_tables.specs.Holds.{HoldsMembers, IsUntaken, StandsFor};
 ghost use Rattle.book_tables.specs.ReadBack.{ReadsBack};
 ghost use Rattle.book_tables.specs.Rows.{Rows, shown_meter, shown_number, shown_sale, shown_shift, shown_step};
 ghost use Rattle.book_tables.specs.Stands.{AreMembersOf};
@@ -32,6 +32,11 @@ pub fn stands_law()
     // It stands for at most one, and for the empty one where it has none of the tables.
     ensures one_office { (db : Database) (o p : Office) → StandsFor db o → StandsFor db p → o ≡ p }
     ensures untaken { (db : Database) → IsUntaken db.schema → StandsFor db empty_office }
+    ensures members { (db : Database) (o : Office)
+        → IsOffice o → HoldsMembers db o → StandsFor db o }
+    // So it has the tables of the present format, or it has none and the office is empty.
+    ensures held { (db : Database) (o : Office) → StandsFor db o
+        → HoldsMembers db o ⊎ (IsUntaken db.schema × (o ≡ empty_office)) }
 
     // The members of an office keep the rules of their values, so that no row of theirs is refused.
     ensures steps { (o : Office) (name : List ℕ) (steps : List Step)

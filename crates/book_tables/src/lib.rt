@@ -22,6 +22,7 @@ pub mod sales;
 pub mod shifts;
 mod shown;
 pub mod sold;
+mod storing;
 pub mod tariffs;
 mod texts;
 mod values;

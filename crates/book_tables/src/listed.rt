@@ -1,10 +1,11 @@
 //! The records that all rows of an answer show.
 
-ghost use Rattle.std.specs.Prelude.{◌≡◌, false, map, IfOk, IfErr, OnOk, OnErr};
+ghost use Rattle.std.specs.Prelude.{◌≡◌, map, IfOk};
 ghost use Rattle.sqlite.specs.Values.{bound};
-ghost use Rattle.sqlite.specs.State.{HasCleanDisk, IsUnchanged, Survives};
+ghost use Rattle.sqlite.specs.State.{HasCleanDisk, IsUnchanged};
 ghost use Rattle.sqlite.specs.Held.{state};
-ghost use Rattle.one_table.specs.Answer.{GivesAll, IsLeft, OnlyAsks};
+ghost use Rattle.one_table.specs.Answer.{GivesAll, OnlyAsks};
+ghost use Rattle.one_table.specs.ReadsOnly.{ReadsOnly};
 ghost use Rattle.book_tables.specs.Reading.{FailsToShow, IsShown, ShowsRecord};
 
 use crate::error::TableError;
@@ -28,22 +29,12 @@ pub(crate) fn all_records<S: Alter, T: Record + Drop>(
     params: &[ValueRef<'_>],
 ) -> Result<Vec<T>, TableError>
     ensures given { HasCleanDisk (state S.Store conn.new)
-        → OnlyAsks (state S.Store conn.old) sql.now
+        → OnlyAsks sql.now (state S.Store conn.old)
         → IfOk result (λ found. GivesAll (IsShown T.Record.shown T.Record.keeps) sql.now
         (bound params.now) (state S.Store conn.old) (state S.Store conn.new) found.items) }
-    ensures same { HasCleanDisk (state S.Store conn.new)
-        → OnlyAsks (state S.Store conn.old) sql.now
-        → OnOk result (IsUnchanged (state S.Store conn.old) (state S.Store conn.new)) }
-    ensures kept { HasCleanDisk (state S.Store conn.new)
-        → OnlyAsks (state S.Store conn.old) sql.now
-        → OnErr result (IsLeft (state S.Store conn.old) (state S.Store conn.new)) }
-    ensures mode { conn.old.in_transaction ≡ false → conn.new.in_transaction ≡ false }
-    ensures faults { HasCleanDisk (state S.Store conn.new)
-        → OnlyAsks (state S.Store conn.old) sql.now
-        → IfErr result (FailsToShow (ShowsRecord T.Record.shown T.Record.keeps) sql.now
-        (bound params.now) (state S.Store conn.old) (state S.Store conn.new)) }
-    ensures survives { OnlyAsks (state S.Store conn.old) sql.now
-        → Survives (state S.Store conn.old) (state S.Store conn.new) (λ _. ⊥) }
+    ensures reads { ReadsOnly (OnlyAsks sql.now) IsUnchanged
+        (FailsToShow (ShowsRecord T.Record.shown T.Record.keeps) sql.now (bound params.now))
+        (state S.Store conn.old) (state S.Store conn.new) result }
 {
     let shown: Vec<Shown<T>> = read_rows(alloc, conn, sql, params)?;
     Ok(records_of(alloc, shown)?)

@@ -1,13 +1,14 @@
 //! The making of the office's tables.
 
-ghost use Rattle.std.specs.Prelude.{◌≡◌, true, OnOk};
-ghost use Rattle.sqlite.specs.State.{HasCleanDisk, KeepsCommit, Shows, Survives};
+ghost use Rattle.std.specs.Prelude.{◌≡◌, OnOk};
+ghost use Rattle.sqlite.specs.State.{HasCleanDisk};
 ghost use Rattle.sqlite.specs.Held.{state};
+ghost use Rattle.one_table.specs.InTransaction.{KeepsTransaction};
 ghost use Rattle.book_tables.specs.Making.{HasRoom, MakesOffice};
 
 use crate::error::TableError;
+use crate::storing::put;
 use crate::texts::{NEW_FORMAT, TABLES};
-use one_table::insert;
 use one_table::make::create_tables;
 use sqlite::{Alter, Transaction};
 
@@ -24,15 +25,9 @@ pub fn make_tables<S: Alter>(tx: &mut Transaction<'_, S>) -> Result<(), TableErr
         → HasRoom (state S.Store tx.old.conn.now)
         → OnOk result (MakesOffice
         (state S.Store tx.old.conn.now) (state S.Store tx.new.conn.now)) }
-    ensures inside { HasCleanDisk (state S.Store tx.new.conn.now)
-        → OnOk result (Shows (state S.Store tx.old.conn.now) (state S.Store tx.new.conn.now)
-        (state S.Store tx.new.conn.now).now (state S.Store tx.old.conn.now).committed true) }
-    ensures kept { HasCleanDisk (state S.Store tx.new.conn.now)
-        → KeepsCommit (state S.Store tx.old.conn.now) (state S.Store tx.new.conn.now) }
-    ensures survives { Survives
-        (state S.Store tx.old.conn.now) (state S.Store tx.new.conn.now) (λ _. ⊥) }
+    ensures transaction { KeepsTransaction
+        (state S.Store tx.old.conn.now) (state S.Store tx.new.conn.now) result }
 {
     create_tables(tx, &TABLES)?;
-    insert(tx, NEW_FORMAT, &[])?;
-    Ok(())
+    put(tx, NEW_FORMAT, &[])
 }

@@ -1,9 +1,10 @@
 //! The statements on the table of meters.
 
 ghost use Rattle.std.specs.Prelude.{◌≡◌, bytes_eq, find, option_map, IfOk};
-ghost use Rattle.sqlite.specs.State.{HasCleanDisk, IsUnchanged};
+ghost use Rattle.sqlite.specs.State.{HasCleanDisk};
 ghost use Rattle.sqlite.specs.Held.{state};
-ghost use Rattle.book_tables.specs.Reading.{AreOfOffice, HasRows, OnlyReads};
+ghost use Rattle.book_tables.specs.Kept.{meters_kept};
+ghost use Rattle.book_tables.specs.Reading.{AreOfOffice, HasTableRows, ReadsTable};
 ghost use Rattle.book_tables.specs.Rows.{Rows};
 
 use crate::error::TableError;
@@ -22,10 +23,10 @@ pub fn meter_numbered<S: Alter>(
     number: &MeterNo,
 ) -> Result<Option<Meter>, TableError>
     ensures given { HasCleanDisk (state S.Store conn.new)
-        → (rows : Rows) → HasRows (state S.Store conn.old) rows → AreOfOffice rows
+        → (rows : Rows) → HasTableRows meters_kept (state S.Store conn.old) rows → AreOfOffice rows
         → IfOk result (λ found. found ≡ option_map (λ r. r.1)
         (find (λ r. bytes_eq r.0 number.now) rows.meters)) }
-    ensures reads { OnlyReads IsUnchanged
+    ensures reads { ReadsTable meters_kept
         (state S.Store conn.old) (state S.Store conn.new) result }
 {
     first_record(conn, METER_NUMBERED, &meter_no_values(number))

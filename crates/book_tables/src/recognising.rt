@@ -4,7 +4,7 @@ ghost use Rattle.std.specs.Prelude.{◌≡◌, ◌↔◌, IsTrue, IfOk};
 ghost use Rattle.book_tables.specs.Holds.{HasOffice, IsUntaken};
 
 use crate::texts::{NAMES, TABLES};
-use one_table::inspect::{are_untaken, is_unreferred};
+use one_table::inspect::{are_untaken, is_harmless, is_unreferred};
 use one_table::recognise::{are_left_alone, stand};
 use sqlite_schema::schema::Schema;
 use std::alloc::{AllocError, Global};
@@ -20,16 +20,16 @@ pub enum Found {
     Another,
 }
 
-// The tables whose rows are changed after they were put in.
-const CHANGED: [&str; 2] = ["meters", "shifts"];
-
 fn has_office(alloc: Global, schema: &Schema) -> Result<bool, AllocError>
     ensures { IfOk result (λ all. IsTrue all ↔ HasOffice schema.now) }
 {
     if !is_unreferred(schema, &NAMES) {
         return Ok(false);
     }
-    if !are_left_alone(schema, &CHANGED) {
+    if !is_harmless(schema, &NAMES) {
+        return Ok(false);
+    }
+    if !are_left_alone(schema, &NAMES) {
         return Ok(false);
     }
     match stand(alloc, schema, &TABLES) {

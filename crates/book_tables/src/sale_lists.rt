@@ -1,9 +1,10 @@
 //! The statements that list sales, by number.
 
 ghost use Rattle.std.specs.Prelude.{◌≡◌, ◌==◌, filter, nat_lt, take, IfOk};
-ghost use Rattle.sqlite.specs.State.{HasCleanDisk, IsUnchanged};
+ghost use Rattle.sqlite.specs.State.{HasCleanDisk};
 ghost use Rattle.sqlite.specs.Held.{state};
-ghost use Rattle.book_tables.specs.Reading.{AreOfOffice, HasRows, OnlyReads};
+ghost use Rattle.book_tables.specs.Kept.{sales_kept};
+ghost use Rattle.book_tables.specs.Reading.{AreOfOffice, HasTableRows, ReadsTable};
 ghost use Rattle.book_tables.specs.Rows.{Rows};
 
 use crate::error::TableError;
@@ -25,10 +26,10 @@ pub fn sales_after<S: Alter>(
     limit: u32,
 ) -> Result<Vec<Sale>, TableError>
     ensures given { HasCleanDisk (state S.Store conn.new)
-        → (rows : Rows) → HasRows (state S.Store conn.old) rows → AreOfOffice rows
+        → (rows : Rows) → HasTableRows sales_kept (state S.Store conn.old) rows → AreOfOffice rows
         → IfOk result (λ found. found.items
         ≡ take limit (filter (λ s. nat_lt number s.number) rows.sales)) }
-    ensures reads { OnlyReads IsUnchanged
+    ensures reads { ReadsTable sales_kept
         (state S.Store conn.old) (state S.Store conn.new) result }
 {
     all_records(alloc, conn, SALES_AFTER, &page_values(number, limit))
@@ -44,9 +45,9 @@ pub fn sales_of_shift<S: Alter>(
     shift: u32,
 ) -> Result<Vec<Sale>, TableError>
     ensures given { HasCleanDisk (state S.Store conn.new)
-        → (rows : Rows) → HasRows (state S.Store conn.old) rows → AreOfOffice rows
+        → (rows : Rows) → HasTableRows sales_kept (state S.Store conn.old) rows → AreOfOffice rows
         → IfOk result (λ found. found.items ≡ filter (λ s. s.shift == shift) rows.sales) }
-    ensures reads { OnlyReads IsUnchanged
+    ensures reads { ReadsTable sales_kept
         (state S.Store conn.old) (state S.Store conn.new) result }
 {
     all_records(alloc, conn, SALES_OF_SHIFT, &number_values(shift))

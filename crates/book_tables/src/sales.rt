@@ -2,9 +2,10 @@
 
 ghost use Rattle.std.specs.Prelude.{◌≡◌, ◌&&◌, ◌==◌, bytes_eq, find, length, option_map, unwrap_or, None, IfOk};
 ghost use Rattle.std.specs.List.{last_or};
-ghost use Rattle.sqlite.specs.State.{HasCleanDisk, IsUnchanged};
+ghost use Rattle.sqlite.specs.State.{HasCleanDisk};
 ghost use Rattle.sqlite.specs.Held.{state};
-ghost use Rattle.book_tables.specs.Reading.{AreOfOffice, HasRows, OnlyReads};
+ghost use Rattle.book_tables.specs.Kept.{sales_kept};
+ghost use Rattle.book_tables.specs.Reading.{AreOfOffice, HasTableRows, ReadsTable};
 ghost use Rattle.book_tables.specs.Rows.{Rows};
 
 use crate::error::TableError;
@@ -23,9 +24,9 @@ pub fn sale_numbered<S: Alter>(
     number: u32,
 ) -> Result<Option<Sale>, TableError>
     ensures given { HasCleanDisk (state S.Store conn.new)
-        → (rows : Rows) → HasRows (state S.Store conn.old) rows → AreOfOffice rows
+        → (rows : Rows) → HasTableRows sales_kept (state S.Store conn.old) rows → AreOfOffice rows
         → IfOk result (λ found. found ≡ find (λ s. s.number == number) rows.sales) }
-    ensures reads { OnlyReads IsUnchanged
+    ensures reads { ReadsTable sales_kept
         (state S.Store conn.old) (state S.Store conn.new) result }
 {
     first_record(conn, SALE_NUMBERED, &number_values(number))
@@ -41,10 +42,10 @@ pub fn sale_of_ref<S: Alter>(
     order_ref: &Ref,
 ) -> Result<Option<Sale>, TableError>
     ensures given { HasCleanDisk (state S.Store conn.new)
-        → (rows : Rows) → HasRows (state S.Store conn.old) rows → AreOfOffice rows
+        → (rows : Rows) → HasTableRows sales_kept (state S.Store conn.old) rows → AreOfOffice rows
         → IfOk result (λ found. found ≡ find (λ s. bytes_eq s.operator operator.now
         && bytes_eq s.order_ref order_ref.now) rows.sales) }
-    ensures reads { OnlyReads IsUnchanged
+    ensures reads { ReadsTable sales_kept
         (state S.Store conn.old) (state S.Store conn.new) result }
 {
     first_record(conn, SALE_OF_REF, &ref_values(operator, order_ref))
@@ -57,12 +58,12 @@ pub fn sale_of_ref<S: Alter>(
 /// What the database refuses, and a row that is no office's.
 pub fn last_sale_number<S: Alter>(conn: &mut Connection<S>) -> Result<Option<u32>, TableError>
     ensures given { HasCleanDisk (state S.Store conn.new)
-        → (rows : Rows) → HasRows (state S.Store conn.old) rows → AreOfOffice rows
+        → (rows : Rows) → HasTableRows sales_kept (state S.Store conn.old) rows → AreOfOffice rows
         → IfOk result (λ found. found ≡ option_map (λ s. s.number) (last_or None rows.sales)) }
     ensures counted { HasCleanDisk (state S.Store conn.new)
-        → (rows : Rows) → HasRows (state S.Store conn.old) rows → AreOfOffice rows
+        → (rows : Rows) → HasTableRows sales_kept (state S.Store conn.old) rows → AreOfOffice rows
         → IfOk result (λ found. unwrap_or found 0 ≡ length rows.sales) }
-    ensures reads { OnlyReads IsUnchanged
+    ensures reads { ReadsTable sales_kept
         (state S.Store conn.old) (state S.Store conn.new) result }
 {
     first_record(conn, LAST_SALE_NUMBER, &[])

@@ -2,9 +2,10 @@
 
 ghost use Rattle.std.specs.Prelude.{◌≡◌, ◌&&◌, ◌==◌, bytes_eq, find, is_none, length, option_map, unwrap_or, None, IfOk};
 ghost use Rattle.std.specs.List.{last_or};
-ghost use Rattle.sqlite.specs.State.{HasCleanDisk, IsUnchanged};
+ghost use Rattle.sqlite.specs.State.{HasCleanDisk};
 ghost use Rattle.sqlite.specs.Held.{state};
-ghost use Rattle.book_tables.specs.Reading.{AreOfOffice, HasRows, OnlyReads};
+ghost use Rattle.book_tables.specs.Kept.{shifts_kept};
+ghost use Rattle.book_tables.specs.Reading.{AreOfOffice, HasTableRows, ReadsTable};
 ghost use Rattle.book_tables.specs.Rows.{Rows};
 
 use crate::error::TableError;
@@ -23,9 +24,9 @@ pub fn shift_numbered<S: Alter>(
     number: u32,
 ) -> Result<Option<Shift>, TableError>
     ensures given { HasCleanDisk (state S.Store conn.new)
-        → (rows : Rows) → HasRows (state S.Store conn.old) rows → AreOfOffice rows
+        → (rows : Rows) → HasTableRows shifts_kept (state S.Store conn.old) rows → AreOfOffice rows
         → IfOk result (λ found. found ≡ find (λ s. s.number == number) rows.shifts) }
-    ensures reads { OnlyReads IsUnchanged
+    ensures reads { ReadsTable shifts_kept
         (state S.Store conn.old) (state S.Store conn.new) result }
 {
     first_record(conn, SHIFT_NUMBERED, &number_values(number))
@@ -40,10 +41,10 @@ pub fn open_shift<S: Alter>(
     operator: &Operator,
 ) -> Result<Option<Shift>, TableError>
     ensures given { HasCleanDisk (state S.Store conn.new)
-        → (rows : Rows) → HasRows (state S.Store conn.old) rows → AreOfOffice rows
+        → (rows : Rows) → HasTableRows shifts_kept (state S.Store conn.old) rows → AreOfOffice rows
         → IfOk result (λ found. found ≡ find (λ s. bytes_eq s.operator operator.now
         && is_none s.closed) rows.shifts) }
-    ensures reads { OnlyReads IsUnchanged
+    ensures reads { ReadsTable shifts_kept
         (state S.Store conn.old) (state S.Store conn.new) result }
 {
     first_record(conn, OPEN_SHIFT, &operator_values(operator))
@@ -56,12 +57,12 @@ pub fn open_shift<S: Alter>(
 /// What the database refuses, and a row that is no office's.
 pub fn last_shift_number<S: Alter>(conn: &mut Connection<S>) -> Result<Option<u32>, TableError>
     ensures given { HasCleanDisk (state S.Store conn.new)
-        → (rows : Rows) → HasRows (state S.Store conn.old) rows → AreOfOffice rows
+        → (rows : Rows) → HasTableRows shifts_kept (state S.Store conn.old) rows → AreOfOffice rows
         → IfOk result (λ found. found ≡ option_map (λ s. s.number) (last_or None rows.shifts)) }
     ensures counted { HasCleanDisk (state S.Store conn.new)
-        → (rows : Rows) → HasRows (state S.Store conn.old) rows → AreOfOffice rows
+        → (rows : Rows) → HasTableRows shifts_kept (state S.Store conn.old) rows → AreOfOffice rows
         → IfOk result (λ found. unwrap_or found 0 ≡ length rows.shifts) }
-    ensures reads { OnlyReads IsUnchanged
+    ensures reads { ReadsTable shifts_kept
         (state S.Store conn.old) (state S.Store conn.new) result }
 {
     first_record(conn, LAST_SHIFT_NUMBER, &[])

@@ -1,11 +1,12 @@
 //! The records that are read of the rows of an answer.
 
-ghost use Rattle.std.specs.Prelude.{◌≡◌, false, IfOk, IfErr, OnOk, OnErr};
+ghost use Rattle.std.specs.Prelude.{IfOk};
 ghost use Rattle.sqlite.specs.Order.{Row};
 ghost use Rattle.sqlite.specs.Values.{bound};
-ghost use Rattle.sqlite.specs.State.{HasCleanDisk, IsUnchanged, Survives};
+ghost use Rattle.sqlite.specs.State.{HasCleanDisk, IsUnchanged};
 ghost use Rattle.sqlite.specs.Held.{state};
-ghost use Rattle.one_table.specs.Answer.{GivesFirst, IsLeft, OnlyAsks};
+ghost use Rattle.one_table.specs.Answer.{GivesFirst, OnlyAsks};
+ghost use Rattle.one_table.specs.ReadsOnly.{ReadsOnly};
 ghost use Rattle.book_tables.specs.ReadBack.{ReadsBack};
 ghost use Rattle.book_tables.specs.Reading.{FailsToShow, IsShown, ShowsRecord};
 ghost use Rattle.book_tables.specs.Rows.{shown_meter, shown_number, shown_sale, shown_shift, shown_step, tariff_columns};
@@ -58,22 +59,12 @@ pub(crate) fn first_record<S: Alter, T: Record>(
     params: &[ValueRef<'_>],
 ) -> Result<Option<T>, TableError>
     ensures given { HasCleanDisk (state S.Store conn.new)
-        → OnlyAsks (state S.Store conn.old) sql.now
+        → OnlyAsks sql.now (state S.Store conn.old)
         → IfOk result (GivesFirst (IsShown T.Record.shown T.Record.keeps) sql.now (bound params.now)
         (state S.Store conn.old) (state S.Store conn.new)) }
-    ensures same { HasCleanDisk (state S.Store conn.new)
-        → OnlyAsks (state S.Store conn.old) sql.now
-        → OnOk result (IsUnchanged (state S.Store conn.old) (state S.Store conn.new)) }
-    ensures kept { HasCleanDisk (state S.Store conn.new)
-        → OnlyAsks (state S.Store conn.old) sql.now
-        → OnErr result (IsLeft (state S.Store conn.old) (state S.Store conn.new)) }
-    ensures mode { conn.old.in_transaction ≡ false → conn.new.in_transaction ≡ false }
-    ensures faults { HasCleanDisk (state S.Store conn.new)
-        → OnlyAsks (state S.Store conn.old) sql.now
-        → IfErr result (FailsToShow (ShowsRecord T.Record.shown T.Record.keeps) sql.now
-        (bound params.now) (state S.Store conn.old) (state S.Store conn.new)) }
-    ensures survives { OnlyAsks (state S.Store conn.old) sql.now
-        → Survives (state S.Store conn.old) (state S.Store conn.new) (λ _. ⊥) }
+    ensures reads { ReadsOnly (OnlyAsks sql.now) IsUnchanged
+        (FailsToShow (ShowsRecord T.Record.shown T.Record.keeps) sql.now (bound params.now))
+        (state S.Store conn.old) (state S.Store conn.new) result }
 {
     let found: Option<Shown<T>> = read_row(conn, sql, params)?;
     match found {

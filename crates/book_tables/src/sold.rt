@@ -2,12 +2,13 @@
 //! of them than there is memory.
 
 ghost use Rattle.std.specs.Prelude.{◌≡◌, ◌&&◌, ◌==◌, ◌+◌, ◌^◌, ◌<◌, ⊤, bytes_eq, filter, map, max, Some, sum_by, unwrap_or, IfOk};
-ghost use Rattle.sqlite.specs.State.{HasCleanDisk, IsUnchanged};
+ghost use Rattle.sqlite.specs.State.{HasCleanDisk};
 ghost use Rattle.sqlite.specs.Held.{state};
 ghost use Rattle.sts_fields.specs.Calendar.{month_at};
 ghost use Rattle.sts_fields.specs.Base.{base_eq};
 ghost use Rattle.vend_core.specs.Lookup.{greatest_of};
-ghost use Rattle.book_tables.specs.Reading.{AreOfOffice, HasRows, OnlyReads};
+ghost use Rattle.book_tables.specs.Kept.{sales_kept};
+ghost use Rattle.book_tables.specs.Reading.{AreOfOffice, HasTableRows, ReadsTable};
 ghost use Rattle.book_tables.specs.Rows.{Rows, shown_number};
 ghost use Rattle.book_tables.specs.Values.{IsSoldAmount, IsTid};
 
@@ -96,10 +97,10 @@ pub fn greatest_tid<S: Alter>(
     base: Base,
 ) -> Result<Option<u32>, TableError>
     ensures given { HasCleanDisk (state S.Store conn.new)
-        → (rows : Rows) → HasRows (state S.Store conn.old) rows → AreOfOffice rows
+        → (rows : Rows) → HasTableRows sales_kept (state S.Store conn.old) rows → AreOfOffice rows
         → IfOk result (λ greatest. greatest ≡ greatest_of (map (λ s. s.tid)
         (filter (λ s. bytes_eq s.meter meter.now && base_eq s.base base) rows.sales))) }
-    ensures reads { OnlyReads IsUnchanged
+    ensures reads { ReadsTable sales_kept
         (state S.Store conn.old) (state S.Store conn.new) result }
 {
     office_law();
@@ -118,10 +119,10 @@ pub fn tenths_in_month<S: Alter>(
     month: u32,
 ) -> Result<u64, TableError>
     ensures given { HasCleanDisk (state S.Store conn.new)
-        → (rows : Rows) → HasRows (state S.Store conn.old) rows → AreOfOffice rows
+        → (rows : Rows) → HasTableRows sales_kept (state S.Store conn.old) rows → AreOfOffice rows
         → IfOk result (λ tenths. tenths ≡ sum_by (λ s. s.tenths)
         (filter (λ s. bytes_eq s.meter meter.now && (month_at s.moment == month)) rows.sales)) }
-    ensures reads { OnlyReads IsUnchanged
+    ensures reads { ReadsTable sales_kept
         (state S.Store conn.old) (state S.Store conn.new) result }
 {
     amount_law();

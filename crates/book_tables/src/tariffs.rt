@@ -1,11 +1,12 @@
 //! The statements on the tables of tariffs.
 
 ghost use Rattle.std.specs.Prelude.{◌≡◌, ◌≢◌, ◌↔◌, ◌⊎◌, [], unwrap_or, Contains, IsTrue, IfOk, IfErr, IfSome};
-ghost use Rattle.sqlite.specs.State.{HasCleanDisk, IsUnchanged};
+ghost use Rattle.sqlite.specs.State.{HasCleanDisk};
 ghost use Rattle.sqlite.specs.Held.{state};
 ghost use Rattle.tariff.specs.Steps.{IsSteps};
 ghost use Rattle.vend_core.specs.Office.{IsOffice, Office};
-ghost use Rattle.book_tables.specs.Reading.{AreOfOffice, HasRows, OnlyReads};
+ghost use Rattle.book_tables.specs.Kept.{steps_kept, tariffs_kept};
+ghost use Rattle.book_tables.specs.Reading.{AreOfOffice, HasTableRows, ReadsTable};
 ghost use Rattle.book_tables.specs.Rows.{Rows};
 ghost use Rattle.book_tables.specs.Stands.{AreMembersOf};
 
@@ -25,9 +26,9 @@ use vend_core::TariffName;
 /// What the database refuses, and a row that is no office's.
 pub fn has_tariff<S: Alter>(conn: &mut Connection<S>, name: &TariffName) -> Result<bool, TableError>
     ensures given { HasCleanDisk (state S.Store conn.new)
-        → (rows : Rows) → HasRows (state S.Store conn.old) rows → AreOfOffice rows
+        → (rows : Rows) → HasTableRows tariffs_kept (state S.Store conn.old) rows → AreOfOffice rows
         → IfOk result (λ there. IsTrue there ↔ Contains rows.tariffs name.now) }
-    ensures reads { OnlyReads IsUnchanged
+    ensures reads { ReadsTable tariffs_kept
         (state S.Store conn.old) (state S.Store conn.new) result }
 {
     let found: Option<TariffName> = first_record(conn, TARIFF_NAMED, &tariff_values(name))?;
@@ -65,10 +66,10 @@ pub fn steps_of<S: Alter>(
     name: &TariffName,
 ) -> Result<Option<Steps>, TableError>
     ensures given { HasCleanDisk (state S.Store conn.new)
-        → (rows : Rows) (o : Office) → HasRows (state S.Store conn.old) rows
+        → (rows : Rows) (o : Office) → HasTableRows steps_kept (state S.Store conn.old) rows
         → IsOffice o → AreMembersOf rows o
         → IfOk result (λ found. found ≡ o.tariffs name.now) }
-    ensures reads { OnlyReads IsUnchanged
+    ensures reads { ReadsTable steps_kept
         (state S.Store conn.old) (state S.Store conn.new) result }
 {
     let shown: Vec<Step> = all_records(alloc, conn, STEPS_OF, &tariff_values(name))?;

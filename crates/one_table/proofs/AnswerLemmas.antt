@@ -120,7 +120,7 @@ unfolding FailsToQuery
 not_run_fails sql params old new e h = inl h
 
 -- the text was compiled where the connection was open, and runs then
-pub asks_survives : (sql text : List ℕ) (params : Row) (old mid new : State) → OnlyAsks old sql → (HasCleanDisk mid → (text ≡ sql) × IsUnchanged old mid) → Survives old mid (λ _. ⊥)
+pub asks_survives : (sql text : List ℕ) (params : Row) (old mid new : State) → OnlyAsks sql old → (HasCleanDisk mid → (text ≡ sql) × IsUnchanged old mid) → Survives old mid (λ _. ⊥)
     → Survives mid new (CommitsShowing text params mid) → Survives old new (λ _. ⊥)
 asks_survives sql text params old mid new asks made first second =
     survives_then old mid new (λ _. ⊥) (CommitsShowing text params mid) (λ _. ⊥) (λ _ db none. none)
@@ -135,7 +135,7 @@ pub record HasAsked {V : Type 0} (items : V → List Row) (sql : List ℕ) (para
   pub kept : OnErr r (IsLeft old new)
   pub faults : IfErr r (FailsToQuery sql params old new)
 
-pub has_asked : {V : Type 0} (items : V → List Row) (sql text : List ℕ) (params : Row) (old mid new : State) (r : Result V Error) → OnlyAsks old sql → text ≡ sql → IsUnchanged old mid → Survives old mid (λ _. ⊥)
+pub has_asked : {V : Type 0} (items : V → List Row) (sql text : List ℕ) (params : Row) (old mid new : State) (r : Result V Error) → OnlyAsks sql old → text ≡ sql → IsUnchanged old mid → Survives old mid (λ _. ⊥)
     → IfOk r (λ v. Shown text params mid new (items v)) → IfErr r (FailsToQuery text params mid new) → HasAsked items sql params old new r
 has_asked items sql text params old mid new (Ok v) asks is same kept h none =
     let plain = asks same.0.was_open in
@@ -157,13 +157,13 @@ stops_at IsReadable sql params old new rows i row low is begins same Bad (inr ba
 stops_at IsReadable sql params old new rows i row low is begins same TooMuch (inr bad) = absurd (let no = bad.0 in cc)
 
 -- the same of an answer that was taken whole
-pub stops_in : (IsReadable : Row → Type 0) (sql : List ℕ) (params : Row) (old new : State) → OnlyAsks old sql → (rows : List Row) (i : ℕ) (row : Row) → i < length rows → row ≡ get_or rows i row
+pub stops_in : (IsReadable : Row → Type 0) (sql : List ℕ) (params : Row) (old new : State) → OnlyAsks sql old → (rows : List Row) (i : ℕ) (row : Row) → i < length rows → row ≡ get_or rows i row
     → Shown sql params old new rows → IsUnchanged old new → (why : ReadFault) → OnlyWhere (¬ IsReadable row) why → FailsToRead IsReadable sql params old new why
 stops_in IsReadable sql params old new asks rows i row low is shown same =
     stops_at IsReadable sql params old new rows i row low is (shown_begins sql params old new rows (asks same.0.was_open) shown) same
 
 -- a query that failed right after its text was compiled
-pub fails_asked : (sql text : List ℕ) (params : Row) (old mid new : State) (e : Error) → OnlyAsks old sql → (text ≡ sql) × IsUnchanged old mid → Survives old mid (λ _. ⊥) → FailsToQuery text params mid new e
+pub fails_asked : (sql text : List ℕ) (params : Row) (old mid new : State) (e : Error) → OnlyAsks sql old → (text ≡ sql) × IsUnchanged old mid → Survives old mid (λ _. ⊥) → FailsToQuery text params mid new e
     → IsLeft old new × FailsToQuery sql params old new e
 fails_asked sql text params old mid new e asks made kept h =
     let plain = asks made.1.0.was_open in

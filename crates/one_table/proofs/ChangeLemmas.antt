@@ -1,5 +1,5 @@
 -- From what a statement inside a transaction does to a table to what it leaves.
-use Rattle.std.proofs.Common.{◌≡◌, ◌≢◌, OnOk, false, ◌⊎◌, ℕ, true, List, slice_get, IsTrue, None, Some, Result, Ok, Err, refl, sym, ap, subst, inl, inr, ◌∙◌}
+use Rattle.std.proofs.Common.{◌≡◌, ◌≢◌, OnOk, IfErr, IsErrAnd, arith, false, ◌⊎◌, ℕ, true, List, slice_get, IsTrue, None, Some, Result, Ok, Err, refl, sym, ap, subst, inl, inr, ◌∙◌}
 use Rattle.std.proofs.lemmas.Bool.{cases_Bool}
 use Rattle.std.specs.List.{AllByRecursion}
 use Rattle.sqlite_value.specs.Order.{Row}
@@ -12,14 +12,16 @@ use Rattle.sqlite.specs.Effect.{Database}
 use Rattle.sqlite.specs.Listing.{understood}
 use Rattle.sqlite.specs.Rows.{Written, Task}
 use Rattle.sqlite.specs.Does.{Tally, AtPlace, OnRows, WritesRows}
-use Rattle.sqlite.specs.State.{State, mode_of, Shows, Writes, Runs, ExecutesInside, KeepsCommit}
+use Rattle.sqlite.specs.State.{State, mode_of, HasCleanDisk, Shows, Writes, Runs, ExecutesInside, KeepsCommit, Survives}
 use Rattle.sqlite.proofs.Callers.{statement_of, runs_as}
 use Rattle.sqlite_trees.specs.declared.store.Store.{Ghosts}
 use Rattle.sqlite.specs.Held.{Held, state}
 use Rattle.sqlite.proofs.InsideLemmas.{unchanged_keeps}
-use Rattle.one_table.specs.Answer.{IsLeft}
+use Rattle.sqlite.specs.declared.error.Error.TheVariants.{SqliteFailure}
+use Rattle.sqlite.specs.declared.error.ErrorCode.TheVariants.{TransactionState}
+use Rattle.sqlite.proofs.StateLemmas.{survives_then}
 use Rattle.one_table.specs.Reading.{Means}
-use Rattle.one_table.specs.InTransaction.{HasChanged}
+use Rattle.one_table.specs.InTransaction.{FailsToRun, HasChanged, IsUnderWay, KeepsTransaction, StaysInside}
 use Rattle.one_table.proofs.ListedLemmas.{command_is, is_plain}
 
 -- a part that gave a value did not stop on the way
@@ -73,17 +75,31 @@ module _ (sql : List ℕ) (params : Row) (old new : State) (command : Command) (
       let m = means h.1.was_open in
       (m, runs_as sql params old new old.now.schema refl command (command_is m) (is_plain m) count h.0, h.1)
 
--- a text that is refused leaves the transaction as it was, or undone, or was not run at all
-pub refused_by : {S : Type 0} (g : Ghosts S) (sql : List ℕ) (params : Row) (old new : Held S) (e : Error) → (old.in_transaction ≡ false → new ≡ old)
-    → (IsTrue old.in_transaction → ExecutesInside 0 sql params (state g old) (state g new) (Err e)) → IsLeft (state g old) (state g new) ⊎ (new ≡ old)
-refused_by g sql params old new e ended runs = elim (cases_Bool old.in_transaction) [
-  | inl inside ↦ elim (runs inside) [ inl failed ↦ inl failed.1 | inr ends ↦ inl (inl ends.2) ]
-  | inr outside ↦ inr (ended outside)
+-- why a text fails
+pub fails_to_run : {S : Type 0} (g : Ghosts S) (sql : List ℕ) (params : Row) (old new : Held S) (e : Error) → (old.in_transaction ≡ false → (◌≡◌ {A = Result ℕ Error} (Err e) (Err (SqliteFailure TransactionState))) × (new ≡ old))
+    → (IsTrue old.in_transaction → ExecutesInside 0 sql params (state g old) (state g new) (Err e)) → FailsToRun sql params (state g old) (state g new) e
+fails_to_run g sql params old new e ended runs = elim (cases_Bool old.in_transaction) [
+  | inl inside ↦ inr (runs inside)
+  | inr outside ↦
+      let it = ended outside in
+      let same : (P : Held _ → Type 0) → P old → P new = λ P. subst P (sym it.1) in
+      inl (record {
+        ended = outside;
+        told = let told = it.0 in cc;
+        is_open = same (λ h. (state g h).is_open ≡ (state g old).is_open) refl;
+        now_is = same (λ h. (state g h).now ≡ (state g old).now) refl;
+        committed_is = same (λ h. (state g h).committed ≡ (state g old).committed) refl;
+        mode = same (λ h. h.in_transaction ≡ old.in_transaction) refl;
+      })
 ]
 
 pub on_ok : {A E P Q : Type 0} (r : Result A E) → (P → Q) → OnOk r P → OnOk r Q
 on_ok (Ok a) f p = f p
 on_ok (Err e) f p = tt
+
+pub if_err : {A E : Type 0} {P Q : E → Type 0} (r : Result A E) → ((e : E) → P e → Q e) → IfErr r P → IfErr r Q
+if_err (Ok a) f p = tt
+if_err (Err e) f p = f e p
 
 pub keeps_inside : (old new : State) → Shows old new new.now old.committed true → KeepsCommit old new
 keeps_inside old new h = record { was_open = λ _. h.was_open; committed = λ _. h.committed_is }
@@ -91,7 +107,37 @@ keeps_inside old new h = record { was_open = λ _. h.was_open; committed = λ _.
 pub keeps_then : (a b c : State) → KeepsCommit a b → KeepsCommit b c → KeepsCommit a c
 keeps_then a b c p q = record { was_open = λ k. p.was_open (q.was_open k); committed = λ k. q.committed k ∙ p.committed (q.was_open k) }
 
--- a text that was refused commits nothing
-pub keeps_refused : {S : Type 0} (g : Ghosts S) (old new : Held S) → IsLeft (state g old) (state g new) ⊎ (new ≡ old) → KeepsCommit (state g old) (state g new)
-keeps_refused g old new (inl left) = unchanged_keeps (state g old) (state g new) left
-keeps_refused g old new (inr same) = subst (λ h. KeepsCommit (state g old) (state g h)) (sym same) (record { was_open = λ k. k; committed = λ _. refl })
+-- a text that fails commits nothing
+pub keeps_failed : (sql : List ℕ) (params : Row) (old new : State) (e : Error) → FailsToRun sql params old new e → KeepsCommit old new
+keeps_failed sql params old new e (inl had) = record { was_open = λ k. subst IsTrue had.is_open k; committed = λ _. had.committed_is }
+keeps_failed sql params old new e (inr (inl failed)) = unchanged_keeps old new failed.1
+keeps_failed sql params old new e (inr (inr ends)) = unchanged_keeps old new (inl ends.2)
+
+-- ---- statements one after another inside a transaction
+
+pub stays_then : (old mid new : State) → StaysInside old mid → StaysInside mid new → StaysInside old new
+stays_then old mid new p q = record { was_open = p.was_open; is_open = q.is_open; now_is = refl; committed_is = q.committed_is ∙ p.committed_is; mode = q.mode }
+
+module _ {T U E F : Type 0} {x : T} (old mid new : State) where
+  -- after one that succeeded
+  pub transaction_then : (r : Result U F) → KeepsTransaction {T = T} {E = E} old mid (Ok x) → KeepsTransaction mid new r → KeepsTransaction old new r
+  transaction_then r first second = record {
+    inside = λ clean way.
+        let before = first.inside (omega (arith, second.survives.clean)) way in
+        on_ok r (stays_then old mid new before) (second.inside clean before.mode);
+    kept = λ clean way.
+        let before = first.inside (omega (arith, second.survives.clean)) way in
+        keeps_then old mid new (keeps_inside old mid before) (second.kept clean before.mode);
+    survives = survives_then old mid new _ _ (λ _. ⊥) (λ _ db none. none) (λ _ db none. none) first.survives second.survives;
+  }
+
+module _ {T U E F : Type 0} {old new : State} where
+  -- where another value is answered
+  pub transaction_on : {x : T} {y : U} → KeepsTransaction {T = T} {E = E} old new (Ok x) → KeepsTransaction {T = U} {E = F} old new (Ok y)
+  transaction_on this = record { inside = this.inside; kept = this.kept; survives = this.survives }
+
+-- where it fails
+module _ {U F : Type 0} {old new : State} where
+  pub transaction_off : (f : F) (r : Result U F) → IsErrAnd r (λ x. x ≡ f) → (HasCleanDisk new → IsUnderWay old → KeepsCommit old new) → Survives old new (λ _. ⊥) → KeepsTransaction old new r
+  transaction_off f (Ok y) failed kept survives = absurd failed
+  transaction_off f (Err y) failed kept survives = record { inside = λ _ _. tt; kept = kept; survives = survives }

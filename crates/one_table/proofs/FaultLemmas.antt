@@ -1,10 +1,10 @@
 -- A SELECT over one table fails only for want of memory, by a fault of the disk, or at a limit on steps.
-use Rattle.std.proofs.Common.{◌≡◌, ◌≢◌, ℕ, ◌≤◌, ◌==◌, nat_le, Bool, true, false, ◌&&◌, List, [], ◌∷◌, length, Option, None, Some, Ok, Err, Result, refl, sym, ap, append-nil, subst, ◌∙◌, inl, inr, ◌⊎◌, IsSome, arith, true≢false, Any}
+use Rattle.std.proofs.Common.{◌≡◌, ℕ, ◌≤◌, ◌==◌, nat_le, true, false, List, [], ◌∷◌, length, Option, None, Ok, Err, sym, ap, append-nil, subst, ◌∙◌, inl, inr, true≢false}
 use Rattle.std.proofs.lemmas.Bool.{and_parts, eqb-true, leb-true}
 use Rattle.sqlite_value.specs.Order.{Row}
 use Rattle.sqlite_trees.specs.Tree.{Trees}
 use Rattle.sqlite_syntax.specs.declared.statement.Parsed.{Parsed}
-use Rattle.sqlite_sql.specs.Term.{Term, Env}
+use Rattle.sqlite_sql.specs.Term.{Env}
 use Rattle.sqlite_sql.specs.Query.{Query, end, inner, matches, FoldOverflows}
 use Rattle.sqlite_sql.specs.Group.{Overflows}
 use Rattle.sqlite_sql.specs.Program.{overlay, QueryOverflows}
@@ -17,12 +17,10 @@ use Rattle.sqlite_resolve.specs.declared.compiled.Compiled.{Compiled}
 use Rattle.sqlite_resolve.specs.Lowering.{Checked, and_then}
 use Rattle.sqlite_resolve.specs.Scope.{Name}
 use Rattle.sqlite_resolve.specs.Compile.{first, planned, compiled, with_command}
-use Rattle.sqlite.specs.declared.error.ErrorCode.TheVariants as code
 use Rattle.sqlite.specs.declared.error.Error.{Error}
-use Rattle.sqlite.specs.declared.error.Error.TheVariants.{SqliteFailure}
 use Rattle.sqlite.specs.Effect.{Database, RefusesQuery, RefusesToRead}
 use Rattle.sqlite.specs.Listing.{understood, reads_listing, IsSourceOf}
-use Rattle.sqlite.specs.State.{State, Fails, IsUnchanged, IsStatement, IsNoStatement, IsNotRun, FailsToShow, FailsToQuery}
+use Rattle.sqlite.specs.State.{State, IsUnchanged, IsNoStatement, IsNotRun, FailsToQuery}
 use Rattle.one_table.specs.Place.{Has}
 use Rattle.one_table.specs.Reading.{Means, select_as, is_typed, is_whole, is_whole_in, FailsPlainly}
 use Rattle.one_table.proofs.UnderstandLemmas.{typed_alike}

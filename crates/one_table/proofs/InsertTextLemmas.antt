@@ -32,7 +32,7 @@ use Rattle.sqlite_resolve.specs.Compile.{first, small, source_of, queried, new_r
 use Rattle.one_table.specs.Place.{Has}
 use Rattle.one_table.specs.Simple.{one}
 use Rattle.one_table.specs.Reading.{Means}
-use Rattle.one_table.specs.Inserting.{is_value_at, is_value, Puts, insert_of, is_simple_insert, puts_meant, insert_in, insert_meant, row_of, insert_as, IsInsert}
+use Rattle.one_table.specs.Inserting.{is_value_at, is_value, Puts, insert_of, is_simple_insert, puts_meant, insert_in, insert_meant, source_of_row, insert_as, IsInsert}
 use Rattle.one_table.proofs.SelectLemmas.{nil_is}
 use Rattle.one_table.proofs.UnderstandLemmas.{understood_as}
 
@@ -68,26 +68,26 @@ module _ (s u : Schema) where
   inserted_same t base names es h = ap (λ (f : List ℕ → Checked NewRows). and_then (write.places t names) f) (fun_ext λ at. values_same t base at es h)
 
   -- only a row of terms is known, and what a query would be is not
-  source_same : (t : Table) (terms : List Term) (rows_are : NewRows) → source_of u (length t.columns + 1) rows_are ≡ Ok (row_of t terms) → source_of s (length t.columns + 1) rows_are ≡ Ok (row_of t terms)
+  source_same : (t : Table) (terms : List Term) (rows_are : NewRows) → source_of u (length t.columns + 1) rows_are ≡ Ok (source_of_row t terms) → source_of s (length t.columns + 1) rows_are ≡ Ok (source_of_row t terms)
   unfolding source_of queried
   source_same t terms (new.Values found) h = h
   source_same t terms (new.Query lets d) h = by_program (program u lets d) h
     where
-      by_program : (m : Checked Program) → and_then m (λ q. Ok (source.Query q)) ≡ Ok (row_of t terms) → queried s lets d ≡ Ok (row_of t terms)
+      by_program : (m : Checked Program) → and_then m (λ q. Ok (source.Query q)) ≡ Ok (source_of_row t terms) → queried s lets d ≡ Ok (source_of_row t terms)
       by_program (Ok q) h = absurd cc
       by_program (Err e) h = absurd cc
 
   new_rows_same : (t : Table) (terms : List Term) (base : ℕ) (names : List Name) (es : List Expr) → list_all is_value es ≡ true
-      → new_rows u t base names (rows.Values (es ∷ [])) ≡ Ok (row_of t terms) → new_rows s t base names (rows.Values (es ∷ [])) ≡ Ok (row_of t terms)
+      → new_rows u t base names (rows.Values (es ∷ [])) ≡ Ok (source_of_row t terms) → new_rows s t base names (rows.Values (es ∷ [])) ≡ Ok (source_of_row t terms)
   unfolding new_rows
   new_rows_same t terms base names es simple h = rw (inserted_same t base names es simple) (by_rows (write.inserted u t base names (rows.Values (es ∷ []))) h)
     where
-      by_rows : (m : Checked NewRows) → and_then m (source_of u (length t.columns + 1)) ≡ Ok (row_of t terms) → and_then m (source_of s (length t.columns + 1)) ≡ Ok (row_of t terms)
+      by_rows : (m : Checked NewRows) → and_then m (source_of u (length t.columns + 1)) ≡ Ok (source_of_row t terms) → and_then m (source_of s (length t.columns + 1)) ≡ Ok (source_of_row t terms)
       by_rows (Ok found) h = source_same t terms found h
       by_rows (Err e) h = absurd cc
 
 module _ (s : Schema) (at : ℕ) (t : Table) (has : Has s at t) (terms : List Term) where
-  insert_is : (w : Puts) (base : ℕ) → is_simple_insert t w ≡ true → puts_meant t base w ≡ Ok (row_of t terms) → insert_or_abort s base w.0 w.1 (rows.Values (w.2 ∷ [])) [] ≡ Ok (insert_as at t terms)
+  insert_is : (w : Puts) (base : ℕ) → is_simple_insert t w ≡ true → puts_meant t base w ≡ Ok (source_of_row t terms) → insert_or_abort s base w.0 w.1 (rows.Values (w.2 ∷ [])) [] ≡ Ok (insert_as at t terms)
   unfolding insert_or_abort insert puts_meant
   insert_is w base h means =
       let b = and_parts (bytes_eq w.0 t.name && (length t.stamps.formats == 0)) (list_all is_value w.2) h in
@@ -108,7 +108,7 @@ module _ (s : Schema) (at : ℕ) (t : Table) (has : Has s at t) (terms : List Te
   insert_as_written _ w h = absurd cc
 
   by_test : (p : Parsed) (w : Puts) → p.statement ≡ written.Insert conflict.Abort w.0 w.1 (rows.Values (w.2 ∷ [])) [] [] → (b : Bool) → ((length p.formats == 0) && is_simple_insert t w) ≡ b
-      → (if b then puts_meant t (small p.names + small t.stamps.formats) w else Err Unsupported) ≡ Ok (row_of t terms) → planned s p ≡ Ok ([], (insert_as at t terms, None))
+      → (if b then puts_meant t (small p.names + small t.stamps.formats) w else Err Unsupported) ≡ Ok (source_of_row t terms) → planned s p ≡ Ok ([], (insert_as at t terms, None))
   by_test p w is false test h = absurd cc
   by_test p w is true test h =
       let parts = and_parts (length p.formats == 0) (is_simple_insert t w) test in
@@ -117,12 +117,12 @@ module _ (s : Schema) (at : ℕ) (t : Table) (has : Has s at t) (terms : List Te
       statement_is p w is (nil_is p.formats parts.0) (nil_is t.stamps.formats a.1) ((bytes_eq-Decides w.0 t.name).0 a.0) (insert_as at t terms) (insert_is w _ parts.1 h)
 
   by_insert : (p : Parsed) (o : Option Puts) → insert_of p.statement ≡ o
-      → and_then (or_else o Misuse) (λ w. if (length p.formats == 0) && is_simple_insert t w then puts_meant t (small p.names + small t.stamps.formats) w else Err Unsupported) ≡ Ok (row_of t terms)
+      → and_then (or_else o Misuse) (λ w. if (length p.formats == 0) && is_simple_insert t w then puts_meant t (small p.names + small t.stamps.formats) w else Err Unsupported) ≡ Ok (source_of_row t terms)
       → planned s p ≡ Ok ([], (insert_as at t terms, None))
   by_insert p None is h = absurd cc
   by_insert p (Some w) is h = by_test p w (insert_as_written p.statement w is) ((length p.formats == 0) && is_simple_insert t w) refl h
 
-  by_parsed : (sql : List ℕ) (m : Checked Parsed) → first sql ≡ m → and_then m (insert_in t) ≡ Ok (row_of t terms) → Means s sql (insert_as at t terms)
+  by_parsed : (sql : List ℕ) (m : Checked Parsed) → first sql ≡ m → and_then m (insert_in t) ≡ Ok (source_of_row t terms) → Means s sql (insert_as at t terms)
   unfolding insert_in
   by_parsed sql (Err e) parsed h = absurd cc
   by_parsed sql (Ok p) parsed h = understood_as s sql p (insert_as at t terms) parsed (by_insert p (insert_of p.statement) refl h)

@@ -1,4 +1,5 @@
 pub mod AnswerLemmas
+pub mod ReadsOnlyLemmas
 pub mod TakenLemmas
 pub mod ExprLemmas
 pub mod BodyLemmas
@@ -19,6 +20,7 @@ pub mod LookUpLemmas
 pub mod TestsLemmas
 pub mod UniqueLemmas
 pub mod FaultLemmas
+pub mod RefusalLemmas
 pub mod HiddenLemmas
 pub mod HiddenSetLemmas
 pub mod CreationLemmas

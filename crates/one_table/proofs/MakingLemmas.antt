@@ -14,7 +14,7 @@ use Rattle.sqlite_catalog.proofs.StepLemmas.{no_table, no_index, no_view, table_
 use Rattle.sqlite.specs.Effect.{Database, IsDatabase}
 use Rattle.one_table.specs.Standing.{place_in, tree_in, Stands}
 use Rattle.one_table.specs.Referring.{is_idle, is_left_alone}
-use Rattle.one_table.specs.Making.{made, MakesTable, MakesTables, IsNew}
+use Rattle.one_table.specs.Making.{made, MakesTable, MakesTables, IsNewTable}
 use Rattle.one_table.proofs.GrowthLemmas.{Grows, grows_then, grows_none, next_rises, still_has, still_stands}
 use Rattle.one_table.proofs.NewTableLemmas.{made_grows, made_stands}
 use Rattle.one_table.proofs.ReferenceLemmas.{Added, made_adds, still_unreferred, still_harmless, still_left_alone, new_left_alone}
@@ -73,7 +73,7 @@ module _ (ts : List Table) (t : Table) (a mid b : Database) (early : MakesTables
   added : Added mid.schema t b.schema
   added = subst (Added mid.schema t) (sym last.schema) (made_adds mid.schema t)
 
-  still_new : (u : Table) → IsNew mid u → IsNew b u
+  still_new : (u : Table) → IsNewTable mid u → IsNewTable b u
   still_new u h =
       let s = still_stands mid.schema b.schema u step h.0 in (s.0, ap b.trees s.1 ∙ rows_of_standing mid.schema mid.trees b.trees u h.0 last.rows ∙ h.1)
 
@@ -93,7 +93,7 @@ module _ (ts : List Table) (t : Table) (a mid b : Database) (early : MakesTables
       record {
         schema = last.schema ∙ ap (λ s. made s t) early.schema ∙ sym (fold-append made a.schema ts (t ∷ []));
         free = all_push _ ts t early.free (free_before a.schema mid.schema t.name grown last.free);
-        new = all_push (IsNew b) ts t (all_from (IsNew b) ts (λ u h. still_new u (all_has (IsNew mid) ts u early.new h))) (new.0, new.2);
+        new = all_push (IsNewTable b) ts t (all_from (IsNewTable b) ts (λ u h. still_new u (all_has (IsNewTable mid) ts u early.new h))) (new.0, new.2);
         places = λ at u h. still_has mid.schema b.schema at u step (early.places at u h);
         still = λ u h. let before = early.still u h in let now = still_stands mid.schema b.schema u step before.0 in (now.0, now.1 ∙ before.1, ap b.trees now.1 ∙ rows_of_standing mid.schema mid.trees b.trees u before.0 last.rows ∙ before.2);
         rows = rows_since;
@@ -104,7 +104,7 @@ module _ (ts : List Table) (t : Table) (a mid b : Database) (early : MakesTables
             let calm = all_front _ ts t idle in
             let before = early.left_alone names ours.0 calm.0 h in
             all_push (λ u. is_left_alone b.schema (tree_in b.schema u.name) ≡ true) ts t
-            (all_from _ ts (λ u k. alone_since u calm.1 (all_has (IsNew mid) ts u early.new k).0 (all_has (λ u. is_left_alone mid.schema (tree_in mid.schema u.name) ≡ true) ts u before k)))
+            (all_from _ ts (λ u k. alone_since u calm.1 (all_has (IsNewTable mid) ts u early.new k).0 (all_has (λ u. is_left_alone mid.schema (tree_in mid.schema u.name) ≡ true) ts u before k)))
             (ap (is_left_alone b.schema) new.1 ∙ new_left_alone mid.schema t b.schema added names ours.1 calm.1 (early.harmless names calm.0 h));
         alone = λ tree low idle h.
             let calm = all_front _ ts t idle in

@@ -19,7 +19,7 @@ use Rattle.one_table.proofs.UnderstandLemmas.{selects}
 use Rattle.one_table.proofs.ListedLemmas.{is_plain, answers}
 
 -- a SELECT of a table that stands in the schema only asks
-pub only_asks : (s : State) (sql : List ℕ) (t : Table) (at : ℕ) (q : Query) (names : List Name) → IsSelect t q names sql → (IsTrue s.is_open → Has s.now.schema at t) → OnlyAsks s sql
+pub only_asks : (s : State) (sql : List ℕ) (t : Table) (at : ℕ) (q : Query) (names : List Name) → IsSelect t q names sql → (IsTrue s.is_open → Has s.now.schema at t) → OnlyAsks sql s
 only_asks s sql t at q names is has open_now = is_plain (selects s.now.schema at t (has open_now) q names sql is)
 
 module _ {sql : List ℕ} (q : Query) (names : List Name) (params : Row) (old new : State) (means : Means old.now.schema sql (select_as q names)) where

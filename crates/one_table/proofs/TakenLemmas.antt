@@ -1,5 +1,5 @@
 -- Rows that are taken one at a time.
-use Rattle.std.proofs.Common.{◌≡◌, ℕ, ◌+◌, ◌≤◌, ◌^◌, length, List, [], ◌∷◌, ◌++◌, fold, Ok, Err, Result, None, Some, IfOk, IfErr, IsTrue, false, refl, sym, subst, ◌∙◌, ap, inl, inr, arith}
+use Rattle.std.proofs.Common.{◌≡◌, ℕ, ◌+◌, ◌≤◌, ◌^◌, length, List, [], ◌∷◌, ◌++◌, fold, Ok, Err, Result, None, Some, IfOk, IfErr, IsTrue, OnErr, OnOk, false, refl, sym, subst, ◌∙◌, ap, inl, inr, arith}
 use Rattle.std.proofs.Math.Seq.{get_or-append_seam}
 use Rattle.std.proofs.lemmas.List.{length_push}
 use Rattle.std.proofs.lemmas.List.Sums.{fold_push}
@@ -18,6 +18,7 @@ use Rattle.one_table.specs.declared.read_fault.ReadFault.{ReadFault}
 use Rattle.one_table.specs.declared.read_fault.ReadFault.TheVariants.{Database as Failed, Row as Bad, TooMuch}
 use Rattle.one_table.specs.ReadFaults.{OnlyWhere}
 use Rattle.one_table.specs.Answer.{OnlyAsks, IsLeft, GivesGathered, FailsToRead, FailsToGather}
+use Rattle.one_table.specs.ReadsOnly.{ReadsOnly}
 use Rattle.one_table.specs.Taken.{TakesAll, StopsTaking}
 use Rattle.one_table.proofs.AnswerLemmas.{read_push, shown_before, fails_before, left_then, stops_at}
 
@@ -159,7 +160,7 @@ pub record HasOpened {S : Type 0} (g : Ghosts S) (sql : List ℕ) (params : Row)
   pub plain : IsPlain (understood old.schema sql)
   pub plain_still : IsPlain (understood new.schema sql)
 
-pub has_opened : {S : Type 0} (g : Ghosts S) (sql text : List ℕ) (params : Row) (old mid new : Held S) → OnlyAsks (state g old) sql → (text ≡ sql) × IsUnchanged (state g old) (state g mid) → HasBegun g text params mid new
+pub has_opened : {S : Type 0} (g : Ghosts S) (sql text : List ℕ) (params : Row) (old mid new : Held S) → OnlyAsks sql (state g old) → (text ≡ sql) × IsUnchanged (state g old) (state g mid) → HasBegun g text params mid new
     → HasOpened g sql params old new
 has_opened g sql text params old mid new asks made begun =
     let plain = asks made.1.0.was_open in
@@ -179,3 +180,29 @@ module _ {S X A : Type 0} (g : Ghosts S) (IsReadAs : Row → X → Type 0) (gath
   stops_opened HasRoom IsReadable (Ok all) first stops = tt
   stops_opened HasRoom IsReadable (Err why) first stops =
       stops_before IsReadAs gathered start sql params (state g old) (state g mid) (state g new) opened.same opened.plain HasRoom IsReadable first.counts first.limit why (stops sql params opened.plain_still opened.given)
+
+module _ {S X A : Type 0} (g : Ghosts S) (IsReadAs : Row → X → Type 0) (gathered : A → X → A) (start : A) (sql : List ℕ) (params : Row) (old new : Held S) where
+  -- what is left of a query that was begun, and of which the rows were then taken
+  pub folded : (HasRoom : A → X → Type 0) (IsReadable : Row → Type 0) (begun : Held S) (r : Result A ReadFault) → (OnlyAsks sql (state g old) → HasCleanDisk (state g begun) → HasOpened g sql params old begun)
+      → (OnlyAsks sql (state g old) → Survives (state g old) (state g begun) (λ _. ⊥)) → Survives (state g begun) (state g new) (λ _. ⊥) → (old.in_transaction ≡ false → new.in_transaction ≡ false)
+      → (HasCleanDisk (state g new) → IsTrue (state g begun).is_open → OnOk r (IsUnchanged (state g begun) (state g new))) → (HasCleanDisk (state g new) → IsTrue (state g begun).is_open → OnErr r (IsLeft (state g begun) (state g new)))
+      → (HasCleanDisk (state g new) → IfErr r (StopsTaking g IsReadAs gathered start HasRoom IsReadable begun new))
+      → ReadsOnly (OnlyAsks sql) IsUnchanged (λ a b. FailsToGather IsReadAs gathered start sql params a b HasRoom IsReadable) (state g old) (state g new) r
+  folded HasRoom IsReadable begun (Ok all) opens first second mode same kept stops = record {
+    same = λ clean asks.
+        let opened = opens asks (omega (arith, second.clean)) in
+        unchanged_then (state g old) (state g begun) (state g new) opened.same (same clean opened.same.0.is_open);
+    kept = λ clean asks. tt;
+    mode = mode;
+    faults = λ clean asks. tt;
+    survives = λ asks. survives_then (state g old) (state g begun) (state g new) _ _ (λ _. ⊥) (λ _ db none. none) (λ _ db none. none) (first asks) second;
+  }
+  folded HasRoom IsReadable begun (Err why) opens first second mode same kept stops = record {
+    same = λ clean asks. tt;
+    kept = λ clean asks.
+        let opened = opens asks (omega (arith, second.clean)) in
+        left_then (state g old) (state g begun) (state g new) opened.same (kept clean opened.same.0.is_open);
+    mode = mode;
+    faults = λ clean asks. stops_opened g IsReadAs gathered start sql params old begun new (opens asks (omega (arith, second.clean))) HasRoom IsReadable (Err why) (first asks) (stops clean);
+    survives = λ asks. survives_then (state g old) (state g begun) (state g new) _ _ (λ _. ⊥) (λ _ db none. none) (λ _ db none. none) (first asks) second;
+  }

@@ -1,11 +1,14 @@
 -- Tables that are made one after the other inside a transaction, as the connection shows it.
-use Rattle.std.proofs.Common.{◌≡◌, ◌⊎◌, ℕ, true, IsTrue, List, [], ◌∷◌, ◌++◌, Ok, refl, sym, ap, subst, subst₂, ◌∙◌, inl, inr}
+use Rattle.std.proofs.Common.{◌≡◌, ◌⊎◌, ℕ, true, IsTrue, List, [], ◌∷◌, ◌++◌, Err, IsErrAnd, Result, arith, Ok, refl, sym, ap, subst, subst₂, ◌∙◌, inl, inr}
 use Rattle.std.specs.List.{AllZip}
 use Rattle.sqlite_schema.specs.declared.schema.Table.{Table}
 use Rattle.sqlite_resolve.specs.Compile.{table_defined_by}
 use Rattle.sqlite.specs.Effect.{IsDatabase}
-use Rattle.sqlite.specs.State.{State, Shows}
+use Rattle.sqlite.specs.State.{HasCleanDisk, KeepsCommit, Shows, State, Survives}
+use Rattle.sqlite.proofs.StateLemmas.{survives_then}
 use Rattle.one_table.specs.Making.{AreDefined, MakesTable, MakesTables}
+use Rattle.one_table.specs.InTransaction.{IsUnderWay, KeepsTransaction}
+use Rattle.one_table.proofs.ChangeLemmas.{keeps_inside, keeps_then, stays_then}
 use Rattle.one_table.proofs.MakingLemmas.{makes_none, makes_more}
 
 -- the tables of these texts are made, and there is at least one
@@ -18,12 +21,10 @@ pub record HasMadeNone (texts : List (List ℕ)) (old now : State) : Type 0 wher
   pub is_open : now.is_open ≡ old.is_open
   pub now_is : now.now ≡ old.now
   pub committed : now.committed ≡ old.committed
+  pub mode : now.in_transaction ≡ old.in_transaction
 
 abbrev pub HasMadeSo : List (List ℕ) → State → State → Type 0
 HasMadeSo texts old now = HasMadeNone texts old now ⊎ HasMade texts old now
-
-shows_more : (old mid new : State) → Shows old mid mid.now old.committed true → Shows mid new new.now mid.committed true → Shows old new new.now old.committed true
-shows_more old mid new p q = record { was_open = p.was_open; is_open = q.is_open; now_is = refl; committed_is = q.committed_is ∙ p.committed_is; mode = q.mode }
 
 zip_front : {A B : Type 0} (R : A → B → Type 0) (xs : List A) (x : A) (ys : List B) → AllZip R (xs ++ x ∷ []) ys → (front : List B) × (y : B) × (ys ≡ front ++ y ∷ []) × AllZip R xs front × R x y
 zip_front R [] x [] h = absurd h
@@ -46,7 +47,7 @@ so_far texts old mid (inl none) is sound ts defined =
 
 shows_next : (texts : List (List ℕ)) (old mid new : State) → HasMadeSo texts old mid → Shows mid new new.now mid.committed true → Shows old new new.now old.committed true
 shows_next texts old mid new (inl none) q = record { was_open = subst IsTrue none.is_open q.was_open; is_open = q.is_open; now_is = refl; committed_is = q.committed_is ∙ none.committed; mode = q.mode }
-shows_next texts old mid new (inr some) q = shows_more old mid new some.shows q
+shows_next texts old mid new (inr some) q = stays_then old mid new some.shows q
 
 -- one more table is made
 pub makes_next : (texts : List (List ℕ)) (text : List ℕ) (old mid new : State) → HasMadeSo texts old mid → ((t : Table) → table_defined_by text ≡ Ok t → MakesTable t mid.now new.now)
@@ -58,4 +59,29 @@ makes_next texts text old mid new made last shows = record {
       let parts = zip_front (λ text t. table_defined_by text ≡ Ok t) texts text ts defined in
       let early = so_far texts old mid made shows.was_open sound parts.0 parts.3 in
       subst (λ l. MakesTables l old.now new.now) (sym parts.2) (makes_more parts.0 parts.1 old.now mid.now new.now early (last parts.1 parts.4) (sound all.was_open));
+}
+
+-- ---- what is left of the transaction
+
+made_keeps : (texts : List (List ℕ)) (old now : State) → HasMadeSo texts old now → IsUnderWay old → IsUnderWay now × KeepsCommit old now
+made_keeps texts old now (inl none) way = (none.mode ∙ way, record { was_open = subst IsTrue none.is_open; committed = λ _. none.committed })
+made_keeps texts old now (inr some) way = (some.shows.mode, keeps_inside old now some.shows)
+
+-- the next table is not made
+pub next_failed : (texts : List (List ℕ)) (old mid new : State) {U E : Type 0} {e : E} (f : E) (r : Result U E) → IsErrAnd r (λ x. x ≡ f) → (HasCleanDisk mid → HasMadeSo texts old mid) → Survives old mid (λ _. ⊥)
+    → KeepsTransaction {T = U} mid new (Err e) → KeepsTransaction old new r
+next_failed texts old mid new f (Ok x) failed made first last = absurd failed
+next_failed texts old mid new f (Err x) failed made first last = record {
+  inside = λ _ _. tt;
+  kept = λ clean way.
+      let so_far = made_keeps texts old mid (made (omega (arith, last.survives.clean))) way in
+      keeps_then old mid new so_far.1 (last.kept clean so_far.0);
+  survives = survives_then old mid new _ _ (λ _. ⊥) (λ _ db none. none) (λ _ db none. none) first last.survives;
+}
+
+pub all_made : (texts : List (List ℕ)) (old now : State) {U E : Type 0} {x : U} → ¬ (texts ≡ []) → (HasCleanDisk now → HasMadeSo texts old now) → Survives old now (λ _. ⊥) → KeepsTransaction {E = E} old now (Ok x)
+all_made texts old now some made survives = record {
+  inside = λ clean way. elim (made clean) [ inl none ↦ absurd (some none.none) | inr it ↦ it.shows ];
+  kept = λ clean way. (made_keeps texts old now (made clean) way).1;
+  survives = survives;
 }

@@ -1,9 +1,8 @@
 -- Of the rows of a table at most one has a given value in the columns of a UNIQUE.
-use Rattle.std.proofs.Common.{◌≡◌, ℕ, ℤ, ◌≤◌, ◌<ℤ◌, ◌==◌, arith, Bool, true, false, not, ◌&&◌, List, [], ◌∷◌, map, filter, length, get_or, Option, Some, None, slice_get, refl, sym, ap, ap₂, subst, ◌∙◌, true≢false, inl, inr, int_eq, pos}
-use Rattle.std.specs.List.{AllByRecursion, list_any}
+use Rattle.std.proofs.Common.{◌≡◌, ℕ, ℤ, ◌≤◌, ◌<ℤ◌, arith, Bool, true, false, ◌&&◌, List, [], ◌∷◌, map, filter, length, get_or, Some, slice_get, refl, sym, subst, ◌∙◌, true≢false}
+use Rattle.std.specs.List.{AllByRecursion}
 use Rattle.std.proofs.lemmas.Int.{ints}
 use Rattle.sqlite_value.specs.declared.keys.Order.{Order}
-use Rattle.sqlite_value.specs.declared.keys.Collation.TheVariants.{Binary}
 use Rattle.sqlite_value.specs.declared.value.Value.TheVariants.{Int}
 use Rattle.sqlite_value.specs.Order.{Row, column}
 use Rattle.sqlite_value.specs.Keys.{plain}

@@ -26,7 +26,7 @@ use Rattle.sqlite_resolve.specs.Compile.{first, update, shows, returning, comman
 use Rattle.one_table.specs.Place.{Has}
 use Rattle.one_table.specs.Simple.{one, depth, is_simple, is_simple_or_absent, reading}
 use Rattle.one_table.specs.Reading.{Means, is_typed}
-use Rattle.one_table.specs.Changing.{Sets, update_as, update_of, is_simple_update, draft_if_typed, sets_meant, update_in, update_meant, IsUpdate}
+use Rattle.one_table.specs.Changing.{Assignments, update_as, update_of, is_simple_update, draft_if_typed, sets_meant, update_in, update_meant, IsUpdate}
 use Rattle.one_table.proofs.ExprLemmas.{lower_same}
 use Rattle.one_table.proofs.BodyLemmas.{tests_same}
 use Rattle.one_table.proofs.SelectLemmas.{nil_is}
@@ -67,7 +67,7 @@ module _ (s : Schema) (at : ℕ) (t : Table) (has : Has s at t) where
       let is : query_of d ≡ q = cc in
       rw (program_is s at t has d (ap (λ (r : Query). r.from) is ∙ from) typed) (ap (λ r. Ok (update_as at r)) is)
 
-  update_is : (u : Sets) (q : Query) → is_simple_update t u ≡ true → sets_meant t u ≡ Ok q → q.from ≡ inner t.tree end → update s u.0 u.1 u.2 ≡ Ok (update_as at q)
+  update_is : (u : Assignments) (q : Query) → is_simple_update t u ≡ true → sets_meant t u ≡ Ok q → q.from ≡ inner t.tree end → update s u.0 u.1 u.2 ≡ Ok (update_as at q)
   unfolding update sets_meant
   update_is u q h means from =
       let b = and_parts (bytes_eq u.0 t.name && list_all (λ set. is_simple depth t set.1) u.1) (is_simple_or_absent t u.2) h in
@@ -82,23 +82,23 @@ module _ (s : Schema) (at : ℕ) (t : Table) (has : Has s at t) where
 
   -- ---- the text
 
-  statement_is : (p : Parsed) (u : Sets) → p.statement ≡ written.Update u.0 u.1 u.2 [] → p.formats ≡ [] → (c : Command) → update s u.0 u.1 u.2 ≡ Ok c → planned s p ≡ Ok ([], (c, None))
+  statement_is : (p : Parsed) (u : Assignments) → p.statement ≡ written.Update u.0 u.1 u.2 [] → p.formats ≡ [] → (c : Command) → update s u.0 u.1 u.2 ≡ Ok c → planned s p ≡ Ok ([], (c, None))
   unfolding planned meaning returning command timed shows
   statement_is p u is timeless c means = rw (is, timeless, means)
 
-  update_as_written : (o : Statement) (u : Sets) → update_of o ≡ Some u → o ≡ written.Update u.0 u.1 u.2 []
-  update_as_written (written.Update name sets test []) u h = ap (λ (v : Sets). written.Update v.0 v.1 v.2 []) cc
+  update_as_written : (o : Statement) (u : Assignments) → update_of o ≡ Some u → o ≡ written.Update u.0 u.1 u.2 []
+  update_as_written (written.Update name sets test []) u h = ap (λ (v : Assignments). written.Update v.0 v.1 v.2 []) cc
   update_as_written _ u h = absurd cc
 
   module _ (q : Query) (from : q.from ≡ inner t.tree end) where
-    by_test : (p : Parsed) (u : Sets) → p.statement ≡ written.Update u.0 u.1 u.2 [] → (b : Bool) → ((length p.formats == 0) && is_simple_update t u) ≡ b
+    by_test : (p : Parsed) (u : Assignments) → p.statement ≡ written.Update u.0 u.1 u.2 [] → (b : Bool) → ((length p.formats == 0) && is_simple_update t u) ≡ b
         → (if b then sets_meant t u else Err Unsupported) ≡ Ok q → planned s p ≡ Ok ([], (update_as at q, None))
     by_test p u is false test h = absurd cc
     by_test p u is true test h =
         let parts = and_parts (length p.formats == 0) (is_simple_update t u) test in
         statement_is p u is (nil_is p.formats parts.0) (update_as at q) (update_is u q parts.1 h from)
 
-    by_update : (p : Parsed) (o : Option Sets) → update_of p.statement ≡ o
+    by_update : (p : Parsed) (o : Option Assignments) → update_of p.statement ≡ o
         → and_then (or_else o Misuse) (λ u. if (length p.formats == 0) && is_simple_update t u then sets_meant t u else Err Unsupported) ≡ Ok q → planned s p ≡ Ok ([], (update_as at q, None))
     by_update p None is h = absurd cc
     by_update p (Some u) is h = by_test p u (update_as_written p.statement u is) ((length p.formats == 0) && is_simple_update t u) refl h

@@ -10,8 +10,8 @@ use Rattle.one_table.specs.declared.read_fault.ReadFault.TheVariants as fault
 use Rattle.one_table.specs.ReadFaults.{no_memory}
 
 -- where the connection is open, the text is understood, writes nothing and does not read the clock
-abbrev pub OnlyAsks : State → List ℕ → Type 0
-OnlyAsks s sql = IsTrue s.is_open → IsPlain (understood s.now.schema sql)
+abbrev pub OnlyAsks : List ℕ → State → Type 0
+OnlyAsks sql s = IsTrue s.is_open → IsPlain (understood s.now.schema sql)
 
 -- the connection is as it was, or its transaction is undone
 abbrev pub IsLeft : State → State → Type 0

@@ -20,16 +20,16 @@ use Rattle.one_table.specs.Simple.{one, depth, is_simple, is_simple_or_absent}
 use Rattle.one_table.specs.Reading.{is_typed}
 
 -- the table's name, what is set, and WHERE
-abbrev pub Sets : Type 0
-Sets = Name × List (Name × Expr) × Option Expr
+abbrev pub Assignments : Type 0
+Assignments = Name × List (Name × Expr) × Option Expr
 
 -- an UPDATE that shows nothing
-abbrev pub update_of : Statement → Option Sets
+abbrev pub update_of : Statement → Option Assignments
 update_of (written.Update name sets test []) = Some (name, sets, test)
 update_of _ = None
 
 -- of this table, by simple expressions
-abbrev pub is_simple_update : Table → Sets → Bool
+abbrev pub is_simple_update : Table → Assignments → Bool
 is_simple_update t u =
     bytes_eq u.0 t.name && list_all (λ set. is_simple depth t set.1) u.1
     && is_simple_or_absent t u.2
@@ -38,7 +38,7 @@ abbrev pub draft_if_typed : Table → Draft → Checked Query
 draft_if_typed t d = if is_typed t (query_of d) [] then Ok (query_of d) else Err Mismatch
 
 -- the query of the old rowids and the new rows, where the table stands alone
-unfoldable pub sets_meant : Table → Sets → Checked Query
+unfoldable pub sets_meant : Table → Assignments → Checked Query
 sets_meant t u = and_then (updated (one t) 0 t u.1 u.2) (draft_if_typed t)
 
 unfoldable pub update_in : Table → Parsed → Checked Query

@@ -35,3 +35,8 @@ abbrev pub Risks : {F : Type 0} → (Database → Database → Type 0) → State
     → Type 0
 Risks Makes old new (Unmade why) = Survives old new (λ _. ⊥)
 Risks Makes old new (InDoubt e) = Survives old new (LeavesMade Makes old.now)
+
+-- where a commit failed, the change was made, so the connection was open
+abbrev pub WasMade : {F : Type 0} → State → CommitFault F → Type 0
+WasMade old (Unmade why) = Unit {0}
+WasMade old (InDoubt e) = IsTrue old.is_open

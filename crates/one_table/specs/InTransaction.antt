@@ -1,5 +1,5 @@
 -- What a statement inside a transaction leaves.
-use Rattle.std.specs.Prelude.{◌≡◌, ◌≢◌, ℕ, true, false, List}
+use Rattle.std.specs.Prelude.{◌≡◌, ◌≢◌, ◌⊎◌, ℕ, true, false, List, [], None, Err, OnOk, Result, Some, IsTrue}
 use Rattle.std.specs.List.{AllByRecursion}
 use Rattle.sqlite_value.specs.Order.{Row}
 use Rattle.sqlite_trees.specs.Tree.{put_row}
@@ -8,8 +8,55 @@ use Rattle.sqlite_sql.specs.Query.{Query, IsAnswer}
 use Rattle.sqlite_rules.specs.declared.error.Rowids.TheVariants.{Given}
 use Rattle.sqlite_rules.specs.Calls.{ids_of}
 use Rattle.sqlite_rules.specs.Edit.{edit_of, edited, is_taken, IsNoIndex}
+use Rattle.sqlite.specs.Does.{Does}
 use Rattle.sqlite.specs.Effect.{IsDatabase, SparesFrozen}
-use Rattle.sqlite.specs.State.{State, Shows}
+use Rattle.sqlite.specs.State.{ExecutesInside, Fails, HasCleanDisk, IsUnchanged, KeepsCommit, Shows, State, Survives, mode_of}
+use Rattle.sqlite.specs.declared.error.Error.{Error}
+use Rattle.sqlite.specs.declared.error.Error.TheVariants.{SqliteFailure}
+use Rattle.sqlite.specs.declared.error.ErrorCode.TheVariants.{TransactionState}
+use Rattle.sqlite_schema.specs.declared.command.Command.{Command}
+
+-- a transaction is under way: no failure has ended it
+abbrev pub IsUnderWay : State → Type 0
+IsUnderWay s = s.in_transaction ≡ true
+
+-- the connection is open and in its transaction, and nothing was committed
+abbrev pub StaysInside : State → State → Type 0
+StaysInside old new = Shows old new new.now old.committed true
+
+-- What any statement inside a transaction leaves, a read or a write, or several of them: where it
+-- succeeds, the transaction goes on. Nothing is committed, and a crash leaves nothing of it.
+pub record KeepsTransaction {T E : Type 0} (old new : State) (result : Result T E) : Type 0 where
+  pub inside : HasCleanDisk new → IsUnderWay old → OnOk result (StaysInside old new)
+  pub kept : HasCleanDisk new → IsUnderWay old → KeepsCommit old new
+  pub survives : Survives old new (λ _. ⊥)
+
+-- a failure had ended the transaction, and nothing is run
+pub record HadEnded (old new : State) (e : Error) : Type 0 where
+  pub ended : old.in_transaction ≡ false
+  pub told : e ≡ SqliteFailure TransactionState
+  pub is_open : new.is_open ≡ old.is_open
+  pub now_is : new.now ≡ old.now
+  pub committed_is : new.committed ≡ old.committed
+  pub mode : new.in_transaction ≡ old.in_transaction
+
+-- why a text fails that is run inside a transaction: that had ended, or the text is not run, or it
+-- is refused
+abbrev pub FailsToRun : List ℕ → Row → State → State → Error → Type 0
+FailsToRun sql params old new e =
+    HadEnded old new e ⊎ ExecutesInside 0 sql params old new (Err e)
+
+-- Why a write of the rows of a table fails: the transaction had ended. Or the rules of the tables
+-- refuse it, as where a key is taken, a row that it refers to is missing or a limit on steps is
+-- reached, and all stays as it was. Or there was no memory, the disk failed or had failed, or a row
+-- is too long to be stored: then the transaction is undone.
+abbrev pub FailsToWrite : Command → Row → State → State → Error → Type 0
+FailsToWrite command params old new e =
+    HadEnded old new e
+    ⊎ ((Does old.step_limit (mode_of old) params old.now [] None command (Err (Some e))
+    × IsUnchanged old new)
+    ⊎ Fails old new (IsTrue old.is_open
+    → Does old.step_limit (mode_of old) params old.now [] None command (Err None)) e)
 
 -- The table has these rows. The schema and every other table are as they were, and so is what SQL
 -- here does not understand. It is a database, and nothing is committed.

@@ -67,17 +67,17 @@ unfoldable pub insert_meant : Table → List ℕ → Checked Source
 insert_meant t sql = and_then (first sql) (insert_in t)
 
 -- one row of these terms, as the table keeps it: the rowid, and then each column
-abbrev pub row_of : Table → List Term → Source
-row_of t terms = source.Values terms (length t.columns + 1)
+abbrev pub source_of_row : Table → List Term → Source
+source_of_row t terms = source.Values terms (length t.columns + 1)
 
 -- the command, at the table's place
 abbrev pub insert_as : ℕ → Table → List Term → Command
-insert_as at t terms = Insert at (row_of t terms)
+insert_as at t terms = Insert at (source_of_row t terms)
 
 -- The text is an INSERT of one row into the table, and these are its terms. The table neither
 -- counts its rowids nor has a default that reads the time.
 pub record IsInsert (t : Table) (terms : List Term) (sql : List ℕ) : Type 0 where
-  pub means : insert_meant t sql ≡ Ok (row_of t terms)
+  pub means : insert_meant t sql ≡ Ok (source_of_row t terms)
   pub whole : length terms ≡ length t.columns + 1
   pub uncounted : t.is_counted ≡ false
   pub unstamped : t.stamps.terms ≡ []

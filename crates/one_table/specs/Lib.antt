@@ -1,6 +1,7 @@
 pub mod Place
 pub mod ReadFaults
 pub mod Answer
+pub mod ReadsOnly
 pub mod Taken
 pub mod Simple
 pub mod Reading

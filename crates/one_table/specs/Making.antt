@@ -15,7 +15,6 @@ use Rattle.sqlite_resolve.specs.Compile.{first, table_defined_by}
 use Rattle.sqlite_catalog.specs.Change.{created, is_used, next_tree, KeepsRows}
 use Rattle.sqlite.specs.Does.{lacks_sequence}
 use Rattle.sqlite.specs.Effect.{Database, IsDatabase}
-use Rattle.sqlite.specs.State.{State, Shows}
 use Rattle.one_table.specs.Place.{Has}
 use Rattle.one_table.specs.Standing.{Stands, tree_in}
 use Rattle.one_table.specs.Referring.{is_among, is_unreferred, is_idle, is_harmless, is_left_alone}
@@ -77,8 +76,8 @@ pub record MakesTable (t : Table) (a b : Database) : Type 0 where
   pub rows : KeepsRows a.schema.tables a.trees b.trees
   pub sound : IsDatabase b
 
-abbrev pub IsNew : Database → Table → Type 0
-IsNew db t = Stands db.schema t × (db.trees (tree_in db.schema t.name) ≡ [])
+abbrev pub IsNewTable : Database → Table → Type 0
+IsNewTable db t = Stands db.schema t × (db.trees (tree_in db.schema t.name) ≡ [])
 
 abbrev pub AreAmong : List (List ℕ) → List Table → Type 0
 AreAmong names = AllByRecursion (λ t. is_among names t.name ≡ true)
@@ -92,7 +91,7 @@ pub record MakesTables (ts : List Table) (a b : Database) : Type 0 where
   pub schema : b.schema ≡ fold made a.schema ts
   -- each name was free, and the table that now stands under it is empty
   pub free : AllByRecursion (λ t. is_used a.schema t.name ≡ false) ts
-  pub new : AllByRecursion (IsNew b) ts
+  pub new : AllByRecursion (IsNewTable b) ts
   -- each table that stood stands where it stood, with its keys and its rows
   pub places : (at : ℕ) (u : Table) → Has a.schema at u → Has b.schema at u
   pub still : (u : Table) → Stands a.schema u
@@ -110,7 +109,3 @@ pub record MakesTables (ts : List Table) (a b : Database) : Type 0 where
   pub alone : (tree : ℕ) → tree < next_tree a.schema → AreIdle ts
       → is_left_alone a.schema tree ≡ true → is_left_alone b.schema tree ≡ true
   pub sound : IsDatabase b
-
--- the connection is open and in its transaction, and nothing was committed
-abbrev pub StaysInside : State → State → Type 0
-StaysInside old new = Shows old new new.now old.committed true

@@ -1,9 +1,10 @@
-ghost use Rattle.std.specs.Prelude.{◌≡◌, true, false, IsTrue, IfErr, OnOk, OnErr, MatchResult};
+ghost use Rattle.std.specs.Prelude.{◌≡◌, false, IsTrue, IfErr, OnOk, OnErr, MatchResult};
 ghost use Rattle.sqlite_trees.specs.Tree.{Trees};
 ghost use Rattle.sqlite.specs.Effect.{Database};
-ghost use Rattle.sqlite.specs.State.{HasCleanDisk, Shows, KeepsCommit, Survives};
+ghost use Rattle.sqlite.specs.State.{HasCleanDisk, Survives};
 ghost use Rattle.sqlite.specs.Held.{state};
-ghost use Rattle.one_table.specs.Committing.{IsUndone, HasCommitted, LeavesMade, Risks};
+ghost use Rattle.one_table.specs.InTransaction.{IsUnderWay, KeepsTransaction};
+ghost use Rattle.one_table.specs.Committing.{IsUndone, HasCommitted, LeavesMade, Risks, WasMade};
 
 use sqlite::{Alter, Connection, Error, Transaction};
 
@@ -17,14 +18,11 @@ pub trait Change<S: Alter> {
     fn make(&self, tx: &mut Transaction<'_, S>) -> Result<(), Self::Fault>
         ensures same_reference { tx.new.conn.ghost_name ≡ tx.old.conn.ghost_name }
         ensures made { HasCleanDisk (state S.Store tx.new.conn.now)
+            → IsUnderWay (state S.Store tx.old.conn.now)
             → OnOk result (makes self.now (state S.Store tx.old.conn.now).now
-            (state S.Store tx.new.conn.now).now
-            × Shows (state S.Store tx.old.conn.now) (state S.Store tx.new.conn.now)
-            (state S.Store tx.new.conn.now).now (state S.Store tx.old.conn.now).committed true) }
-        ensures kept { HasCleanDisk (state S.Store tx.new.conn.now)
-            → KeepsCommit (state S.Store tx.old.conn.now) (state S.Store tx.new.conn.now) }
-        ensures survives { Survives
-            (state S.Store tx.old.conn.now) (state S.Store tx.new.conn.now) (λ _. ⊥) };
+            (state S.Store tx.new.conn.now).now) }
+        ensures transaction { KeepsTransaction
+            (state S.Store tx.old.conn.now) (state S.Store tx.new.conn.now) result };
 }
 
 /// Why a change is not known to be committed.
@@ -48,6 +46,8 @@ pub fn change_once<S: Alter, C: Change<S>>(
         × HasCommitted db (state S.Store conn.old) (state S.Store conn.new)) }
     ensures undone { HasCleanDisk (state S.Store conn.new)
         → OnErr result (IsUndone (state S.Store conn.old) (state S.Store conn.new)) }
+    ensures doubted { HasCleanDisk (state S.Store conn.new)
+        → IfErr result (WasMade (state S.Store conn.old)) }
     ensures risks { IfErr result (Risks (C.makes change.now)
         (state S.Store conn.old) (state S.Store conn.new)) }
     ensures crash { Survives (state S.Store conn.old) (state S.Store conn.new)

@@ -3,6 +3,7 @@ ghost use Rattle.sqlite.specs.Values.{bound};
 ghost use Rattle.sqlite.specs.State.{HasCleanDisk, IsUnchanged, Survives};
 ghost use Rattle.sqlite.specs.Held.{state};
 ghost use Rattle.one_table.specs.Answer.{OnlyAsks, IsLeft, GivesGathered, FailsToGather};
+ghost use Rattle.one_table.specs.ReadsOnly.{ReadsOnly};
 ghost use Rattle.one_table.specs.Taken.{TakesAll, StopsTaking};
 
 use crate::from_row::FromRow;
@@ -58,25 +59,12 @@ pub fn fold_rows<S: Alter, X: FromRow, A: Gather<X> + Drop>(
     start: A,
 ) -> Result<A, ReadFault>
     ensures given { HasCleanDisk (state S.Store conn.new)
-        → OnlyAsks (state S.Store conn.old) sql.now
+        → OnlyAsks sql.now (state S.Store conn.old)
         → IfOk result (GivesGathered X.FromRow.reads_as A.gathered start sql.now (bound params.now)
         (state S.Store conn.old) (state S.Store conn.new)) }
-    ensures same { HasCleanDisk (state S.Store conn.new)
-        → OnlyAsks (state S.Store conn.old) sql.now
-        → OnOk result (IsUnchanged
-        (state S.Store conn.old) (state S.Store conn.new)) }
-    ensures kept { HasCleanDisk (state S.Store conn.new)
-        → OnlyAsks (state S.Store conn.old) sql.now
-        → OnErr result (IsLeft
-        (state S.Store conn.old) (state S.Store conn.new)) }
-    ensures mode { conn.old.in_transaction ≡ false → conn.new.in_transaction ≡ false }
-    ensures faults { HasCleanDisk (state S.Store conn.new)
-        → OnlyAsks (state S.Store conn.old) sql.now
-        → IfErr result (FailsToGather X.FromRow.reads_as A.gathered start sql.now
-        (bound params.now) (state S.Store conn.old) (state S.Store conn.new) A.has_room
-        X.FromRow.is_readable) }
-    ensures survives { OnlyAsks (state S.Store conn.old) sql.now
-        → Survives (state S.Store conn.old) (state S.Store conn.new) (λ _. ⊥) }
+    ensures reads { ReadsOnly (OnlyAsks sql.now) IsUnchanged
+        (λ a b. FailsToGather X.FromRow.reads_as A.gathered start sql.now (bound params.now) a b
+        A.has_room X.FromRow.is_readable) (state S.Store conn.old) (state S.Store conn.new) result }
 {
     let statement = conn.prepare(sql)?;
     let mut rows = conn.query_prepared(&statement, params)?;

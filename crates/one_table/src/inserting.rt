@@ -1,13 +1,13 @@
-ghost use Rattle.std.specs.Prelude.{◌≡◌, ◌⊎◌, ℕ, List, IsTrue, OnOk, OnErr, true};
+ghost use Rattle.std.specs.Prelude.{◌≡◌, ℕ, List, IsTrue, IfErr, OnOk, length, true};
 ghost use Rattle.sqlite.specs.Values.{bound};
-ghost use Rattle.sqlite.specs.State.{HasCleanDisk, Survives, Shows, KeepsCommit};
+ghost use Rattle.sqlite.specs.State.{HasCleanDisk};
 ghost use Rattle.sqlite.specs.Held.{state};
 ghost use Rattle.sqlite.specs.Table.{Table};
 ghost use Rattle.sqlite.specs.Term.{Term};
 ghost use Rattle.one_table.specs.Place.{Has};
-ghost use Rattle.one_table.specs.Answer.{IsLeft};
-ghost use Rattle.one_table.specs.Inserting.{IsInsert, new_row};
-ghost use Rattle.one_table.specs.InTransaction.{PutsRow};
+ghost use Rattle.one_table.specs.Inserting.{IsInsert, insert_as, new_row};
+ghost use Rattle.one_table.specs.InTransaction.{FailsToWrite, KeepsTransaction, PutsRow};
+ghost use Rattle.one_table.specs.Reading.{is_whole};
 
 use crate::writing::run;
 use sqlite::types::ValueRef;
@@ -27,16 +27,15 @@ pub fn insert<S: Alter>(
         → OnOk result (PutsRow t (new_row t terms (bound params.now)
         ((state S.Store tx.old.conn.now).now.trees t.tree))
         (state S.Store tx.old.conn.now) (state S.Store tx.new.conn.now)) }
-    ensures inside { HasCleanDisk (state S.Store tx.new.conn.now)
-        → OnOk result (Shows (state S.Store tx.old.conn.now) (state S.Store tx.new.conn.now)
-        (state S.Store tx.new.conn.now).now (state S.Store tx.old.conn.now).committed true) }
-    ensures kept { HasCleanDisk (state S.Store tx.new.conn.now)
-        → KeepsCommit (state S.Store tx.old.conn.now) (state S.Store tx.new.conn.now) }
+    ensures transaction { KeepsTransaction
+        (state S.Store tx.old.conn.now) (state S.Store tx.new.conn.now) result }
     ensures refused { HasCleanDisk (state S.Store tx.new.conn.now)
-        → OnErr result (IsLeft (state S.Store tx.old.conn.now) (state S.Store tx.new.conn.now)
-        ⊎ (tx.new.conn.now ≡ tx.old.conn.now)) }
-    ensures survives { Survives
-        (state S.Store tx.old.conn.now) (state S.Store tx.new.conn.now) (λ _. ⊥) }
+        → (t : Table) (at : ℕ) (terms : List Term) → IsInsert t terms sql.now
+        → is_whole sql.now (length (bound params.now)) ≡ true
+        → (IsTrue (state S.Store tx.old.conn.now).is_open
+        → Has (state S.Store tx.old.conn.now).now.schema at t)
+        → IfErr result (FailsToWrite (insert_as at t terms) (bound params.now)
+        (state S.Store tx.old.conn.now) (state S.Store tx.new.conn.now)) }
 {
     run(tx, sql, params)
 }

@@ -98,6 +98,30 @@ fn is_idle(reference: &Reference) -> bool
     is_no_action(reference.on_delete) && is_no_action(reference.on_update)
 }
 
+fn are_harmless(names: &[&str], references: &[Reference]) -> bool
+    ensures { result ≡ list_all (λ r. is_idle r || not (is_among (map (λ n. n.now) names.now)
+        r.parent)) references.now }
+{
+    for reference in references {
+        if !is_idle(reference) && is_among(names, reference.parent.as_slice()) {
+            return false;
+        }
+    }
+    true
+}
+
+/// Whether no reference to one of these names takes an action, be there such a table or not.
+pub fn is_harmless(schema: &Schema, names: &[&str]) -> bool
+    ensures { result ≡ is_harmless (map (λ n. n.now) names.now) schema.now }
+{
+    for table in schema.tables.as_slice() {
+        if !are_harmless(names, table.references.as_slice()) {
+            return false;
+        }
+    }
+    true
+}
+
 fn points_to(schema: &Schema, tree: u32, reference: &Reference) -> bool
     ensures { result ≡ points_to schema.now tree reference.now }
 {

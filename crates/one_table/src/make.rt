@@ -3,11 +3,13 @@ ghost use Rattle.std.specs.Prelude.{◌≡◌, ◌<◌, ◌⊎◌, true, List, O
 ghost use Rattle.std.specs.List.{list_all};
 ghost use Rattle.sqlite.specs.Effect.{IsDatabase};
 ghost use Rattle.sqlite.specs.Held.{state};
-ghost use Rattle.sqlite.specs.State.{HasCleanDisk, IsRolledBack, IsUnchanged, KeepsCommit, Shows, Survives};
+ghost use Rattle.sqlite.specs.State.{HasCleanDisk};
 ghost use Rattle.sqlite_resolve.specs.Compile.{table_defined_by};
 ghost use Rattle.sqlite_schema.specs.declared.schema.Table.{Table};
-ghost use Rattle.one_table.specs.Making.{is_creation, AreDefined, MakesTable, MakesTables, StaysInside};
+ghost use Rattle.one_table.specs.InTransaction.{KeepsTransaction, StaysInside};
+ghost use Rattle.one_table.specs.Making.{is_creation, AreDefined, MakesTable, MakesTables};
 
+use crate::writing::run;
 use sqlite::{Alter, Error, Transaction};
 
 /// Makes the table that a text defines.
@@ -17,17 +19,13 @@ fn create_table<S: Alter>(tx: &mut Transaction<'_, S>, text: &str) -> Result<(),
     ensures added { HasCleanDisk (state S.Store tx.new.conn.now)
         → (t : Table) → table_defined_by text.now ≡ Ok t → OnOk result (MakesTable t
         (state S.Store tx.old.conn.now).now (state S.Store tx.new.conn.now).now) }
-    ensures kept { HasCleanDisk (state S.Store tx.new.conn.now)
+    ensures inside { HasCleanDisk (state S.Store tx.new.conn.now)
         → OnOk result (StaysInside
         (state S.Store tx.old.conn.now) (state S.Store tx.new.conn.now)) }
-    ensures refused { HasCleanDisk (state S.Store tx.new.conn.now)
-        → OnErr result (KeepsCommit
-        (state S.Store tx.old.conn.now) (state S.Store tx.new.conn.now)) }
-    ensures survives { Survives (state S.Store tx.old.conn.now) (state S.Store tx.new.conn.now)
-        (λ _. ⊥) }
+    ensures transaction { KeepsTransaction
+        (state S.Store tx.old.conn.now) (state S.Store tx.new.conn.now) result }
 {
-    tx.execute(text, &[])?;
-    Ok(())
+    run(tx, text, &[])
 }
 
 /// Makes the tables that the texts define, one after the other.
@@ -46,14 +44,11 @@ pub fn create_tables<S: Alter>(tx: &mut Transaction<'_, S>, texts: &[&str]) -> R
         → IsDatabase (state S.Store tx.old.conn.now).now)
         → (ts : List Table) → AreDefined (map (λ t. t.now) texts.now) ts → OnOk result (MakesTables
         ts (state S.Store tx.old.conn.now).now (state S.Store tx.new.conn.now).now) }
-    ensures kept { HasCleanDisk (state S.Store tx.new.conn.now)
+    ensures inside { HasCleanDisk (state S.Store tx.new.conn.now)
         → OnOk result (StaysInside
         (state S.Store tx.old.conn.now) (state S.Store tx.new.conn.now)) }
-    ensures refused { HasCleanDisk (state S.Store tx.new.conn.now)
-        → OnErr result (KeepsCommit
-        (state S.Store tx.old.conn.now) (state S.Store tx.new.conn.now)) }
-    ensures survives { Survives (state S.Store tx.old.conn.now) (state S.Store tx.new.conn.now)
-        (λ _. ⊥) }
+    ensures transaction { KeepsTransaction
+        (state S.Store tx.old.conn.now) (state S.Store tx.new.conn.now) result }
 {
     'texts: for text in texts {
         create_table(tx, text)?;

@@ -1,8 +1,9 @@
-ghost use Rattle.std.specs.Prelude.{◌≡◌, false, IfOk, IfErr, OnOk, OnErr};
+ghost use Rattle.std.specs.Prelude.{IfOk};
 ghost use Rattle.sqlite.specs.Values.{bound};
-ghost use Rattle.sqlite.specs.State.{HasCleanDisk, IsUnchanged, Survives, FailsToQuery, Shown};
+ghost use Rattle.sqlite.specs.State.{HasCleanDisk, IsUnchanged, FailsToQuery, Shown};
 ghost use Rattle.sqlite.specs.Held.{state};
-ghost use Rattle.one_table.specs.Answer.{OnlyAsks, IsLeft, GivesAll, GivesFirst, FailsToRead};
+ghost use Rattle.one_table.specs.Answer.{OnlyAsks, GivesAll, GivesFirst, FailsToRead};
+ghost use Rattle.one_table.specs.ReadsOnly.{ReadsOnly};
 
 use crate::from_row::FromRow;
 use crate::read_fault::ReadFault;
@@ -18,24 +19,12 @@ fn answer<S: Alter>(
     params: &[ValueRef<'_>],
 ) -> Result<Vec<Row>, Error>
     ensures given { HasCleanDisk (state S.Store conn.new)
-        → OnlyAsks (state S.Store conn.old) sql.now
+        → OnlyAsks sql.now (state S.Store conn.old)
         → IfOk result (λ rows. Shown sql.now (bound params.now)
         (state S.Store conn.old) (state S.Store conn.new) rows.items) }
-    ensures same { HasCleanDisk (state S.Store conn.new)
-        → OnlyAsks (state S.Store conn.old) sql.now
-        → OnOk result (IsUnchanged
-        (state S.Store conn.old) (state S.Store conn.new)) }
-    ensures kept { HasCleanDisk (state S.Store conn.new)
-        → OnlyAsks (state S.Store conn.old) sql.now
-        → OnErr result (IsLeft
-        (state S.Store conn.old) (state S.Store conn.new)) }
-    ensures mode { conn.old.in_transaction ≡ false → conn.new.in_transaction ≡ false }
-    ensures faults { HasCleanDisk (state S.Store conn.new)
-        → OnlyAsks (state S.Store conn.old) sql.now
-        → IfErr result (FailsToQuery sql.now (bound params.now)
-        (state S.Store conn.old) (state S.Store conn.new)) }
-    ensures survives { OnlyAsks (state S.Store conn.old) sql.now
-        → Survives (state S.Store conn.old) (state S.Store conn.new) (λ _. ⊥) }
+    ensures reads { ReadsOnly (OnlyAsks sql.now) IsUnchanged
+        (FailsToQuery sql.now (bound params.now))
+        (state S.Store conn.old) (state S.Store conn.new) result }
 {
     let statement = conn.prepare(sql)?;
     statement.query_all(conn, params)
@@ -49,24 +38,12 @@ pub fn read_row<S: Alter, X: FromRow>(
     params: &[ValueRef<'_>],
 ) -> Result<Option<X>, ReadFault>
     ensures given { HasCleanDisk (state S.Store conn.new)
-        → OnlyAsks (state S.Store conn.old) sql.now
+        → OnlyAsks sql.now (state S.Store conn.old)
         → IfOk result (GivesFirst X.FromRow.reads_as sql.now (bound params.now)
         (state S.Store conn.old) (state S.Store conn.new)) }
-    ensures same { HasCleanDisk (state S.Store conn.new)
-        → OnlyAsks (state S.Store conn.old) sql.now
-        → OnOk result (IsUnchanged
-        (state S.Store conn.old) (state S.Store conn.new)) }
-    ensures kept { HasCleanDisk (state S.Store conn.new)
-        → OnlyAsks (state S.Store conn.old) sql.now
-        → OnErr result (IsLeft
-        (state S.Store conn.old) (state S.Store conn.new)) }
-    ensures mode { conn.old.in_transaction ≡ false → conn.new.in_transaction ≡ false }
-    ensures faults { HasCleanDisk (state S.Store conn.new)
-        → OnlyAsks (state S.Store conn.old) sql.now
-        → IfErr result (FailsToRead X.FromRow.is_readable sql.now (bound params.now)
-        (state S.Store conn.old) (state S.Store conn.new)) }
-    ensures survives { OnlyAsks (state S.Store conn.old) sql.now
-        → Survives (state S.Store conn.old) (state S.Store conn.new) (λ _. ⊥) }
+    ensures reads { ReadsOnly (OnlyAsks sql.now) IsUnchanged
+        (FailsToRead X.FromRow.is_readable sql.now (bound params.now))
+        (state S.Store conn.old) (state S.Store conn.new) result }
 {
     let rows = answer(conn, sql, params)?;
     match rows.first() {
@@ -84,24 +61,12 @@ pub fn read_rows<S: Alter, X: FromRow + Drop>(
     params: &[ValueRef<'_>],
 ) -> Result<Vec<X>, ReadFault>
     ensures given { HasCleanDisk (state S.Store conn.new)
-        → OnlyAsks (state S.Store conn.old) sql.now
+        → OnlyAsks sql.now (state S.Store conn.old)
         → IfOk result (λ found. GivesAll X.FromRow.reads_as sql.now (bound params.now)
         (state S.Store conn.old) (state S.Store conn.new) found.items) }
-    ensures same { HasCleanDisk (state S.Store conn.new)
-        → OnlyAsks (state S.Store conn.old) sql.now
-        → OnOk result (IsUnchanged
-        (state S.Store conn.old) (state S.Store conn.new)) }
-    ensures kept { HasCleanDisk (state S.Store conn.new)
-        → OnlyAsks (state S.Store conn.old) sql.now
-        → OnErr result (IsLeft
-        (state S.Store conn.old) (state S.Store conn.new)) }
-    ensures mode { conn.old.in_transaction ≡ false → conn.new.in_transaction ≡ false }
-    ensures faults { HasCleanDisk (state S.Store conn.new)
-        → OnlyAsks (state S.Store conn.old) sql.now
-        → IfErr result (FailsToRead X.FromRow.is_readable sql.now (bound params.now)
-        (state S.Store conn.old) (state S.Store conn.new)) }
-    ensures survives { OnlyAsks (state S.Store conn.old) sql.now
-        → Survives (state S.Store conn.old) (state S.Store conn.new) (λ _. ⊥) }
+    ensures reads { ReadsOnly (OnlyAsks sql.now) IsUnchanged
+        (FailsToRead X.FromRow.is_readable sql.now (bound params.now))
+        (state S.Store conn.old) (state S.Store conn.new) result }
 {
     let rows = answer(conn, sql, params)?;
     let mut found = Vec::new(alloc);

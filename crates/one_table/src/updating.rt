@@ -1,14 +1,14 @@
-ghost use Rattle.std.specs.Prelude.{◌≡◌, ◌⊎◌, ℕ, true, List, IsTrue, OnOk, OnErr};
+ghost use Rattle.std.specs.Prelude.{◌≡◌, ℕ, true, IsTrue, IfErr, OnOk, length};
 ghost use Rattle.sqlite.specs.Values.{bound};
-ghost use Rattle.sqlite.specs.State.{HasCleanDisk, Survives, Shows, KeepsCommit};
+ghost use Rattle.sqlite.specs.State.{HasCleanDisk};
 ghost use Rattle.sqlite.specs.Held.{state};
 ghost use Rattle.sqlite.specs.Table.{Table};
 ghost use Rattle.sqlite.specs.Query.{Query};
 ghost use Rattle.one_table.specs.Place.{Has};
-ghost use Rattle.one_table.specs.Answer.{IsLeft};
-ghost use Rattle.one_table.specs.Changing.{IsUpdate};
+ghost use Rattle.one_table.specs.Changing.{IsUpdate, update_as};
+ghost use Rattle.one_table.specs.Reading.{is_whole};
 ghost use Rattle.one_table.specs.Referring.{is_left_alone};
-ghost use Rattle.one_table.specs.InTransaction.{SetsRows};
+ghost use Rattle.one_table.specs.InTransaction.{FailsToWrite, KeepsTransaction, SetsRows};
 
 use crate::writing::run;
 use sqlite::types::ValueRef;
@@ -28,16 +28,15 @@ pub fn update<S: Alter>(
         × (is_left_alone (state S.Store tx.old.conn.now).now.schema t.tree ≡ true))
         → OnOk result (SetsRows t q (bound params.now)
         (state S.Store tx.old.conn.now) (state S.Store tx.new.conn.now)) }
-    ensures inside { HasCleanDisk (state S.Store tx.new.conn.now)
-        → OnOk result (Shows (state S.Store tx.old.conn.now) (state S.Store tx.new.conn.now)
-        (state S.Store tx.new.conn.now).now (state S.Store tx.old.conn.now).committed true) }
-    ensures kept { HasCleanDisk (state S.Store tx.new.conn.now)
-        → KeepsCommit (state S.Store tx.old.conn.now) (state S.Store tx.new.conn.now) }
+    ensures transaction { KeepsTransaction
+        (state S.Store tx.old.conn.now) (state S.Store tx.new.conn.now) result }
     ensures refused { HasCleanDisk (state S.Store tx.new.conn.now)
-        → OnErr result (IsLeft (state S.Store tx.old.conn.now) (state S.Store tx.new.conn.now)
-        ⊎ (tx.new.conn.now ≡ tx.old.conn.now)) }
-    ensures survives { Survives
-        (state S.Store tx.old.conn.now) (state S.Store tx.new.conn.now) (λ _. ⊥) }
+        → (t : Table) (at : ℕ) (q : Query) → IsUpdate t q sql.now
+        → is_whole sql.now (length (bound params.now)) ≡ true
+        → (IsTrue (state S.Store tx.old.conn.now).is_open
+        → Has (state S.Store tx.old.conn.now).now.schema at t)
+        → IfErr result (FailsToWrite (update_as at q) (bound params.now)
+        (state S.Store tx.old.conn.now) (state S.Store tx.new.conn.now)) }
 {
     run(tx, sql, params)
 }

@@ -1,8 +1,8 @@
-ghost use Rattle.std.specs.Prelude.{◌≡◌, ◌⊎◌, ℕ, Ok, OnOk, OnErr, true};
+ghost use Rattle.std.specs.Prelude.{◌≡◌, ℕ, Ok, OnOk, IfErr};
 ghost use Rattle.sqlite.specs.Values.{bound};
-ghost use Rattle.sqlite.specs.State.{HasCleanDisk, Survives, ExecutesInside, Shows, KeepsCommit};
+ghost use Rattle.sqlite.specs.State.{HasCleanDisk, ExecutesInside};
 ghost use Rattle.sqlite.specs.Held.{state};
-ghost use Rattle.one_table.specs.Answer.{IsLeft};
+ghost use Rattle.one_table.specs.InTransaction.{FailsToRun, KeepsTransaction};
 
 use sqlite::types::ValueRef;
 use sqlite::{Alter, Error, Transaction};
@@ -17,16 +17,11 @@ pub(crate) fn run<S: Alter>(
     ensures ran { HasCleanDisk (state S.Store tx.new.conn.now)
         → OnOk result ((count : ℕ) × ExecutesInside 0 sql.now (bound params.now)
         (state S.Store tx.old.conn.now) (state S.Store tx.new.conn.now) (Ok count)) }
-    ensures inside { HasCleanDisk (state S.Store tx.new.conn.now)
-        → OnOk result (Shows (state S.Store tx.old.conn.now) (state S.Store tx.new.conn.now)
-        (state S.Store tx.new.conn.now).now (state S.Store tx.old.conn.now).committed true) }
-    ensures kept { HasCleanDisk (state S.Store tx.new.conn.now)
-        → KeepsCommit (state S.Store tx.old.conn.now) (state S.Store tx.new.conn.now) }
+    ensures transaction { KeepsTransaction
+        (state S.Store tx.old.conn.now) (state S.Store tx.new.conn.now) result }
     ensures refused { HasCleanDisk (state S.Store tx.new.conn.now)
-        → OnErr result (IsLeft (state S.Store tx.old.conn.now) (state S.Store tx.new.conn.now)
-        ⊎ (tx.new.conn.now ≡ tx.old.conn.now)) }
-    ensures survives { Survives
-        (state S.Store tx.old.conn.now) (state S.Store tx.new.conn.now) (λ _. ⊥) }
+        → IfErr result (FailsToRun sql.now (bound params.now)
+        (state S.Store tx.old.conn.now) (state S.Store tx.new.conn.now)) }
 {
     tx.execute(sql, params)?;
     Ok(())

@@ -1,11 +1,10 @@
-use Rattle.std.proofs.Common.{rules, arith, ◌≡◌, ◌∙◌, sym, subst, take, length, get_or, List, None}
+use Rattle.std.proofs.Common.{rules, arith, ◌≡◌, ◌∙◌, sym, subst, take, length, get_or, List, None, Ok}
 use Rattle.sqlite.specs.Held.{state}
 use Rattle.sqlite.specs.State.{HasCleanDisk}
 use Rattle.std.proofs.lemmas.List.{length-take-le, take_all, take_more}
 use Rattle.tariff.specs.declared.step.Step.{Step}
-use Rattle.one_table.proofs.ChangeLemmas.{keeps_inside, keeps_then}
+use Rattle.one_table.proofs.ChangeLemmas.{transaction_off, transaction_on, transaction_then}
 use Rattle.book_tables.specs.Writing.{AddsTariff}
-use Rattle.book_tables.proofs.KeptLemmas.{shows_more}
 use Rattle.book_tables.proofs.TariffWriteLemmas.{adds_next, adds_none, still_has}
 use Rattle.book_tables.proofs.adding.add_tariff.Goals as goal
 
@@ -13,8 +12,7 @@ pub steps-init : goal.steps-init
 steps-init g c = record {
   same = search rules;
   place = search rules;
-  survives = search rules;
-  inside = search rules;
+  transaction = transaction_on c.in_ok-add_name.ensures.transaction;
   added = λ clean has. adds_none c.args.name.now (state g.S.Store c.args.tx.now.conn.now) (state g.S.Store c.add_name.new.tx.conn.now) (c.in_ok-add_name.ensures.added clean has);
 }
 
@@ -22,15 +20,12 @@ pub steps-preserved : goal.steps-preserved
 steps-preserved g c = record {
   same = search rules;
   place = search rules;
-  survives = search rules;
-  inside = λ clean.
-      let early : HasCleanDisk (state g.S.Store c.steps.tx.conn.now) = omega (arith, c.add_step.ensures.survives.clean) in
-      shows_more (state g.S.Store c.args.tx.now.conn.now) (state g.S.Store c.steps.tx.conn.now) (state g.S.Store c.add_step.new.tx.conn.now) (c.steps.invariant.inside early) (c.in_ok-add_step.ensures.inside clean);
+  transaction = transaction_then (state g.S.Store c.args.tx.now.conn.now) (state g.S.Store c.steps.tx.conn.now) (state g.S.Store c.add_step.new.tx.conn.now) (Ok tt) c.steps.invariant.transaction (transaction_on c.in_ok-add_step.ensures.transaction);
   added = λ clean has.
       let old = state g.S.Store c.args.tx.now.conn.now in
       let mid = state g.S.Store c.steps.tx.conn.now in
       let new = state g.S.Store c.add_step.new.tx.conn.now in
-      let early : HasCleanDisk mid = omega (arith, c.add_step.ensures.survives.clean) in
+      let early : HasCleanDisk mid = omega (arith, c.add_step.ensures.transaction.survives.clean) in
       let so_far = c.steps.invariant.added early has in
       let last = c.in_ok-add_step.ensures.added clean (still_has c.args.name.now _ old mid so_far has) in
       let step = get_or c.args.steps.now c.steps.step-index (record { ends = None; price = 0 }) in
@@ -44,10 +39,15 @@ returns-clause-added g c clean has =
     subst (λ (l : List Step). AddsTariff c.args.name.now l (state g.S.Store c.args.tx.now.conn.now) (state g.S.Store c.steps.tx.conn.now)) (take_all c.steps.step-index c.args.steps.now c.steps-test.false)
     (c.steps.invariant.added clean has)
 
-pub returns-in_err-add_step-clause-kept : goal.returns-in_err-add_step-clause-kept
-returns-in_err-add_step-clause-kept g c clean =
-    let old = state g.S.Store c.args.tx.now.conn.now in
-    let mid = state g.S.Store c.steps.tx.conn.now in
-    let new = state g.S.Store c.add_step.new.tx.conn.now in
-    let early : HasCleanDisk mid = omega (arith, c.add_step.ensures.survives.clean) in
-    keeps_then old mid new (keeps_inside old mid (c.steps.invariant.inside early)) (c.add_step.ensures.kept clean)
+pub returns-in_err-add_name-clause-transaction : goal.returns-in_err-add_name-clause-transaction
+returns-in_err-add_name-clause-transaction g c =
+    transaction_off _ c.from_residual.result c.from_residual.ensures.1 c.in_err-add_name.ensures.transaction.kept c.in_err-add_name.ensures.transaction.survives
+
+pub returns-in_err-add_step-clause-transaction : goal.returns-in_err-add_step-clause-transaction
+returns-in_err-add_step-clause-transaction g c =
+    let r = c.from_residual-in_err-add_step.result in
+    transaction_then (state g.S.Store c.args.tx.now.conn.now) (state g.S.Store c.steps.tx.conn.now) (state g.S.Store c.add_step.new.tx.conn.now) r c.steps.invariant.transaction
+    (transaction_off _ r c.from_residual-in_err-add_step.ensures.1 c.in_err-add_step.ensures.transaction.kept c.in_err-add_step.ensures.transaction.survives)
+
+pub returns-clause-transaction : goal.returns-clause-transaction
+returns-clause-transaction g c = transaction_on c.steps.invariant.transaction

@@ -1,8 +1,10 @@
-use Rattle.std.proofs.Common.{◌≡◌, IsTrue, take, true}
+use Rattle.std.proofs.Common.{◌≡◌, Ok, take}
 use Rattle.sqlite.specs.Held.{state}
-use Rattle.sqlite.specs.State.{HasCleanDisk, Shows, Survives}
-use Rattle.book_tables.specs.Holds.{HasOffice}
+use Rattle.sqlite.specs.State.{HasCleanDisk}
+use Rattle.one_table.specs.InTransaction.{KeepsTransaction}
+use Rattle.book_tables.specs.Reading.{HasTables}
 use Rattle.book_tables.specs.Writing.{AddsTariff}
+use Rattle.book_tables.specs.declared.error.TableError.{TableError}
 use Rattle.book_tables.proofs.adding.add_tariff.Given as goal
 
 abbrev pub invariant-steps : goal.invariant-steps
@@ -12,7 +14,6 @@ invariant-steps g l =
     record {
       same : l.tx.conn.ghost_name ≡ l.fn.tx.conn.ghost_name;
       place : l.place ≡ l.step-index;
-      survives : Survives old now (λ _. ⊥);
-      inside : HasCleanDisk now → Shows old now now.now old.committed true;
-      added : HasCleanDisk now → (IsTrue old.is_open → HasOffice old.now.schema) → AddsTariff l.name (take l.step-index l.steps) old now;
+      transaction : KeepsTransaction {T = Unit {0}} {E = TableError} old now (Ok tt);
+      added : HasCleanDisk now → HasTables old → AddsTariff l.name (take l.step-index l.steps) old now;
     }

@@ -1,6 +1,6 @@
 use Rattle.book_tables.specs.Rows.{shown_meter}
 use Rattle.book_tables.specs.Values.{AreMeterValues}
-use Rattle.book_tables.proofs.HoldsLemmas.{stands_once}
+use Rattle.book_tables.proofs.HoldsLemmas.{holds_or_empty, stands_once, stands_present, untaken_stands}
 use Rattle.book_tables.proofs.RowLemmas.{one_shown_meter, reads_itself}
 use Rattle.book_tables.proofs.TextLemmas.{about_defined, meters_defined, sales_defined, shifts_defined, tariff_steps_defined, tariffs_defined}
 use Rattle.book_tables.proofs.ValueLemmas.{meters_keep, sales_keep, shifts_keep, steps_keep}
@@ -8,6 +8,15 @@ use Rattle.book_tables.proofs.laws.stands_law.Goals as goal
 
 pub returns-clause-one_office : goal.returns-clause-one_office
 returns-clause-one_office c = stands_once
+
+pub returns-clause-untaken : goal.returns-clause-untaken
+returns-clause-untaken c = untaken_stands
+
+pub returns-clause-members : goal.returns-clause-members
+returns-clause-members c = stands_present
+
+pub returns-clause-held : goal.returns-clause-held
+returns-clause-held c = holds_or_empty
 
 pub returns-clause-steps : goal.returns-clause-steps
 returns-clause-steps c = λ o name steps office e. steps_keep o office name steps e

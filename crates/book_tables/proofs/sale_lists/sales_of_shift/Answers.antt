@@ -7,11 +7,11 @@ use Rattle.book_tables.proofs.sale_lists.sales_of_shift.Goals as goal
 pub returns-clause-given : goal.returns-clause-given
 returns-clause-given g c clean rows has of_office =
     let old = state g.S.Store c.args.conn.now in
-    let only = only_asks (sales_of_shift c.args.shift) old (λ runs. (has runs).has) in
+    let only = only_asks (sales_of_shift c.args.shift) old (λ runs. (has runs).0) in
     gives (sales_of_shift c.args.shift) (λ found. found.items) old (state g.S.Store c.all_records.new.conn) rows has of_office c.all_records.result
-    (bound c.number_values.result) c.number_values.ensures (c.all_records.ensures.same clean only) (c.all_records.ensures.given clean only)
+    (bound c.number_values.result) c.number_values.ensures (c.all_records.ensures.reads.same clean only) (c.all_records.ensures.given clean only)
 
 pub returns-clause-reads : goal.returns-clause-reads
 returns-clause-reads g c =
     reads (sales_of_shift c.args.shift) (state g.S.Store c.args.conn.now) (state g.S.Store c.all_records.new.conn) c.all_records.result (bound c.number_values.result) c.number_values.ensures
-    c.all_records.ensures.same c.all_records.ensures.kept c.all_records.ensures.mode c.all_records.ensures.faults c.all_records.ensures.survives
+    c.all_records.ensures.reads

@@ -7,11 +7,11 @@ use Rattle.book_tables.proofs.shifts.open_shift.Goals as goal
 pub returns-clause-given : goal.returns-clause-given
 returns-clause-given g c clean rows has of_office =
     let old = state g.S.Store c.args.conn.now in
-    let only = only_asks (open_shift c.args.operator.now) old (λ runs. (has runs).has) in
+    let only = only_asks (open_shift c.args.operator.now) old (λ runs. (has runs).0) in
     gives (open_shift c.args.operator.now) old (state g.S.Store c.first_record.new.conn) rows has of_office c.first_record.result
-    (bound c.operator_values.result) c.operator_values.ensures (c.first_record.ensures.same clean only) (c.first_record.ensures.given clean only)
+    (bound c.operator_values.result) c.operator_values.ensures (c.first_record.ensures.reads.same clean only) (c.first_record.ensures.given clean only)
 
 pub returns-clause-reads : goal.returns-clause-reads
 returns-clause-reads g c =
     reads (open_shift c.args.operator.now) (state g.S.Store c.args.conn.now) (state g.S.Store c.first_record.new.conn) c.first_record.result (bound c.operator_values.result) c.operator_values.ensures
-    c.first_record.ensures.same c.first_record.ensures.kept c.first_record.ensures.mode c.first_record.ensures.faults c.first_record.ensures.survives
+    c.first_record.ensures.reads

@@ -1,12 +1,11 @@
-use Rattle.std.proofs.Common.{◌≡◌, true, inl, inr}
-use Rattle.std.proofs.lemmas.Bool.{cases_Bool}
 use Rattle.sqlite.specs.Held.{state}
+use Rattle.one_table.proofs.ChangeLemmas.{on_ok}
 use Rattle.one_table.proofs.CreationLemmas.{executes_as}
 use Rattle.one_table.proofs.make.create_table.Goals as goal
 
 pub returns-clause-added : goal.returns-clause-added
 returns-clause-added g c clean t defined =
-    let old = state g.S.Store c.args.tx.now.conn.now in
-    let ran = c.in_ok-execute.ensures in
-    let inside : old.in_transaction ≡ true = elim (cases_Bool old.in_transaction) [ inl is ↦ is | inr not ↦ absurd (let e = (ran.ended not).0 in cc) ] in
-    executes_as old (state g.S.Store c.execute.new.self.conn.now) c.args.text.now _ c.in_ok-execute.field-0 t c.requires defined (ran.runs clean inside).0
+    on_ok c.run.result (λ ran. executes_as (state g.S.Store c.args.tx.now.conn.now) (state g.S.Store c.run.new.tx.conn.now) c.args.text.now _ ran.0 t c.requires defined ran.1.0) (c.run.ensures.ran clean)
+
+pub returns-clause-inside : goal.returns-clause-inside
+returns-clause-inside g c clean = on_ok c.run.result (λ ran. ran.1.1) (c.run.ensures.ran clean)

@@ -2,7 +2,7 @@ use Rattle.std.proofs.Common.{rules, arith, ◌≡◌, ℕ, ◌+◌, ◌<◌, Li
 use Rattle.std.proofs.lemmas.List.{map-append, take_more}
 use Rattle.sqlite.specs.Held.{state}
 use Rattle.sqlite.specs.State.{HasCleanDisk}
-use Rattle.one_table.proofs.TurnLemmas.{HasMade, makes_next}
+use Rattle.one_table.proofs.TurnLemmas.{HasMade, all_made, makes_next, next_failed}
 use Rattle.one_table.proofs.make.create_tables.Goals as goal
 
 texts_more : (texts : List (Bor (List ℕ))) (i : ℕ) (d : Bor (List ℕ)) → i < length texts → map (λ t. t.now) (take (i + 1) texts) ≡ map (λ t. t.now) (take i texts) ++ (get_or texts i d).now ∷ []
@@ -11,14 +11,24 @@ texts_more texts i d low = ap (map (λ t. t.now)) (take_more texts i d low) ∙ 
 pub texts-preserved : goal.texts-preserved
 texts-preserved g c = record {
   same = search rules;
-  survives = search rules;
+  survives =
+      let last = c.create_table.ensures.transaction.survives in
+      search (rules, last);
   made = λ clean.
       let old = state g.S.Store c.args.tx.now.conn.now in
       let mid = state g.S.Store c.texts.tx.conn.now in
       let new = state g.S.Store c.create_table.new.tx.conn.now in
-      let early : HasCleanDisk mid = omega (arith, c.create_table.ensures.survives.clean) in
+      let early : HasCleanDisk mid = omega (arith, c.create_table.ensures.transaction.survives.clean) in
       let here : Bor (List ℕ) = record { ref_ptr = (0, 0); now = [] } in
       let next = makes_next (map (λ t. t.now) (take c.texts.text-index c.args.texts.now)) (get_or c.args.texts.now c.texts.text-index here).now old mid new
-      (c.texts.invariant.made early) (λ t defined. c.in_ok-create_table.ensures.added clean t defined) (c.in_ok-create_table.ensures.kept clean) in
+      (c.texts.invariant.made early) (λ t defined. c.in_ok-create_table.ensures.added clean t defined) (c.in_ok-create_table.ensures.inside clean) in
       inr (subst (λ l. HasMade l old new) (sym (texts_more c.args.texts.now c.texts.text-index here c.texts-test.true)) next);
 }
+
+pub returns-in_err-create_table-clause-transaction : goal.returns-in_err-create_table-clause-transaction
+returns-in_err-create_table-clause-transaction g c =
+    next_failed _ (state g.S.Store c.args.tx.now.conn.now) (state g.S.Store c.texts.tx.conn.now) (state g.S.Store c.create_table.new.tx.conn.now) _ c.from_residual.result c.from_residual.ensures.1 c.texts.invariant.made c.texts.invariant.survives
+    c.in_err-create_table.ensures.transaction
+
+pub returns-clause-transaction : goal.returns-clause-transaction
+returns-clause-transaction g c = all_made _ (state g.S.Store c.args.tx.now.conn.now) (state g.S.Store c.texts.tx.conn.now) (search rules) c.texts.invariant.made c.texts.invariant.survives

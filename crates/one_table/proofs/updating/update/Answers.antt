@@ -1,9 +1,21 @@
+use Rattle.std.proofs.Common.{[]}
 use Rattle.sqlite.specs.Values.{bound}
 use Rattle.sqlite.specs.Held.{state}
-use Rattle.one_table.proofs.ChangeLemmas.{on_ok}
+use Rattle.one_table.proofs.ChangeLemmas.{if_err, on_ok}
 use Rattle.one_table.proofs.UpdateLemmas.{sets_rows}
+use Rattle.one_table.specs.Changing.{update_as}
+use Rattle.one_table.proofs.UpdateTextLemmas.{updates}
+use Rattle.one_table.proofs.RefusalLemmas.{fails_to_write, update_changes}
 use Rattle.one_table.proofs.updating.update.Goals as goal
 
 pub returns-clause-changed : goal.returns-clause-changed
 returns-clause-changed g c clean t at q is has =
     on_ok c.run.result (λ ran. sets_rows c.args.sql.now (bound c.args.params.now) (state g.S.Store c.args.tx.now.conn.now) (state g.S.Store c.run.new.tx.conn.now) t at q is has ran.0 ran.1) (c.run.ensures.ran clean)
+
+pub returns-clause-refused : goal.returns-clause-refused
+returns-clause-refused g c clean t at q is whole has =
+    let old = state g.S.Store c.args.tx.now.conn.now in
+    if_err c.run.result
+    (fails_to_write c.args.sql.now (bound c.args.params.now) old (state g.S.Store c.run.new.tx.conn.now) (update_as at q) (update_changes at (record { lets = []; body = q })) (λ runs. updates old.now.schema at t (has runs) q c.args.sql.now is)
+    whole)
+    (c.run.ensures.refused clean)

@@ -1,0 +1,54 @@
+-- Each table is one of an office's, so what is read of it alone is read of an office.
+use Rattle.std.proofs.Common.{Result, Ok, Err, IfErr}
+use Rattle.sqlite.specs.Effect.{Database}
+use Rattle.sqlite.specs.State.{IsUnchanged, State}
+use Rattle.sqlite_schema.specs.declared.schema.Schema.{Schema}
+use Rattle.one_table.proofs.ReadsOnlyLemmas.{read_where}
+use Rattle.book_tables.specs.Holds.{HasOffice, Holds, HoldsRows, IsKept}
+use Rattle.book_tables.specs.Kept.{Kept, about_kept, meters_kept, sales_kept, shifts_kept, steps_kept, tariffs_kept}
+use Rattle.book_tables.specs.Reading.{FailsToRead, FailsToReadOf, HasRows, HasTable, HasTableRows, HasTables, OnlyReads, ReadsTable, TableHolds}
+use Rattle.book_tables.specs.Rows.{Rows, present_format}
+use Rattle.book_tables.specs.declared.error.TableError.{TableError}
+use Rattle.book_tables.specs.declared.error.TableError.TheVariants.{Database as Failed, RowOfNoOffice}
+
+-- the table is one of the present format
+pub record IsInOffice (k : Kept) : Type 0 where
+  pub there : (s : Schema) → HasOffice s → IsKept s k
+  pub holds : (db : Database) (rows : Rows) → Holds db rows → HoldsRows db present_format rows k
+
+pub about_in : IsInOffice about_kept
+about_in = record { there = λ s has. has.tables.0; holds = λ db rows held. held.are.0 }
+
+pub tariffs_in : IsInOffice tariffs_kept
+tariffs_in = record { there = λ s has. has.tables.1.0; holds = λ db rows held. held.are.1.0 }
+
+pub steps_in : IsInOffice steps_kept
+steps_in = record { there = λ s has. has.tables.1.1.0; holds = λ db rows held. held.are.1.1.0 }
+
+pub meters_in : IsInOffice meters_kept
+meters_in = record { there = λ s has. has.tables.1.1.1.0; holds = λ db rows held. held.are.1.1.1.0 }
+
+pub shifts_in : IsInOffice shifts_kept
+shifts_in = record { there = λ s has. has.tables.1.1.1.1.0; holds = λ db rows held. held.are.1.1.1.1.0 }
+
+pub sales_in : IsInOffice sales_kept
+sales_in = record { there = λ s has. has.tables.1.1.1.1.1.0; holds = λ db rows held. held.are.1.1.1.1.1.0 }
+
+module _ {k : Kept} (in_office : IsInOffice k) where
+  pub table_holds : (db : Database) (rows : Rows) → Holds db rows → TableHolds k db rows
+  table_holds db rows held = (in_office.there db.schema held.has, (present_format, in_office.holds db rows held))
+
+  pub has_table : (s : State) → HasTables s → HasTable k s
+  has_table s has runs = in_office.there s.now.schema (has runs)
+
+  pub has_table_rows : (s : State) (rows : Rows) → HasRows s rows → HasTableRows k s rows
+  has_table_rows s rows has runs = table_holds s.now rows (has runs)
+
+  fails_in_office : {A : Type 0} (old new : State) (r : Result A TableError) → IfErr r (FailsToReadOf (TableHolds k) old new) → IfErr r (FailsToRead old new)
+  fails_in_office old new (Ok x) fails = tt
+  fails_in_office old new (Err (Failed e)) fails = fails
+  fails_in_office old new (Err RowOfNoOffice) fails = (λ rows held. fails.0 rows (table_holds old.now rows held), fails.1)
+
+  -- a read of the table is a read of the office's tables
+  pub read_in_office : {A : Type 0} {old new : State} {r : Result A TableError} → ReadsTable k old new r → OnlyReads IsUnchanged old new r
+  read_in_office {old = old} {new = new} {r = r} this = read_where r (has_table old) this (λ clean has. fails_in_office old new r (this.faults clean (has_table old has)))
