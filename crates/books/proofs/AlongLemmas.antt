@@ -13,7 +13,8 @@ use Rattle.vend_core.specs.declared.answer.Answer.{Answer}
 use Rattle.vend_core.specs.declared.refusal.Refusal.{Refusal}
 use Rattle.vend_core.specs.declared.refusal.Refusal.TheVariants.{Store, Stopped}
 use Rattle.vend_core.specs.declared.request.Stamped.{Stamped}
-use Rattle.books.specs.Keeps.{Keeps, Seen}
+use Rattle.books.specs.Asking.{AreServedInTurn, Replies}
+use Rattle.books.specs.Keeps.{HaveTables, Represents, Seen}
 use Rattle.books.specs.Others.{LeavesOthers}
 use Rattle.books.specs.Stopping.{StopAtFailure}
 use Rattle.books.proofs.OthersLemmas.{others_same, others_then}
@@ -21,8 +22,9 @@ use Rattle.books.proofs.OthersLemmas.{others_same, others_then}
 -- the requests were served with these replies
 pub record HaveServed (old new : Seen) (ats : List Stamped) (replies : List (Result Answer Refusal)) : Type 0 where
   pub count : length replies ≡ length ats
-  pub keeps : (life : Life) → Keeps life old → Keeps (extended_along life ats replies) new
-  pub others : HasCleanDisk new.state → (life : Life) → Keeps life old → LeavesOthers old.state new.state
+  pub keeps : (life : Life) → Represents life old → Represents (extended_along life ats replies) new
+  pub tables : HaveTables old → HaveTables new
+  pub others : HasCleanDisk new.state → HaveTables old → LeavesOthers old.state new.state
   pub clean : HasCleanDisk new.state → HasCleanDisk old.state
   pub stops : StopAtFailure old.stopped replies new.stopped
 
@@ -35,8 +37,9 @@ none_served stopped = record {
 pub served_none : (books : Seen) → ((life : Life) → extended_along life [] [] ≡ life) → HaveServed books books [] []
 served_none books law = record {
   count = refl;
-  keeps = λ life keeps. subst (λ (l : Life). Keeps l books) (sym (law life)) keeps;
-  others = λ _ _ _. others_same books.state;
+  keeps = λ life keeps. subst (λ (l : Life). Represents l books) (sym (law life)) keeps;
+  tables = λ has. has;
+  others = λ _ _. others_same books.state;
   clean = λ clean. clean;
   stops = none_served books.stopped;
 }
@@ -81,14 +84,22 @@ stops_more old mid new replies reply stops last then = record {
 
 pub served_more : (old mid new : Seen) (ats : List Stamped) (replies : List (Result Answer Refusal)) (at : Stamped) (reply : Result Answer Refusal) → HaveServed old mid ats replies
     → ((life : Life) → length ats ≡ length replies → extended_by (extended_along life ats replies) at reply ≡ extended_along life (ats ++ at ∷ []) (replies ++ reply ∷ []))
-    → ((life : Life) → Keeps life mid → Keeps (extended_by life at reply) new) → (HasCleanDisk new.state → (life : Life) → Keeps life mid → LeavesOthers mid.state new.state)
+    → ((life : Life) → Represents life mid → Represents (extended_by life at reply) new) → (HaveTables mid → HaveTables new) → (HasCleanDisk new.state → HaveTables mid → LeavesOthers mid.state new.state)
     → (HasCleanDisk new.state → HasCleanDisk mid.state) → (reply ≡ Err Stopped) ↔ (mid.stopped ≡ true) → (new.stopped ≡ true) ↔ ((reply ≡ Err Store) ⊎ (reply ≡ Err Stopped))
     → HaveServed old new (ats ++ at ∷ []) (replies ++ reply ∷ [])
-served_more old mid new ats replies at reply so_far law keeps others clean last stops = record {
+served_more old mid new ats replies at reply so_far law keeps tables others clean last stops = record {
   count = omega (arith, so_far.count, length-append ats (at ∷ []), length-append replies (reply ∷ []));
-  keeps = λ life kept. subst (λ (l : Life). Keeps l new) (law life (sym so_far.count)) (keeps (extended_along life ats replies) (so_far.keeps life kept));
-  others = λ late life kept.
-      others_then old.state mid.state new.state (so_far.others (clean late) life kept) (others late (extended_along life ats replies) (so_far.keeps life kept));
+  keeps = λ life kept. subst (λ (l : Life). Represents l new) (law life (sym so_far.count)) (keeps (extended_along life ats replies) (so_far.keeps life kept));
+  tables = λ has. tables (so_far.tables has);
+  others = λ late has. others_then old.state mid.state new.state (so_far.others (clean late) has) (others late (so_far.tables has));
   clean = λ late. so_far.clean (clean late);
   stops = stops_more old.stopped mid.stopped new.stopped replies reply so_far.stops last stops;
 }
+
+-- one request more is served, after the others
+pub served_on : {B : Type 0} (see : B → Seen) (old mid new : B) (ats : List Stamped) (replies : List (Result Answer Refusal)) (at : Stamped) (reply : Result Answer Refusal)
+    → AreServedInTurn see old ats replies mid → Replies at reply (see mid) (see new) → AreServedInTurn see old (ats ++ at ∷ []) (replies ++ reply ∷ []) new
+served_on see old mid new [] [] at reply so_far this = (new, subst (λ b. Replies at reply (see b) (see new)) so_far this, refl)
+served_on see old mid new (first ∷ ats) (told ∷ replies) at reply so_far this = (so_far.0, so_far.1, served_on see so_far.0 mid new ats replies at reply so_far.2 this)
+served_on see old mid new [] (told ∷ replies) at reply so_far this = absurd so_far
+served_on see old mid new (first ∷ ats) [] at reply so_far this = absurd so_far

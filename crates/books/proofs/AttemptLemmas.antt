@@ -1,12 +1,13 @@
 -- A request that was decided, and how its commit ends.
-use Rattle.std.proofs.Common.{◌≡◌, ◌+◌, List, [], ◌∷◌, length, Option, Some, None, Ok, Err, refl, sym, ap, subst, ◌∙◌, inl, inr}
+use Rattle.std.proofs.Common.{◌≡◌, ◌+◌, List, [], ◌∷◌, length, Option, Some, None, Result, Ok, Err, refl, sym, ap, subst, ◌∙◌, inl, inr}
 use Rattle.std.specs.Option.{option_map_or}
-use Rattle.sqlite.specs.State.{State}
-use Rattle.sts_token.specs.Token.{Way}
+use Rattle.sqlite.specs.State.{HasCleanDisk, State}
+use Rattle.sts_token.specs.Token.{BlockFunction}
 use Rattle.vend_core.specs.Decision.{decision}
 use Rattle.vend_core.specs.Edits.{applied, office_after, with_row, with_rows}
 use Rattle.vend_core.specs.Fold.{reply, reply_of, step}
-use Rattle.vend_core.specs.Office.{Office}
+use Rattle.vend_core.specs.Office.{IsOffice, Office}
+use Rattle.vend_core.specs.Store.{Meets}
 use Rattle.vend_core.specs.declared.change.Change.{Change}
 use Rattle.vend_core.specs.declared.change.Edit.{Edit}
 use Rattle.vend_core.specs.declared.change.Edit.TheVariants.{AddTariff, AddMeter, AddRows, SetTariff, OpenShift, CloseShift, AddSale}
@@ -15,9 +16,11 @@ use Rattle.vend_core.specs.declared.request.Stamped.{Stamped}
 use Rattle.vend_core.specs.declared.row.Row.{Row}
 use Rattle.vend_core.specs.declared.row.Row.TheVariants as kinds
 use Rattle.vend_core.specs.declared.sale.Sale.{Sale}
-use Rattle.books.specs.Keeps.{Seen}
-use Rattle.books.specs.Serving.{Attempts, Commits, HoldsOffice, IsDecided, MayBeLeft, Stays}
-use Rattle.books.proofs.OthersLemmas.{others_then}
+use Rattle.books.specs.Keeps.{Stores, Seen}
+use Rattle.books.specs.Same.{ChangesNothing}
+use Rattle.books.specs.Serving.{Commits, HoldsOffice, ServingEnds, IsDecided, MayBeLeft}
+use Rattle.books.proofs.CommitLemmas.{edit_doubted, edit_held}
+use Rattle.books.proofs.StayLemmas.{still_held}
 
 -- the sales stand as they are after every edit but a new sale
 rows_add_no_sale : (rows : List Row) (o : Office) → (with_rows rows o).sales ≡ o.sales
@@ -38,37 +41,48 @@ next_stays (OpenShift s) o none = refl
 next_stays (CloseShift number moment) o none = refl
 next_stays (AddSale s) o none = absurd (none s refl)
 
-module _ (forward : Way) (o : Office) (at : Stamped) (change : Change) (granted : IsDecided forward o at (Ok change)) where
+-- a request that was refused before it changed anything
+pub refused_ends : (forward : BlockFunction) (o : Office) (at : Stamped) (refusal : Refusal) (old new : Seen) → HoldsOffice o old → IsDecided forward o at (Err refusal) → HasCleanDisk new.state
+    → ChangesNothing old.state new.state → new.next_number ≡ old.next_number → ServingEnds forward o at (Err refusal) new
+refused_ends forward o at refusal old new held decided clean nothing next =
+    let here = still_held o old.state new.state clean held.at nothing in
+    let holds : HoldsOffice o new = record { at = here; next = next ∙ held.next } in
+    elim decided [
+      | inl is ↦ inl (ap reply_of is, subst (λ (p : Office). HoldsOffice p new) (ap (office_after o) is) holds)
+      | inr (inl none) ↦ inr (inl (ap (λ (r : Result Change Refusal). reply_of r) none, holds))
+      | inr (inr failed) ↦ inr (inr (ap (λ (r : Result Change Refusal). reply_of r) failed, λ trees may. inl (here.left trees may)))
+    ]
+
+module _ (forward : BlockFunction) (o : Office) (at : Stamped) (change : Change) (granted : IsDecided forward o at (Ok change)) where
   pub is_decision : decision forward o at ≡ Ok change
   is_decision = elim granted [ inl is ↦ sym is | inr (inl none) ↦ absurd cc | inr (inr failed) ↦ absurd cc ]
 
   pub replies : Ok change.answer ≡ reply forward o at
   replies = sym (ap reply_of is_decision)
 
-  module _ (old new : Seen) where
+  module _ (new : Seen) where
     -- a request that changes nothing commits nothing
-    pub unchanged_ends : change.edit ≡ None → HoldsOffice o old → Stays o old.state new.state → new.next_number ≡ old.next_number → Attempts forward o at (Ok change.answer) old new
-    unchanged_ends none held stays next =
-        let same : step forward o at ≡ o = ap (office_after o) is_decision ∙ ap (λ (e : Option Edit). option_map_or (λ edit. applied edit o) e o) none in record {
-          ends = inl (replies, subst (λ (p : Office). HoldsOffice p new) (sym same) (record { at = stays.at; next = next ∙ held.next }));
-          others = stays.others;
-        }
+    pub unchanged_ends : change.edit ≡ None → HoldsOffice o new → ServingEnds forward o at (Ok change.answer) new
+    unchanged_ends none held =
+        let same : step forward o at ≡ o = ap (office_after o) is_decision ∙ ap (λ (e : Option Edit). option_map_or (λ edit. applied edit o) e o) none in
+        inl (replies, subst (λ (p : Office). HoldsOffice p new) (sym same) held)
 
-    module _ (edit : Edit) (some : change.edit ≡ Some edit) (mid : State) (stays : Stays o old.state mid) where
+    module _ (edit : Edit) (some : change.edit ≡ Some edit) where
       pub is_applied : step forward o at ≡ applied edit o
       is_applied = ap (office_after o) is_decision ∙ ap (λ (e : Option Edit). option_map_or (λ edit. applied edit o) e o) some
 
-      pub committed_ends : Commits edit o (Ok tt) mid new.state → new.next_number ≡ length (applied edit o).sales + 1 → Attempts forward o at (Ok change.answer) old new
-      committed_ends commits next = record {
-        ends = inl (replies, subst (λ (p : Office). HoldsOffice p new) (sym is_applied) (record { at = commits.done; next = next }));
-        others = others_then old.state mid new.state stays.others commits.others;
-      }
+      module _ (mid : State) (held : Stores mid o) (meets : Meets edit o) (office : IsOffice (applied edit o)) where
+        pub committed_ends : Commits edit (Ok tt) mid new.state → new.next_number ≡ length (applied edit o).sales + 1 → ServingEnds forward o at (Ok change.answer) new
+        committed_ends commits next =
+            inl (replies, subst (λ (p : Office). HoldsOffice p new) (sym is_applied) (record { at = edit_held edit o mid new.state held meets office commits.done; next = next }))
 
-      pub failed_ends : (refusal : Refusal) → Commits edit o (Err refusal) mid new.state → HoldsOffice o old → new.next_number ≡ old.next_number → Attempts forward o at (Err refusal) old new
-      failed_ends refusal commits held next = record {
-        ends = elim commits.failed [
-          | inl none ↦ inr (inl (ap (λ r. Err r) none.0, record { at = none.1; next = next ∙ held.next }))
-          | inr failed ↦ inr (inr (ap (λ r. Err r) failed.0, subst (MayBeLeft new.state o) (sym is_applied) failed.1))
-        ];
-        others = others_then old.state mid new.state stays.others commits.others;
-      }
+        pub failed_ends : (refusal : Refusal) → HasCleanDisk new.state → Commits edit (Err refusal) mid new.state → new.next_number ≡ length o.sales + 1 → ServingEnds forward o at (Err refusal) new
+        failed_ends refusal clean commits next = elim commits.failed [
+          | inl unmade ↦
+              (let here = still_held o mid new.state clean held unmade.nothing in
+              elim unmade.either [
+                | inl memory ↦ inr (inl (ap (λ r. Err r) memory, record { at = here; next = next }))
+                | inr failed ↦ inr (inr (ap (λ r. Err r) failed, λ trees may. inl (here.left trees may)))
+              ])
+          | inr (failed, doubted) ↦ inr (inr (ap (λ r. Err r) failed, subst (MayBeLeft new.state o) (sym is_applied) (edit_doubted edit o mid new.state held meets office clean doubted)))
+        ]

@@ -22,7 +22,7 @@ use Rattle.book_tables.specs.Holds.{HasOffice, HoldsMembers, table_names}
 use Rattle.book_tables.specs.Reading.{HasTables}
 use Rattle.book_tables.specs.Rows.{Rows}
 use Rattle.book_tables.specs.Stands.{AreMembersOf}
-use Rattle.book_tables.specs.Writing.{AddsMeter, AddsSale, AddsShift, AddsTariff, ClosesShift, IsNext, IsOfNone, SetsTariff, WritesOnly}
+use Rattle.book_tables.specs.Writing.{AddsMeter, AddsSale, AddsShift, AddsTariff, ClosesShift, IsNextNumber, IsOfNone, SetsTariff, WritesOnly}
 use Rattle.books.specs.Changing.{Makes, MakesEdit, MakesRows}
 use Rattle.books.specs.Others.{SameOthers}
 
@@ -75,7 +75,7 @@ module _ (law : KeepsMembers) (old new : State) where
   makes_sale s adds =
       makes (edits.AddSale s) (codes "sales" ∷ []) old new (λ t tree none. (none.1.1.1.1.1.0, tt)) adds.only (λ o office meets held.
       let are = held.2 in
-      let next : IsNext (λ (s : Sale). s.number) held.0.sales s.number = record {
+      let next : IsNextNumber (λ (s : Sale). s.number) held.0.sales s.number = record {
         numbered = subst (λ (l : List Sale). AreNumbered (λ (s : Sale). s.number) l) (sym are.sales) office.sale_numbers;
         next_is = meets.number ∙ ap (λ (l : List Sale). length l + 1) (sym are.sales);
       } in
@@ -85,7 +85,7 @@ module _ (law : KeepsMembers) (old new : State) where
   makes_shift s adds =
       makes (edits.OpenShift s) (codes "shifts" ∷ []) old new (λ t tree none. (none.1.1.1.1.0, tt)) adds.only (λ o office meets held.
       let are = held.2 in
-      let next : IsNext (λ (s : Shift). s.number) held.0.shifts s.number = record {
+      let next : IsNextNumber (λ (s : Shift). s.number) held.0.shifts s.number = record {
         numbered = subst (λ (l : List Shift). AreNumbered (λ (s : Shift). s.number) l) (sym are.shifts) office.shift_numbers;
         next_is = meets.number ∙ ap (λ (l : List Shift). length l + 1) (sym are.shifts);
       } in
@@ -183,15 +183,6 @@ on_ok (Err e) f p = tt
 
 -- ---- inside one transaction
 
-pub shows_more : (old mid new : State) → Shows old mid mid.now old.committed true → Shows mid new new.now mid.committed true → Shows old new new.now old.committed true
-shows_more old mid new first second = record {
-  was_open = first.was_open;
-  is_open = second.is_open;
-  now_is = refl;
-  committed_is = second.committed_is ∙ first.committed_is;
-  mode = second.mode;
-}
-
 -- the office's tables are still there
 pub still_has : (rows : List Row) (old mid : State) → MakesRows rows old.now mid.now → Shows old mid mid.now old.committed true → HasTables old → HasTables mid
 still_has rows old mid makes inside has = λ _. subst HasOffice (sym makes.schema) (has inside.was_open)
@@ -199,7 +190,6 @@ still_has rows old mid makes inside has = λ _. subst HasOffice (sym makes.schem
 -- ---- an edit
 
 -- what the statement of an edit did is what the edit makes
-pub made_by : {A E P : Type 0} (r : Result A E) (found edit : Edit) (old new : State) → found ≡ edit → (HasTables old → OnOk r P) → (P → MakesEdit edit old.now new.now)
-    → OnOk r (Shows old new new.now old.committed true) → OnOk r (Makes found old.now new.now × Shows old new new.now old.committed true)
-made_by (Ok x) found edit old new is did makes inside = ((λ has. subst (λ (e : Edit). MakesEdit e old.now new.now) (sym is) (makes (did (λ _. has)))), inside)
-made_by (Err e) found edit old new is did makes inside = tt
+pub made_by : {A E P : Type 0} (r : Result A E) (found edit : Edit) (old new : State) → found ≡ edit → (HasTables old → OnOk r P) → (P → MakesEdit edit old.now new.now) → OnOk r (Makes found old.now new.now)
+made_by (Ok x) found edit old new is did makes = λ has. subst (λ (e : Edit). MakesEdit e old.now new.now) (sym is) (makes (did (λ _. has)))
+made_by (Err e) found edit old new is did makes = tt

@@ -8,7 +8,7 @@ use Rattle.sqlite.specs.Effect.{Database}
 use Rattle.sqlite.specs.State.{HasCleanDisk, IsUnchanged, State, Survives}
 use Rattle.sts_fields.specs.Calendar.{month_at}
 use Rattle.tariff.specs.declared.step.Step.{Step}
-use Rattle.vend_core.specs.Decision.{Buyer, buyer_of, row_decision}
+use Rattle.vend_core.specs.Decision.{MeterAccount, account_of, row_decision}
 use Rattle.vend_core.specs.Facts.{AreNewSaleFacts, AreRowsFacts, AreSaleFacts, row_facts}
 use Rattle.vend_core.specs.Lookup.{greatest_of, open_shift, prior, sale_of_ref, steps_for, used}
 use Rattle.vend_core.specs.Office.{IsOffice, Office}
@@ -22,7 +22,9 @@ use Rattle.vend_core.specs.declared.sale.Sale.{Sale}
 use Rattle.vend_core.specs.declared.shift.Shift.{Shift}
 use Rattle.book_tables.specs.Found.{meters_numbered}
 use Rattle.book_tables.specs.Holds.{Holds, HoldsMembers}
-use Rattle.book_tables.specs.Reading.{AreOfOffice, FailsToRead, HasRows, HasTables, OnlyReads}
+use Rattle.book_tables.specs.Reading.{AreOfOffice, FailsToRead, HasTableRows, HasTables, OnlyReads}
+use Rattle.book_tables.specs.Kept.{Kept, meters_kept, sales_kept, shifts_kept, steps_kept, tariffs_kept}
+use Rattle.book_tables.proofs.OfficeTableLemmas.{IsInOffice, has_table_rows, meters_in, sales_in, shifts_in, steps_in, tariffs_in}
 use Rattle.book_tables.specs.Rows.{Rows}
 use Rattle.book_tables.specs.Stands.{AreMembersOf}
 use Rattle.book_tables.specs.declared.error.TableError.TheVariants.{RowOfNoOffice}
@@ -64,49 +66,49 @@ members_after o {old} {mid} {new} members before survives clean is_open =
 
 module _ {T : Type 0} {value : T} {o : Office} {old mid new : State} (office : IsOffice o) (members : HasMembers old o) (before : HasPassed old mid) (this : OnlyReads IsUnchanged mid new (Ok value)) (clean : HasCleanDisk new) where
   -- a read tells it of rows that are the office's
-  told : (Says : Rows → Type 0) → ((rows : Rows) → HasRows mid rows → AreOfOffice rows → Says rows) → (rows : Rows) × AreMembersOf rows o × Says rows
-  told Says given =
+  told : {k : Kept} (in_office : IsInOffice k) (Says : Rows → Type 0) → ((rows : Rows) → HasTableRows k mid rows → AreOfOffice rows → Says rows) → (rows : Rows) × AreMembersOf rows o × Says rows
+  told in_office Says given =
       let tables = tables_of old o members in
       let so_far = earlier old mid new before this.survives tables clean in
       let same = this.same clean (tables_after before tables) in
       let held = members (sym so_far.is_open ∙ same.0.was_open) in
-      (held.0, held.2, given held.0 (λ _. subst (λ (db : Database). Holds db held.0) (sym so_far.now_is) held.1) (o, office, held.2))
+      (held.0, held.2, given held.0 (has_table_rows in_office mid held.0 (λ _. subst (λ (db : Database). Holds db held.0) (sym so_far.now_is) held.1)) (o, office, held.2))
 
   -- the disk was clean before
   pub was_clean : HasCleanDisk mid
   was_clean = clean_before before this.survives (tables_of old o members) clean
 
-  pub shifts_told : {X : Type 0} (f : List Shift → X) (x : X) → ((rows : Rows) → HasRows mid rows → AreOfOffice rows → x ≡ f rows.shifts) → x ≡ f o.shifts
-  shifts_told f x given = let it = told (λ rows. x ≡ f rows.shifts) given in it.2 ∙ ap f it.1.shifts
+  pub shifts_told : {X : Type 0} (f : List Shift → X) (x : X) → ((rows : Rows) → HasTableRows shifts_kept mid rows → AreOfOffice rows → x ≡ f rows.shifts) → x ≡ f o.shifts
+  shifts_told f x given = let it = told shifts_in (λ rows. x ≡ f rows.shifts) given in it.2 ∙ ap f it.1.shifts
 
-  pub sales_told : {X : Type 0} (f : List Sale → X) (x : X) → ((rows : Rows) → HasRows mid rows → AreOfOffice rows → x ≡ f rows.sales) → x ≡ f o.sales
-  sales_told f x given = let it = told (λ rows. x ≡ f rows.sales) given in it.2 ∙ ap f it.1.sales
+  pub sales_told : {X : Type 0} (f : List Sale → X) (x : X) → ((rows : Rows) → HasTableRows sales_kept mid rows → AreOfOffice rows → x ≡ f rows.sales) → x ≡ f o.sales
+  sales_told f x given = let it = told sales_in (λ rows. x ≡ f rows.sales) given in it.2 ∙ ap f it.1.sales
 
   pub open_shift_told : (operator : List ℕ) (found : Option Shift)
-      → ((rows : Rows) → HasRows mid rows → AreOfOffice rows → found ≡ find (λ s. bytes_eq s.operator operator && is_none s.closed) rows.shifts) → found ≡ open_shift o operator
+      → ((rows : Rows) → HasTableRows shifts_kept mid rows → AreOfOffice rows → found ≡ find (λ s. bytes_eq s.operator operator && is_none s.closed) rows.shifts) → found ≡ open_shift o operator
   open_shift_told operator = shifts_told (find (λ s. bytes_eq s.operator operator && is_none s.closed))
 
-  pub tariff_told : (name : List ℕ) (there : Bool) → ((rows : Rows) → HasRows mid rows → AreOfOffice rows → IsTrue there ↔ Contains rows.tariffs name) → there ≡ is_some (o.tariffs name)
+  pub tariff_told : (name : List ℕ) (there : Bool) → ((rows : Rows) → HasTableRows tariffs_kept mid rows → AreOfOffice rows → IsTrue there ↔ Contains rows.tariffs name) → there ≡ is_some (o.tariffs name)
   tariff_told name there given =
-      let it = told (λ rows. IsTrue there ↔ Contains rows.tariffs name) given in
+      let it = told tariffs_in (λ rows. IsTrue there ↔ Contains rows.tariffs name) given in
       test_is there (o.tariffs name) (Contains it.0.tariffs name) it.2 (it.1.tariffs name)
 
   pub meter_told : ((rows : Rows) (o : Office) (number : List ℕ) → AreMembersOf rows o → map (λ r. r.1) (meters_numbered rows number) ≡ option_to_list (o.meters number)) → (number : List ℕ) (found : Option Meter)
-      → ((rows : Rows) → HasRows mid rows → AreOfOffice rows → found ≡ option_map (λ r. r.1) (find (λ r. bytes_eq r.0 number) rows.meters)) → found ≡ o.meters number
+      → ((rows : Rows) → HasTableRows meters_kept mid rows → AreOfOffice rows → found ≡ option_map (λ r. r.1) (find (λ r. bytes_eq r.0 number) rows.meters)) → found ≡ o.meters number
   meter_told law number found given =
-      let it = told (λ rows. found ≡ option_map (λ r. r.1) (find (λ r. bytes_eq r.0 number) rows.meters)) given in
+      let it = told meters_in (λ rows. found ≡ option_map (λ r. r.1) (find (λ r. bytes_eq r.0 number) rows.meters)) given in
       it.2 ∙ first_of_one (λ (r : List ℕ × Meter). r.1) (λ r. bytes_eq r.0 number) it.0.meters (o.meters number) (law it.0 o number it.1)
 
-  pub steps_told : (name : List ℕ) (found : Option (List Step)) → ((rows : Rows) (o : Office) → HasRows mid rows → IsOffice o → AreMembersOf rows o → found ≡ o.tariffs name) → found ≡ o.tariffs name
+  pub steps_told : (name : List ℕ) (found : Option (List Step)) → ((rows : Rows) (o : Office) → HasTableRows steps_kept mid rows → IsOffice o → AreMembersOf rows o → found ≡ o.tariffs name) → found ≡ o.tariffs name
   steps_told name found given =
-      let it = told (λ rows. (o : Office) → IsOffice o → AreMembersOf rows o → found ≡ o.tariffs name) (λ rows has _ p office_p members_p. given rows p has office_p members_p) in
+      let it = told steps_in (λ rows. (o : Office) → IsOffice o → AreMembersOf rows o → found ≡ o.tariffs name) (λ rows has _ p office_p members_p. given rows p has office_p members_p) in
       it.2 o office it.1
 
 -- what was read, and is that of no office
 pub of_no_office : {T : Type 0} {x : T} {old new : State} → OnlyReads IsUnchanged old new (Ok x) → HasCleanDisk new → HasTables old → ((o : Office) → IsOffice o → HasMembers old o → ⊥) → FailsToRead old new RowOfNoOffice
 of_no_office this clean has none = (λ rows held of_office. none of_office.0 of_office.1 (λ _. (rows, held, of_office.2)), this.same clean has)
 
--- ---- a buyer
+-- ---- a account
 
 -- a greatest number is within the bound of all
 greatest_within : (bound : ℕ) (ns : List ℕ) → All (λ n. n ≤ bound) ns → unwrap_or (greatest_of ns) 0 ≤ bound
@@ -125,19 +127,19 @@ has_steps o office number there m found there_is here found_is gone =
     let some : is_some (o.tariffs m.tariff) ≡ true = (office.meters number m (sym there_is ∙ here)).tariff in
     false≢true (ap is_some (sym gone ∙ found_is) ∙ some)
 
--- the buyer of a meter with its steps
-pub buyer_is : (o : Office) (number : List ℕ) (moment : ℕ) (there : Option Meter) (m : Meter) (found : Option (List Step)) (steps : List Step) (b : Buyer)
+-- the account of a meter with its steps
+pub account_is : (o : Office) (number : List ℕ) (moment : ℕ) (there : Option Meter) (m : Meter) (found : Option (List Step)) (steps : List Step) (b : MeterAccount)
     → there ≡ o.meters number → there ≡ Some m → found ≡ o.tariffs m.tariff → found ≡ Some steps
     → b ≡ record { meter = m; steps = steps; last = greatest_of (used o number m.base); prior = prior o number (month_at moment) }
-    → Some b ≡ buyer_of o number moment
-buyer_is o number moment there m found steps b there_is here found_is known is =
+    → Some b ≡ account_of o number moment
+account_is o number moment there m found steps b there_is here found_is known is =
     let steps_are : steps ≡ steps_for o m = ap (λ (s : Option (List Step)). unwrap_or s []) (sym known ∙ found_is) in
-    ap (λ (b : Buyer). let some : Option Buyer = Some b in some)
-    (is ∙ ap (λ (s : List Step). let b : Buyer = record { meter = m; steps = s; last = greatest_of (used o number m.base); prior = prior o number (month_at moment) } in b) steps_are)
-    ∙ ap (λ (there : Option Meter). option_map (buyer_with o number moment) there) (sym here ∙ there_is)
+    ap (λ (b : MeterAccount). let some : Option MeterAccount = Some b in some)
+    (is ∙ ap (λ (s : List Step). let b : MeterAccount = record { meter = m; steps = s; last = greatest_of (used o number m.base); prior = prior o number (month_at moment) } in b) steps_are)
+    ∙ ap (λ (there : Option Meter). option_map (account_with o number moment) there) (sym here ∙ there_is)
   where
-    buyer_with : Office → List ℕ → ℕ → Meter → Buyer
-    buyer_with o number moment m = record { meter = m; steps = steps_for o m; last = greatest_of (used o number m.base); prior = prior o number (month_at moment) }
+    account_with : Office → List ℕ → ℕ → Meter → MeterAccount
+    account_with o number moment m = record { meter = m; steps = steps_for o m; last = greatest_of (used o number m.base); prior = prior o number (month_at moment) }
 
 -- the facts of a sale under a new ref
 pub new_sale_is : {E : Type 0} (o : Office) (moment : ℕ) (order : Order) (first : Option Sale) (r : Result Facts E) → first ≡ sale_of_ref o order.operator order.order_ref → is_some first ≡ false

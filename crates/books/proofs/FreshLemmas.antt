@@ -7,7 +7,7 @@ use Rattle.sqlite.specs.Held.{Held, state}
 use Rattle.sqlite.specs.Steps.{IsEmpty, over_memory}
 use Rattle.vend_core.specs.Office.{empty_office}
 use Rattle.book_tables.specs.Holds.{IsUntaken, StandsFor}
-use Rattle.books.specs.Keeps.{StandsAt}
+use Rattle.books.specs.Keeps.{StoreStandsFor}
 use Rattle.books.specs.declared.fault.OpenFault.{OpenFault}
 use Rattle.books.specs.declared.fault.OpenFault.TheVariants.{NotAnOffice, OldOffice, Store, Memory}
 
@@ -16,9 +16,9 @@ abbrev pub bare : Schema
 bare = record { tables = []; indexes = []; views = [] }
 
 pub bare_untaken : IsUntaken bare
-bare_untaken = record { free = refl; unreferred = refl }
+bare_untaken = record { tables = tt; free = refl; unreferred = refl; harmless = refl }
 
-pub memory_stands : (c : Held MemStore) → ((db : Database) → IsUntaken db.schema → StandsFor db empty_office) → IsEmpty (state over_memory c) → StandsAt (state over_memory c) empty_office
+pub memory_stands : (c : Held MemStore) → ((db : Database) → IsUntaken db.schema → StandsFor db empty_office) → IsEmpty (state over_memory c) → StoreStandsFor (state over_memory c) empty_office
 memory_stands c untaken h =
     let s = state over_memory c in
     let stands = untaken s.now (subst IsUntaken (sym h.2) bare_untaken) in

@@ -3,11 +3,11 @@ use Rattle.std.proofs.Common.{◌≡◌, ◌++◌, ◌∷◌, [], List, refl, in
 use Rattle.sqlite_trees.specs.Tree.{Trees}
 use Rattle.vend_core.specs.Life.{AreLives, IsLife, Life, MayLeave, present}
 use Rattle.vend_core.specs.Office.{Office}
-use Rattle.books.specs.Headline.{KeepTheLast, with_last}
-use Rattle.books.specs.Keeps.{LeftFor, Seen}
+use Rattle.books.specs.Headline.{RepresentTheLast, with_last}
+use Rattle.books.specs.Keeps.{RecoversTo, Seen}
 
 module _ (goes_on : (lives : List Life) (life : Life) (o p : Office) → AreLives lives o → IsLife life → life.opening ≡ o → MayLeave life p → AreLives (lives ++ life ∷ []) p)
-    (lives : List Life) (life : Life) (books : Seen) (h : KeepTheLast lives life books) where
+    (lives : List Life) (life : Life) (books : Seen) (h : RepresentTheLast lives life books) where
   -- the lives lead to each office that the last one may leave
   pub lead_to : (p : Office) → MayLeave life p → AreLives (with_last lives life) p
   lead_to p left = goes_on lives life life.opening p h.led (h.kept h.clean).is_life refl left
@@ -16,5 +16,5 @@ module _ (goes_on : (lives : List Life) (life : Life) (o p : Office) → AreLive
   lead_on = lead_to (present life) (inl refl)
 
   -- to the office that a crash may leave, too
-  pub leave : (trees : Trees) → books.state.may_leave trees → (o : Office) × LeftFor trees o × AreLives (with_last lives life) o
+  pub leave : (trees : Trees) → books.state.may_leave trees → (o : Office) × RecoversTo trees o × AreLives (with_last lives life) o
   leave trees left = let p = (h.kept h.clean).left trees left in (p.0, p.2, lead_to p.0 p.1)

@@ -5,6 +5,7 @@ mod BegunLemmas
 mod ChangeLemmas
 mod CommitLemmas
 mod FactsLemmas
+mod FailingLemmas
 mod FreshLemmas
 mod HeadlineLemmas
 mod NothingLemmas
@@ -13,6 +14,7 @@ mod OpeningLemmas
 pub mod OthersLemmas
 mod PageLemmas
 mod PassedLemmas
+mod PathLemmas
 mod ReopenLemmas
 mod ServeLemmas
 mod StayLemmas

@@ -1,13 +1,18 @@
 -- Books that have just opened an office keep the life that begins there.
-use Rattle.std.proofs.Common.{◌≡◌, ◌↔◌, ◌+◌, length, refl}
-use Rattle.sts_token.specs.Token.{Way}
+use Rattle.std.proofs.Common.{◌≡◌, ◌↔◌, ◌+◌, length, refl, sym, subst, inl, inr}
+use Rattle.sqlite.specs.Effect.{Database}
+use Rattle.sqlite.specs.State.{State}
+use Rattle.sts_token.specs.Token.{BlockFunction}
 use Rattle.vend_core.specs.Life.{MayLeave}
 use Rattle.vend_core.specs.LifeLaws.{IsRunning, opened}
 use Rattle.vend_core.specs.Office.{Office}
-use Rattle.books.specs.Keeps.{IsAt, IsKept, Seen}
+use Rattle.book_tables.specs.Holds.{HasOffice}
+use Rattle.book_tables.specs.Reading.{HasTables}
+use Rattle.books.specs.Keeps.{Stores, IsRepresented, Seen}
+use Rattle.books.specs.Opening.{OpensAs}
 
-pub keeps_opened : (forward : Way) (o : Office) (books : Seen) → IsRunning (opened forward o) o → ((p : Office) → MayLeave (opened forward o) p ↔ (p ≡ o)) → forward ≡ books.forward
-    → IsAt books.state o × (books.next_number ≡ length o.sales + 1) → IsKept (opened forward o) books
+pub keeps_opened : (forward : BlockFunction) (o : Office) (books : Seen) → IsRunning (opened forward o) o → ((p : Office) → MayLeave (opened forward o) p ↔ (p ≡ o)) → forward ≡ books.forward
+    → Stores books.state o × (books.next_number ≡ length o.sales + 1) → IsRepresented (opened forward o) books
 keeps_opened forward o books running leaves same at = record {
   opening = at.0.office;
   is_life = running.is_life;
@@ -15,3 +20,7 @@ keeps_opened forward o books running leaves same at = record {
   left = λ trees may. (o, (leaves o).1 refl, at.0.left trees may);
   running = λ _. record { present = o; running = running; at = at.0; next = at.1 };
 }
+
+-- what is opened has the office's tables
+pub opened_tables : (old new : State) → OpensAs old new → HasTables new
+opened_tables old new h = λ _. elim h.now [ inl begun ↦ begun.empty.has | inr found ↦ subst (λ (db : Database). HasOffice db.schema) (sym found.2) found.0 ]

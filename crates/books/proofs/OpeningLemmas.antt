@@ -1,5 +1,5 @@
 -- What looks at the store leave, and what they tell of it.
-use Rattle.std.proofs.Common.{◌≡◌, ℕ, false, true, OnOk, OnErr, IfErr, None, Some, Option, Result, Ok, Err, ◌∙◌, codes, sym, ap, subst, inl, inr, arith, nat_eq}
+use Rattle.std.proofs.Common.{◌≡◌, ◌⊎◌, ℕ, false, true, OnOk, OnErr, IfErr, None, Some, Option, Result, Ok, Err, ◌∙◌, codes, refl, sym, ap, subst, inl, inr, arith, nat_eq}
 use Rattle.std.proofs.lemmas.Bool.{both_ways, cases_Bool}
 use Rattle.std.proofs.lemmas.Bool.Decides.{nat_tests}
 use Rattle.std.specs.Option.{option_eq}
@@ -10,14 +10,18 @@ use Rattle.sqlite_schema.specs.Names.{table_named}
 use Rattle.one_table.specs.Standing.{place_in}
 use Rattle.sqlite.specs.Effect.{Database}
 use Rattle.sqlite.specs.State.{HasCleanDisk, IsUnchanged, State, Survives}
+use Rattle.sqlite.specs.declared.error.Error.{Error}
 use Rattle.sqlite.proofs.Callers.{unchanged_then}
 use Rattle.one_table.specs.Answer.{IsLeft}
 use Rattle.vend_core.specs.Office.{Office}
 use Rattle.book_tables.specs.Format.{HasFormat, IsFormatOf}
 use Rattle.book_tables.specs.Holds.{HasOffice, HoldsMembers, IsUntaken, StandsFor}
-use Rattle.book_tables.specs.Reading.{HasTables}
-use Rattle.books.specs.Keeps.{StandsAt}
-use Rattle.books.specs.Opening.{ShowsNoOffice}
+use Rattle.book_tables.proofs.HoldsLemmas.{holds_or_empty}
+use Rattle.book_tables.specs.Reading.{FailsToRead, HasTables}
+use Rattle.book_tables.specs.declared.error.TableError.{TableError}
+use Rattle.book_tables.specs.declared.error.TableError.TheVariants as table
+use Rattle.books.specs.Keeps.{StoreStandsFor}
+use Rattle.books.specs.Opening.{ShowsNoOffice, fault_of_table}
 use Rattle.books.specs.Same.{IsSame}
 use Rattle.books.specs.declared.fault.OpenFault.{OpenFault}
 use Rattle.books.specs.declared.fault.OpenFault.TheVariants.{NotAnOffice, OldOffice, Store, Memory}
@@ -36,7 +40,7 @@ left_after a b c p (inr q) = inr (record {
 })
 
 -- what the store stood for it stands for after a call that left it as it was
-pub stands_after : (old new : State) (o : Office) → HasCleanDisk new → IsSame old new → Survives old new (λ _. ⊥) → StandsAt old o → StandsAt new o
+pub stands_after : (old new : State) (o : Office) → HasCleanDisk new → IsSame old new → Survives old new (λ _. ⊥) → StoreStandsFor old o → StoreStandsFor new o
 stands_after old new o clean same survives at = record {
   office = at.office;
   now = λ is_open. subst (λ (db : Database). StandsFor db o) (sym (same.now_is is_open)) (at.now (same.was_open is_open));
@@ -46,15 +50,22 @@ stands_after old new o clean same survives at = record {
 -- The office's tables are there: none of their names is free.
 pub taken : (db : Database) → HasOffice db.schema → ¬ IsUntaken db.schema
 taken db has untaken =
-    let named : table_named db.schema (codes "about") ≡ Some (place_in db.schema (codes "about")) = has.about.has.named in
+    let named : table_named db.schema (codes "about") ≡ Some (place_in db.schema (codes "about")) = has.tables.0.0.has.named in
     let none = rw named at untaken.free in cc
 
 pub members_of : (db : Database) (o : Office) → HasOffice db.schema → StandsFor db o → HoldsMembers db o
-members_of db o has stands = elim stands.held [ inl held ↦ held | inr none ↦ absurd (taken db has none.0) ]
+members_of db o has stands = elim (holds_or_empty db o stands) [ inl held ↦ held | inr none ↦ absurd (taken db has none.0) ]
+
+-- a read that failed shows that there is no office, where its fault says so
+pub shows_fault : (old new : State) → HasTables old → (e : TableError) (fault : OpenFault) → ((why : Error) → e ≡ table.Database why → (fault ≡ Store) ⊎ (fault ≡ Memory)) → fault ≡ fault_of_table e
+    → FailsToRead old new e → ShowsNoOffice old fault
+shows_fault old new tables (table.Database why) fault kind is fails = elim (kind why refl) [ inl e ↦ rw e tt | inr e ↦ rw e tt ]
+shows_fault old new tables table.RowOfNoOffice fault kind is fails =
+    rw is (λ o at. let held = members_of old.now o (tables fails.1.0.was_open) (at.now fails.1.0.was_open) in fails.0 held.0 held.1 (o, at.office, held.2))
 
 -- the tables of an office tell their format
 pub format_of : (db : Database) (o : Office) → HoldsMembers db o → HasFormat db 1
-format_of db o held = held.1.about
+format_of db o held = held.1.are.0
 
 pub is_format : (db : Database) (o : Office) (found : Option ℕ) → HoldsMembers db o → IsFormatOf db found → found ≡ Some 1
 is_format db o found held is = (is 1 (omega arith)).1 (format_of db o held)
@@ -71,7 +82,7 @@ on_ok (Ok a) p = p
 on_ok (Err e) p = tt
 
 -- a fault that names the file is true of the store as it was before a look
-pub shown_before : (old mid : State) (fault : OpenFault) → ((o : Office) → StandsAt old o → StandsAt mid o) → ShowsNoOffice mid fault → ShowsNoOffice old fault
+pub shown_before : (old mid : State) (fault : OpenFault) → ((o : Office) → StoreStandsFor old o → StoreStandsFor mid o) → ShowsNoOffice mid fault → ShowsNoOffice old fault
 shown_before old mid NotAnOffice after none = λ o at. none o (after o at)
 shown_before old mid OldOffice after none = none
 shown_before old mid Store after none = tt
@@ -92,7 +103,7 @@ module _ (old mid new : State) (same : HasCleanDisk mid → IsUnchanged old mid)
   pub survives_both : Survives old new (λ _. ⊥)
   survives_both = survives_then old mid new (λ _. ⊥) (λ _. ⊥) (λ _. ⊥) (λ _ _ none. none) (λ _ _ none. none) one two
 
-  pub stands_between : (o : Office) → HasCleanDisk new → StandsAt old o → StandsAt mid o
+  pub stands_between : (o : Office) → HasCleanDisk new → StoreStandsFor old o → StoreStandsFor mid o
   stands_between o clean at = let c = clean_between clean in stands_after old mid o c (same_unchanged old mid (same c)) one at
 
   pub unchanged_both : {A E : Type 0} (r : Result A E) → HasCleanDisk new → OnOk r (IsUnchanged mid new) → OnOk r (IsUnchanged old new)

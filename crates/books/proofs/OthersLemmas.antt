@@ -1,14 +1,19 @@
 -- What leaves the tables of other names as they were, one step after another.
-use Rattle.std.proofs.Common.{◌≡◌, IsTrue, List, [], ◌∷◌, refl, ap, subst, ◌∙◌, inl, inr}
+use Rattle.std.proofs.Common.{◌≡◌, IsTrue, List, [], ◌∷◌, refl, sym, ap, subst, ◌∙◌, inl, inr}
 use Rattle.std.specs.List.{AllByRecursion}
-use Rattle.sqlite.specs.State.{State}
+use Rattle.sqlite.specs.Effect.{Database}
+use Rattle.sqlite.specs.State.{HasCleanDisk, State}
 use Rattle.sqlite_schema.specs.declared.schema.Schema.{Schema}
 use Rattle.sqlite_schema.specs.declared.schema.Table.{Table}
 use Rattle.sqlite_trees.specs.Tree.{Trees}
 use Rattle.sqlite_trees.proofs.ListLemmas.{all_of}
-use Rattle.book_tables.specs.Holds.{table_names}
+use Rattle.vend_core.specs.Life.{Life}
+use Rattle.book_tables.specs.Holds.{HasOffice, table_names}
+use Rattle.book_tables.specs.Reading.{HasTables}
 use Rattle.book_tables.specs.Writing.{IsOfNone}
+use Rattle.books.specs.Keeps.{HaveTables, Represents, Seen}
 use Rattle.books.specs.Others.{LeavesOthers, SameOthers}
+use Rattle.books.specs.Same.{ChangesNothing}
 
 pub same_trees : (s : Schema) (old new : Trees) → new ≡ old → SameOthers s old new
 same_trees s old new same = all_of (λ (u : Table). IsOfNone s table_names u.tree → new u.tree ≡ old u.tree) (λ u _. ap (λ (f : Trees). f u.tree) same) s.tables
@@ -43,3 +48,21 @@ others_same s = record {
   now = λ _. same_trees s.now.schema s.now.trees s.now.trees refl;
   crash = λ trees may. inl may;
 }
+
+pub nothing_others : (old new : State) → HasCleanDisk new → ChangesNothing old new → LeavesOthers old new
+nothing_others old new clean h = record {
+  was_open = h.same.was_open;
+  schema = λ is_open. ap (λ (d : Database). d.schema) (h.same.now_is is_open);
+  now = λ is_open. same_trees old.now.schema old.now.trees new.now.trees (ap (λ (d : Database). d.trees) (h.same.now_is is_open));
+  crash = λ trees may. elim (h.survives.crash clean trees may) [ inl was ↦ inl was | inr none ↦ absurd none ];
+}
+
+-- ---- the office's own tables
+
+-- they are still there
+pub tables_stay : (old new : State) → LeavesOthers old new → HasTables old → HasTables new
+tables_stay old new h has is_open = subst HasOffice (sym (h.schema is_open)) (has (h.was_open is_open))
+
+-- books that keep a life have them
+pub kept_tables : (life : Life) (books : Seen) → Represents life books → HaveTables books
+kept_tables life books keeps clean runs is_open = (((keeps clean).running runs).at.members is_open).1.has

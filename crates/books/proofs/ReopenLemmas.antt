@@ -12,7 +12,7 @@ use Rattle.sqlite.proofs.ListingLemmas.{empty_is_sound}
 use Rattle.sqlite_wal.specs.Recovery.{Image}
 use Rattle.vend_core.specs.Office.{Office, empty_office}
 use Rattle.book_tables.specs.Holds.{IsUntaken, StandsFor}
-use Rattle.books.specs.Keeps.{LeftFor, StandsAt}
+use Rattle.books.specs.Keeps.{RecoversTo, StoreStandsFor}
 use Rattle.books.specs.Path.{StandsIn}
 use Rattle.books.proofs.FreshLemmas.{bare, bare_untaken}
 
@@ -27,25 +27,25 @@ same_database a b p q same =
     same_parts a b schema same
 
 -- a connection that has just been opened stands for what its trees stand for
-pub opened_stands : (s : State) (o : Office) → ((trees : Trees) → s.may_leave trees → IsTrue s.is_open → trees ≡ s.committed.trees) → Opens s → IsLive s → LeftFor s.committed.trees o → StandsAt s o
+pub opened_stands : (s : State) (o : Office) → ((trees : Trees) → s.may_leave trees → IsTrue s.is_open → trees ≡ s.committed.trees) → Opens s → IsLive s → RecoversTo s.committed.trees o → StoreStandsFor s o
 opened_stands s o settled opens live left =
     let same = same_database left.0 s.committed left.1 (live opens.is_open).1 (sym left.2) in
     let stands = subst (λ (db : Database). StandsFor db o) same left.3 in
     record {
       office = stands.office;
       now = λ _. subst (λ (db : Database). StandsFor db o) (sym opens.clean) stands;
-      left = λ trees may. subst (λ (t : Trees). LeftFor t o) (sym (settled trees may opens.is_open)) left;
+      left = λ trees may. subst (λ (t : Trees). RecoversTo t o) (sym (settled trees may opens.is_open)) left;
     }
 
-pub one_office_left : ((db : Database) (o p : Office) → StandsFor db o → StandsFor db p → o ≡ p) → (trees : Trees) (o p : Office) → LeftFor trees o → LeftFor trees p → o ≡ p
+pub one_office_left : ((db : Database) (o p : Office) → StandsFor db o → StandsFor db p → o ≡ p) → (trees : Trees) (o p : Office) → RecoversTo trees o → RecoversTo trees p → o ≡ p
 one_office_left once trees o p a b =
     let same = same_database a.0 b.0 a.1 b.1 (sym a.2 ∙ b.2) in
     once b.0 o p (subst (λ (db : Database). StandsFor db o) same a.3) b.3
 
 -- files that hold a database stand for what it stands for
-pub held_stands : (image : Image) (trees : Trees) (o : Office) → HoldsDatabase image trees → LeftFor trees o → StandsIn image o
-held_stands image trees o held left found may = subst (λ (t : Trees). LeftFor t o) (sym (may.holds trees held)) left
+pub held_stands : (image : Image) (trees : Trees) (o : Office) → HoldsDatabase image trees → RecoversTo trees o → StandsIn image o
+held_stands image trees o held left found may = subst (λ (t : Trees). RecoversTo t o) (sym (may.holds trees held)) left
 
 -- trees with nothing in them stand for the empty office
-pub empty_stands : ((db : Database) → IsUntaken db.schema → StandsFor db empty_office) → (trees : Trees) → IsEmpty trees → LeftFor trees empty_office
+pub empty_stands : ((db : Database) → IsUntaken db.schema → StandsFor db empty_office) → (trees : Trees) → IsEmpty trees → RecoversTo trees empty_office
 empty_stands untaken trees h = let db : Database = record { schema = bare; trees = trees } in (db, empty_is_sound trees h.1, refl, untaken db bare_untaken)

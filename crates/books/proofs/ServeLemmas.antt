@@ -1,7 +1,7 @@
 -- What a request at books makes of the life that they keep.
 use Rattle.std.proofs.Common.{◌≡◌, ◌⊎◌, ◌↔◌, Bool, true, Result, Err, refl, sym, subst, ◌∙◌, inl, inr}
 use Rattle.std.proofs.lemmas.Bool.{false≢true}
-use Rattle.sts_token.specs.Token.{Way}
+use Rattle.sts_token.specs.Token.{BlockFunction}
 use Rattle.vend_core.specs.Fold.{reply, step}
 use Rattle.vend_core.specs.Life.{IsLife, Life, MayLeave}
 use Rattle.vend_core.specs.LifeLaws.{IsRunning, extended_by}
@@ -10,11 +10,11 @@ use Rattle.vend_core.specs.declared.answer.Answer.{Answer}
 use Rattle.vend_core.specs.declared.refusal.Refusal.{Refusal}
 use Rattle.vend_core.specs.declared.refusal.Refusal.TheVariants.{Memory, Store, Stopped}
 use Rattle.vend_core.specs.declared.request.Stamped.{Stamped}
-use Rattle.books.specs.Keeps.{IsKept, Seen}
-use Rattle.books.specs.Serving.{HoldsOffice, IsAttempted, MayBeLeft}
+use Rattle.books.specs.Keeps.{IsRepresented, Seen}
+use Rattle.books.specs.Serving.{HoldsOffice, ServingEnds, MayBeLeft}
 
 -- the life goes on with this office, which the books hold
-pub kept_on : (life : Life) (o : Office) (books : Seen) → IsOffice life.opening → life.forward ≡ books.forward → IsRunning life o → ((p : Office) → MayLeave life p ↔ (p ≡ o)) → HoldsOffice o books → IsKept life books
+pub kept_on : (life : Life) (o : Office) (books : Seen) → IsOffice life.opening → life.forward ≡ books.forward → IsRunning life o → ((p : Office) → MayLeave life p ↔ (p ≡ o)) → HoldsOffice o books → IsRepresented life books
 kept_on life o books opening forward running law held = record {
   opening = opening;
   is_life = running.is_life;
@@ -25,7 +25,7 @@ kept_on life o books opening forward running law held = record {
 
 -- the store failed, and the books are stopped
 pub kept_in_doubt : (life : Life) (o p : Office) (books : Seen) → IsOffice life.opening → life.forward ≡ books.forward → IsLife life → ((q : Office) → MayLeave life q ↔ ((q ≡ o) ⊎ (q ≡ p))) → MayBeLeft books.state o p
-    → books.stopped ≡ true → IsKept life books
+    → books.stopped ≡ true → IsRepresented life books
 kept_in_doubt life o p books opening forward is_life law left stopped = record {
   opening = opening;
   is_life = is_life;
@@ -36,7 +36,7 @@ kept_in_doubt life o p books opening forward is_life law left stopped = record {
 
 -- books that are stopped stay as they are
 pub kept_stopped : (life : Life) (at : Stamped) (books : Seen) → IsLife (extended_by life at (Err Stopped)) → ((p : Office) → MayLeave (extended_by life at (Err Stopped)) p ↔ MayLeave life p) → books.stopped ≡ true
-    → IsKept life books → IsKept (extended_by life at (Err Stopped)) books
+    → IsRepresented life books → IsRepresented (extended_by life at (Err Stopped)) books
 kept_stopped life at books is_life law stopped kept = record {
   opening = kept.opening;
   is_life = is_life;
@@ -54,20 +54,20 @@ pub record GoesOnWith (life : Life) (o : Office) (at : Stamped) : Type 0 where
   pub alone : (more : Life) (p q : Office) → IsRunning more p → (MayLeave more q ↔ (q ≡ p))
 
 -- whether books are stopped says nothing of what they hold
-pub with_stopped : (forward : Way) (o : Office) (at : Stamped) (answer : Result Answer Refusal) (books : Seen) (stopped : Bool) → IsAttempted forward o at answer books
-    → IsAttempted forward o at answer (record books { stopped = stopped })
+pub with_stopped : (forward : BlockFunction) (o : Office) (at : Stamped) (answer : Result Answer Refusal) (books : Seen) (stopped : Bool) → ServingEnds forward o at answer books
+    → ServingEnds forward o at answer (record books { stopped = stopped })
 with_stopped forward o at answer books stopped (inl served) = inl (served.0, record { at = served.1.at; next = served.1.next })
 with_stopped forward o at answer books stopped (inr (inl none)) = inr (inl (none.0, record { at = none.1.at; next = none.1.next }))
 with_stopped forward o at answer books stopped (inr (inr failed)) = inr (inr failed)
 
 -- a request at books that are not stopped
-pub kept_attempted : (life : Life) (o : Office) (at : Stamped) (answer : Result Answer Refusal) (new : Seen) → GoesOnWith life o at → IsOffice life.opening → life.forward ≡ new.forward → IsAttempted life.forward o at answer new
-    → (answer ≡ Err Store → new.stopped ≡ true) → IsKept (extended_by life at answer) new
+pub kept_attempted : (life : Life) (o : Office) (at : Stamped) (answer : Result Answer Refusal) (new : Seen) → GoesOnWith life o at → IsOffice life.opening → life.forward ≡ new.forward → ServingEnds life.forward o at answer new
+    → (answer ≡ Err Store → new.stopped ≡ true) → IsRepresented (extended_by life at answer) new
 kept_attempted life o at answer new laws opening forward (inl served) stops =
-    subst (λ (r : Result Answer Refusal). IsKept (extended_by life at r) new) (sym served.0)
+    subst (λ (r : Result Answer Refusal). IsRepresented (extended_by life at r) new) (sym served.0)
     (kept_on (extended_by life at (reply life.forward o at)) (step life.forward o at) new opening forward laws.served (λ p. laws.alone _ _ p laws.served) served.1)
 kept_attempted life o at answer new laws opening forward (inr (inl none)) stops =
-    subst (λ (r : Result Answer Refusal). IsKept (extended_by life at r) new) (sym none.0) (kept_on (extended_by life at (Err Memory)) o new opening forward laws.no_memory (λ p. laws.alone _ _ p laws.no_memory) none.1)
+    subst (λ (r : Result Answer Refusal). IsRepresented (extended_by life at r) new) (sym none.0) (kept_on (extended_by life at (Err Memory)) o new opening forward laws.no_memory (λ p. laws.alone _ _ p laws.no_memory) none.1)
 kept_attempted life o at answer new laws opening forward (inr (inr failed)) stops =
-    subst (λ (r : Result Answer Refusal). IsKept (extended_by life at r) new) (sym failed.0)
+    subst (λ (r : Result Answer Refusal). IsRepresented (extended_by life at r) new) (sym failed.0)
     (kept_in_doubt (extended_by life at (Err Store)) o (step life.forward o at) new opening forward laws.failed laws.doubted failed.1 (stops failed.0))

@@ -1,19 +1,16 @@
 -- A read leaves a store that holds an office as it was, whether it is answered or fails.
-use Rattle.std.proofs.Common.{◌≡◌, false, IsTrue, sym, ap, ◌∙◌, inl, inr, arith}
+use Rattle.std.proofs.Common.{◌≡◌, false, IsTrue, sym, ◌∙◌, inl, inr, arith}
 use Rattle.std.proofs.lemmas.Bool.{cases_Bool, false≢true}
-use Rattle.sqlite.specs.Effect.{Database}
 use Rattle.sqlite.specs.State.{HasCleanDisk, IsUnchanged, State, Survives}
 use Rattle.sqlite_trees.specs.Tree.{Trees}
 use Rattle.sqlite_trees.proofs.Doubt.{no_doubt}
 use Rattle.one_table.specs.Answer.{IsLeft}
 use Rattle.vend_core.specs.Office.{Office}
 use Rattle.book_tables.specs.Reading.{HasTables}
-use Rattle.books.specs.Keeps.{IsAt}
-use Rattle.books.specs.Same.{IsSame}
-use Rattle.books.specs.Serving.{Stays}
-use Rattle.books.proofs.OthersLemmas.{same_trees}
+use Rattle.books.specs.Keeps.{Stores}
+use Rattle.books.specs.Same.{ChangesNothing, IsSame}
 
-pub has_tables : (o : Office) (s : State) → IsAt s o → HasTables s
+pub has_tables : (o : Office) (s : State) → Stores s o → HasTables s
 has_tables o s at is_open = (at.members is_open).1.has
 
 -- a disk that returned something else is no base to read the tables on: the store shows as shut
@@ -34,17 +31,10 @@ left_same old new settled (inr undone) = record {
   now_is = λ is_open. (undone.undone is_open).0 ∙ sym (settled (undone.was_open is_open));
 }
 
-pub stays : (o : Office) (old new : State) → HasCleanDisk new → IsAt old o → Survives old new (λ _. ⊥) → IsSame old new → Stays o old new
-stays o old new clean at survives same = record {
-  at = record {
-    office = at.office;
-    members = λ is_open. rw (same.now_is is_open) (at.members (same.was_open is_open));
-    left = λ trees may. elim (survives.crash clean trees may) [ inl was ↦ at.left trees was | inr none ↦ absurd none ];
-  };
-  others = record {
-    was_open = same.was_open;
-    schema = λ is_open. ap (λ (d : Database). d.schema) (same.now_is is_open);
-    now = λ is_open. same_trees old.now.schema old.now.trees new.now.trees (ap (λ (d : Database). d.trees) (same.now_is is_open));
-    crash = λ trees may. elim (survives.crash clean trees may) [ inl was ↦ inl was | inr none ↦ absurd none ];
-  };
+-- the store still holds the office that it held
+pub still_held : (o : Office) (old new : State) → HasCleanDisk new → Stores old o → ChangesNothing old new → Stores new o
+still_held o old new clean at h = record {
+  office = at.office;
+  members = λ is_open. rw (h.same.now_is is_open) (at.members (h.same.was_open is_open));
+  left = λ trees may. elim (h.survives.crash clean trees may) [ inl was ↦ at.left trees was | inr none ↦ absurd none ];
 }

@@ -1,5 +1,5 @@
 -- What books make of a request that they are asked at a moment.
-use Rattle.std.specs.Prelude.{◌≡◌, ◌↔◌, ◌⊎◌, ℕ, ◌%◌, true, Result, Err}
+use Rattle.std.specs.Prelude.{◌≡◌, ◌↔◌, ◌⊎◌, ℕ, ◌%◌, false, true, List, [], ◌∷◌, Result, Err, IfErr}
 use Rattle.sqlite.specs.State.{HasCleanDisk}
 use Rattle.vend_core.specs.Life.{Life}
 use Rattle.vend_core.specs.LifeLaws.{extended_by}
@@ -8,8 +8,9 @@ use Rattle.vend_core.specs.declared.refusal.Refusal.{Refusal}
 use Rattle.vend_core.specs.declared.refusal.Refusal.TheVariants.{Store, Stopped}
 use Rattle.vend_core.specs.declared.request.Request.{Request}
 use Rattle.vend_core.specs.declared.request.Stamped.{Stamped}
-use Rattle.books.specs.Keeps.{Keeps, Seen}
+use Rattle.books.specs.Keeps.{HaveTables, Represents, Seen}
 use Rattle.books.specs.Others.{LeavesOthers}
+use Rattle.books.specs.Serving.{FailsToServe}
 
 -- the stamped request is this request at this moment, with the nibble of the next sale's number
 pub record IsAsked (moment : ℕ) (request : Request) (books : Seen) (at : Stamped) : Type 0 where
@@ -18,12 +19,15 @@ pub record IsAsked (moment : ℕ) (request : Request) (books : Seen) (at : Stamp
   pub for_request : at.request ≡ request
 
 -- Books replied so to a stamped request. Every life that they kept, they keep with this request and
--- this reply. They answer as stopped exactly where they were, and are stopped after a failure.
+-- this reply. They leave the tables of other names alone. They answer as stopped exactly where they
+-- were, and are stopped after a failure.
 pub record Replies (at : Stamped) (reply : Result Answer Refusal) (old new : Seen) : Type 0 where
-  pub keeps : (life : Life) → Keeps life old → Keeps (extended_by life at reply) new
-  pub others : HasCleanDisk new.state → (life : Life) → Keeps life old
-      → LeavesOthers old.state new.state
+  pub keeps : (life : Life) → Represents life old → Represents (extended_by life at reply) new
+  pub tables : HaveTables old → HaveTables new
+  pub others : HasCleanDisk new.state → HaveTables old → LeavesOthers old.state new.state
   pub clean : HasCleanDisk new.state → HasCleanDisk old.state
+  pub failures : HasCleanDisk new.state → HaveTables old → old.stopped ≡ false
+      → IfErr reply (FailsToServe at old new)
   pub stopped : (reply ≡ Err Stopped) ↔ (old.stopped ≡ true)
   pub stops : (new.stopped ≡ true) ↔ ((reply ≡ Err Store) ⊎ (reply ≡ Err Stopped))
 
@@ -31,3 +35,11 @@ pub record Replies (at : Stamped) (reply : Result Answer Refusal) (old new : See
 abbrev pub ReplyAt : ℕ → Request → Result Answer Refusal → Seen → Seen → Type 0
 ReplyAt moment request reply old new =
     (at : Stamped) × IsAsked moment request old at × Replies at reply old new
+
+-- They replied so to these requests, one after another.
+abbrev pub AreServedInTurn : {B : Type 0} → (B → Seen) → B → List Stamped → List (Result Answer Refusal)
+    → B → Type 0
+AreServedInTurn see old [] [] new = new ≡ old
+AreServedInTurn {B} see old (at ∷ ats) (reply ∷ replies) new =
+    (mid : B) × Replies at reply (see old) (see mid) × AreServedInTurn see mid ats replies new
+AreServedInTurn see old ats replies new = ⊥

@@ -3,14 +3,14 @@ use Rattle.std.specs.Prelude.{ℕ, List, codes}
 use Rattle.books.specs.declared.fault.OpenFault.{OpenFault}
 use Rattle.books.specs.declared.fault.OpenFault.TheVariants.{NotAnOffice, OldOffice, Store, Memory}
 
-abbrev pub fault_number : OpenFault → ℕ
-fault_number NotAnOffice = 1
-fault_number OldOffice = 2
-fault_number Store = 3
-fault_number Memory = 4
+abbrev pub open_fault_number : OpenFault → ℕ
+open_fault_number NotAnOffice = 1
+open_fault_number OldOffice = 2
+open_fault_number Store = 3
+open_fault_number Memory = 4
 
-abbrev pub fault_name : OpenFault → List ℕ
-fault_name NotAnOffice = codes "NotAnOffice"
-fault_name OldOffice = codes "OldOffice"
-fault_name Store = codes "Store"
-fault_name Memory = codes "Memory"
+abbrev pub open_fault_name : OpenFault → List ℕ
+open_fault_name NotAnOffice = codes "NotAnOffice"
+open_fault_name OldOffice = codes "OldOffice"
+open_fault_name Store = codes "Store"
+open_fault_name Memory = codes "Memory"

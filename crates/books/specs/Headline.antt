@@ -2,13 +2,13 @@
 use Rattle.std.specs.Prelude.{List, [], ◌∷◌, ◌++◌}
 use Rattle.sqlite.specs.State.{HasCleanDisk}
 use Rattle.vend_core.specs.Life.{AreLives, Life}
-use Rattle.books.specs.Keeps.{Keeps, Seen}
+use Rattle.books.specs.Keeps.{Represents, Seen}
 
 -- Books keep this life, after others that lead from the empty office to the one that it opened, and
 -- the disk has returned what was written.
-pub record KeepTheLast (lives : List Life) (life : Life) (books : Seen) : Type 0 where
+pub record RepresentTheLast (lives : List Life) (life : Life) (books : Seen) : Type 0 where
   pub led : AreLives lives life.opening
-  pub kept : Keeps life books
+  pub kept : Represents life books
   pub clean : HasCleanDisk books.state
 
 -- all of them

@@ -5,38 +5,39 @@ use Rattle.sqlite.specs.Held.{state}
 use Rattle.sqlite.specs.State.{HasCleanDisk, State}
 use Rattle.sqlite_trees.specs.Tree.{Trees}
 use Rattle.sqlite_trees.specs.declared.store.Store.{Ghosts}
-use Rattle.sts_token.specs.Token.{Way}
+use Rattle.sts_token.specs.Token.{BlockFunction}
 use Rattle.vend_core.specs.Life.{IsLife, Life, MayLeave}
 use Rattle.vend_core.specs.LifeLaws.{IsRunning}
 use Rattle.vend_core.specs.Office.{IsOffice, Office}
 use Rattle.book_tables.specs.Holds.{HoldsMembers, StandsFor}
+use Rattle.book_tables.specs.Reading.{HasTables}
 use Rattle.books.specs.declared.books.Books.{Books}
 
 -- what a crash leaves stands for the office: a database of these trees does
-abbrev pub LeftFor : Trees → Office → Type 0
-LeftFor trees o = (db : Database) × IsDatabase db × (trees ≡ db.trees) × StandsFor db o
+abbrev pub RecoversTo : Trees → Office → Type 0
+RecoversTo trees o = (db : Database) × IsDatabase db × (trees ≡ db.trees) × StandsFor db o
 
 -- The store stands for the office: so does what an open connection has, and all that a crash may
 -- leave.
-pub record StandsAt (s : State) (o : Office) : Type 0 where
+pub record StoreStandsFor (s : State) (o : Office) : Type 0 where
   pub office : IsOffice o
   pub now : IsTrue s.is_open → StandsFor s.now o
-  pub left : (trees : Trees) → s.may_leave trees → LeftFor trees o
+  pub left : (trees : Trees) → s.may_leave trees → RecoversTo trees o
 
 -- The same, and the tables are there.
-pub record IsAt (s : State) (o : Office) : Type 0 where
+pub record Stores (s : State) (o : Office) : Type 0 where
   pub office : IsOffice o
   pub members : IsTrue s.is_open → HoldsMembers s.now o
-  pub left : (trees : Trees) → s.may_leave trees → LeftFor trees o
+  pub left : (trees : Trees) → s.may_leave trees → RecoversTo trees o
 
 -- what contracts see of books
 pub record Seen : Type 1 where
   pub state : State
-  pub forward : Way
+  pub forward : BlockFunction
   pub stopped : Bool
   pub next_number : ℕ
 
-abbrev pub seen : {S : Type 0} → {T : Type 0} → (g : Ghosts S) → (T → Way) → Books S T g → Seen
+abbrev pub seen : {S : Type 0} → {T : Type 0} → (g : Ghosts S) → (T → BlockFunction) → Books S T g → Seen
 seen g forwards books = record {
   state = state g books.conn;
   forward = forwards books.transform;
@@ -44,23 +45,28 @@ seen g forwards books = record {
   next_number = books.next_number;
 }
 
+-- Books that are not stopped have the office's tables, as long as the disk returns what was written.
+-- Nothing is said of the rows: they may be those of no office.
+abbrev pub HaveTables : Seen → Type 0
+HaveTables books = HasCleanDisk books.state → books.stopped ≡ false → HasTables books.state
+
 -- while no request is in doubt, the tables hold the present office of the life
 pub record IsPresent (life : Life) (books : Seen) : Type 0 where
   pub present : Office
   pub running : IsRunning life present
-  pub at : IsAt books.state present
+  pub at : Stores books.state present
   pub next : books.next_number ≡ length present.sales + 1
 
 -- The life is that of the books. All that a crash may leave stands for an office that the life may
 -- leave, and books that are not stopped hold its present office.
-pub record IsKept (life : Life) (books : Seen) : Type 0 where
+pub record IsRepresented (life : Life) (books : Seen) : Type 0 where
   pub opening : IsOffice life.opening
   pub is_life : IsLife life
   pub forward : life.forward ≡ books.forward
   pub left : (trees : Trees) → books.state.may_leave trees
-      → (o : Office) × MayLeave life o × LeftFor trees o
+      → (o : Office) × MayLeave life o × RecoversTo trees o
   pub running : books.stopped ≡ false → IsPresent life books
 
 -- books keep a life, as long as the disk returns what was written
-abbrev pub Keeps : Life → Seen → Type 0
-Keeps life books = HasCleanDisk books.state → IsKept life books
+abbrev pub Represents : Life → Seen → Type 0
+Represents life books = HasCleanDisk books.state → IsRepresented life books

@@ -1,5 +1,6 @@
 pub mod Asking
 pub mod Changing
+pub mod Failing
 pub mod Fault
 pub mod Headline
 pub mod Keeps

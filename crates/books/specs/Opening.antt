@@ -1,7 +1,7 @@
 -- What the opening of an office makes of a database.
-use Rattle.std.specs.Prelude.{◌≡◌, ◌⊎◌, ℕ, ◌+◌, fold, length, IsTrue}
+use Rattle.std.specs.Prelude.{◌≡◌, ◌≢◌, ◌⊎◌, ℕ, ◌+◌, fold, length, Result, IfErr, IfOk, IsTrue, OnOk}
 use Rattle.sqlite.specs.Effect.{Database, IsDatabase}
-use Rattle.sqlite.specs.State.{State}
+use Rattle.sqlite.specs.State.{HasCleanDisk, State, Survives}
 use Rattle.sqlite.specs.declared.error.Error.{Error}
 use Rattle.sqlite.specs.declared.error.Error.TheVariants.{SqliteFailure}
 use Rattle.sqlite.specs.declared.error.ErrorCode.TheVariants.{OutOfMemory}
@@ -18,7 +18,7 @@ use Rattle.book_tables.specs.Holds.{HasOffice, Holds, IsUntaken, StandsFor}
 use Rattle.book_tables.specs.Making.{office_tables}
 use Rattle.book_tables.specs.declared.error.TableError.{TableError}
 use Rattle.book_tables.specs.declared.error.TableError.TheVariants as table
-use Rattle.books.specs.Keeps.{IsAt, StandsAt}
+use Rattle.books.specs.Keeps.{Stores, StoreStandsFor}
 use Rattle.books.specs.Same.{IsSame}
 use Rattle.books.specs.declared.fault.OpenFault.{OpenFault}
 use Rattle.books.specs.declared.fault.OpenFault.TheVariants.{NotAnOffice, OldOffice, Store, Memory}
@@ -59,7 +59,7 @@ fault_of_table table.RowOfNoOffice = NotAnOffice
 -- a fault that names the file is answered only where the store stands for no office; there is no
 -- older format
 abbrev pub ShowsNoOffice : State → OpenFault → Type 0
-ShowsNoOffice s NotAnOffice = (o : Office) → ¬ StandsAt s o
+ShowsNoOffice s NotAnOffice = (o : Office) → ¬ StoreStandsFor s o
 ShowsNoOffice s OldOffice = ⊥
 ShowsNoOffice s Store = Unit {0}
 ShowsNoOffice s Memory = Unit {0}
@@ -67,14 +67,14 @@ ShowsNoOffice s Memory = Unit {0}
 -- The office that the store stood for is held now, and this is the number of its next sale.
 abbrev pub OpensAt : State → State → ℕ → Type 0
 OpensAt old new next =
-    (o : Office) → StandsAt old o → IsAt new o × (next ≡ length o.sales + 1)
+    (o : Office) → StoreStandsFor old o → Stores new o × (next ≡ length o.sales + 1)
 
 -- A fault that names the file is true of it. A connection that is still open has what it had, and
 -- what the store stood for it still stands for.
 pub record Refuses (old new : State) (fault : OpenFault) : Type 0 where
   pub told : ShowsNoOffice old fault
   pub same : IsSame old new
-  pub kept : (o : Office) → StandsAt old o → StandsAt new o
+  pub kept : (o : Office) → StoreStandsFor old o → StoreStandsFor new o
 
 -- what a crash may leave of an opening, beside what it left before
 abbrev pub LeavesBegun : State → Trees → Type 0
@@ -84,3 +84,14 @@ LeavesBegun old trees = IsTrue old.is_open × LeavesMade BeginsOffice old.now tr
 abbrev pub LeavesRefused : State → OpenFault → Trees → Type 0
 LeavesRefused old Store trees = LeavesBegun old trees
 LeavesRefused old fault trees = ⊥
+
+-- How an opening ends. The office that the store stood for is held, and what is opened was there or
+-- has begun; or it is refused. A crash leaves what it left before, or an office that has begun, which
+-- a refusal leaves after Store alone.
+pub record EndsOpening (old new : State) (result : Result ℕ OpenFault) : Type 0 where
+  pub opens : HasCleanDisk new → IfOk result (OpensAt old new)
+  pub finds : HasCleanDisk new → OnOk result (OpensAs old new)
+  pub refused : HasCleanDisk new → IfErr result (Refuses old new)
+  pub never_old : IfErr result (λ fault. fault ≢ OldOffice)
+  pub survives : Survives old new (LeavesBegun old)
+  pub risks : IfErr result (λ fault. Survives old new (LeavesRefused old fault))

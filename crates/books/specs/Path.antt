@@ -1,10 +1,18 @@
--- What the files at a path stand for, by what they hold.
-use Rattle.std.specs.Prelude.{◌≡◌}
-use Rattle.sqlite.specs.Files.{AreFoundIn, HoldsDatabase}
+-- What the files at a path stand for, by what they hold, and what an opening makes of them.
+use Rattle.std.specs.Prelude.{◌≡◌, ◌⊎◌, false, Option, Some, None}
+use Rattle.sqlite.specs.Files.{AreFoundIn, HoldsDatabase, file_state}
+use Rattle.sqlite.specs.Held.{Held}
+use Rattle.sqlite.specs.State.{HasCleanDisk, IsLive, Opens, State, Survives}
+use Rattle.sqlite_disk.specs.declared.Disk.{Ghosts}
+use Rattle.sqlite_store.specs.declared.store.FileStore.{FileStore}
 use Rattle.sqlite_trees.specs.Tree.{Trees}
 use Rattle.sqlite_wal.specs.Recovery.{Image}
 use Rattle.vend_core.specs.Office.{Office}
-use Rattle.books.specs.Keeps.{LeftFor}
+use Rattle.books.specs.Keeps.{RecoversTo, StoreStandsFor}
+use Rattle.books.specs.Opening.{LeavesBegun, LeavesRefused, OpensAs}
+use Rattle.books.specs.Same.{IsSame}
+use Rattle.books.specs.declared.fault.OpenFault.{OpenFault}
+use Rattle.books.specs.declared.fault.OpenFault.TheVariants.{NotAnOffice, Store, Memory}
 
 -- an opening of the files may find these trees: those that they hold, where they hold a database,
 -- and none where nothing has been made yet
@@ -14,4 +22,44 @@ pub record MayFind (image : Image) (trees : Trees) : Type 0 where
 
 -- the files stand for the office: so does whatever an opening of them may find
 abbrev pub StandsIn : Image → Office → Type 0
-StandsIn image o = (trees : Trees) → MayFind image trees → LeftFor trees o
+StandsIn image o = (trees : Trees) → MayFind image trees → RecoversTo trees o
+
+-- a connection was just made to the files, and has what they hold
+pub record IsConnected (image : Image) (s : State) : Type 0 where
+  pub opens : Opens s
+  pub live : IsLive s
+  pub found : MayFind image s.committed.trees
+
+module _ {D : Type 0} {g : Ghosts D} where
+  -- an office was opened over a connection that was just made to the files
+  pub record OpensFiles (image : Image) (last : Held (FileStore D g)) : Type 0 where
+    pub first : Held (FileStore D g)
+    pub connected : HasCleanDisk (file_state first) → IsConnected image (file_state first)
+    pub finds : HasCleanDisk (file_state last) → OpensAs (file_state first) (file_state last)
+    pub survives : Survives (file_state first) (file_state last) (LeavesBegun (file_state first))
+
+  -- None was opened over a connection that was just made to the files. A fault that names the file
+  -- is true of it. The connection has what it had, and what the files stood for it stands for; a
+  -- crash leaves nothing new, but after Store maybe the empty office where nothing was.
+  pub record RefusesConnection (image : Image) (fault : OpenFault) (last : Held (FileStore D g)) :
+      Type 0 where
+    pub first : Held (FileStore D g)
+    pub connected : HasCleanDisk (file_state first) → IsConnected image (file_state first)
+    pub told : HasCleanDisk (file_state last) → fault ≡ NotAnOffice
+        → (o : Office) → ¬ StandsIn image o
+    pub same : HasCleanDisk (file_state last) → IsSame (file_state first) (file_state last)
+    pub kept : HasCleanDisk (file_state last) → (o : Office) → StandsIn image o
+        → StoreStandsFor (file_state last) o
+    pub rests : last.in_transaction ≡ false
+    pub survives : Survives (file_state first) (file_state last)
+        (LeavesRefused (file_state first) fault)
+
+  -- Where no connection could be made, the fault names no file.
+  abbrev pub RefusesFiles : Image → OpenFault → Option (Held (FileStore D g)) → Type 0
+  RefusesFiles image fault (Some last) = RefusesConnection image fault last
+  RefusesFiles image fault None = (fault ≡ Store) ⊎ (fault ≡ Memory)
+
+-- The same of a connection that is gone.
+abbrev pub RefusedAt : {D : Type 0} → (g : Ghosts D) → Image → OpenFault → Type 0
+RefusedAt {D} g image fault =
+    (left : Option (Held (FileStore D g))) × RefusesFiles image fault left

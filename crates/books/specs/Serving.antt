@@ -1,10 +1,10 @@
--- How a request ends at books that hold an office.
-use Rattle.std.specs.Prelude.{◌≡◌, ◌⊎◌, ◌+◌, Result, Err, IfErr, OnOk, length}
-use Rattle.sqlite.specs.State.{State}
+-- How a request ends at books.
+use Rattle.std.specs.Prelude.{◌≡◌, ◌⊎◌, ◌+◌, Result, Err, IfErr, OnOk, IsTrue, length}
+use Rattle.sqlite.specs.State.{State, Survives}
 use Rattle.sqlite_trees.specs.Tree.{Trees}
-use Rattle.sts_token.specs.Token.{Way}
+use Rattle.sts_token.specs.Token.{BlockFunction}
+use Rattle.one_table.specs.Committing.{LeavesMade}
 use Rattle.vend_core.specs.Decision.{decision}
-use Rattle.vend_core.specs.Edits.{applied}
 use Rattle.vend_core.specs.Fold.{reply, step}
 use Rattle.vend_core.specs.Office.{Office}
 use Rattle.vend_core.specs.declared.answer.Answer.{Answer}
@@ -13,52 +13,68 @@ use Rattle.vend_core.specs.declared.change.Edit.{Edit}
 use Rattle.vend_core.specs.declared.refusal.Refusal.{Refusal}
 use Rattle.vend_core.specs.declared.refusal.Refusal.TheVariants.{Memory, Store}
 use Rattle.vend_core.specs.declared.request.Stamped.{Stamped}
-use Rattle.books.specs.Keeps.{IsAt, LeftFor, Seen}
-use Rattle.books.specs.Others.{LeavesOthers}
-
--- the store holds the office that it held, whether the read was answered or failed
-pub record Stays (o : Office) (old new : State) : Type 0 where
-  pub at : IsAt new o
-  pub others : LeavesOthers old new
+use Rattle.book_tables.specs.declared.error.TableError.{TableError}
+use Rattle.books.specs.Changing.{MakesEdit}
+use Rattle.books.specs.Failing.{RefusesUnchanged, refusal_for}
+use Rattle.books.specs.Keeps.{Stores, RecoversTo, Seen}
+use Rattle.books.specs.Same.{ChangesNothing, IsSame}
 
 -- all that a crash may leave stands for one of the two offices
 abbrev pub MayBeLeft : State → Office → Office → Type 0
-MayBeLeft s o p = (trees : Trees) → s.may_leave trees → LeftFor trees o ⊎ LeftFor trees p
+MayBeLeft s o p = (trees : Trees) → s.may_leave trees → RecoversTo trees o ⊎ RecoversTo trees p
 
 -- the office decided the request, or there was no memory, or the store failed
-abbrev pub IsDecided : Way → Office → Stamped → Result Change Refusal → Type 0
+abbrev pub IsDecided : BlockFunction → Office → Stamped → Result Change Refusal → Type 0
 IsDecided forward o at result =
     (result ≡ decision forward o at) ⊎ ((result ≡ Err Memory) ⊎ (result ≡ Err Store))
 
--- a request was decided by what the store holds, and nothing changed
-pub record Decides (forward : Way) (o : Office) (at : Stamped) (result : Result Change Refusal)
-    (old new : State) : Type 0 where
-  pub decided : IsDecided forward o at result
-  pub stays : Stays o old new
+-- an open connection has the edit, which is committed: a crash leaves nothing else
+pub record HasEdit (edit : Edit) (old new : State) : Type 0 where
+  pub was_open : IsTrue old.is_open
+  pub makes : MakesEdit edit old.now new.now
+  pub exact : (trees : Trees) → new.may_leave trees → trees ≡ new.now.trees
 
--- the store holds the office after the edit; or no memory was found, and it holds the office from
--- before; or it failed, and may be opened again with either
-pub record Commits (edit : Edit) (o : Office) (result : Result (Unit {0}) Refusal)
-    (old new : State) : Type 0 where
-  pub done : OnOk result (IsAt new (applied edit o))
-  pub failed : IfErr result (λ refusal. ((refusal ≡ Memory) × IsAt new o)
-      ⊎ ((refusal ≡ Store) × MayBeLeft new o (applied edit o)))
-  pub others : LeavesOthers old new
+-- the commit failed: an open connection has what it had, and a crash leaves what it left before, or
+-- the edit
+pub record DoubtsEdit (edit : Edit) (old new : State) : Type 0 where
+  pub was_open : IsTrue old.is_open
+  pub same : IsSame old new
+  pub survives : Survives old new (LeavesMade (MakesEdit edit) old.now)
+
+-- the edit was not made, and nothing has changed; the error of the statement is answered so
+pub record IsToldOfEdit (refusal : Refusal) (old new : State) : Type 0 where
+  pub error : TableError
+  pub answered : refusal ≡ refusal_for error
+  pub either : (refusal ≡ Memory) ⊎ (refusal ≡ Store)
+  pub nothing : ChangesNothing old new
+
+-- why an edit is not known to be committed: it was not made, or its commit failed
+abbrev pub FailsToEdit : Edit → State → State → Refusal → Type 0
+FailsToEdit edit old new refusal =
+    IsToldOfEdit refusal old new ⊎ ((refusal ≡ Store) × DoubtsEdit edit old new)
+
+-- Why a request is refused by books that are not stopped. It was refused before anything changed, or
+-- an edit is not known to be committed.
+abbrev pub FailsToServe : Stamped → Seen → Seen → Refusal → Type 0
+FailsToServe at old new refusal =
+    (ChangesNothing old.state new.state × RefusesUnchanged at old.next_number old.state new.state refusal)
+    ⊎ ((edit : Edit) × FailsToEdit edit old.state new.state refusal)
+
+-- an edit was committed, or not
+pub record Commits (edit : Edit) (result : Result (Unit {0}) Refusal) (old new : State) : Type 0
+  where
+    pub done : OnOk result (HasEdit edit old new)
+    pub failed : IfErr result (FailsToEdit edit old new)
 
 -- the books hold the office
 pub record HoldsOffice (o : Office) (books : Seen) : Type 0 where
-  pub at : IsAt books.state o
+  pub at : Stores books.state o
   pub next : books.next_number ≡ length o.sales + 1
 
 -- the office served the request, and the books hold the office after it; or no memory was found,
 -- and they hold the office from before; or the store failed, and may be opened again with either
-abbrev pub IsAttempted : Way → Office → Stamped → Result Answer Refusal → Seen → Type 0
-IsAttempted forward o at answer new =
+abbrev pub ServingEnds : BlockFunction → Office → Stamped → Result Answer Refusal → Seen → Type 0
+ServingEnds forward o at answer new =
     ((answer ≡ reply forward o at) × HoldsOffice (step forward o at) new)
     ⊎ (((answer ≡ Err Memory) × HoldsOffice o new)
     ⊎ ((answer ≡ Err Store) × MayBeLeft new.state o (step forward o at)))
-
-pub record Attempts (forward : Way) (o : Office) (at : Stamped) (answer : Result Answer Refusal)
-    (old new : Seen) : Type 0 where
-  pub ends : IsAttempted forward o at answer new
-  pub others : LeavesOthers old.state new.state

@@ -14,6 +14,7 @@ mod pages;
 mod path;
 mod serve;
 mod serve_all;
+mod stopping;
 
 /// An office that is kept in the tables of a database (`docs/LIVES.md`).
 ///

@@ -1,6 +1,6 @@
 //! What the tests of a request look at, read from the tables.
 
-ghost use Rattle.std.specs.Prelude.{IfOk};
+ghost use Rattle.std.specs.Prelude.{◌≡◌, IfOk, length};
 ghost use Rattle.sqlite.specs.State.{HasCleanDisk};
 ghost use Rattle.sqlite.specs.Held.{state};
 ghost use Rattle.vend_core.specs.Facts.{AreFacts};
@@ -14,13 +14,14 @@ use sqlite::{Alter, Connection};
 use std::alloc::Global;
 use vend_core::{Facts, Request, Stamped};
 
-mod buyers;
+mod accounts;
 mod imports;
 mod meters;
 mod sales;
 mod shifts;
 
-/// What the tests of a request look at, as far as they do and no further.
+/// What the tests of a request look at, as far as they do and no further. The count of sales is the
+/// caller's.
 ///
 /// # Errors
 /// What the database refuses, want of memory, and a row that is no office's.
@@ -28,10 +29,11 @@ pub(crate) fn facts_of<S: Alter>(
     alloc: Global,
     conn: &mut Connection<S>,
     at: &Stamped,
+    sale_count: u64,
 ) -> Result<Facts, TableError>
     ensures facts { HasCleanDisk (state S.Store conn.new)
         → (o : Office) → IsOffice o → HasMembers (state S.Store conn.old) o
-        → IfOk result (AreFacts o at.now) }
+        → sale_count ≡ length o.sales → IfOk result (AreFacts o at.now) }
     ensures reads { OnlyReads IsSame
         (state S.Store conn.old) (state S.Store conn.new) result }
 {
@@ -42,7 +44,7 @@ pub(crate) fn facts_of<S: Alter>(
         Request::SetTariff(number, name) => meters::setting_facts(conn, number, name),
         Request::OpenShift(operator) => shifts::opening_facts(conn, operator),
         Request::CloseShift(operator) => shifts::closing_facts(conn, operator),
-        Request::Sell(order) => sales::sale_facts(alloc, conn, at.moment, order),
+        Request::Sell(order) => { sales::sale_facts(alloc, conn, at.moment, order, sale_count) },
         Request::Reprint(number) => sales::reprint_facts(conn, *number),
         Request::ShiftReport(number) => shifts::report_facts(alloc, conn, *number),
     }

@@ -1,5 +1,5 @@
 ghost use Rattle.std.specs.Prelude.{◌≡◌};
-ghost use Rattle.books.specs.Fault.{fault_name, fault_number};
+ghost use Rattle.books.specs.Fault.{open_fault_name, open_fault_number};
 
 use thiserror::Error;
 
@@ -19,7 +19,7 @@ pub enum OpenFault {
 impl OpenFault {
     /// The fault's number (`docs/LIVES.md`, "Opening").
     pub fn number(self) -> u8
-        ensures { result ≡ fault_number self }
+        ensures { result ≡ open_fault_number self }
     {
         match self {
             OpenFault::NotAnOffice => 1,
@@ -31,7 +31,7 @@ impl OpenFault {
 
     /// The fault's name, as it is printed.
     pub fn name(self) -> &'static str
-        ensures { result.now ≡ fault_name self }
+        ensures { result.now ≡ open_fault_name self }
     {
         match self {
             OpenFault::NotAnOffice => "NotAnOffice",

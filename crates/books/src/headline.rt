@@ -13,8 +13,8 @@ ghost use Rattle.vend_core.specs.declared.request.Request.{Request};
 ghost use Rattle.vend_core.specs.declared.request.Stamped.{Stamped};
 ghost use Rattle.vend_core.specs.declared.row.Row.{Row};
 ghost use Rattle.vend_core.specs.declared.sale.Sale.{Sale};
-ghost use Rattle.books.specs.Headline.{KeepTheLast, with_last};
-ghost use Rattle.books.specs.Keeps.{LeftFor, StandsAt, seen};
+ghost use Rattle.books.specs.Headline.{RepresentTheLast, with_last};
+ghost use Rattle.books.specs.Keeps.{RecoversTo, StoreStandsFor, seen};
 ghost use Rattle.books.specs.declared.books.Books.{Books};
 
 use crate::reopening::opening_law;
@@ -34,48 +34,48 @@ use vend_core::{history_law, life_law};
 pub fn headline_law<S: Alter, T: BlockTransform>()
     // The lives of which books keep the last one are lives of one office.
     ensures lives { (lives : List Life) (life : Life) (books : Books S T S.Store)
-        → KeepTheLast lives life (seen S.Store T.forwards books) → AreLives (with_last lives life) (present life) }
+        → RepresentTheLast lives life (seen S.Store T.forwards books) → AreLives (with_last lives life) (present life) }
 
     // All that a stop may leave stands for an office that these lives may leave: it is that of the
     // acknowledged requests, or of these and the one in doubt.
     ensures left { (lives : List Life) (life : Life) (books : Books S T S.Store) (trees : Trees)
-        → KeepTheLast lives life (seen S.Store T.forwards books) → (state S.Store books.conn).may_leave trees
-        → (o : Office) × LeftFor trees o × AreLives (with_last lives life) o }
+        → RepresentTheLast lives life (seen S.Store T.forwards books) → (state S.Store books.conn).may_leave trees
+        → (o : Office) × RecoversTo trees o × AreLives (with_last lives life) o }
 
     // A connection that is opened on it stands for that office, which is the one that the next life
     // begins with; and what is left stands for no other.
     ensures opens_again { (lives : List Life) (life : Life) (books : Books S T S.Store)
         (again : Held S)
-        → KeepTheLast lives life (seen S.Store T.forwards books)
+        → RepresentTheLast lives life (seen S.Store T.forwards books)
         → (state S.Store books.conn).may_leave (state S.Store again).committed.trees
         → Opens (state S.Store again) → IsLive (state S.Store again)
-        → (o : Office) × StandsAt (state S.Store again) o × AreLives (with_last lives life) o }
+        → (o : Office) × StoreStandsFor (state S.Store again) o × AreLives (with_last lives life) o }
     ensures one_office { (trees : Trees) (o p : Office)
-        → LeftFor trees o → LeftFor trees p → o ≡ p }
+        → RecoversTo trees o → RecoversTo trees p → o ≡ p }
 
     // Each sale that was handed out in any of the lives stands there, unchanged.
     ensures stands { (lives : List Life) (life : Life) (books : Books S T S.Store) (trees : Trees) (s : Sale)
-        → KeepTheLast lives life (seen S.Store T.forwards books) → (state S.Store books.conn).may_leave trees
+        → RepresentTheLast lives life (seen S.Store T.forwards books) → (state S.Store books.conn).may_leave trees
         → IsHanded (with_last lives life) s
-        → (o : Office) × LeftFor trees o × Contains o.sales s }
+        → (o : Office) × RecoversTo trees o × Contains o.sales s }
 
     // No two of them share an identifier of a meter under a base, a number, or an operator's ref.
     ensures one_identifier { (lives : List Life) (life : Life) (books : Books S T S.Store) (a b : Sale)
-        → KeepTheLast lives life (seen S.Store T.forwards books)
+        → RepresentTheLast lives life (seen S.Store T.forwards books)
         → IsHanded (with_last lives life) a → IsHanded (with_last lives life) b
         → a.meter ≡ b.meter → a.base ≡ b.base → a.tid ≡ b.tid → a ≡ b }
     ensures one_number { (lives : List Life) (life : Life) (books : Books S T S.Store) (a b : Sale)
-        → KeepTheLast lives life (seen S.Store T.forwards books)
+        → RepresentTheLast lives life (seen S.Store T.forwards books)
         → IsHanded (with_last lives life) a → IsHanded (with_last lives life) b
         → a.number ≡ b.number → a ≡ b }
     ensures one_ref { (lives : List Life) (life : Life) (books : Books S T S.Store) (a b : Sale)
-        → KeepTheLast lives life (seen S.Store T.forwards books)
+        → RepresentTheLast lives life (seen S.Store T.forwards books)
         → IsHanded (with_last lives life) a → IsHanded (with_last lives life) b
         → a.operator ≡ b.operator → a.order_ref ≡ b.order_ref → a ≡ b }
 
     // A reprint is the first token, whatever transforms the lives have.
     ensures reprint { (lives : List Life) (life : Life) (books : Books S T S.Store) (first again : Sale)
-        → KeepTheLast lives life (seen S.Store T.forwards books)
+        → RepresentTheLast lives life (seen S.Store T.forwards books)
         → Answered (with_last lives life) (Answer.Sold first)
         → Answered (with_last lives life) (Answer.Reprinted again)
         → again.number ≡ first.number → again.digits ≡ first.digits }
@@ -85,19 +85,19 @@ pub fn headline_law<S: Alter, T: BlockTransform>()
     // sales came before it, and the credit is the sum of the distinct ones accepted.
     ensures first_entry { (lives : List Life) (life : Life) (books : Books S T S.Store) (m : SimMeter)
         (sales came : List Sale) (s : Sale)
-        → KeepTheLast lives life (seen S.Store T.forwards books) → AreSalesTo (with_last lives life) m sales
+        → RepresentTheLast lives life (seen S.Store T.forwards books) → AreSalesTo (with_last lives life) m sales
         → All (Contains sales) came → Contains sales s → ¬ Contains came s
         → (Accepts (reads_by m) (tokens_of came) s.digits (fields_of s)
         ↔ (later_sales_come sales came s < 50)) }
     ensures credit { (lives : List Life) (life : Life) (books : Books S T S.Store) (m : SimMeter)
         (sales came : List Sale)
-        → KeepTheLast lives life (seen S.Store T.forwards books) → AreSalesTo (with_last lives life) m sales
+        → RepresentTheLast lives life (seen S.Store T.forwards books) → AreSalesTo (with_last lives life) m sales
         → All (Contains sales) came
         → credit_of (reads_by m) (tokens_of came)
         ≡ sum_by (λ s. s.tenths) (accepted_of (reads_by m) (tokens_of came) sales) }
     ensures at_most_sold { (lives : List Life) (life : Life) (books : Books S T S.Store) (m : SimMeter)
         (sales came : List Sale)
-        → KeepTheLast lives life (seen S.Store T.forwards books) → AreSalesTo (with_last lives life) m sales
+        → RepresentTheLast lives life (seen S.Store T.forwards books) → AreSalesTo (with_last lives life) m sales
         → All (Contains sales) came
         → credit_of (reads_by m) (tokens_of came) ≤ sum_by (λ s. s.tenths) sales }
 
@@ -106,7 +106,7 @@ pub fn headline_law<S: Alter, T: BlockTransform>()
     ensures imported_again { (lives earlier later : List Life) (life last : Life)
         (books : Books S T S.Store) (before between : List Exchange) (e : Exchange)
         (rows : List Row) (new : ℕ) (again : Stamped)
-        → KeepTheLast lives last (seen S.Store T.forwards books)
+        → RepresentTheLast lives last (seen S.Store T.forwards books)
         → (earlier ++ life ∷ later) ≡ with_last lives last
         → life.exchanges ≡ before ++ e ∷ between
         → e.request.request ≡ Request.Import rows → e.reply ≡ Ok (Answer.Imported new)

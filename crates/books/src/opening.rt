@@ -8,9 +8,8 @@ ghost use Rattle.vend_core.specs.Office.{Office};
 ghost use Rattle.one_table.specs.Answer.{IsLeft};
 ghost use Rattle.book_tables.specs.Format.{HasFormat};
 ghost use Rattle.book_tables.specs.Reading.{HasTables};
-ghost use Rattle.books.specs.Keeps.{IsAt, StandsAt};
-ghost use Rattle.books.specs.Opening.{LeavesBegun, LeavesRefused, OpensAs, OpensAt, Refuses, ShowsNoOffice, fault_of, fault_of_table};
-ghost use Rattle.books.specs.Same.{IsSame};
+ghost use Rattle.books.specs.Keeps.{StoreStandsFor};
+ghost use Rattle.books.specs.Opening.{EndsOpening, ShowsNoOffice, fault_of, fault_of_table};
 
 use crate::beginning::first_of_office;
 use crate::fault::OpenFault;
@@ -38,6 +37,8 @@ pub(crate) fn fault_of(error: Error) -> OpenFault
 // A row that is no office's shows that there is none.
 fn fault_of_table(error: TableError) -> OpenFault
     ensures value { result ≡ fault_of_table error }
+    ensures kind { (why : Error) → error ≡ TableError.Database why
+        → (result ≡ OpenFault.Store) ⊎ (result ≡ OpenFault.Memory) }
     ensures never_old { result ≢ OpenFault.OldOffice }
 {
     match error {
@@ -98,7 +99,7 @@ fn test_format<S: Alter>(alloc: Global, conn: &mut Connection<S>) -> Result<(), 
 fn next_by_sales<S: Alter>(conn: &mut Connection<S>) -> Result<u64, OpenFault>
     ensures next { HasCleanDisk (state S.Store conn.new)
         → HasTables (state S.Store conn.old)
-        → (o : Office) → StandsAt (state S.Store conn.old) o
+        → (o : Office) → StoreStandsFor (state S.Store conn.old) o
         → IfOk result (λ next. next ≡ length o.sales + 1) }
     ensures same { HasCleanDisk (state S.Store conn.new)
         → HasTables (state S.Store conn.old)
@@ -123,7 +124,7 @@ fn next_by_sales<S: Alter>(conn: &mut Connection<S>) -> Result<u64, OpenFault>
 fn next_of_office<S: Alter>(alloc: Global, conn: &mut Connection<S>) -> Result<u64, OpenFault>
     ensures next { HasCleanDisk (state S.Store conn.new)
         → HasTables (state S.Store conn.old)
-        → (o : Office) → StandsAt (state S.Store conn.old) o
+        → (o : Office) → StoreStandsFor (state S.Store conn.old) o
         → IfOk result (λ next. next ≡ length o.sales + 1) }
     ensures format { HasCleanDisk (state S.Store conn.new)
         → HasTables (state S.Store conn.old)
@@ -151,24 +152,9 @@ fn next_of_office<S: Alter>(alloc: Global, conn: &mut Connection<S>) -> Result<u
 // Begins an office where there is none, and refuses what is none.
 fn next_by_schema<S: Alter>(alloc: Global, conn: &mut Connection<S>) -> Result<u64, OpenFault>
     requires outside { conn.old.in_transaction ≡ false }
-    ensures opens { HasCleanDisk (state S.Store conn.new)
-        → IsTrue (state S.Store conn.old).is_open
-        → IfOk result (OpensAt (state S.Store conn.old) (state S.Store conn.new)) }
-    ensures refused { HasCleanDisk (state S.Store conn.new)
-        → IsTrue (state S.Store conn.old).is_open
-        → IfErr result (Refuses (state S.Store conn.old) (state S.Store conn.new)) }
-    ensures never_old { IfErr result (λ fault. fault ≢ OpenFault.OldOffice) }
-    ensures finds { HasCleanDisk (state S.Store conn.new)
-        → IsTrue (state S.Store conn.old).is_open
-        → OnOk result (OpensAs (state S.Store conn.old) (state S.Store conn.new)) }
-    ensures survives { (HasCleanDisk (state S.Store conn.old)
+    ensures ends { (HasCleanDisk (state S.Store conn.old)
         → IsTrue (state S.Store conn.old).is_open)
-        → Survives (state S.Store conn.old) (state S.Store conn.new)
-        (LeavesBegun (state S.Store conn.old)) }
-    ensures risks { (HasCleanDisk (state S.Store conn.old)
-        → IsTrue (state S.Store conn.old).is_open)
-        → IfErr result (λ fault. Survives (state S.Store conn.old) (state S.Store conn.new)
-        (LeavesRefused (state S.Store conn.old) fault)) }
+        → EndsOpening (state S.Store conn.old) (state S.Store conn.new) result }
     ensures mode { conn.new.in_transaction ≡ false }
 {
     let outside = conn.is_autocommit();
@@ -185,18 +171,7 @@ fn next_by_schema<S: Alter>(alloc: Global, conn: &mut Connection<S>) -> Result<u
 /// there is none.
 pub(crate) fn next_here<S: Alter>(alloc: Global, conn: &mut Connection<S>) -> Result<u64, OpenFault>
     requires outside { conn.old.in_transaction ≡ false }
-    ensures opens { HasCleanDisk (state S.Store conn.new)
-        → IfOk result (OpensAt (state S.Store conn.old) (state S.Store conn.new)) }
-    ensures refused { HasCleanDisk (state S.Store conn.new)
-        → IfErr result (Refuses (state S.Store conn.old) (state S.Store conn.new)) }
-    ensures never_old { IfErr result (λ fault. fault ≢ OpenFault.OldOffice) }
-    ensures finds { HasCleanDisk (state S.Store conn.new)
-        → OnOk result (OpensAs (state S.Store conn.old) (state S.Store conn.new)) }
-    ensures survives { Survives (state S.Store conn.old) (state S.Store conn.new)
-        (LeavesBegun (state S.Store conn.old)) }
-    ensures risks { IfErr result
-        (λ fault. Survives (state S.Store conn.old) (state S.Store conn.new)
-        (LeavesRefused (state S.Store conn.old) fault)) }
+    ensures ends { EndsOpening (state S.Store conn.old) (state S.Store conn.new) result }
     ensures mode { conn.new.in_transaction ≡ false }
 {
     let outside = conn.is_autocommit();

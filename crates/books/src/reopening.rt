@@ -5,7 +5,7 @@ ghost use Rattle.sqlite.specs.Files.{HoldsDatabase, IsNothing};
 ghost use Rattle.sqlite.specs.Held.{Held, state};
 ghost use Rattle.sqlite.specs.State.{IsLive, Opens};
 ghost use Rattle.vend_core.specs.Office.{Office, empty_office};
-ghost use Rattle.books.specs.Keeps.{LeftFor, StandsAt};
+ghost use Rattle.books.specs.Keeps.{RecoversTo, StoreStandsFor};
 ghost use Rattle.books.specs.Path.{StandsIn};
 
 use book_tables::stands_law;
@@ -15,15 +15,15 @@ use sqlite::Alter;
 pub fn opening_law<S: Alter>()
     // What is left stands for one office, and a connection that is opened on it stands for that.
     ensures one_office { (trees : Trees) (o p : Office)
-        → LeftFor trees o → LeftFor trees p → o ≡ p }
+        → RecoversTo trees o → RecoversTo trees p → o ≡ p }
     ensures opens_again { (c : Held S) (o : Office)
         → Opens (state S.Store c) → IsLive (state S.Store c)
-        → LeftFor (state S.Store c).committed.trees o → StandsAt (state S.Store c) o }
+        → RecoversTo (state S.Store c).committed.trees o → StoreStandsFor (state S.Store c) o }
 
     // So do the two files of a database that is left, and files in which nothing was made yet
     // stand for the empty office.
     ensures held { (image : Image) (trees : Trees) (o : Office)
-        → HoldsDatabase image trees → LeftFor trees o → StandsIn image o }
+        → HoldsDatabase image trees → RecoversTo trees o → StandsIn image o }
     ensures new { (image : Image) → IsNothing image → StandsIn image empty_office }
 {
     stands_law();

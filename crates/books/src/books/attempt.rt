@@ -1,14 +1,19 @@
 //! One request: it is decided by what the tables hold, and what it changes is committed before the
 //! answer.
 
-ghost use Rattle.std.specs.Prelude.{◌≡◌, ◌≢◌, ◌+◌, Err, false, length};
+ghost use Rattle.std.specs.Prelude.{◌≡◌, ◌≢◌, ◌+◌, Err, IfErr, false, length};
 ghost use Rattle.sqlite.specs.State.{HasCleanDisk};
 ghost use Rattle.sqlite.specs.Held.{state};
 ghost use Rattle.vend_core.specs.Edits.{applied};
 ghost use Rattle.vend_core.specs.Office.{Office};
+ghost use Rattle.vend_core.specs.Request.{IsStamped};
 ghost use Rattle.vend_core.specs.Store.{Meets};
-ghost use Rattle.books.specs.Keeps.{IsAt, seen};
-ghost use Rattle.books.specs.Serving.{Attempts, Decides, HoldsOffice};
+ghost use Rattle.book_tables.specs.Reading.{HasTables};
+ghost use Rattle.books.specs.Failing.{RefusesUnchanged};
+ghost use Rattle.books.specs.Keeps.{Stores, seen};
+ghost use Rattle.books.specs.Others.{LeavesOthers};
+ghost use Rattle.books.specs.Same.{ChangesNothing};
+ghost use Rattle.books.specs.Serving.{FailsToServe, HoldsOffice, ServingEnds, IsDecided};
 
 use super::Books;
 use super::commit::commit;
@@ -22,10 +27,19 @@ use vend_core::{Change, Edit, Refusal, Reply, Stamped, decide, office_law, store
 impl<S: Alter, T: BlockTransform> Books<S, T> {
     // Serves a request at books that are not stopped.
     pub(super) fn attempt(&mut self, at: &Stamped) -> Reply
+        requires stamped { IsStamped at.now }
         ensures attempts { HasCleanDisk (seen S.Store T.forwards self.new).state
             → (o : Office) → HoldsOffice o (seen S.Store T.forwards self.old)
-            → Attempts (T.forwards self.old.transform) o at.now result
-            (seen S.Store T.forwards self.old) (seen S.Store T.forwards self.new) }
+            → ServingEnds (T.forwards self.old.transform) o at.now result
+            (seen S.Store T.forwards self.new) }
+        ensures others { HasCleanDisk (seen S.Store T.forwards self.new).state
+            → HasTables (seen S.Store T.forwards self.old).state
+            → LeavesOthers (seen S.Store T.forwards self.old).state
+            (seen S.Store T.forwards self.new).state }
+        ensures failures { HasCleanDisk (seen S.Store T.forwards self.new).state
+            → HasTables (seen S.Store T.forwards self.old).state
+            → IfErr result (FailsToServe at.now (seen S.Store T.forwards self.old)
+            (seen S.Store T.forwards self.new)) }
         ensures clean { HasCleanDisk (seen S.Store T.forwards self.new).state
             → HasCleanDisk (seen S.Store T.forwards self.old).state }
         ensures never_stopped { result ≢ Err Refusal.Stopped }
@@ -34,8 +48,13 @@ impl<S: Alter, T: BlockTransform> Books<S, T> {
     {
         office_law();
         store_law();
-        at.keeps_ranges();
-        let Change { edit, answer } = decided(self.alloc, &mut self.conn, &self.transform, at)?;
+        let Change { edit, answer } = decided(
+            self.alloc,
+            &mut self.conn,
+            &self.transform,
+            at,
+            self.next_number,
+        )?;
         if let Some(edit) = &edit {
             commit(&mut self.conn, edit)?;
             self.next_number = next_after(edit, self.next_number);
@@ -61,19 +80,26 @@ fn decided<S: Alter, T: BlockTransform>(
     conn: &mut Connection<S>,
     transform: &T,
     at: &Stamped,
+    next_number: u64,
 ) -> Result<Change, Refusal>
     requires { conn.old.in_transaction ≡ false }
     ensures decides { HasCleanDisk (state S.Store conn.new)
-        → (o : Office) → IsAt (state S.Store conn.old) o
-        → Decides (T.forwards transform.now) o at.now result
-        (state S.Store conn.old) (state S.Store conn.new) }
+        → (o : Office) → Stores (state S.Store conn.old) o → next_number ≡ length o.sales + 1
+        → IsDecided (T.forwards transform.now) o at.now result }
+    ensures nothing { HasCleanDisk (state S.Store conn.new)
+        → HasTables (state S.Store conn.old)
+        → ChangesNothing (state S.Store conn.old) (state S.Store conn.new) }
+    ensures failures { HasCleanDisk (state S.Store conn.new)
+        → HasTables (state S.Store conn.old)
+        → IfErr result (RefusesUnchanged at.now next_number
+        (state S.Store conn.old) (state S.Store conn.new)) }
     ensures clean { HasCleanDisk (state S.Store conn.new) → HasCleanDisk (state S.Store conn.old) }
     ensures never_stopped { result ≢ Err Refusal.Stopped }
     ensures outside { conn.new.in_transaction ≡ false }
 {
     // Outside a transaction an open connection has what was committed last.
     let _settled = conn.is_autocommit();
-    match facts_of(alloc, conn, at) {
+    match facts_of(alloc, conn, at, next_number.saturating_sub(1)) {
         Ok(facts) => decide(alloc, transform, &facts, at),
         Err(error) => Err(refusal_of(error)),
     }

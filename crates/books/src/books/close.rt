@@ -6,7 +6,7 @@ ghost use Rattle.sqlite.specs.State.{HasCleanDisk};
 ghost use Rattle.sqlite.specs.Held.{state};
 ghost use Rattle.vend_core.specs.Life.{Life, MayLeave, present};
 ghost use Rattle.vend_core.specs.Office.{Office};
-ghost use Rattle.books.specs.Keeps.{Keeps, LeftFor, StandsAt, seen};
+ghost use Rattle.books.specs.Keeps.{Represents, RecoversTo, StoreStandsFor, seen};
 
 use crate::books::Books;
 use sqlite::{Alter, Connection};
@@ -20,13 +20,13 @@ impl<S: Alter, T: BlockTransform + Drop> Books<S, T> {
     pub fn into_connection(self) -> Connection<S>
         ensures same { result ≡ self.conn }
         ensures rests { result.in_transaction ≡ false }
-        ensures left { (life : Life) → Keeps life (seen S.Store T.forwards self)
+        ensures left { (life : Life) → Represents life (seen S.Store T.forwards self)
             → HasCleanDisk (state S.Store result)
             → (trees : Trees) → (state S.Store result).may_leave trees
-            → (o : Office) × MayLeave life o × LeftFor trees o }
-        ensures holds { (life : Life) → Keeps life (seen S.Store T.forwards self)
+            → (o : Office) × MayLeave life o × RecoversTo trees o }
+        ensures holds { (life : Life) → Represents life (seen S.Store T.forwards self)
             → HasCleanDisk (state S.Store result) → self.stopped ≡ false
-            → StandsAt (state S.Store result) (present life) }
+            → StoreStandsFor (state S.Store result) (present life) }
     {
         let Books {
             alloc: _,

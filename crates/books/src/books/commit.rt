@@ -3,15 +3,12 @@
 ghost use Rattle.std.specs.Prelude.{◌≡◌, ◌≢◌, Err, false};
 ghost use Rattle.sqlite.specs.State.{HasCleanDisk};
 ghost use Rattle.sqlite.specs.Held.{state};
-ghost use Rattle.vend_core.specs.Edits.{applied};
-ghost use Rattle.vend_core.specs.Office.{IsOffice, Office};
-ghost use Rattle.vend_core.specs.Store.{Meets};
-ghost use Rattle.books.specs.Keeps.{IsAt};
+ghost use Rattle.book_tables.specs.Reading.{HasTables};
 ghost use Rattle.books.specs.Serving.{Commits};
 
 use super::failing::refusal_of;
 use crate::changing::Editing;
-use one_table::Change;
+use one_table::{CommitFault, change_once};
 use sqlite::{Alter, Connection};
 use vend_core::{Edit, Refusal};
 
@@ -21,22 +18,17 @@ use vend_core::{Edit, Refusal};
 pub(crate) fn commit<S: Alter>(conn: &mut Connection<S>, edit: &Edit) -> Result<(), Refusal>
     requires { conn.old.in_transaction ≡ false }
     ensures commits { HasCleanDisk (state S.Store conn.new)
-        → (o : Office) → IsAt (state S.Store conn.old) o → Meets edit.now o
-        → IsOffice (applied edit.now o)
-        → Commits edit.now o result (state S.Store conn.old) (state S.Store conn.new) }
+        → HasTables (state S.Store conn.old)
+        → Commits edit.now result (state S.Store conn.old) (state S.Store conn.new) }
     ensures clean { HasCleanDisk (state S.Store conn.new) → HasCleanDisk (state S.Store conn.old) }
     ensures never_stopped { result ≢ Err Refusal.Stopped }
     ensures outside { conn.new.in_transaction ≡ false }
 {
     // Outside a transaction an open connection has what was committed last.
     let _settled = conn.is_autocommit();
-    let mut tx = conn.transaction();
-    let editing = Editing { edit };
-    if let Err(error) = editing.make(&mut tx) {
-        return Err(refusal_of(error));
-    }
-    match tx.commit() {
+    match change_once(conn, &Editing { edit }) {
         Ok(()) => Ok(()),
-        Err(_) => Err(Refusal::Store),
+        Err(CommitFault::Unmade(error)) => Err(refusal_of(error)),
+        Err(CommitFault::InDoubt(_)) => Err(Refusal::Store),
     }
 }

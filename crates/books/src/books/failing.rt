@@ -1,6 +1,7 @@
 //! What is answered where the store fails.
 
 ghost use Rattle.std.specs.Prelude.{◌≡◌, ◌↔◌, ◌⊎◌, Err, IsTrue};
+ghost use Rattle.books.specs.Failing.{refusal_for};
 
 use book_tables::TableError;
 use sqlite::{Error, ErrorCode};
@@ -9,14 +10,12 @@ use vend_core::Refusal;
 /// What a request is answered where its tables gave this error before a commit: the store failed,
 /// unless it only found no memory.
 pub(crate) fn refusal_of(error: TableError) -> Refusal
-    ensures memory { result ≡ Refusal.Memory
-        ↔ (error ≡ TableError.Database (Error.SqliteFailure ErrorCode.OutOfMemory)) }
+    ensures value { result ≡ refusal_for error }
     ensures either { (result ≡ Refusal.Memory) ⊎ (result ≡ Refusal.Store) }
 {
-    if error.is_memory() {
-        Refusal::Memory
-    } else {
-        Refusal::Store
+    match error {
+        TableError::Database(Error::SqliteFailure(ErrorCode::OutOfMemory)) => Refusal::Memory,
+        _ => Refusal::Store,
     }
 }
 

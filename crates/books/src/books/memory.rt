@@ -4,7 +4,7 @@ ghost use Rattle.std.specs.Prelude.{◌≡◌, ◌⊎◌, false, IfOk, IfErr};
 ghost use Rattle.sqlite.specs.Steps.{over_memory};
 ghost use Rattle.vend_core.specs.LifeLaws.{opened};
 ghost use Rattle.vend_core.specs.Office.{empty_office};
-ghost use Rattle.books.specs.Keeps.{Keeps, seen};
+ghost use Rattle.books.specs.Keeps.{HaveTables, Represents, seen};
 
 use crate::books::Books;
 use crate::fault::OpenFault;
@@ -19,8 +19,9 @@ impl<T: BlockTransform + Drop> Books<MemStore, T> {
     /// # Errors
     /// `Store` and `Memory`.
     pub fn in_memory(alloc: Global, transform: T) -> Result<Books<MemStore, T>, OpenFault>
-        ensures opens { IfOk result (λ books. Keeps
+        ensures opens { IfOk result (λ books. Represents
             (opened (T.forwards transform) empty_office) (seen over_memory T.forwards books)) }
+        ensures tables { IfOk result (λ books. HaveTables (seen over_memory T.forwards books)) }
         ensures running { IfOk result (λ books. books.stopped ≡ false) }
         ensures faults { IfErr result
             (λ fault. (fault ≡ OpenFault.Store) ⊎ (fault ≡ OpenFault.Memory)) }

@@ -5,7 +5,7 @@ ghost use Rattle.sqlite.specs.State.{HasCleanDisk, Survives};
 ghost use Rattle.sqlite.specs.Held.{state};
 ghost use Rattle.vend_core.specs.LifeLaws.{opened};
 ghost use Rattle.vend_core.specs.Office.{Office};
-ghost use Rattle.books.specs.Keeps.{Keeps, StandsAt, seen};
+ghost use Rattle.books.specs.Keeps.{HaveTables, Represents, StoreStandsFor, seen};
 ghost use Rattle.books.specs.Opening.{LeavesBegun, LeavesRefused, OpensAs};
 ghost use Rattle.books.specs.Same.{IsSame};
 
@@ -31,19 +31,20 @@ impl<S: Alter, T: BlockTransform + Drop> Books<S, T> {
         transform: T,
     ) -> Result<Books<S, T>, (OpenFault, Connection<S>)>
         requires outside { conn.in_transaction ≡ false }
-        ensures opens { (o : Office) → StandsAt (state S.Store conn) o
-            → IfOk result (λ books. Keeps
+        ensures opens { (o : Office) → StoreStandsFor (state S.Store conn) o
+            → IfOk result (λ books. Represents
             (opened (T.forwards transform) o) (seen S.Store T.forwards books)) }
+        ensures tables { IfOk result (λ books. HaveTables (seen S.Store T.forwards books)) }
         ensures finds { IfOk result (λ books. HasCleanDisk (state S.Store books.conn)
             → OpensAs (state S.Store conn) (state S.Store books.conn)) }
         ensures running { IfOk result (λ books. books.stopped ≡ false) }
         ensures other { IfErr result (λ e. HasCleanDisk (state S.Store e.1)
-            → e.0 ≡ OpenFault.NotAnOffice → (o : Office) → ¬ StandsAt (state S.Store conn) o) }
+            → e.0 ≡ OpenFault.NotAnOffice → (o : Office) → ¬ StoreStandsFor (state S.Store conn) o) }
         ensures never_old { IfErr result (λ e. e.0 ≢ OpenFault.OldOffice) }
         ensures same { IfErr result (λ e. HasCleanDisk (state S.Store e.1)
             → IsSame (state S.Store conn) (state S.Store e.1)) }
         ensures refused { IfErr result (λ e. HasCleanDisk (state S.Store e.1)
-            → (o : Office) → StandsAt (state S.Store conn) o → StandsAt (state S.Store e.1) o) }
+            → (o : Office) → StoreStandsFor (state S.Store conn) o → StoreStandsFor (state S.Store e.1) o) }
         ensures rests { IfErr result (λ e. e.1.in_transaction ≡ false) }
         ensures survives { MatchResult result
             (λ books. Survives (state S.Store conn) (state S.Store books.conn)

@@ -6,9 +6,11 @@ ghost use Rattle.sqlite.specs.Held.{state};
 ghost use Rattle.vend_core.specs.Life.{Life, present};
 ghost use Rattle.vend_core.specs.Office.{Office};
 ghost use Rattle.vend_core.specs.Store.{sales_above};
-ghost use Rattle.books.specs.Keeps.{IsAt, Keeps, seen};
+ghost use Rattle.book_tables.specs.Reading.{HasTables};
+ghost use Rattle.books.specs.Failing.{IsToldOfRead};
+ghost use Rattle.books.specs.Keeps.{HaveTables, Stores, Represents, seen};
 ghost use Rattle.books.specs.Others.{LeavesOthers};
-ghost use Rattle.books.specs.Serving.{Stays};
+ghost use Rattle.books.specs.Same.{ChangesNothing};
 
 use super::Books;
 use super::failing::{has_failed, refusal_of};
@@ -28,12 +30,14 @@ impl<S: Alter, T: BlockTransform> Books<S, T> {
         requires some { 1 ≤ limit }
         requires few { limit ≤ 1000 }
         ensures given { HasCleanDisk (seen S.Store T.forwards self.new).state
-            → (life : Life) → Keeps life (seen S.Store T.forwards self.old)
+            → (life : Life) → Represents life (seen S.Store T.forwards self.old)
             → IfOk result (λ sales. sales.items ≡ sales_above (present life) number limit) }
-        ensures keeps { (life : Life) → Keeps life (seen S.Store T.forwards self.old)
-            → Keeps life (seen S.Store T.forwards self.new) }
+        ensures keeps { (life : Life) → Represents life (seen S.Store T.forwards self.old)
+            → Represents life (seen S.Store T.forwards self.new) }
+        ensures tables { HaveTables (seen S.Store T.forwards self.old)
+            → HaveTables (seen S.Store T.forwards self.new) }
         ensures others { HasCleanDisk (seen S.Store T.forwards self.new).state
-            → (life : Life) → Keeps life (seen S.Store T.forwards self.old)
+            → HaveTables (seen S.Store T.forwards self.old)
             → LeavesOthers (seen S.Store T.forwards self.old).state
             (seen S.Store T.forwards self.new).state }
         ensures clean { HasCleanDisk (seen S.Store T.forwards self.new).state
@@ -43,6 +47,10 @@ impl<S: Alter, T: BlockTransform> Books<S, T> {
             ↔ ((result ≡ Err Refusal.Store) ⊎ (result ≡ Err Refusal.Stopped)) }
         ensures refusals { IfErr result (λ refusal. (refusal ≡ Refusal.Memory)
             ⊎ ((refusal ≡ Refusal.Store) ⊎ (refusal ≡ Refusal.Stopped))) }
+        ensures failures { HasCleanDisk (seen S.Store T.forwards self.new).state
+            → HaveTables (seen S.Store T.forwards self.old) → self.old.stopped ≡ false
+            → IfErr result (λ refusal. IsToldOfRead refusal
+            (seen S.Store T.forwards self.old).state (seen S.Store T.forwards self.new).state) }
         ensures idle { self.old.stopped ≡ true → self.new ≡ self.old }
     {
         if self.stopped {
@@ -58,7 +66,7 @@ impl<S: Alter, T: BlockTransform> Books<S, T> {
     /// After a failure of the store it may be too small by one.
     pub fn next_number(&self) -> u64
         ensures { HasCleanDisk (seen S.Store T.forwards self.now).state
-            → (life : Life) → Keeps life (seen S.Store T.forwards self.now)
+            → (life : Life) → Represents life (seen S.Store T.forwards self.now)
             → self.now.stopped ≡ false → result ≡ length (present life).sales + 1 }
     {
         self.next_number
@@ -74,12 +82,16 @@ fn page<S: Alter>(
 ) -> Result<Vec<Sale>, Refusal>
     requires { conn.old.in_transaction ≡ false }
     ensures given { HasCleanDisk (state S.Store conn.new)
-        → (o : Office) → IsAt (state S.Store conn.old) o
+        → (o : Office) → Stores (state S.Store conn.old) o
         → IfOk result (λ sales. sales.items ≡ sales_above o number limit) }
-    ensures stays { HasCleanDisk (state S.Store conn.new)
-        → (o : Office) → IsAt (state S.Store conn.old) o
-        → Stays o (state S.Store conn.old) (state S.Store conn.new) }
+    ensures nothing { HasCleanDisk (state S.Store conn.new)
+        → HasTables (state S.Store conn.old)
+        → ChangesNothing (state S.Store conn.old) (state S.Store conn.new) }
     ensures clean { HasCleanDisk (state S.Store conn.new) → HasCleanDisk (state S.Store conn.old) }
+    ensures failures { HasCleanDisk (state S.Store conn.new)
+        → HasTables (state S.Store conn.old)
+        → IfErr result (λ refusal. IsToldOfRead refusal
+        (state S.Store conn.old) (state S.Store conn.new)) }
     ensures refusals { IfErr result (λ refusal.
         (refusal ≡ Refusal.Memory) ⊎ (refusal ≡ Refusal.Store)) }
     ensures outside { conn.new.in_transaction ≡ false }

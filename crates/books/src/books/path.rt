@@ -1,18 +1,19 @@
 //! An office in a file.
 
-ghost use Rattle.std.specs.Prelude.{◌≡◌, ◌≢◌, false, IfOk, IfErr};
+ghost use Rattle.std.specs.Prelude.{◌≡◌, ◌≢◌, codes, false, Err, IfOk, IfErr, IsErrAnd};
 ghost use Rattle.sqlite_wal.specs.Files.{image_at};
 ghost use Rattle.sqlite.specs.Files.{over_files};
 ghost use Rattle.vend_core.specs.LifeLaws.{opened};
 ghost use Rattle.vend_core.specs.Office.{Office};
-ghost use Rattle.books.specs.Keeps.{Keeps, seen};
-ghost use Rattle.books.specs.Path.{StandsIn};
+ghost use Rattle.books.specs.Keeps.{HaveTables, Represents, seen};
+ghost use Rattle.books.specs.Path.{OpensFiles, RefusedAt, RefusesFiles, StandsIn};
 
 use crate::books::Books;
 use crate::fault::OpenFault;
 use crate::opening::fault_of;
 use crate::reopening::opening_law;
 use sqlite::{Connection, FileFrom, FileStore, Start};
+use sqlite_disk::Disk;
 use std::rt::HostRuntime;
 use sts_token::BlockTransform;
 
@@ -23,7 +24,7 @@ impl<B: Start, T: BlockTransform + Drop> Books<FileStore<FileFrom<B>>, T> {
     ///
     /// # Errors
     /// `NotAnOffice` where the file stands for no office; `Store` where it cannot be opened, and
-    /// `Memory`.
+    /// `Memory`. The file stands for what it stood for (`open_file`).
     pub fn open_path(
         rt: &HostRuntime,
         path: &str,
@@ -31,20 +32,55 @@ impl<B: Start, T: BlockTransform + Drop> Books<FileStore<FileFrom<B>>, T> {
         transform: T,
     ) -> Result<Books<FileStore<FileFrom<B>>, T>, OpenFault>
         ensures opens { (o : Office) → StandsIn (image_at B.Start) o
-            → IfOk result (λ books. Keeps
+            → IfOk result (λ books. Represents
             (opened (T.forwards transform) o) (seen over_files T.forwards books)) }
+        ensures tables { IfOk result (λ books. HaveTables (seen over_files T.forwards books)) }
+        ensures finds { IfOk result (λ books. OpensFiles (image_at B.Start) books.conn) }
         ensures running { IfOk result (λ books. books.stopped ≡ false) }
+        ensures refused { IfErr result (RefusedAt ⟦<FileFrom<B> as Disk>⟧ (image_at B.Start)) }
         ensures never_old { IfErr result (λ fault. fault ≢ OpenFault.OldOffice) }
+        ensures no_memory { path.now ≡ codes ":memory:" → result ≡ Err OpenFault.Store }
+    {
+        match Books::open_file(rt, path, start, transform) {
+            Ok(books) => Ok(books),
+            Err((fault, _)) => Err(fault),
+        }
+    }
+
+    /// The same. Where it is refused, the connection to the file comes back, if there is one.
+    ///
+    /// # Errors
+    /// As those of `open_path`.
+    pub fn open_file(
+        rt: &HostRuntime,
+        path: &str,
+        start: B,
+        transform: T,
+    ) -> Result<
+        Books<FileStore<FileFrom<B>>, T>,
+        (OpenFault, Option<Connection<FileStore<FileFrom<B>>>>),
+    >
+        ensures opens { (o : Office) → StandsIn (image_at B.Start) o
+            → IfOk result (λ books. Represents
+            (opened (T.forwards transform) o) (seen over_files T.forwards books)) }
+        ensures tables { IfOk result (λ books. HaveTables (seen over_files T.forwards books)) }
+        ensures finds { IfOk result (λ books. OpensFiles (image_at B.Start) books.conn) }
+        ensures running { IfOk result (λ books. books.stopped ≡ false) }
+        ensures refused { IfErr result (λ e. RefusesFiles (image_at B.Start) e.0 e.1) }
+        ensures never_old { IfErr result (λ e. e.0 ≢ OpenFault.OldOffice) }
+        // What `sqlite` keeps in memory is no file, and is never opened.
+        ensures no_memory { path.now ≡ codes ":memory:"
+            → IsErrAnd result (λ e. e.0 ≡ OpenFault.Store) }
     {
         opening_law::<FileStore<FileFrom<B>>>();
         // A file that is made here has no sums, so that any SQLite may read and write it.
         let conn = match Connection::open_from(rt, path, false, start) {
             Ok(conn) => conn,
-            Err((error, _)) => return Err(fault_of(error)),
+            Err((error, _)) => return Err((fault_of(error), None)),
         };
         match Books::open_from(rt.alloc(), conn, transform) {
             Ok(books) => Ok(books),
-            Err((fault, _)) => Err(fault),
+            Err((fault, conn)) => Err((fault, Some(conn))),
         }
     }
 }

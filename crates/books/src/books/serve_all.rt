@@ -4,7 +4,8 @@ ghost use Rattle.std.specs.Prelude.{◌≡◌, IfErr, IfOk, OnErr, length, true}
 ghost use Rattle.sqlite.specs.State.{HasCleanDisk};
 ghost use Rattle.vend_core.specs.Life.{Life};
 ghost use Rattle.vend_core.specs.LifeLaws.{extended_along};
-ghost use Rattle.books.specs.Keeps.{Keeps, seen};
+ghost use Rattle.books.specs.Asking.{AreServedInTurn};
+ghost use Rattle.books.specs.Keeps.{HaveTables, Represents, seen};
 ghost use Rattle.books.specs.Others.{LeavesOthers};
 ghost use Rattle.books.specs.Stopping.{StopAtFailure};
 
@@ -20,12 +21,16 @@ impl<S: Alter, T: BlockTransform> Books<S, T> {
     /// `Memory`, where there is no room for all replies. Nothing was done then.
     pub fn serve_all(&mut self, ats: &[Stamped]) -> Result<Vec<Reply>, Refusal>
         ensures count { IfOk result (λ replies. length replies.items ≡ length ats.now) }
+        ensures served { IfOk result (λ replies. AreServedInTurn (seen S.Store T.forwards)
+            self.old ats.now replies.items self.new) }
         ensures keeps { IfOk result (λ replies. (life : Life)
-            → Keeps life (seen S.Store T.forwards self.old)
-            → Keeps (extended_along life ats.now replies.items)
+            → Represents life (seen S.Store T.forwards self.old)
+            → Represents (extended_along life ats.now replies.items)
             (seen S.Store T.forwards self.new)) }
+        ensures tables { HaveTables (seen S.Store T.forwards self.old)
+            → HaveTables (seen S.Store T.forwards self.new) }
         ensures others { HasCleanDisk (seen S.Store T.forwards self.new).state
-            → (life : Life) → Keeps life (seen S.Store T.forwards self.old)
+            → HaveTables (seen S.Store T.forwards self.old)
             → LeavesOthers (seen S.Store T.forwards self.old).state
             (seen S.Store T.forwards self.new).state }
         ensures clean { HasCleanDisk (seen S.Store T.forwards self.new).state

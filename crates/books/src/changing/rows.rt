@@ -1,8 +1,9 @@
 //! The rows of an import.
 
-ghost use Rattle.std.specs.Prelude.{◌≡◌, [], ◌∷◌, true, OnOk};
-ghost use Rattle.sqlite.specs.State.{HasCleanDisk, KeepsCommit, Shows, Survives};
+ghost use Rattle.std.specs.Prelude.{◌≡◌, [], ◌∷◌, OnOk};
+ghost use Rattle.sqlite.specs.State.{HasCleanDisk};
 ghost use Rattle.sqlite.specs.Held.{state};
+ghost use Rattle.one_table.specs.InTransaction.{IsUnderWay, KeepsTransaction};
 ghost use Rattle.book_tables.specs.Reading.{HasTables};
 ghost use Rattle.books.specs.Changing.{MakesRows};
 
@@ -21,16 +22,11 @@ pub(crate) fn add_rows<S: Alter>(
 ) -> Result<(), TableError>
     ensures same_reference { tx.new.conn.ghost_name ≡ tx.old.conn.ghost_name }
     ensures added { HasCleanDisk (state S.Store tx.new.conn.now)
-        → HasTables (state S.Store tx.old.conn.now)
+        → IsUnderWay (state S.Store tx.old.conn.now) → HasTables (state S.Store tx.old.conn.now)
         → OnOk result (MakesRows rows.now
         (state S.Store tx.old.conn.now).now (state S.Store tx.new.conn.now).now) }
-    ensures inside { HasCleanDisk (state S.Store tx.new.conn.now)
-        → OnOk result (Shows (state S.Store tx.old.conn.now) (state S.Store tx.new.conn.now)
-        (state S.Store tx.new.conn.now).now (state S.Store tx.old.conn.now).committed true) }
-    ensures kept { HasCleanDisk (state S.Store tx.new.conn.now)
-        → KeepsCommit (state S.Store tx.old.conn.now) (state S.Store tx.new.conn.now) }
-    ensures survives { Survives
-        (state S.Store tx.old.conn.now) (state S.Store tx.new.conn.now) (λ _. ⊥) }
+    ensures transaction { KeepsTransaction
+        (state S.Store tx.old.conn.now) (state S.Store tx.new.conn.now) result }
 {
     let Some((first, others)) = rows.split_first() else {
         return Err(TableError::Database(Error::SqliteFailure(ErrorCode::TransactionState)));
@@ -48,13 +44,8 @@ fn add_row<S: Alter>(tx: &mut Transaction<'_, S>, row: &Row) -> Result<(), Table
         → HasTables (state S.Store tx.old.conn.now)
         → OnOk result (MakesRows (row.now ∷ [])
         (state S.Store tx.old.conn.now).now (state S.Store tx.new.conn.now).now) }
-    ensures inside { HasCleanDisk (state S.Store tx.new.conn.now)
-        → OnOk result (Shows (state S.Store tx.old.conn.now) (state S.Store tx.new.conn.now)
-        (state S.Store tx.new.conn.now).now (state S.Store tx.old.conn.now).committed true) }
-    ensures kept { HasCleanDisk (state S.Store tx.new.conn.now)
-        → KeepsCommit (state S.Store tx.old.conn.now) (state S.Store tx.new.conn.now) }
-    ensures survives { Survives
-        (state S.Store tx.old.conn.now) (state S.Store tx.new.conn.now) (λ _. ⊥) }
+    ensures transaction { KeepsTransaction
+        (state S.Store tx.old.conn.now) (state S.Store tx.new.conn.now) result }
 {
     members_law();
     match row {

@@ -1,6 +1,6 @@
 //! What requests on sales look at.
 
-ghost use Rattle.std.specs.Prelude.{◌≡◌, IfOk, IsNone};
+ghost use Rattle.std.specs.Prelude.{◌≡◌, IfOk, IsNone, length};
 ghost use Rattle.sqlite.specs.State.{HasCleanDisk, IsUnchanged};
 ghost use Rattle.sqlite.specs.Held.{state};
 ghost use Rattle.vend_core.specs.Facts.{AreNewSaleFacts, AreSaleFacts};
@@ -9,22 +9,24 @@ ghost use Rattle.vend_core.specs.Office.{IsOffice, Office};
 ghost use Rattle.book_tables.specs.Reading.{OnlyReads};
 ghost use Rattle.books.specs.Members.{HasMembers};
 
-use crate::facts::buyers::buyer_numbered;
+use crate::facts::accounts::account_numbered;
 use book_tables::{TableError, sales, shifts};
 use sqlite::{Alter, Connection};
 use std::alloc::Global;
 use vend_core::{Facts, Moment, Order};
 
-/// What Sell looks at: the rest only where no sale was made under the order's ref.
+/// What Sell looks at: the rest only where no sale was made under the order's ref. The count of
+/// sales is the caller's, which knows the number of the next one.
 pub(crate) fn sale_facts<S: Alter>(
     alloc: Global,
     conn: &mut Connection<S>,
     moment: Moment,
     order: &Order,
+    sale_count: u64,
 ) -> Result<Facts, TableError>
     ensures facts { HasCleanDisk (state S.Store conn.new)
         → (o : Office) → IsOffice o → HasMembers (state S.Store conn.old) o
-        → IfOk result (AreSaleFacts o moment order.now) }
+        → sale_count ≡ length o.sales → IfOk result (AreSaleFacts o moment order.now) }
     ensures reads { OnlyReads IsUnchanged
         (state S.Store conn.old) (state S.Store conn.new) result }
 {
@@ -35,21 +37,21 @@ pub(crate) fn sale_facts<S: Alter>(
             ..Facts::none()
         });
     }
-    new_sale_facts(alloc, conn, moment, order)
+    new_sale_facts(alloc, conn, moment, order, sale_count)
 }
 
-// What a new sale looks at: the meter only where there is an open shift, and how many sales there
-// are only where there is a meter.
+// What a new sale looks at: the meter only where there is an open shift.
 fn new_sale_facts<S: Alter>(
     alloc: Global,
     conn: &mut Connection<S>,
     moment: Moment,
     order: &Order,
+    sale_count: u64,
 ) -> Result<Facts, TableError>
     ensures none { IfOk result (λ f. IsNone f.first_sale) }
     ensures facts { HasCleanDisk (state S.Store conn.new)
         → (o : Office) → IsOffice o → HasMembers (state S.Store conn.old) o
-        → IfOk result (AreNewSaleFacts o moment order.now) }
+        → sale_count ≡ length o.sales → IfOk result (AreNewSaleFacts o moment order.now) }
     ensures reads { OnlyReads IsUnchanged
         (state S.Store conn.old) (state S.Store conn.new) result }
 {
@@ -57,18 +59,11 @@ fn new_sale_facts<S: Alter>(
     if open_shift.is_none() {
         return Ok(Facts::none());
     }
-    let buyer = buyer_numbered(alloc, conn, &order.meter, moment)?;
-    if buyer.is_none() {
-        return Ok(Facts {
-            open_shift,
-            ..Facts::none()
-        });
-    }
-    let last = sales::last_sale_number(conn)?;
+    let account = account_numbered(alloc, conn, &order.meter, moment)?;
     Ok(Facts {
         open_shift,
-        buyer,
-        sale_count: u64::from(last.unwrap_or(0)),
+        account,
+        sale_count,
         ..Facts::none()
     })
 }

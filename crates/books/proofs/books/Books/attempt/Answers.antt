@@ -1,29 +1,57 @@
-use Rattle.std.proofs.Common.{◌≡◌, Err, refl, subst, rules}
+use Rattle.std.proofs.Common.{◌≡◌, Err, inl, inr, refl, subst, rules, ◌∙◌}
 use Rattle.sqlite.specs.Held.{state}
 use Rattle.vend_core.specs.Office.{IsOffice}
 use Rattle.books.specs.Keeps.{seen}
-use Rattle.books.proofs.AttemptLemmas.{committed_ends, failed_ends, is_applied, is_decision, none_of, unchanged_ends}
+use Rattle.books.proofs.AttemptLemmas.{committed_ends, failed_ends, is_applied, is_decision, none_of, refused_ends, unchanged_ends}
+use Rattle.books.proofs.CommitLemmas.{commits_others, fails_after}
+use Rattle.books.proofs.OthersLemmas.{nothing_others, others_then, tables_stay}
+use Rattle.books.proofs.StayLemmas.{has_tables, still_held}
 use Rattle.books.proofs.books.Books.attempt.Goals as goal
 use Rattle.books.proofs.books.Books.attempt.Goals.{in-Some+in_ok-commit, in_default}
 
+pub returns-in_err-edit-clause-attempts : goal.returns-in_err-edit-clause-attempts
+returns-in_err-edit-clause-attempts g c clean o held =
+    let now = c.args.self.now in
+    let forward = g.T.BlockTransform.forwards now.transform in
+    let old = seen g.S.Store g.T.BlockTransform.forwards now in
+    let new = record old { state = state g.S.Store c.decided.new.conn } in
+    let nothing = c.decided.ensures.nothing clean (has_tables o old.state held.at) in
+    let same : c.from_residual.result ≡ Err c.in_err-edit.field-0.0 = search rules in
+    rw same (refused_ends forward o c.args.at.now c.in_err-edit.field-0.0 old new held (c.in_err-edit.ensures.decides clean o held.at held.next) clean nothing refl)
+
+pub returns-in_err-edit-clause-others : goal.returns-in_err-edit-clause-others
+returns-in_err-edit-clause-others g c clean tables = nothing_others (state g.S.Store c.args.self.now.conn) (state g.S.Store c.decided.new.conn) clean (c.decided.ensures.nothing clean tables)
+
 pub returns-in_err-commit-clause-attempts : goal.returns-in_err-commit-clause-attempts
 returns-in_err-commit-clause-attempts g c clean o held =
+    let same : c.from_residual-in_err-commit.result ≡ Err c.in_err-commit.field-0.0 = search rules in
     let now = c.args.self.now in
     let forward = g.T.BlockTransform.forwards now.transform in
     let range = g.met.T.BlockTransform.forward_range now.transform in
     let at = c.args.at.now in
     let change = c.in_ok-edit.field-0 in
     let mid = state g.S.Store c.decided.new.conn in
-    let decides = c.in_ok-edit.ensures.decides (c.commit.ensures.clean clean) o held.at in
-    let is = is_decision forward o at change decides.decided in
+    let early = c.commit.ensures.clean clean in
+    let decided = c.in_ok-edit.ensures.decides early o held.at held.next in
+    let is = is_decision forward o at change decided in
     let old = seen g.S.Store g.T.BlockTransform.forwards now in
     let new = record old { state = state g.S.Store c.commit.new.conn } in
-    let meets = c.store_law.ensures.meets forward o at change c.in-Some.edit held.at.office c.keeps_ranges.ensures range is c.in-Some.is in
-    let applied = is_applied forward o at change decides.decided old new c.in-Some.edit c.in-Some.is mid decides.stays in
-    let office = subst IsOffice applied (c.office_law.ensures.keeps_office forward o at held.at.office c.keeps_ranges.ensures range) in
-    let commits = c.in_err-commit.ensures.commits clean o decides.stays.at meets office in
-    let same : c.from_residual-in_err-commit.result ≡ Err c.in_err-commit.field-0.0 = search rules in
-    rw same (failed_ends forward o at change decides.decided old new c.in-Some.edit c.in-Some.is mid decides.stays c.in_err-commit.field-0.0 commits held refl)
+    let tables = has_tables o old.state held.at in
+    let here = still_held o old.state mid early held.at (c.decided.ensures.nothing early tables) in
+    let meets = c.store_law.ensures.meets forward o at change c.in-Some.edit held.at.office c.requires.stamped range is c.in-Some.is in
+    let applied = is_applied forward o at change decided new c.in-Some.edit c.in-Some.is in
+    let office = subst IsOffice applied (c.office_law.ensures.keeps_office forward o at held.at.office c.requires.stamped range) in
+    let commits = c.in_err-commit.ensures.commits clean (has_tables o mid here) in
+    rw same (failed_ends forward o at change decided new c.in-Some.edit c.in-Some.is mid here meets office c.in_err-commit.field-0.0 clean commits held.next)
+
+pub returns-in_err-commit-clause-others : goal.returns-in_err-commit-clause-others
+returns-in_err-commit-clause-others g c clean tables =
+    let old = state g.S.Store c.args.self.now.conn in
+    let mid = state g.S.Store c.decided.new.conn in
+    let new = state g.S.Store c.commit.new.conn in
+    let early = c.commit.ensures.clean clean in
+    let first = nothing_others old mid early (c.decided.ensures.nothing early tables) in
+    others_then old mid new first (commits_others c.in-Some.edit _ mid new clean (c.in_err-commit.ensures.commits clean (tables_stay old mid first tables)))
 
 pub returns-clause-attempts : goal.returns-clause-attempts
 returns-clause-attempts g c clean o held =
@@ -34,22 +62,58 @@ returns-clause-attempts g c clean o held =
     let change = c.in_ok-edit.field-0 in
     let mid = state g.S.Store c.decided.new.conn in
     let old = seen g.S.Store g.T.BlockTransform.forwards now in
+    let tables = has_tables o old.state held.at in
     elim c.match-edit.branch [
       | in-Some+in_ok-commit w ↦
           let late = rw w.self-is at clean in
+          let early = w.commit.ensures.clean late in
           let new = record old { state = state g.S.Store w.commit.new.conn; next_number = w.next_after-self.result } in
-          let decides = c.in_ok-edit.ensures.decides (w.commit.ensures.clean late) o held.at in
-          let is = is_decision forward o at change decides.decided in
+          let decided = c.in_ok-edit.ensures.decides early o held.at held.next in
+          let is = is_decision forward o at change decided in
           let edit = w.in-Some.edit in
-          let meets = c.store_law.ensures.meets forward o at change edit held.at.office c.keeps_ranges.ensures range is w.in-Some.is in
-          let applied = is_applied forward o at change decides.decided old new edit w.in-Some.is mid decides.stays in
-          let office = subst IsOffice applied (c.office_law.ensures.keeps_office forward o at held.at.office c.keeps_ranges.ensures range) in
-          let commits = w.in_ok-commit.ensures.commits late o decides.stays.at meets office in
+          let here = still_held o old.state mid early held.at (c.decided.ensures.nothing early tables) in
+          let meets = c.store_law.ensures.meets forward o at change edit held.at.office c.requires.stamped range is w.in-Some.is in
+          let applied = is_applied forward o at change decided new edit w.in-Some.is in
+          let office = subst IsOffice applied (c.office_law.ensures.keeps_office forward o at held.at.office c.requires.stamped range) in
+          let commits = w.in_ok-commit.ensures.commits late (has_tables o mid here) in
           let next = w.next_after-self.ensures o meets held.next in
-          rw w.self-is (committed_ends forward o at change decides.decided old new edit w.in-Some.is mid decides.stays commits next)
+          rw w.self-is (committed_ends forward o at change decided new edit w.in-Some.is mid here meets office commits next)
       | in_default w ↦
           let late = rw w.self-is at clean in
           let new = record old { state = mid } in
-          let decides = c.in_ok-edit.ensures.decides late o held.at in
-          rw w.self-is (unchanged_ends forward o at change decides.decided old new (none_of change.edit w.in_default.not-Some) held decides.stays refl)
+          let decided = c.in_ok-edit.ensures.decides late o held.at held.next in
+          let here = still_held o old.state mid late held.at (c.decided.ensures.nothing late tables) in
+          rw w.self-is (unchanged_ends forward o at change decided new (none_of change.edit w.in_default.not-Some) (record { at = here; next = held.next }))
     ]
+
+pub returns-clause-others : goal.returns-clause-others
+returns-clause-others g c clean tables =
+    let old = state g.S.Store c.args.self.now.conn in
+    let mid = state g.S.Store c.decided.new.conn in
+    elim c.match-edit.branch [
+      | in-Some+in_ok-commit w ↦
+          let late = rw w.self-is at clean in
+          let early = w.commit.ensures.clean late in
+          let new = state g.S.Store w.commit.new.conn in
+          let first = nothing_others old mid early (c.decided.ensures.nothing early tables) in
+          rw w.self-is (others_then old mid new first (commits_others w.in-Some.edit _ mid new late (w.in_ok-commit.ensures.commits late (tables_stay old mid first tables))))
+      | in_default w ↦
+          let late = rw w.self-is at clean in
+          rw w.self-is (nothing_others old mid late (c.decided.ensures.nothing late tables))
+    ]
+
+pub returns-in_err-edit-clause-failures : goal.returns-in_err-edit-clause-failures
+returns-in_err-edit-clause-failures g c clean tables =
+    let same : c.from_residual.result ≡ Err c.in_err-edit.field-0.0 = search rules in
+    rw same (inl (c.decided.ensures.nothing clean tables, c.in_err-edit.ensures.failures clean tables))
+
+pub returns-in_err-commit-clause-failures : goal.returns-in_err-commit-clause-failures
+returns-in_err-commit-clause-failures g c clean tables =
+    let same : c.from_residual-in_err-commit.result ≡ Err c.in_err-commit.field-0.0 = search rules in
+    let old = state g.S.Store c.args.self.now.conn in
+    let mid = state g.S.Store c.decided.new.conn in
+    let new = state g.S.Store c.commit.new.conn in
+    let early = c.commit.ensures.clean clean in
+    let nothing = c.decided.ensures.nothing early tables in
+    let commits = c.in_err-commit.ensures.commits clean (tables_stay old mid (nothing_others old mid early nothing) tables) in
+    rw same (inr (c.in-Some.edit, fails_after c.in-Some.edit old mid new clean nothing c.in_err-commit.field-0.0 commits.failed))

@@ -1,13 +1,14 @@
 use Rattle.std.proofs.Common.{◌≡◌, true, ◌++◌, ◌∷◌, [], ◌+◌, take, refl, ap, sym, subst, ◌∙◌, arith}
 use Rattle.std.proofs.lemmas.List.{take_more}
 use Rattle.books.specs.Keeps.{seen}
-use Rattle.books.proofs.AlongLemmas.{HaveServed, served_more, served_none}
+use Rattle.books.proofs.AlongLemmas.{HaveServed, served_more, served_none, served_on}
 use Rattle.books.proofs.books.Books.serve_all.Goals as goal
 
 pub loop-at-init : goal.loop-at-init
 loop-at-init g c = record {
   served = subst (HaveServed (seen g.S.Store g.T.BlockTransform.forwards c.args.self.now) (seen g.S.Store g.T.BlockTransform.forwards c.args.self.now) []) (sym c.in_ok-replies.ensures.items)
       (served_none (seen g.S.Store g.T.BlockTransform.forwards c.args.self.now) c.life_law.ensures.along_none);
+  each = rw c.in_ok-replies.ensures.items refl;
   room = c.in_ok-replies.ensures.capacity;
   filled = c.in_ok-replies.ensures.len;
   idle = λ _. refl;
@@ -24,8 +25,19 @@ loop-at-preserved g c =
     let at = c.at-item.result in
     let more : take (c.loop-at.at-index + 1) c.args.ats.now ≡ ats ++ at ∷ [] = take_more c.args.ats.now c.loop-at.at-index at (omega arith) ∙ ap (λ x. ats ++ x ∷ []) (sym c.at-item.is) in record {
       served = rw (more, c.push_reserved.ensures.items)
-          (served_more old mid new ats replies at c.serve-reply.result so_far.served (λ life. c.life_law.ensures.along_one life ats replies at c.serve-reply.result) c.serve-reply.ensures.keeps c.serve-reply.ensures.others
+          (served_more old mid new ats replies at c.serve-reply.result so_far.served (λ life. c.life_law.ensures.along_one life ats replies at c.serve-reply.result) c.serve-reply.ensures.keeps c.serve-reply.ensures.tables c.serve-reply.ensures.others
           c.serve-reply.ensures.clean c.serve-reply.ensures.stopped c.serve-reply.ensures.stops);
+      each = rw (more, c.push_reserved.ensures.items)
+          (served_on (seen g.S.Store g.T.BlockTransform.forwards) c.args.self.now c.loop-at.self c.serve-reply.new.self ats replies at c.serve-reply.result so_far.each
+          (record {
+            keeps = c.serve-reply.ensures.keeps;
+            tables = c.serve-reply.ensures.tables;
+            others = c.serve-reply.ensures.others;
+            clean = c.serve-reply.ensures.clean;
+            failures = c.serve-reply.ensures.failures;
+            stopped = c.serve-reply.ensures.stopped;
+            stops = c.serve-reply.ensures.stops;
+          }));
       room = omega (arith, so_far.room, c.push_reserved.ensures.capacity);
       filled = omega (arith, so_far.filled, c.push_reserved.ensures.len);
       idle = λ stopped. let still : c.loop-at.self.stopped ≡ true = rw (so_far.idle stopped) stopped in c.serve-reply.ensures.idle still ∙ so_far.idle stopped;

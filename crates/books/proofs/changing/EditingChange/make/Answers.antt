@@ -9,60 +9,60 @@ use Rattle.books.proofs.ChangeLemmas.{made_by, makes_closing, makes_import, make
 use Rattle.books.proofs.changing.EditingChange.make.Goals as goal
 
 pub returns-in-AddTariff-clause-made : goal.returns-in-AddTariff-clause-made
-returns-in-AddTariff-clause-made g c clean =
+returns-in-AddTariff-clause-made g c clean way =
     let old = state g.S.Store c.args.tx.now.conn.now in
     let new = state g.S.Store c.add_tariff.new.tx.conn.now in
     let name = c.in-AddTariff.name in
     made_by c.add_tariff.result c.args.self.now.edit.now (edits.AddTariff name c.in-AddTariff.steps) old new c.in-AddTariff.is (c.add_tariff.ensures.added clean)
-    (λ adds. makes_tariff c.members_law.ensures.edited old new name c.in-AddTariff.steps (subst (λ (l : List Step). AddsTariff name l old new) c.as_slice.ensures.view adds)) (c.add_tariff.ensures.inside clean)
+    (λ adds. makes_tariff c.members_law.ensures.edited old new name c.in-AddTariff.steps (subst (λ (l : List Step). AddsTariff name l old new) c.as_slice.ensures.view adds))
 
 pub returns-in-AddMeter-clause-made : goal.returns-in-AddMeter-clause-made
-returns-in-AddMeter-clause-made g c clean =
+returns-in-AddMeter-clause-made g c clean way =
     let old = state g.S.Store c.args.tx.now.conn.now in
     let new = state g.S.Store c.add_meter.new.tx.conn.now in
     let number = c.in-AddMeter.number in
     let meter = c.in-AddMeter.meter in
     made_by c.add_meter.result c.args.self.now.edit.now (edits.AddMeter number meter) old new c.in-AddMeter.is (c.add_meter.ensures.added clean)
-    (λ adds. makes_meter c.members_law.ensures.edited old new number meter adds) (c.add_meter.ensures.inside clean)
+    (λ adds. makes_meter c.members_law.ensures.edited old new number meter adds)
 
 pub returns-in-AddRows-clause-made : goal.returns-in-AddRows-clause-made
-returns-in-AddRows-clause-made g c clean =
+returns-in-AddRows-clause-made g c clean way =
     let old = state g.S.Store c.args.tx.now.conn.now in
     let new = state g.S.Store c.add_rows.new.tx.conn.now in
     let rows = c.in-AddRows.rows in
-    made_by c.add_rows.result c.args.self.now.edit.now (edits.AddRows rows) old new c.in-AddRows.is (c.add_rows.ensures.added clean)
-    (λ made. makes_import rows old.now new.now (subst (λ (l : List Row). MakesRows l old.now new.now) c.as_slice-in-AddRows.ensures.view made)) (c.add_rows.ensures.inside clean)
+    made_by c.add_rows.result c.args.self.now.edit.now (edits.AddRows rows) old new c.in-AddRows.is (c.add_rows.ensures.added clean way)
+    (λ made. makes_import rows old.now new.now (subst (λ (l : List Row). MakesRows l old.now new.now) c.as_slice-in-AddRows.ensures.view made))
 
 pub returns-in-SetTariff-clause-made : goal.returns-in-SetTariff-clause-made
-returns-in-SetTariff-clause-made g c clean =
+returns-in-SetTariff-clause-made g c clean way =
     let old = state g.S.Store c.args.tx.now.conn.now in
     let new = state g.S.Store c.set_tariff.new.tx.conn.now in
     let number = c.in-SetTariff.number in
     let name = c.in-SetTariff.name in
     made_by c.set_tariff.result c.args.self.now.edit.now (edits.SetTariff number name) old new c.in-SetTariff.is (c.set_tariff.ensures.changed clean)
-    (λ sets. makes_setting c.members_law.ensures.edited old new number name sets) (c.set_tariff.ensures.inside clean)
+    (λ sets. makes_setting c.members_law.ensures.edited old new number name sets)
 
 pub returns-in-OpenShift-clause-made : goal.returns-in-OpenShift-clause-made
-returns-in-OpenShift-clause-made g c clean =
+returns-in-OpenShift-clause-made g c clean way =
     let old = state g.S.Store c.args.tx.now.conn.now in
     let new = state g.S.Store c.add_shift.new.tx.conn.now in
     let shift = c.in-OpenShift.shift in
     made_by c.add_shift.result c.args.self.now.edit.now (edits.OpenShift shift) old new c.in-OpenShift.is (c.add_shift.ensures.added clean)
-    (λ adds. makes_shift c.members_law.ensures.edited old new shift adds) (c.add_shift.ensures.inside clean)
+    (λ adds. makes_shift c.members_law.ensures.edited old new shift adds)
 
 pub returns-in-CloseShift-clause-made : goal.returns-in-CloseShift-clause-made
-returns-in-CloseShift-clause-made g c clean =
+returns-in-CloseShift-clause-made g c clean way =
     let old = state g.S.Store c.args.tx.now.conn.now in
     let new = state g.S.Store c.close_shift.new.tx.conn.now in
     let number = c.in-CloseShift.number in
     let moment = c.in-CloseShift.moment in
     made_by c.close_shift.result c.args.self.now.edit.now (edits.CloseShift number moment) old new c.in-CloseShift.is (c.close_shift.ensures.changed clean)
-    (λ closes. makes_closing c.members_law.ensures.edited old new number moment closes) (c.close_shift.ensures.inside clean)
+    (λ closes. makes_closing c.members_law.ensures.edited old new number moment closes)
 
 pub returns-in-AddSale-clause-made : goal.returns-in-AddSale-clause-made
-returns-in-AddSale-clause-made g c clean =
+returns-in-AddSale-clause-made g c clean way =
     let old = state g.S.Store c.args.tx.now.conn.now in
     let new = state g.S.Store c.add_sale.new.tx.conn.now in
     let sale = c.in-AddSale.sale in
     made_by c.add_sale.result c.args.self.now.edit.now (edits.AddSale sale) old new c.in-AddSale.is (c.add_sale.ensures.added clean)
-    (λ adds. makes_sale c.members_law.ensures.edited old new sale adds) (c.add_sale.ensures.inside clean)
+    (λ adds. makes_sale c.members_law.ensures.edited old new sale adds)

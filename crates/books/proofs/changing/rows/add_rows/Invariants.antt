@@ -1,8 +1,10 @@
-use Rattle.std.proofs.Common.{◌≡◌, ◌∷◌, true, take}
-use Rattle.sqlite.specs.State.{HasCleanDisk, Shows, Survives}
+use Rattle.std.proofs.Common.{◌≡◌, ◌∷◌, Ok, take}
+use Rattle.sqlite.specs.State.{HasCleanDisk}
 use Rattle.sqlite.specs.Held.{state}
 use Rattle.vend_core.specs.declared.row.Row.{Row}
+use Rattle.one_table.specs.InTransaction.{IsUnderWay, KeepsTransaction}
 use Rattle.book_tables.specs.Reading.{HasTables}
+use Rattle.book_tables.specs.declared.error.TableError.{TableError}
 use Rattle.books.specs.Changing.{MakesRows}
 use Rattle.books.proofs.changing.rows.add_rows.Given as goal
 
@@ -12,7 +14,6 @@ invariant-others g l =
     let now = state g.S.Store l.tx.conn.now in
     record {
       same : l.tx.conn.ghost_name ≡ l.fn.tx.conn.ghost_name;
-      survives : Survives old now (λ _. ⊥);
-      inside : HasCleanDisk now → Shows old now now.now old.committed true;
-      added : HasCleanDisk now → HasTables old → (first : Row) × (l.rows ≡ first ∷ l.others) × MakesRows (first ∷ take l.row-index l.others) old.now now.now;
+      transaction : KeepsTransaction {T = Unit {0}} {E = TableError} old now (Ok tt);
+      added : HasCleanDisk now → IsUnderWay old → HasTables old → (first : Row) × (l.rows ≡ first ∷ l.others) × MakesRows (first ∷ take l.row-index l.others) old.now now.now;
     }

@@ -1,4 +1,4 @@
-use Rattle.book_tables.proofs.OnlyReadsLemmas.{fail_on}
+use Rattle.one_table.proofs.ReadsOnlyLemmas.{fail_on}
 use Rattle.std.proofs.Common.{rules, ◌≡◌, ◌++◌, [], ◌∷◌, List, append-nil, inl, inr, refl, subst, sym}
 use Rattle.std.specs.Prelude.{⊤}
 use Rattle.std.proofs.lemmas.List.{drop_all}

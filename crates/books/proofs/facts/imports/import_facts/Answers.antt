@@ -1,4 +1,4 @@
-use Rattle.book_tables.proofs.OnlyReadsLemmas.{fail_on, read_on}
+use Rattle.one_table.proofs.ReadsOnlyLemmas.{fail_on, read_on}
 use Rattle.books.proofs.facts.imports.import_facts.Goals as goal
 
 pub returns-in_err-found-clause-reads : goal.returns-in_err-found-clause-reads

@@ -4,7 +4,7 @@ ghost use Rattle.std.specs.Prelude.{◌≡◌, ◌<◌, IfOk};
 ghost use Rattle.sqlite.specs.State.{HasCleanDisk, IsUnchanged};
 ghost use Rattle.sqlite.specs.Held.{state};
 ghost use Rattle.sts_fields.specs.Calendar.{month_at};
-ghost use Rattle.vend_core.specs.Decision.{buyer_of};
+ghost use Rattle.vend_core.specs.Decision.{account_of};
 ghost use Rattle.vend_core.specs.Lookup.{greatest_of, prior, used};
 ghost use Rattle.vend_core.specs.Office.{IsOffice, Office};
 ghost use Rattle.book_tables.specs.Reading.{OnlyReads};
@@ -15,18 +15,18 @@ use sqlite::{Alter, Connection};
 use std::alloc::Global;
 use sts_fields::{LAST_TID, month_of};
 use tariff::{MAX_PRIOR, Steps};
-use vend_core::{Buyer, Meter, MeterNo, Moment, store_law};
+use vend_core::{Meter, MeterAccount, MeterNo, Moment, store_law};
 
 /// What a sale at a moment looks at of the meter of a number.
-pub(crate) fn buyer_numbered<S: Alter>(
+pub(crate) fn account_numbered<S: Alter>(
     alloc: Global,
     conn: &mut Connection<S>,
     number: &MeterNo,
     moment: Moment,
-) -> Result<Option<Buyer>, TableError>
+) -> Result<Option<MeterAccount>, TableError>
     ensures facts { HasCleanDisk (state S.Store conn.new)
         → (o : Office) → IsOffice o → HasMembers (state S.Store conn.old) o
-        → IfOk result (λ found. found ≡ buyer_of o number.now moment) }
+        → IfOk result (λ found. found ≡ account_of o number.now moment) }
     ensures reads { OnlyReads IsUnchanged
         (state S.Store conn.old) (state S.Store conn.new) result }
 {
@@ -40,18 +40,18 @@ pub(crate) fn buyer_numbered<S: Alter>(
         // An office has the tariff of each of its meters.
         return Err(TableError::RowOfNoOffice);
     };
-    let buyer = buyer_at(conn, number, moment, meter, steps)?;
-    Ok(Some(buyer))
+    let account = account_at(conn, number, moment, meter, steps)?;
+    Ok(Some(account))
 }
 
 // What was sold to the meter of a number, as a sale at a moment looks at it.
-fn buyer_at<S: Alter>(
+fn account_at<S: Alter>(
     conn: &mut Connection<S>,
     number: &MeterNo,
     moment: Moment,
     meter: Meter,
     steps: Steps,
-) -> Result<Buyer, TableError>
+) -> Result<MeterAccount, TableError>
     ensures facts { HasCleanDisk (state S.Store conn.new)
         → (o : Office) → IsOffice o → HasMembers (state S.Store conn.old) o
         → IfOk result (λ b. b ≡ record {
@@ -71,7 +71,7 @@ fn buyer_at<S: Alter>(
         // What an office sold to a meter is within both.
         return Err(TableError::RowOfNoOffice);
     }
-    Ok(Buyer {
+    Ok(MeterAccount {
         meter,
         steps,
         last,

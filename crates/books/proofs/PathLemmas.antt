@@ -1,0 +1,53 @@
+-- An opening over a connection that was just made to the files of a path.
+use Rattle.std.proofs.Common.{◌≡◌, false, arith}
+use Rattle.sqlite.specs.Files.{file_state}
+use Rattle.sqlite.specs.Held.{Held}
+use Rattle.sqlite.specs.Start.{FindsIn}
+use Rattle.sqlite.specs.State.{HasCleanDisk, IsLive, Opens, Survives}
+use Rattle.sqlite_disk.specs.declared.Disk.{Ghosts}
+use Rattle.sqlite_store.specs.declared.store.FileStore.{FileStore}
+use Rattle.sqlite_wal.specs.Recovery.{Image}
+use Rattle.vend_core.specs.Office.{Office}
+use Rattle.books.specs.Keeps.{RecoversTo, StoreStandsFor}
+use Rattle.books.specs.Opening.{LeavesBegun, LeavesRefused, OpensAs}
+use Rattle.books.specs.Path.{IsConnected, OpensFiles, RefusesConnection, StandsIn}
+use Rattle.books.specs.Same.{IsSame}
+use Rattle.books.specs.declared.fault.OpenFault.{OpenFault}
+use Rattle.books.specs.declared.fault.OpenFault.TheVariants.{NotAnOffice}
+
+-- a connection stands for what its trees stand for
+abbrev pub OpensAgain : (D : Type 0) → (g : Ghosts D) → Type 0
+OpensAgain D g = (c : Held (FileStore D g)) (o : Office) → Opens (file_state c) → IsLive (file_state c) → RecoversTo (file_state c).committed.trees o → StoreStandsFor (file_state c) o
+
+module _ {D : Type 0} {g : Ghosts D} where
+  module _ (image : Image) (first last : Held (FileStore D g)) (opens : HasCleanDisk (file_state first) → Opens (file_state first) × IsLive (file_state first))
+      (finds : HasCleanDisk (file_state first) → FindsIn image (file_state first)) where
+    pub connected : HasCleanDisk (file_state first) → IsConnected image (file_state first)
+    connected clean =
+        let it = finds clean in
+        let open_is = opens clean in
+        record { opens = open_is.0; live = open_is.1; found = record { holds = it.holds; reads = it.reads } }
+
+    pub opens_files : (HasCleanDisk (file_state last) → OpensAs (file_state first) (file_state last))
+        → Survives (file_state first) (file_state last) (LeavesBegun (file_state first)) → OpensFiles image last
+    opens_files finds survives = record { first = first; connected = connected; finds = finds; survives = survives }
+
+    module _ (again : OpensAgain D g) where
+      pub stands_first : (o : Office) → HasCleanDisk (file_state first) → StandsIn image o → StoreStandsFor (file_state first) o
+      stands_first o clean stands = let it = connected clean in again first o it.opens it.live (stands (file_state first).committed.trees it.found)
+
+      pub refuses_connection : (fault : OpenFault)
+          → (HasCleanDisk (file_state last) → fault ≡ NotAnOffice → (o : Office) → ¬ StoreStandsFor (file_state first) o)
+          → (HasCleanDisk (file_state last) → IsSame (file_state first) (file_state last))
+          → (HasCleanDisk (file_state last) → (o : Office) → StoreStandsFor (file_state first) o → StoreStandsFor (file_state last) o) → last.in_transaction ≡ false
+          → Survives (file_state first) (file_state last) (LeavesRefused (file_state first) fault) → RefusesConnection image fault last
+      refuses_connection fault other same refused rests survives =
+          let early : HasCleanDisk (file_state last) → HasCleanDisk (file_state first) = λ clean. omega (arith, survives.clean) in record {
+            first = first;
+            connected = connected;
+            told = λ clean is o stands. other clean is o (stands_first o (early clean) stands);
+            same = same;
+            kept = λ clean o stands. refused clean o (stands_first o (early clean) stands);
+            rests = rests;
+            survives = survives;
+          }
