@@ -9,10 +9,10 @@ use Rattle.vend_core.specs.declared.request.Request.{Request}
 use Rattle.vend_core.specs.declared.request.Stamped.{Stamped}
 use Rattle.desk.specs.Along.{AreAsked}
 use Rattle.desk.specs.Answering.{answers_by, life_serves}
-use Rattle.desk.specs.Exchanges.{Exchange, Served, Timed, timed}
-use Rattle.desk.specs.Meaning.{Asks}
+use Rattle.desk.specs.Exchanges.{MessageExchange, Exchanged, Timed, timed}
+use Rattle.desk.specs.Meaning.{MessageAsks}
 use Rattle.desk.specs.Messages.{Message}
-use Rattle.desk.specs.Replies.{reply_of}
+use Rattle.desk.specs.Replies.{reply_bytes_of}
 use Rattle.desk.specs.declared.form.Form.{Form}
 
 along_none : (life : Life) → life ≡ extended_along life [] []
@@ -26,11 +26,11 @@ along_more life at reply ats replies =
 
 -- what was asked at this moment is what the stamped request is
 asks_stamped : (m : Message) (now : Option ℤ) (form : Form) (at : Stamped) (moment : ℕ) (request : Request) → at.moment ≡ moment → at.request ≡ request
-    → Asks m now form moment request → Asks m now form at.moment at.request
+    → MessageAsks m now form moment request → MessageAsks m now form at.moment at.request
 asks_stamped m now form at moment request same_moment same_request asks = rw (same_moment, same_request) asks
 
 -- a life goes along with what the exchanges asked, and nothing else
-pub goes_along : (old : Timed Life) (xs : List Exchange) (new : Timed Life) → Served (timed (answers_by life_serves)) old xs new
+pub goes_along : (old : Timed Life) (xs : List MessageExchange) (new : Timed Life) → Exchanged (timed (answers_by life_serves)) old xs new
     → (ats : List Stamped) × (replies : List (Result Answer Refusal)) × AreAsked xs ats replies × (new.0 ≡ extended_along old.0 ats replies)
 goes_along old [] new same = ([], [], (refl, refl), ap (λ (o : Timed Life). o.0) same ∙ along_none old.0)
 goes_along old (x ∷ xs) new (mid, ((outcome, inl (idle, same), told), reads), later) =
@@ -50,7 +50,7 @@ goes_along old (x ∷ xs) new (mid, ((outcome, inr (form, moment, request, reply
         record {
           form = form;
           asks = asks_stamped x.message x.now form at moment request stamped.at_moment stamped.for_request asks;
-          told = told ∙ ap (λ o. reply_of o x.message.closes) is;
+          told = told ∙ ap (λ o. reply_bytes_of o x.message.closes) is;
         },
         more.0,
         more.1,

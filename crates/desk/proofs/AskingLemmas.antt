@@ -3,7 +3,7 @@ use Rattle.std.proofs.Common.{◌≡◌, ◌≢◌, ℕ, List, Option, Some, Res
 use Rattle.std.specs.Prelude.{codes}
 use Rattle.std.specs.Str.Parse.{digits_value}
 use Rattle.papers.specs.File.{AreFileRecords, Fields}
-use Rattle.papers.specs.Import.{AreRows, HasFault, IsFirstFault, IsReading}
+use Rattle.papers.specs.Import.{AreRows, FileHasFault, IsFirstFault, IsReading}
 use Rattle.papers.specs.declared.file_kind.FileKind.{FileKind}
 use Rattle.papers.specs.declared.file_kind.FileKind.TheVariants.{Meters, Tariffs}
 use Rattle.papers.specs.declared.row_fault.RowFault.{RowFault}
@@ -25,8 +25,10 @@ use Rattle.desk.specs.declared.body_fault.BodyFault.{BodyFault}
 use Rattle.desk.specs.declared.body_fault.BodyFault.TheVariants as faults
 use Rattle.desk.specs.declared.route.Route.{Route}
 use Rattle.desk.specs.declared.route.Route.TheVariants.{AddTariff, AddMeter, SetTariff, OpenShift, CloseShift, ShiftReport, Sell, Reprint, Receipt, ImportMeters, ImportTariffs}
-use Rattle.desk.specs.Asking.{AsksImport, IsAsked, SaysJson, import_of}
-use Rattle.desk.specs.JsonBody.{Says, SaysMeter, SaysOperator, SaysOrder, SaysTariff, SaysTariffName}
+use Rattle.desk.specs.declared.json_kind.JsonKind.{JsonKind}
+use Rattle.desk.specs.declared.json_kind.JsonKind.TheVariants as kinds
+use Rattle.desk.specs.Asking.{AsksByJson, AsksImport, BodyAsks, SaysJson, import_of}
+use Rattle.desk.specs.JsonBody.{BodySays, BodySaysMeter, BodySaysOperator, SaysOrder, BodySaysTariff, SaysTariffName}
 use Rattle.desk.specs.Reads.{IsFoundIn}
 
 -- ---- members
@@ -55,15 +57,15 @@ OneList = (text : List ℕ) (steps others : List Step)
     → IsStepsText text steps → IsStepsText text others → steps ≡ others
 
 one_tariff : OneList → (json : Data) (name other : List ℕ) (steps others : List Step)
-    → SaysTariff json name steps → SaysTariff json other others → (name ≡ other) × (steps ≡ others)
+    → BodySaysTariff json name steps → BodySaysTariff json other others → (name ≡ other) × (steps ≡ others)
 one_tariff one_list json name other steps others a b =
     let texts = same_text (get (codes "steps") json) a.steps_text b.steps_text a.members.each.1.0 b.members.each.1.0 in (
       same_text (get (codes "name") json) name other a.members.each.0 b.members.each.0,
       one_list a.steps_text steps others a.written (subst (λ text. IsStepsText text others) (sym texts) b.written),
     )
 
-one_meter : (json : Data) (meter other : List ℕ) (m n : Meter) → SaysMeter json meter m
-    → SaysMeter json other n → (meter ≡ other) × (m ≡ n)
+one_meter : (json : Data) (meter other : List ℕ) (m n : Meter) → BodySaysMeter json meter m
+    → BodySaysMeter json other n → (meter ≡ other) × (m ≡ n)
 one_meter json meter other m n a b =
     let years = same_number (get (codes "base") json) (year_of m.base) (year_of n.base) a.members.each.0 b.members.each.0 in
     let texts = same_text (get (codes "key") json) a.key_text b.key_text a.members.each.1.0 b.members.each.1.0 in
@@ -86,7 +88,7 @@ one_order json a b x y =
     ∙ ap (λ meter. record { operator = b.operator; order_ref = b.order_ref; meter = meter; tender = a.tender }) meters
     ∙ ap (λ tender. record { operator = b.operator; order_ref = b.order_ref; meter = b.meter; tender = tender }) tenders
 
-one_operator : (json : Data) (a b : List ℕ) → SaysOperator json a → SaysOperator json b → a ≡ b
+one_operator : (json : Data) (a b : List ℕ) → BodySaysOperator json a → BodySaysOperator json b → a ≡ b
 one_operator json a b x y =
     same_text (get (codes "operator") json) a b x.members.each.0 y.members.each.0
 
@@ -94,32 +96,31 @@ one_tariff_name : (json : Data) (a b : List ℕ) → SaysTariffName json a → S
 one_tariff_name json a b x y =
     same_text (get (codes "tariff") json) a b x.members.each.0 y.members.each.0
 
-one_said : OneList → (route : Route) (json : Data) (x y : Request) → Says route json x
-    → Says route json y → x ≡ y
-one_said one_list AddTariff json x y a b =
+one_said : OneList → (kind : JsonKind) (json : Data) (x y : Request) → BodySays kind json x
+    → BodySays kind json y → x ≡ y
+one_said one_list kinds.Tariff json x y a b =
     let same = one_tariff one_list json a.0 b.0 a.1 b.1 a.3 b.3 in
     a.2 ∙ ap (λ name. requests.AddTariff name a.1) same.0
     ∙ ap (λ steps. requests.AddTariff b.0 steps) same.1 ∙ sym b.2
-one_said one_list AddMeter json x y a b =
+one_said one_list kinds.Meter json x y a b =
     let same = one_meter json a.0 b.0 a.1 b.1 a.3 b.3 in
     a.2 ∙ ap (λ meter. requests.AddMeter meter a.1) same.0
     ∙ ap (λ m. requests.AddMeter b.0 m) same.1 ∙ sym b.2
-one_said one_list (SetTariff meter) json x y a b =
+one_said one_list (kinds.MeterTariff meter) json x y a b =
     a.1 ∙ ap (λ name. requests.SetTariff meter name) (one_tariff_name json a.0 b.0 a.2 b.2) ∙ sym b.1
-one_said one_list OpenShift json x y a b =
+one_said one_list kinds.Opening json x y a b =
     a.1 ∙ ap requests.OpenShift (one_operator json a.0 b.0 a.2 b.2) ∙ sym b.1
-one_said one_list CloseShift json x y a b =
+one_said one_list kinds.Closing json x y a b =
     a.1 ∙ ap requests.CloseShift (one_operator json a.0 b.0 a.2 b.2) ∙ sym b.1
-one_said one_list Sell json x y a b =
+one_said one_list kinds.Order json x y a b =
     a.1 ∙ ap requests.Sell (one_order json a.0 b.0 a.2 b.2) ∙ sym b.1
-one_said one_list route json x y a b = absurd a
 
-one_said_by : OneList → (route : Route) (body : List ℕ) (x y : Request) → SaysJson route body x
-    → SaysJson route body y → x ≡ y
-one_said_by one_list route body x y a b =
+one_said_by : OneList → (kind : JsonKind) (body : List ℕ) (x y : Request) → SaysJson kind body x
+    → SaysJson kind body y → x ≡ y
+one_said_by one_list kind body x y a b =
     let e : Some b.0 ≡ Some a.0 = sym b.1.reads ∙ a.1.reads in
     let same : b.0 ≡ a.0 = cc in
-    one_said one_list route a.0 x y a.2 (subst (λ json. Says route json y) same b.2)
+    one_said one_list kind a.0 x y a.2 (subst (λ json. BodySays kind json y) same b.2)
 
 one_found : {A : Type 0} (Holds : A → Type 0) → ((x y : A) → Holds x → Holds y → x ≡ y)
     → (a b : Result A BodyFault) → IsFoundIn Holds a → IsFoundIn Holds b → a ≢ Err faults.Memory
@@ -146,7 +147,7 @@ pub record AreOne : Type 0 where
   pub one_fault : (kind : FileKind) (records : List Fields) (n m : ℕ) (c d : RowCause)
       → IsFirstFault kind records n c → IsFirstFault kind records m d → (n ≡ m) × (c ≡ d)
   pub never_both : (kind : FileKind) (records : List Fields) (rows : List Row) (n : ℕ) (c : RowCause)
-      → AreRows kind records rows → ¬ HasFault kind records n c
+      → AreRows kind records rows → ¬ FileHasFault kind records n c
 
 one_reading : AreOne → (kind : FileKind) (records : List Fields) (a b : Result (List Row) RowFault)
     → IsReading kind records a → IsReading kind records b → a ≢ Err row_faults.Memory
@@ -176,13 +177,22 @@ one_import are kind body a b x y u v =
 
 -- ---- what a body asks
 
-pub one_asking : OneList → AreOne → (route : Route) (body : List ℕ) (a b : Result Request BodyFault)
-    → IsAsked route body a → IsAsked route body b → a ≢ Err faults.Memory
+one_by_json : OneList → (kind : JsonKind) (body : List ℕ) (a b : Result Request BodyFault)
+    → AsksByJson kind body a → AsksByJson kind body b → a ≢ Err faults.Memory
     → b ≢ Err faults.Memory → a ≡ b
-one_asking one_list are (ShiftReport shift) body a b x y u v = x ∙ sym y
-one_asking one_list are (Reprint sale) body a b x y u v = x ∙ sym y
-one_asking one_list are (Receipt sale) body a b x y u v = x ∙ sym y
-one_asking one_list are ImportMeters body a b x y u v = one_import are Meters body a b x y u v
-one_asking one_list are ImportTariffs body a b x y u v = one_import are Tariffs body a b x y u v
-one_asking one_list are route body a b x y u v =
-    one_found (SaysJson route body) (one_said_by one_list route body) a b x y u v
+one_by_json one_list kind body = one_found (SaysJson kind body) (one_said_by one_list kind body)
+
+pub one_asking : OneList → AreOne → (route : Route) (body : List ℕ) (a b : Result Request BodyFault)
+    → BodyAsks route body a → BodyAsks route body b → a ≢ Err faults.Memory
+    → b ≢ Err faults.Memory → a ≡ b
+one_asking one_list are AddTariff body = one_by_json one_list kinds.Tariff body
+one_asking one_list are AddMeter body = one_by_json one_list kinds.Meter body
+one_asking one_list are (SetTariff meter) body = one_by_json one_list (kinds.MeterTariff meter) body
+one_asking one_list are OpenShift body = one_by_json one_list kinds.Opening body
+one_asking one_list are CloseShift body = one_by_json one_list kinds.Closing body
+one_asking one_list are Sell body = one_by_json one_list kinds.Order body
+one_asking one_list are (ShiftReport shift) body = λ a b x y u v. x ∙ sym y
+one_asking one_list are (Reprint sale) body = λ a b x y u v. x ∙ sym y
+one_asking one_list are (Receipt sale) body = λ a b x y u v. x ∙ sym y
+one_asking one_list are ImportMeters body = one_import are Meters body
+one_asking one_list are ImportTariffs body = one_import are Tariffs body

@@ -13,16 +13,15 @@ use Rattle.vend_core.specs.declared.meter.Meter.{Meter}
 use Rattle.vend_core.specs.declared.request.Request.{Request}
 use Rattle.desk.specs.declared.body_fault.BodyFault.{BodyFault}
 use Rattle.desk.specs.declared.body_fault.BodyFault.TheVariants.{OutsideRule, Row, Memory}
-use Rattle.desk.specs.declared.route.Route.{Route}
-use Rattle.desk.specs.declared.route.Route.TheVariants.{AddTariff, ShiftReport, Reprint, Receipt, ImportMeters, ImportTariffs}
-use Rattle.desk.specs.Asking.{IsAsked, SaysJson}
-use Rattle.desk.specs.JsonBody.{HasCount, IsKeyAt, Says, SaysMeter, SaysTariff}
+use Rattle.desk.specs.declared.json_kind.JsonKind.{JsonKind}
+use Rattle.desk.specs.declared.json_kind.JsonKind.TheVariants.{Tariff}
+use Rattle.desk.specs.JsonBody.{HasMemberCount, IsKeyAt, BodySays, BodySaysMeter, BodySaysTariff}
 use Rattle.desk.specs.Reads.{IsFoundIn}
 
 -- a map has as many entries as its object has members
 pub count_is : (json : Data) (entries : List (String Global × Value)) (len count : ℕ)
     → Some (members_view entries) ≡ as_object json → len ≡ length entries
-    → IsTrue (nat_eq len count) ↔ HasCount json count
+    → IsTrue (nat_eq len count) ↔ HasMemberCount json count
 count_is json entries len count found is =
     let counted : option_map members_len (as_object json) ≡ Some len =
     ap (option_map members_len) (sym found) ∙ ap Some (members_len-members_view entries ∙ sym is) in (
@@ -32,7 +31,7 @@ count_is json entries len count found is =
 
 -- a value that holds no key says no meter
 pub no_key : (json : Data) → ((key : ℕ) → ¬ IsKeyAt (get (codes "key") json) key)
-    → (meter : List ℕ) (m : Meter) → ¬ SaysMeter json meter m
+    → (meter : List ℕ) (m : Meter) → ¬ BodySaysMeter json meter m
 no_key json none meter m says = none m.key (says.key_text, says.members.each.1.0, says.keyed)
 
 -- what is found in a value needs what is found in a part of it
@@ -44,23 +43,11 @@ not_found_in Part Whole OutsideRule has none = λ whole holds.
 not_found_in Part Whole (Row number cause) has none = none
 not_found_in Part Whole Memory has none = none
 
--- what says no tariff says nothing to the route of tariffs
-pub no_tariff : (route : Route) (json : Data) (fault : BodyFault) → route ≡ AddTariff
-    → IsFoundIn {A = List ℕ × List Step} (λ said. SaysTariff json said.0 said.1) (Err fault)
-    → IsFoundIn (Says route json) (Err fault)
-no_tariff route json fault same none =
-    subst (λ r. IsFoundIn (Says r json) (Err fault)) (sym same)
-    (not_found_in {A = List ℕ × List Step} (λ said. SaysTariff json said.0 said.1) (Says AddTariff json) fault
+-- a value that says no tariff says nothing where it is to say one
+pub no_tariff : (kind : JsonKind) (json : Data) (fault : BodyFault) → kind ≡ Tariff
+    → IsFoundIn {A = List ℕ × List Step} (λ said. BodySaysTariff json said.0 said.1) (Err fault)
+    → IsFoundIn (BodySays kind json) (Err fault)
+no_tariff kind json fault same none =
+    subst (λ k. IsFoundIn (BodySays k json) (Err fault)) (sym same)
+    (not_found_in {A = List ℕ × List Step} (λ said. BodySaysTariff json said.0 said.1) (BodySays Tariff json) fault
     (λ request says. ((says.0, says.1), says.3)) none)
-
--- the routes that are asked by JSON
-pub asked_by_json : (route : Route) (body : List ℕ) (result : Result Request BodyFault)
-    → ((shift : ℕ) → route ≢ ShiftReport shift) → ((sale : ℕ) → route ≢ Reprint sale)
-    → ((sale : ℕ) → route ≢ Receipt sale) → route ≢ ImportMeters → route ≢ ImportTariffs
-    → IsFoundIn (SaysJson route body) result → IsAsked route body result
-asked_by_json (ShiftReport shift) body result a b c d e found = absurd (a shift refl)
-asked_by_json (Reprint sale) body result a b c d e found = absurd (b sale refl)
-asked_by_json (Receipt sale) body result a b c d e found = absurd (c sale refl)
-asked_by_json ImportMeters body result a b c d e found = absurd (d refl)
-asked_by_json ImportTariffs body result a b c d e found = absurd (e refl)
-asked_by_json route body result a b c d e found = found

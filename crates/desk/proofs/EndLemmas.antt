@@ -7,29 +7,28 @@ use Rattle.desk.specs.declared.end.End.{End}
 use Rattle.desk.specs.declared.end.End.TheVariants.{Closed, BadMessage, ReadFault, WriteFault, Memory}
 use Rattle.desk.specs.declared.message_fault.MessageFault.{MessageFault}
 use Rattle.desk.specs.Conversation.{messages_of, Conversation, Progress, IsCutOff, IsGivenUp}
-use Rattle.desk.specs.Exchanges.{Exchange, Timed, timed, GaveUp}
+use Rattle.desk.specs.Exchanges.{MessageExchange, Timed, timed, GaveUp}
 use Rattle.desk.specs.Messages.{Stop, ended, Message, BeginsMessage, IsRefused, finished, closing, refused}
 use Rattle.desk.specs.Next.{IsRefusedEver}
-use Rattle.desk.specs.Run.{IsAll, IsRun, EndsEarly, EndsHere, IsAnswered, IsTold}
-use Rattle.desk.proofs.ProgressLemmas.{BeginsMessage-append, progress_none, progress-append, conversation_after, cut_off_after, given_up_after}
-
-abbrev pub Step : Type 0 → Type 1
-Step O = O → Exchange → O → Type 0
+use Rattle.desk.specs.Parts.{EndsEarly, EndsHere, IsAnswered, RefusalIsWritten}
+use Rattle.desk.specs.Run.{IsAll, IsRun}
+use Rattle.desk.specs.Ends.{Output, Writes, WritesWhole}
+use Rattle.desk.proofs.UsesLemmas.{writes_after}
+use Rattle.desk.proofs.ProgressLemmas.{Step, BeginsMessage-append, progress_none, progress-append, conversation_after, cut_off_after, given_up_after}
 
 -- a text that a writer took, and the end of which it is
-abbrev pub Written : Option (List ℕ) → Option (List ℕ) → (List ℕ → Type 0) → Type 0
-Written held holds Ends = (text : List ℕ) × Appends held holds text × Ends text
+abbrev pub Written : Output → Output → (List ℕ → Type 0) → Type 0
+Written held holds Ends = (text : List ℕ) × Writes held holds text × Ends text
 
-kept : (a b : Option (List ℕ)) → Keeps a b → Appends a b []
-kept None b k = tt
-kept (Some x) None k = k
-kept (Some x) (Some y) k = k ∙ sym (append-nil x)
+-- the same, of the bytes alone
+abbrev pub WrittenBytes : Option (List ℕ) → Option (List ℕ) → (List ℕ → Type 0) → Type 0
+WrittenBytes held holds Ends = (text : List ℕ) × Appends held holds text × Ends text
 
 -- ---- one message
 
 -- a message that closes the conversation
 pub closed_end : {O : Type 0} (step : Step O) (refusal : MessageFault → List ℕ) (old new : Timed O) (rest : List ℕ)
-    (m : Message) (after : List ℕ) (x : Exchange) → BeginsMessage rest m after → m.closes ≡ true → x.message ≡ m
+    (m : Message) (after : List ℕ) (x : MessageExchange) → BeginsMessage rest m after → m.closes ≡ true → x.message ≡ m
     → timed step old x new → EndsEarly step refusal old x.reply new rest Closed
 closed_end step refusal old new rest m after x begins closes same answered stop more = record {
   exchanges = x ∷ [];
@@ -43,7 +42,7 @@ closed_end step refusal old new rest m after x begins closes same answered stop 
 }
 
 -- a message whose reply was not written whole
-pub answered_end : {O : Type 0} (A : Type 0) (step : Step O) (refusal : MessageFault → List ℕ) (old new : Timed O) (held holds : Option (List ℕ))
+pub answered_end : {O : Type 0} (A : Type 0) (step : Step O) (refusal : MessageFault → List ℕ) (old new : Timed O) (held holds : Output)
     (rest : List ℕ) (m : Message) (after : List ℕ) (end : End) → BeginsMessage rest m after
     → IsAnswered {A = A} step old new held holds m (Err end)
     → Written held holds (λ text. EndsEarly step refusal old text new rest end)
@@ -73,7 +72,7 @@ answered_end A step refusal old new held holds rest m after WriteFault begins (x
 )
 answered_end A step refusal old new held holds rest m after Memory begins (gave_up, k) = (
   [],
-  kept held holds k,
+  k,
   λ more. record {
     rest = rest ++ more;
     mid = old;
@@ -110,8 +109,8 @@ refused_cut_off step refusal old rest fault part is short = record {
 }
 
 -- a message that is refused whatever follows
-pub told_end : {O : Type 0} (step : Step O) (refusal : MessageFault → List ℕ) (old : Timed O) (held holds : Option (List ℕ))
-    (rest : List ℕ) (fault : MessageFault) (end : End) → IsRefusedEver rest fault → IsTold held holds (refusal fault) end
+pub told_end : {O : Type 0} (step : Step O) (refusal : MessageFault → List ℕ) (old : Timed O) (held holds : Output)
+    (rest : List ℕ) (fault : MessageFault) (end : End) → IsRefusedEver rest fault → RefusalIsWritten held holds (refusal fault) end
     → Written held holds (λ text. EndsEarly step refusal old text old rest end)
 told_end step refusal old held holds rest fault Closed ever x = absurd x
 told_end step refusal old held holds rest fault ReadFault ever x = absurd x
@@ -123,11 +122,11 @@ told_end step refusal old held holds rest fault WriteFault ever (part, short, wr
   λ more. refused_cut_off step refusal old (rest ++ more) fault part (ever ended more) short,
 )
 told_end step refusal old held holds rest fault Memory ever k =
-    ([], kept held holds k, λ more. memory_end step old (rest ++ more))
+    ([], k, λ more. memory_end step old (rest ++ more))
 
 -- a message that is refused where the input ended
-pub told_here : {O : Type 0} (step : Step O) (refusal : MessageFault → List ℕ) (old : Timed O) (held holds : Option (List ℕ))
-    (rest : List ℕ) (fault : MessageFault) (end : End) → IsRefused ended rest fault → IsTold held holds (refusal fault) end
+pub told_here : {O : Type 0} (step : Step O) (refusal : MessageFault → List ℕ) (old : Timed O) (held holds : Output)
+    (rest : List ℕ) (fault : MessageFault) (end : End) → IsRefused ended rest fault → RefusalIsWritten held holds (refusal fault) end
     → Written held holds (λ text. EndsHere step refusal old text old rest end)
 told_here step refusal old held holds rest fault Closed is x = absurd x
 told_here step refusal old held holds rest fault ReadFault is x = absurd x
@@ -135,7 +134,7 @@ told_here step refusal old held holds rest fault BadMessage is x =
     (refusal fault, x, (fault, refused_conversation step refusal old ended rest fault is))
 told_here step refusal old held holds rest fault WriteFault is (part, short, written) =
     (take part (refusal fault), written, refused_cut_off step refusal old rest fault part is short)
-told_here step refusal old held holds rest fault Memory is k = ([], kept held holds k, memory_end step old rest)
+told_here step refusal old held holds rest fault Memory is k = ([], k, memory_end step old rest)
 
 -- ---- after other messages
 
@@ -173,18 +172,26 @@ here_after step refusal old mid new input rest first second Memory p x =
     given_up_after (timed step) (GaveUp step) input rest old mid new first second p x
 
 -- an end after messages that were answered
-pub end_after : {O : Type 0} (step : Step O) (refusal : MessageFault → List ℕ) (old mid new : Timed O) (a b c : Option (List ℕ))
-    (input rest : List ℕ) (first : List ℕ) (end : End) → Appends a b first → Progress (timed step) input rest old first mid
+pub end_after : {O : Type 0} (step : Step O) (refusal : MessageFault → List ℕ) (old mid new : Timed O) (a b c : Output)
+    (input rest : List ℕ) (first : List ℕ) (end : End) → WritesWhole a b first → Progress (timed step) input rest old first mid
     → Written b c (λ text. EndsEarly step refusal mid text new rest end)
     → Written a c (λ text. EndsEarly step refusal old text new input end)
 end_after step refusal old mid new a b c input rest first end before p (second, written, ends) =
+    (first ++ second, writes_after a b c first second before written, early_after step refusal old mid new input rest first second end p ends)
+
+-- the same, of the bytes alone
+pub bytes_after : {O : Type 0} (step : Step O) (refusal : MessageFault → List ℕ) (old mid new : Timed O) (a b c : Option (List ℕ))
+    (input rest : List ℕ) (first : List ℕ) (end : End) → Appends a b first → Progress (timed step) input rest old first mid
+    → WrittenBytes b c (λ text. EndsEarly step refusal mid text new rest end)
+    → WrittenBytes a c (λ text. EndsEarly step refusal old text new input end)
+bytes_after step refusal old mid new a b c input rest first end before p (second, written, ends) =
     (first ++ second, Appends-trans a b c first second before written, early_after step refusal old mid new input rest first second end p ends)
 
-pub end_here_after : {O : Type 0} (step : Step O) (refusal : MessageFault → List ℕ) (old mid new : Timed O) (a b c : Option (List ℕ))
+pub bytes_here_after : {O : Type 0} (step : Step O) (refusal : MessageFault → List ℕ) (old mid new : Timed O) (a b c : Option (List ℕ))
     (input rest : List ℕ) (first : List ℕ) (end : End) → Appends a b first → Progress (timed step) input rest old first mid
-    → Written b c (λ text. EndsHere step refusal mid text new rest end)
-    → Written a c (λ text. EndsHere step refusal old text new input end)
-end_here_after step refusal old mid new a b c input rest first end before p (second, written, ends) =
+    → WrittenBytes b c (λ text. EndsHere step refusal mid text new rest end)
+    → WrittenBytes a c (λ text. EndsHere step refusal old text new input end)
+bytes_here_after step refusal old mid new a b c input rest first end before p (second, written, ends) =
     (first ++ second, Appends-trans a b c first second before written, here_after step refusal old mid new input rest first second end p ends)
 
 -- ---- the whole run
@@ -207,7 +214,7 @@ all_taken (Some xs) (Some ys) taken c none = c ∙ ap (λ bytes. taken ++ bytes)
 -- an end that came early
 pub run_early : {O : Type 0} (step : Step O) (refusal : MessageFault → List ℕ) (old new : Timed O) (unread left held holds : Option (List ℕ))
     (taken : List ℕ) (end : End) → Consumes unread left taken
-    → Written held holds (λ text. EndsEarly step refusal old text new taken end) → IsRun step refusal old new unread left held holds end
+    → WrittenBytes held holds (λ text. EndsEarly step refusal old text new taken end) → IsRun step refusal old new unread left held holds end
 run_early step refusal old new unread left held holds taken Closed c (text, written, ends) =
     (_, all_left unread left taken c, inr (record { text = text; written = written; conversation = ends ended (left_of left) }))
 run_early step refusal old new unread left held holds taken BadMessage c (text, written, ends) =
@@ -221,7 +228,7 @@ run_early step refusal old new unread left held holds taken Memory c (text, writ
 -- an end where the input ended
 pub run_here : {O : Type 0} (step : Step O) (refusal : MessageFault → List ℕ) (old new : Timed O) (unread left held holds : Option (List ℕ))
     (taken : List ℕ) (end : End) → Consumes unread left taken → IsAtEnd left
-    → Written held holds (λ text. EndsHere step refusal old text new taken end) → IsRun step refusal old new unread left held holds end
+    → WrittenBytes held holds (λ text. EndsHere step refusal old text new taken end) → IsRun step refusal old new unread left held holds end
 run_here step refusal old new unread left held holds taken Closed c none (text, written, ends) =
     (taken, all_taken unread left taken c none, inl (record { text = text; written = written; conversation = ends }))
 run_here step refusal old new unread left held holds taken BadMessage c none (text, written, ends) =

@@ -4,16 +4,16 @@ use Rattle.desk.specs.declared.end.End.{End}
 use Rattle.desk.specs.declared.end.End.TheVariants.{Closed, BadMessage, ReadFault, WriteFault, Memory}
 use Rattle.desk.specs.declared.message_fault.MessageFault.{MessageFault}
 use Rattle.desk.specs.Conversation.{Conversation, Progress, IsCutOff, IsGivenUp, IsReply, IsRefusal}
-use Rattle.desk.specs.Exchanges.{Exchange, Served, Timed, timed, GaveUp}
+use Rattle.desk.specs.Exchanges.{MessageExchange, Exchanged, Timed, timed, GaveUp}
 use Rattle.desk.specs.Messages.{Stop, Message, BeginsMessage, Ending}
 use Rattle.desk.specs.Run.{IsRun, IsSaid}
-use Rattle.desk.proofs.EndLemmas.{Step}
+use Rattle.desk.proofs.ProgressLemmas.{Step}
 
 -- The steps of an office that is well after them begin where it was well, and another one follows
 -- them.
 pub record Follows {O L : Type 0} (step : Step O) (live : Step L) (IsOf : L → O → Type 0) (Well : O → Type 0) : Type 0 where
-  pub back : (old : O) (x : Exchange) (new : O) → step old x new → Well new → Well old
-  pub next : (life : L) (old : O) (x : Exchange) (new : O) → IsOf life old → step old x new → Well new
+  pub back : (old : O) (x : MessageExchange) (new : O) → step old x new → Well new → Well old
+  pub next : (life : L) (old : O) (x : MessageExchange) (new : O) → IsOf life old → step old x new → Well new
       → (after : L) × live life x after × IsOf after new
 
 module _ {O L : Type 0} (step : Step O) (live : Step L) (IsOf : L → O → Type 0) (Well : O → Type 0) (f : Follows step live IsOf Well) where
@@ -21,12 +21,12 @@ module _ {O L : Type 0} (step : Step O) (live : Step L) (IsOf : L → O → Type
   abbrev Goes : O → (L → Type 0) → Type 0
   Goes new Then = (after : L) × Then after × IsOf after new
 
-  well_before : (old : Timed O) (xs : List Exchange) (new : Timed O) → Served (timed step) old xs new → Well new.0 → Well old.0
+  well_before : (old : Timed O) (xs : List MessageExchange) (new : Timed O) → Exchanged (timed step) old xs new → Well new.0 → Well old.0
   well_before old [] new same well = subst (λ (o : Timed O). Well o.0) same well
   well_before old (x ∷ xs) new (mid, (stepped, _), later) well = f.back old.0 x mid.0 stepped (well_before mid xs new later well)
 
-  served_along : (life : L) (old : Timed O) (xs : List Exchange) (new : Timed O) → IsOf life old.0 → Served (timed step) old xs new
-      → Well new.0 → Goes new.0 (λ after. Served (timed live) (life, old.1) xs (after, new.1))
+  served_along : (life : L) (old : Timed O) (xs : List MessageExchange) (new : Timed O) → IsOf life old.0 → Exchanged (timed step) old xs new
+      → Well new.0 → Goes new.0 (λ after. Exchanged (timed live) (life, old.1) xs (after, new.1))
   served_along life old [] new is same well =
       (life, ap (λ (o : Timed O). (life, o.1)) same, subst (λ (o : Timed O). IsOf life o.0) (sym same) is)
   served_along life old (x ∷ xs) new is (mid, (stepped, reads), later) well =

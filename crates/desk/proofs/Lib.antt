@@ -9,6 +9,7 @@ pub mod FramingLemmas
 pub mod HeadLemmas
 pub mod MemberLemmas
 pub mod MessageLemmas
+pub mod OneLemmas
 pub mod ParameterLemmas
 pub mod ProgressLemmas
 pub mod ReadingLemmas
@@ -18,3 +19,4 @@ pub mod RunLemmas
 pub mod SaleLemmas
 pub mod SaleTextLemmas
 pub mod ServingLemmas
+pub mod UsesLemmas

@@ -1,9 +1,10 @@
 -- What stands at the front of an input, from its head.
-use Rattle.std.proofs.Common.{◌≡◌, ◌≢◌, ℕ, zero, suc, get_or, ◌+◌, ◌<◌, ◌≤◌, Bool, true, false, cond, List, [], ◌∷◌, ◌++◌, length, map, take, drop, Result, Ok, Err, refl, ap, sym, ◌∙◌, arith, append_assoc, lit<, lit≤}
+use Rattle.std.proofs.Common.{◌≡◌, ◌≢◌, ℕ, zero, suc, get_or, ◌+◌, ◌<◌, ◌≤◌, Bool, true, false, cond, List, [], ◌∷◌, ◌++◌, length, map, take, drop, Result, Ok, Err, refl, ap, sym, subst, ◌∙◌, arith, append_assoc, lit<, lit≤}
 use Rattle.std.specs.Prelude.{nat_le, bytes_eq, codes}
 use Rattle.std.specs.Str.Parse.{digits_value}
 use Rattle.std.proofs.lemmas.List.{length-append, append-nil, drop-drop, length-take-le, take-append-drop}
 use Rattle.std.proofs.lemmas.List.Elements.{All-cons, All-nil}
+use Rattle.std.proofs.lemmas.Bool.Decides.{nat_tests}
 use Rattle.std.proofs.lemmas.Str.{IsUtf8-from_ascii}
 use Rattle.std.specs.Prelude.{All, IsTrue}
 use Rattle.httparse.specs.Grammar.{IsField, is_token_byte, is_uri_byte, RequestHead, IsRequestHead, lf, print_request}
@@ -20,13 +21,13 @@ use Rattle.desk.specs.declared.message_fault.MessageFault.TheVariants as faults
 use Rattle.desk.specs.declared.method.Method.TheVariants.{Get, Post}
 use Rattle.desk.specs.declared.method.Method.{Method}
 use Rattle.desk.specs.Front.{IsHeadAt}
-use Rattle.desk.specs.Heads.{BeginsWith, NeverHasHead}
+use Rattle.desk.specs.Heads.{BeginsWithHead, NeverHasHead}
 use Rattle.desk.specs.Messages.{Stop, ended, failed, BeginsMessage, BeginsFaulty, IsRefused}
 use Rattle.desk.specs.Next.{IsRefusedEver}
 
 -- a head stands at the front whatever follows
-pub BeginsWith-append : (input : List ℕ) (head : RequestHead) (rest more : List ℕ) → BeginsWith input head rest
-    → BeginsWith (input ++ more) head (rest ++ more)
+pub BeginsWith-append : (input : List ℕ) (head : RequestHead) (rest more : List ℕ) → BeginsWithHead input head rest
+    → BeginsWithHead (input ++ more) head (rest ++ more)
 BeginsWith-append input head rest more begins = record {
   reads = ReadsRequest-append input head rest more begins.reads;
   fields = begins.fields;
@@ -89,6 +90,41 @@ not_head head =
     of_parts (method_of head.method) (names_its_host head.minor fields) (is_uncoded fields) (is_last head.minor fields)
     (body_len (values_of (codes "content-length") fields)) (of_method head.method) (of_body (values_of (codes "content-length") fields))
 
+-- a length that a value writes is one that a body may have
+len_fits : (value : List ℕ) (n : ℕ) → length_of value ≡ Ok n → n ≤ longest_body
+len_fits value n = by_tests (is_number value) (nat_le (digits_value 10 value) longest_body) refl
+  where
+    by_tests : (a b : Bool) → nat_le (digits_value 10 value) longest_body ≡ b
+        → cond a (cond b (Ok (digits_value 10 value)) (Err faults.Body)) (Err faults.Length) ≡ Ok n → n ≤ longest_body
+    by_tests true true t e = let same : digits_value 10 value ≡ n = cc in grind (arith, nat_tests)
+    by_tests true false t e = absurd (cc)
+    by_tests false b t e = absurd (cc)
+
+body_fits : (values : List (List ℕ)) (n : ℕ) → body_len values ≡ Ok n → n ≤ longest_body
+body_fits [] n e = let same : 0 ≡ n = cc in omega (arith, same)
+body_fits (value ∷ []) n e = len_fits value n e
+body_fits (value ∷ other ∷ values) n e = absurd (cc)
+
+parts_fit : (method : Result Method MessageFault) (host coded last : Bool) (body : Result ℕ MessageFault) (f : Framing)
+    → ((n : ℕ) → body ≡ Ok n → n ≤ longest_body) → parts method host coded body last ≡ Ok f → f.body ≤ longest_body
+parts_fit (Err fault) host coded last body f fits e = absurd (cc)
+parts_fit (Ok method) false coded last body f fits e = absurd (cc)
+parts_fit (Ok method) true false last body f fits e = absurd (cc)
+parts_fit (Ok method) true true last (Err fault) f fits e = absurd (cc)
+parts_fit (Ok method) true true last (Ok body) f fits e =
+    let framing : Framing = record { method = method; body = body; closes = last } in
+    let both : Ok framing ≡ Ok f = e in
+    let same : framing ≡ f = cc in
+    subst (λ (g : Framing). g.body ≤ longest_body) same (fits body refl)
+
+-- a head says no longer body than one may be
+pub framed_fits : (head : RequestHead) (f : Framing) → framing_of head ≡ Ok f → f.body ≤ longest_body
+unfolding framing
+framed_fits head f =
+    let fields = map name_and_value head.fields in
+    parts_fit (method_of head.method) (names_its_host head.minor fields) (is_uncoded fields) (is_last head.minor fields)
+    (body_len (values_of (codes "content-length") fields)) f (body_fits (values_of (codes "content-length") fields))
+
 refused_for : (stop : Stop) (input : List ℕ) (fault : MessageFault) → fault ≢ Head → BeginsFaulty input fault
     → IsRefused stop input fault
 refused_for stop input Head other faulty = absurd (other refl)
@@ -99,7 +135,7 @@ refused_for stop input Length other faulty = faulty
 refused_for stop input Body other faulty = faulty
 
 -- a head with a fault is refused whatever follows
-pub refused_ever : (input : List ℕ) (head : RequestHead) (rest : List ℕ) (fault : MessageFault) → BeginsWith input head rest
+pub refused_ever : (input : List ℕ) (head : RequestHead) (rest : List ℕ) (fault : MessageFault) → BeginsWithHead input head rest
     → framing_of head ≡ Err fault → IsRefusedEver input fault
 refused_ever input head rest fault begins e stop more =
     refused_for stop (input ++ more) fault (λ is. not_head head (e ∙ ap Err is)) (record {
@@ -129,7 +165,7 @@ some_head_is =
     slash zero = lit< tt
     slash (suc i) = lit< tt
 
-some_head_begins : BeginsWith (print_request some_head) some_head []
+some_head_begins : BeginsWithHead (print_request some_head) some_head []
 unfolding some_head print_request
 some_head_begins = record { reads = (some_head_is, sym (append-nil (print_request some_head))); fields = lit≤ tt; bytes = lit≤ tt }
 

@@ -6,22 +6,22 @@ use Rattle.std.proofs.lemmas.Fmt.{IsAscii-decimal, decimal-digits_value, decimal
 use Rattle.std.proofs.lemmas.List.{append_cancel_left, append_cancel_right}
 use Rattle.std.proofs.lemmas.Str.{IsUtf8-from_ascii}
 use Rattle.std.proofs.lemmas.Str.Parse.{IsNumeralModel, digit_at, numerals_by_value, parse_plain, tells_digits}
-use Rattle.desk.specs.Reads.{Reads}
-use Rattle.desk.specs.Route.{IsNumber}
+use Rattle.desk.specs.Reads.{ReadsWritten}
+use Rattle.desk.specs.Route.{IsTargetNumber}
 
 -- ---- between a front and an end
 
 pub reads_after : {A : Type 0} (rule : A → Type 0) (write : A → List ℕ) (text front rest : List ℕ)
-    (r : Option A) → text ≡ front ++ rest → Reads rule write rest r
-    → Reads rule (λ value. front ++ write value) text r
+    (r : Option A) → text ≡ front ++ rest → ReadsWritten rule write rest r
+    → ReadsWritten rule (λ value. front ++ write value) text r
 reads_after rule write text front rest (Some value) e (keeps, same) =
     (keeps, e ∙ ap (λ bytes. front ++ bytes) same)
 reads_after rule write text front rest None e none = λ value keeps same.
     none value keeps (append_cancel_left front rest (write value) (sym e ∙ same))
 
 pub reads_before : {A : Type 0} (rule : A → Type 0) (write : A → List ℕ) (text rest end : List ℕ)
-    (r : Option A) → text ≡ rest ++ end → Reads rule write rest r
-    → Reads rule (λ value. write value ++ end) text r
+    (r : Option A) → text ≡ rest ++ end → ReadsWritten rule write rest r
+    → ReadsWritten rule (λ value. write value ++ end) text r
 reads_before rule write text rest end (Some value) e (keeps, same) =
     (keeps, e ∙ ap (λ bytes. bytes ++ end) same)
 reads_before rule write text rest end None e none = λ value keeps same.
@@ -29,7 +29,7 @@ reads_before rule write text rest end None e none = λ value keeps same.
 
 -- what the reader of a name finds
 pub reads_name : (rule : List ℕ → Type 0) (text : List ℕ) (r : Option (List ℕ))
-    → (IsSome r ↔ rule text) → IfSome r (λ name. name ≡ text) → Reads rule (λ name. name) text r
+    → (IsSome r ↔ rule text) → IfSome r (λ name. name ≡ text) → ReadsWritten rule (λ name. name) text r
 reads_name rule text (Some name) known same = (subst rule (sym same) (known.0 refl), sym same)
 reads_name rule text None known same = λ name keeps e.
     let there : IsSome {T = List ℕ} None = known.1 (subst rule (sym e) keeps) in cc
@@ -43,7 +43,7 @@ own = numerals_by_value (AllDigits 10) tells_digits
 abbrev pub Leads : List ℕ → Type 0
 Leads digits = (49 ≤ get_or digits 0 0) × (get_or digits 0 0 ≤ 57)
 
-pub leads_decimal : (number : ℕ) → IsNumber number → Leads (decimal number)
+pub leads_decimal : (number : ℕ) → IsTargetNumber number → Leads (decimal number)
 leads_decimal number is =
     let small : number < 2 ^ 64 = omega (arith, is.most) in
     let first = first_decimal number is.from_one small in
@@ -69,7 +69,7 @@ from_one digits (suc number) e leads = omega arith
 
 -- digits that `parse` does not read write no number
 pub not_parsed : {E : Type 0} (digits : List ℕ) (error : E)
-    → ParsesUnsigned 32 10 digits (Err error) → (number : ℕ) → IsNumber number
+    → ParsesUnsigned 32 10 digits (Err error) → (number : ℕ) → IsTargetNumber number
     → digits ≢ decimal number
 not_parsed digits error parsed number is same =
     let small : number < 2 ^ 64 = omega (arith, is.most) in
@@ -80,11 +80,11 @@ not_parsed digits error parsed number is same =
     none (subst (λ (ds : List ℕ). AllDigits 10 ds × (0 < length ds) × (digits_value 10 ds < 2 ^ 32)) (sym same) (numeral.0.1, numeral.0.0, omega (arith, numeral.1, is.most)))
 
 -- one number is written by its digits
-pub same_number : (a b : ℕ) → a < 2 ^ 32 → IsNumber b → decimal a ≡ decimal b → a ≡ b
+pub same_number : (a b : ℕ) → a < 2 ^ 32 → IsTargetNumber b → decimal a ≡ decimal b → a ≡ b
 same_number a b small is same = decimal_injective a b (omega arith) (omega (arith, is.most)) same
 
 -- what is no text writes no number
-pub not_text : (digits : List ℕ) → ¬ IsUtf8 digits → (number : ℕ) → IsNumber number
+pub not_text : (digits : List ℕ) → ¬ IsUtf8 digits → (number : ℕ) → IsTargetNumber number
     → digits ≢ decimal number
 not_text digits none number is same =
     none (subst IsUtf8 (sym same) (IsUtf8-from_ascii (decimal number) (IsAscii-decimal number (omega (arith, is.most)))))

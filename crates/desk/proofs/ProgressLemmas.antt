@@ -5,9 +5,12 @@ use Rattle.std.proofs.lemmas.List.{map-append}
 use Rattle.std.proofs.lemmas.Grind.{flat_map-append}
 use Rattle.desk.specs.declared.message_fault.MessageFault.{MessageFault}
 use Rattle.desk.specs.Conversation.{messages_of, replies_of, last_words, Conversation, Progress, IsCutOff, IsGivenUp}
-use Rattle.desk.specs.Exchanges.{Exchange, Served, BeginsMessages}
+use Rattle.desk.specs.Exchanges.{MessageExchange, Exchanged, BeginsMessages}
 use Rattle.desk.specs.Messages.{Stop, Message, BeginsMessage, Ending, closing, Messages}
 use Rattle.desk.proofs.MessageLemmas.{BeginsWith-append}
+
+abbrev pub Step : Type 0 → Type 1
+Step O = O → MessageExchange → O → Type 0
 
 pub BeginsMessage-append : (input : List ℕ) (m : Message) (after more : List ℕ) → BeginsMessage input m after
     → BeginsMessage (input ++ more) m (after ++ more)
@@ -29,10 +32,10 @@ BeginsMessages-trans : (a : List ℕ) (ms : List Message) (b : List ℕ) (ns : L
 BeginsMessages-trans a [] b ns c x y = subst (λ bytes. BeginsMessages bytes ns c) (sym x) y
 BeginsMessages-trans a (m ∷ ms) b ns c x y = (x.0, x.1, x.2, BeginsMessages-trans x.0 ms b ns c x.3 y)
 
-Served-trans : {O : Type 0} (step : O → Exchange → O → Type 0) (a : O) (xs : List Exchange) (b : O) (ys : List Exchange) (c : O)
-    → Served step a xs b → Served step b ys c → Served step a (xs ++ ys) c
-Served-trans step a [] b ys c x y = subst (λ o. Served step o ys c) x y
-Served-trans step a (e ∷ xs) b ys c x y = (x.0, x.1, Served-trans step x.0 xs b ys c x.2 y)
+Exchanged-trans : {O : Type 0} (step : O → MessageExchange → O → Type 0) (a : O) (xs : List MessageExchange) (b : O) (ys : List MessageExchange) (c : O)
+    → Exchanged step a xs b → Exchanged step b ys c → Exchanged step a (xs ++ ys) c
+Exchanged-trans step a [] b ys c x y = subst (λ o. Exchanged step o ys c) x y
+Exchanged-trans step a (e ∷ xs) b ys c x y = (x.0, x.1, Exchanged-trans step x.0 xs b ys c x.2 y)
 
 -- messages that were answered, and those of the rest
 Messages-after : (stop : Stop) (input : List ℕ) (ms : List Message) (rest : List ℕ) (ns : List Message) (ending : Ending)
@@ -42,16 +45,16 @@ Messages-after stop input (m ∷ ms) rest ns ending x y =
     let later = Messages-after stop x.0 ms rest ns ending x.3 y in
     (x.0, x.1, subst (λ (b : Bool). MatchBool b ((ms ++ ns ≡ []) × (ending ≡ closing)) (Messages stop x.0 (ms ++ ns) ending)) (sym x.2) later)
 
-messages_of-append : (xs ys : List Exchange) → messages_of (xs ++ ys) ≡ messages_of xs ++ messages_of ys
+messages_of-append : (xs ys : List MessageExchange) → messages_of (xs ++ ys) ≡ messages_of xs ++ messages_of ys
 messages_of-append = map-append _
 
-replies_of-append : (xs ys : List Exchange) → replies_of (xs ++ ys) ≡ replies_of xs ++ replies_of ys
+replies_of-append : (xs ys : List MessageExchange) → replies_of (xs ++ ys) ≡ replies_of xs ++ replies_of ys
 replies_of-append = flat_map-append _
 
-pub progress_none : {O : Type 0} (step : O → Exchange → O → Type 0) (input : List ℕ) (old : O) → Progress step input input old [] old
+pub progress_none : {O : Type 0} (step : O → MessageExchange → O → Type 0) (input : List ℕ) (old : O) → Progress step input input old [] old
 progress_none step input old = record { exchanges = []; begins = refl; served = refl; text_is = refl }
 
-pub progress_one : {O : Type 0} (step : O → Exchange → O → Type 0) (input : List ℕ) (m : Message) (after : List ℕ) (x : Exchange) (old new : O)
+pub progress_one : {O : Type 0} (step : O → MessageExchange → O → Type 0) (input : List ℕ) (m : Message) (after : List ℕ) (x : MessageExchange) (old new : O)
     → BeginsMessage input m after → m.closes ≡ false → x.message ≡ m → step old x new → Progress step input after old x.reply new
 progress_one step input m after x old new begins goes_on same answered = record {
   exchanges = x ∷ [];
@@ -60,16 +63,16 @@ progress_one step input m after x old new begins goes_on same answered = record 
   text_is = sym (append-nil x.reply);
 }
 
-pub progress_trans : {O : Type 0} (step : O → Exchange → O → Type 0) (a b c : List ℕ) (old mid new : O) (first second : List ℕ)
+pub progress_trans : {O : Type 0} (step : O → MessageExchange → O → Type 0) (a b c : List ℕ) (old mid new : O) (first second : List ℕ)
     → Progress step a b old first mid → Progress step b c mid second new → Progress step a c old (first ++ second) new
 progress_trans step a b c old mid new first second x y = record {
   exchanges = x.exchanges ++ y.exchanges;
   begins = rw messages_of-append (BeginsMessages-trans a _ b _ c x.begins y.begins);
-  served = Served-trans step old x.exchanges mid y.exchanges new x.served y.served;
+  served = Exchanged-trans step old x.exchanges mid y.exchanges new x.served y.served;
   text_is = ap (λ bytes. bytes ++ second) x.text_is ∙ ap (λ bytes. replies_of x.exchanges ++ bytes) y.text_is ∙ sym (replies_of-append x.exchanges y.exchanges);
 }
 
-pub progress-append : {O : Type 0} (step : O → Exchange → O → Type 0) (input rest more : List ℕ) (old new : O) (text : List ℕ)
+pub progress-append : {O : Type 0} (step : O → MessageExchange → O → Type 0) (input rest more : List ℕ) (old new : O) (text : List ℕ)
     → Progress step input rest old text new → Progress step (input ++ more) (rest ++ more) old text new
 progress-append step input rest more old new text x = record {
   exchanges = x.exchanges;
@@ -78,20 +81,20 @@ progress-append step input rest more old new text x = record {
   text_is = x.text_is;
 }
 
-pub conversation_after : {O : Type 0} (step : O → Exchange → O → Type 0) (refusal : MessageFault → List ℕ) (stop : Stop)
+pub conversation_after : {O : Type 0} (step : O → MessageExchange → O → Type 0) (refusal : MessageFault → List ℕ) (stop : Stop)
     (input rest : List ℕ) (old mid new : O) (first second : List ℕ) (ending : Ending) → Progress step input rest old first mid
     → Conversation step refusal stop rest mid second ending new → Conversation step refusal stop input old (first ++ second) ending new
 conversation_after step refusal stop input rest old mid new first second ending x y = record {
   exchanges = x.exchanges ++ y.exchanges;
   messages = rw messages_of-append (Messages-after stop input _ rest _ ending x.begins y.messages);
-  served = Served-trans step old x.exchanges mid y.exchanges new x.served y.served;
+  served = Exchanged-trans step old x.exchanges mid y.exchanges new x.served y.served;
   text_is =
       ap (λ bytes. bytes ++ second) x.text_is ∙ ap (λ bytes. replies_of x.exchanges ++ bytes) y.text_is
       ∙ sym (append_assoc (replies_of x.exchanges) (replies_of y.exchanges) (last_words refusal ending))
       ∙ ap (λ bytes. bytes ++ last_words refusal ending) (sym (replies_of-append x.exchanges y.exchanges));
 }
 
-pub cut_off_after : {O : Type 0} (step : O → Exchange → O → Type 0) (refusal : MessageFault → List ℕ)
+pub cut_off_after : {O : Type 0} (step : O → MessageExchange → O → Type 0) (refusal : MessageFault → List ℕ)
     (input rest : List ℕ) (old mid new : O) (first second : List ℕ) → Progress step input rest old first mid
     → IsCutOff step refusal rest mid second new → IsCutOff step refusal input old (first ++ second) new
 cut_off_after step refusal input rest old mid new first second x y = record {
@@ -106,7 +109,7 @@ cut_off_after step refusal input rest old mid new first second x y = record {
   written_is = ap (λ bytes. first ++ bytes) y.written_is ∙ sym (append_assoc first y.whole (take y.part y.last));
 }
 
-pub given_up_after : {O : Type 0} (step : O → Exchange → O → Type 0) (gave_up : O → Message → O → Type 0)
+pub given_up_after : {O : Type 0} (step : O → MessageExchange → O → Type 0) (gave_up : O → Message → O → Type 0)
     (input rest : List ℕ) (old mid new : O) (first second : List ℕ) → Progress step input rest old first mid
     → IsGivenUp step gave_up rest mid second new → IsGivenUp step gave_up input old (first ++ second) new
 given_up_after step gave_up input rest old mid new first second x y = record {

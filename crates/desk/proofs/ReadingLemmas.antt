@@ -9,11 +9,11 @@ use Rattle.desk.specs.declared.framing.Framing.{Framing}
 use Rattle.desk.specs.declared.message_fault.MessageFault.{MessageFault}
 use Rattle.desk.specs.declared.message_fault.MessageFault.TheVariants.{Head, Method, Host, Coding, Length, Body}
 use Rattle.desk.specs.Framing.{framing_of}
-use Rattle.desk.specs.Heads.{BeginsWith, HasNoHead, NeverHasHead}
+use Rattle.desk.specs.Heads.{BeginsWithHead, HasNoHead, NeverHasHead}
 use Rattle.desk.specs.declared.message.Next.{Next}
 use Rattle.desk.specs.declared.message.Next.TheVariants.{Whole, Refused, NeedHead, NeedBody}
 use Rattle.desk.specs.Next.{message_of, IsRefusedEver, IsNext, FindsNext}
-use Rattle.desk.specs.Messages.{Stop, ended, failed, Message, BeginsMessage, BeginsFaulty, BeginsNoHead, LacksBody, IsCut, IsRefused, Ending, finished, closing, broken, refused, EndsAs, Messages, IsEither, AgreeBy}
+use Rattle.desk.specs.Messages.{Stop, ended, failed, Message, BeginsMessage, BeginsFaulty, BeginsNoHead, LacksBody, IsCutMessage, IsRefused, Ending, finished, closing, broken, refused, EndsAs, Messages, IsEither, AgreeBy}
 
 -- two fronts of one length
 fronts_same : (a b r q : List ℕ) → a ++ r ≡ b ++ q → length a ≡ length b → (a ≡ b) × (r ≡ q)
@@ -22,13 +22,13 @@ fronts_same a b r q e n = (
   sym (drop-append_seam a r) ∙ ap (λ k. drop k (a ++ r)) n ∙ ap (drop (length b)) e ∙ drop-append_seam b q,
 )
 
-pub head_unique : (input : List ℕ) (h k : RequestHead) (r q : List ℕ) → BeginsWith input h r → BeginsWith input k q
+pub head_unique : (input : List ℕ) (h k : RequestHead) (r q : List ℕ) → BeginsWithHead input h r → BeginsWithHead input k q
     → (h ≡ k) × (r ≡ q)
 head_unique input h k r q x y = request_unique input h k r q x.reads y.reads
 
 -- what two heads of one input say is one
-said_once : (input : List ℕ) (h k : RequestHead) (r q : List ℕ) (a b : Result Framing MessageFault) → BeginsWith input h r
-    → BeginsWith input k q → framing_of h ≡ a → framing_of k ≡ b → a ≡ b
+said_once : (input : List ℕ) (h k : RequestHead) (r q : List ℕ) (a b : Result Framing MessageFault) → BeginsWithHead input h r
+    → BeginsWithHead input k q → framing_of h ≡ a → framing_of k ≡ b → a ≡ b
 said_once input h k r q a b x y p s = sym p ∙ ap framing_of (head_unique input h k r q x y).0 ∙ s
 
 abbrev ok : Framing → Result Framing MessageFault
@@ -42,7 +42,7 @@ head_some : (h : RequestHead) → 0 < length (print_request h)
 unfolding print_request
 head_some h = simp length-append (omega arith)
 
-pub no_empty_head : (h : RequestHead) (rest : List ℕ) → ¬ (BeginsWith [] h rest)
+pub no_empty_head : (h : RequestHead) (rest : List ℕ) → ¬ (BeginsWithHead [] h rest)
 no_empty_head h rest begins = omega (arith, head_some h, length-append (print_request h) rest, ap length begins.reads.1)
 
 pub message_unique : (input : List ℕ) (m n : Message) (r q : List ℕ) → BeginsMessage input m r → BeginsMessage input n q
@@ -65,14 +65,14 @@ message_no_fault : (input : List ℕ) (m : Message) (rest : List ℕ) (fault : M
 message_no_fault input m rest fault x y =
     let said = said_once input x.head y.head _ _ _ _ x.begins y.begins x.framed y.faulty in cc
 
-message_no_cut : (input : List ℕ) (m : Message) (rest : List ℕ) → BeginsMessage input m rest → ¬ (IsCut input)
+message_no_cut : (input : List ℕ) (m : Message) (rest : List ℕ) → BeginsMessage input m rest → ¬ (IsCutMessage input)
 message_no_cut input m rest x (missing, y) =
     let heads = head_unique input x.head y.head _ _ x.begins y.begins in
     let said = said_once input x.head y.head _ _ _ _ x.begins y.begins x.framed y.framed in
     let long : length m.body ≡ y.framing.body = ap (λ (f : Framing). f.body) (ok_same _ _ said) in
     omega (arith, ap length heads.1, length-append m.body rest, long, y.lacks, y.some)
 
-cut_no_fault : (input : List ℕ) (fault : MessageFault) → IsCut input → ¬ (BeginsFaulty input fault)
+cut_no_fault : (input : List ℕ) (fault : MessageFault) → IsCutMessage input → ¬ (BeginsFaulty input fault)
 cut_no_fault input fault (missing, x) y =
     let said = said_once input x.head y.head _ _ _ _ x.begins y.begins x.framed y.faulty in cc
 
@@ -110,7 +110,7 @@ message_not_refused stop input m rest fault x (inr y) = y.none x.head _ x.begins
 message_not_end : (stop : Stop) (input : List ℕ) (m : Message) (rest : List ℕ) (e : Ending) → BeginsMessage input m rest
     → ¬ (EndsAs stop input e)
 message_not_end ended input m rest finished x (inl none) =
-    no_empty_head x.head _ (subst (λ bytes. BeginsWith bytes x.head (m.body ++ rest)) none x.begins)
+    no_empty_head x.head _ (subst (λ bytes. BeginsWithHead bytes x.head (m.body ++ rest)) none x.begins)
 message_not_end ended input m rest finished x (inr cut) = message_no_cut input m rest x cut
 message_not_end failed input m rest finished x y = y
 message_not_end ended input m rest broken x y = y
@@ -131,16 +131,16 @@ same_refusal stop input f g (inr x) (inl y) = absurd (x.none y.head _ y.begins)
 same_refusal stop input f g (inr x) (inr y) = x.word ∙ sym y.word
 
 -- an input that ended within its messages is not refused
-finished_not_refused : (input : List ℕ) (f : MessageFault) → (input ≡ []) ⊎ IsCut input
+finished_not_refused : (input : List ℕ) (f : MessageFault) → (input ≡ []) ⊎ IsCutMessage input
     → BeginsFaulty input f ⊎ NoHead ended input f → ⊥
 finished_not_refused input f (inl none) (inl y) =
-    no_empty_head y.head _ (subst (λ bytes. BeginsWith bytes y.head y.rest) none y.begins)
+    no_empty_head y.head _ (subst (λ bytes. BeginsWithHead bytes y.head y.rest) none y.begins)
 finished_not_refused input f (inl none) (inr y) = omega (arith, ap length none, y.some refl)
 finished_not_refused input f (inr cut) (inl y) = cut_no_fault input f cut y
 finished_not_refused input f (inr cut) (inr y) = y.none cut.1.head _ cut.1.begins
 
 -- where the reader failed, only the want of a head may be told in two ways
-broken_or_refused : (input : List ℕ) (f : MessageFault) → (HasNoHead input × (length input < 8192)) ⊎ IsCut input
+broken_or_refused : (input : List ℕ) (f : MessageFault) → (HasNoHead input × (length input < 8192)) ⊎ IsCutMessage input
     → BeginsFaulty input f ⊎ NoHead failed input f → IsEither (refused f)
 broken_or_refused input f (inl none) (inl y) = absurd (none.0 y.head _ y.begins)
 broken_or_refused input f (inl none) (inr y) = subst (λ g. IsEither (refused g)) (sym y.word) tt

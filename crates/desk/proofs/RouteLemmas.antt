@@ -14,7 +14,7 @@ use Rattle.desk.specs.declared.endpoint.Endpoint.TheVariants.{Tariffs}
 use Rattle.desk.specs.declared.method.Method.{Method}
 use Rattle.desk.specs.declared.route.Route.{Route}
 use Rattle.desk.specs.declared.route.Route.TheVariants.{AddTariff, AddMeter, SetTariff, OpenShift, CloseShift, ShiftReport, Sell, Reprint, Receipt, ImportMeters, ImportTariffs}
-use Rattle.desk.specs.Endpoint.{Table, endpoints, method_of, pattern_of, with_endpoint, with_pattern}
+use Rattle.desk.specs.Endpoint.{Table, endpoints, endpoint_method, pattern_of, with_endpoint, with_pattern}
 use Rattle.desk.specs.Route.{Finds, IsRouted, LeadsTo, Names, endpoint_of}
 use Rattle.desk.proofs.ParameterLemmas.{same_number}
 
@@ -73,10 +73,10 @@ one_route target a b one other =
 
 -- the method of a route that was found is not one that another reading refuses
 not_both : (target : List ℕ) (method : Method) (a b : Route) (allowed : Method) → LeadsTo target a
-    → method_of (endpoint_of a) ≡ method → LeadsTo target b → method_of (endpoint_of b) ≡ allowed
+    → endpoint_method (endpoint_of a) ≡ method → LeadsTo target b → endpoint_method (endpoint_of b) ≡ allowed
     → allowed ≢ method → ⊥
 not_both target method a b allowed one own other others apart =
-    apart (sym others ∙ ap (λ route. method_of (endpoint_of route)) (one_route target b a other one) ∙ own)
+    apart (sym others ∙ ap (λ route. endpoint_method (endpoint_of route)) (one_route target b a other one) ∙ own)
 
 -- a target and a method ask for one route, or have one fault
 pub one_routing : (target : List ℕ) (method : Method) (a b : Result Route DeskFault)
@@ -98,7 +98,7 @@ one_routing target method (Err (faults.Method allowed)) (Err faults.NoRoute) x y
 one_routing target method (Err (faults.Method allowed)) (Err (faults.Method other)) x y =
     let same = one_route target x.0 y.0 x.1 y.1 in
     let methods : allowed ≡ other =
-    sym x.2 ∙ ap (λ route. method_of (endpoint_of route)) same ∙ y.2 in
+    sym x.2 ∙ ap (λ route. endpoint_method (endpoint_of route)) same ∙ y.2 in
     ap (λ m. Err (faults.Method m)) methods
 one_routing target method (Err (faults.Method allowed)) (Err faults.Clock) x y = absurd y
 one_routing target method (Err (faults.Method allowed)) (Err faults.Body) x y = absurd y

@@ -11,7 +11,7 @@ use Rattle.serde_json.proofs.OnLiterals.{serde_json_on_literals}
 use Rattle.serde_json.specs.Data.{string}
 use Rattle.desk.specs.Members.{json_text, whole}
 use Rattle.desk.specs.ReplyBody.{sale_members}
-use Rattle.desk.specs.SaleText.{IsTold, sale_text}
+use Rattle.desk.specs.SaleText.{IsTellableSale, sale_text}
 use Rattle.desk.proofs.SaleLemmas.{digits-kept}
 use Rattle.vend_core.specs.Names.{is_name_byte}
 use Rattle.vend_core.specs.declared.sale.Sale.{Sale}
@@ -52,7 +52,7 @@ object-text : (base change moment number price shift tender tenths tid : ℕ) (m
 unfolding json_text serde_json_on_literals
 object-text base change moment number price shift tender tenths tid meter operator order_ref token = refl
 
-pub sale_text-is : (s : Sale) → IsTold s → json_text (sale_members s) ≡ sale_text s
+pub sale_text-is : (s : Sale) → IsTellableSale s → json_text (sale_members s) ≡ sale_text s
 sale_text-is s told =
     rw (
       digits-kept s.digits told.digits.digits,

@@ -10,14 +10,14 @@ use Rattle.vend_core.specs.declared.refusal.Refusal.TheVariants.{Stopped}
 use Rattle.vend_core.specs.declared.request.Request.{Request}
 use Rattle.vend_core.specs.declared.request.Stamped.{Stamped}
 use Rattle.books.specs.Asking.{IsAsked, Replies, ReplyAt}
-use Rattle.books.specs.Keeps.{Keeps, Seen}
+use Rattle.books.specs.Keeps.{Represents, Seen}
 use Rattle.books.specs.Others.{LeavesOthers}
-use Rattle.books.proofs.OthersLemmas.{others_same, others_then}
+use Rattle.books.proofs.OthersLemmas.{kept_tables, others_same, others_then}
 use Rattle.desk.specs.Answering.{Comes, Serving, answers_by, books_serve, life_serves}
-use Rattle.desk.specs.Exchanges.{Exchange, GaveUp, Reads, Timed, timed}
+use Rattle.desk.specs.Exchanges.{MessageExchange, GaveUp, ReadsClock, Timed, timed}
 use Rattle.desk.specs.Meaning.{IsIdle, IsMeaning}
 use Rattle.desk.specs.Messages.{Message}
-use Rattle.desk.specs.Replies.{reply_of}
+use Rattle.desk.specs.Replies.{reply_bytes_of}
 use Rattle.desk.specs.Run.{IsRun}
 use Rattle.desk.specs.declared.end.End.{End}
 use Rattle.desk.specs.declared.form.Form.{Form}
@@ -43,25 +43,25 @@ comes_told serves m now meaning told outcome old office is means same kept =
 
 -- a message was answered, by the text that a result has
 pub was_answered : {O A E : Type 0} (serves : Serving O) (items : A → List ℕ) (old new : Timed O) (m : Message) (now : Option ℤ) (outcome : Outcome) (r : Result A E)
-    → Reads old.1 now new.1 → Comes serves m now outcome old.0 new.0 → IfOk r (λ text. items text ≡ reply_of outcome m.closes)
-    → IfOk r (λ reply. (x : Exchange) × (x.message ≡ m) × (x.reply ≡ items reply) × timed (answers_by serves) old x new)
+    → ReadsClock old.1 now new.1 → Comes serves m now outcome old.0 new.0 → IfOk r (λ text. items text ≡ reply_bytes_of outcome m.closes)
+    → IfOk r (λ reply. (x : MessageExchange) × (x.message ≡ m) × (x.reply ≡ items reply) × timed (answers_by serves) old x new)
 was_answered serves items old new m now outcome (Ok reply) reads comes text =
     (record { message = m; now = now; reply = items reply }, refl, refl, ((outcome, comes, text), reads))
 was_answered serves items old new m now outcome (Err error) reads comes text = tt
 
 -- a message was answered, and there was no memory for the text
 pub was_given_up : {O A E : Type 0} (serves : Serving O) (old new : Timed O) (m : Message) (now : Option ℤ) (outcome : Outcome) (r : Result A E)
-    → Reads old.1 now new.1 → Comes serves m now outcome old.0 new.0 → OnErr r (GaveUp (answers_by serves) old m new)
+    → ReadsClock old.1 now new.1 → Comes serves m now outcome old.0 new.0 → OnErr r (GaveUp (answers_by serves) old m new)
 was_given_up serves old new m now outcome (Ok reply) reads comes = tt
 was_given_up serves old new m now outcome (Err error) reads comes =
-    (now, reads, inr (reply_of outcome m.closes, (outcome, comes, refl)))
+    (now, reads, inr (reply_bytes_of outcome m.closes, (outcome, comes, refl)))
 
 unless_true : (b : Bool) → ¬ (b ≡ true) → b ≡ false
 unless_true true not = absurd (not refl)
 unless_true false not = refl
 
 -- the number that books count with is that of their life
-by_number : (life : Life) (moment : ℕ) (request : Request) (reply : Result Answer Refusal) (at : Stamped) (old new : Seen) → Keeps life old
+by_number : (life : Life) (moment : ℕ) (request : Request) (reply : Result Answer Refusal) (at : Stamped) (old new : Seen) → Represents life old
     → HasCleanDisk old.state → IsAsked moment request old at → Replies at reply old new
     → ¬ (reply ≡ Err Stopped) → at.nibble ≡ (length (present life).sales + 1) % 16
 by_number life moment request reply at old new keeps clean asked replies unstopped =
@@ -69,9 +69,9 @@ by_number life moment request reply at old new keeps clean asked replies unstopp
     asked.by_number ∙ ap (λ n. n % 16) (present_is.next ∙ ap (λ o. length o.sales + 1) (sym present_is.running.present))
 
 -- a life goes on by what the books that keep it reply
-served_life : (life : Life) (moment : ℕ) (request : Request) (reply : Result Answer Refusal) (old new : Seen) → Keeps life old
+served_life : (life : Life) (moment : ℕ) (request : Request) (reply : Result Answer Refusal) (old new : Seen) → Represents life old
     → ReplyAt moment request reply old new → HasCleanDisk new.state
-    → (after : Life) × life_serves moment request reply life after × Keeps after new
+    → (after : Life) × life_serves moment request reply life after × Represents after new
 served_life life moment request reply old new keeps (at, asked, replies) clean = (
   extended_by life at reply,
   (
@@ -88,20 +88,20 @@ served_life life moment request reply old new keeps (at, asked, replies) clean =
 
 -- books keep a life, and have left the tables of other names as they were
 abbrev KeepsFrom : State → Life → Seen → Type 0
-KeepsFrom start life books = Keeps life books × LeavesOthers start books.state
+KeepsFrom start life books = Represents life books × LeavesOthers start books.state
 
 books_follow : {B : Type 0} (see : B → Seen) (start : State)
     → Follows (answers_by (books_serve see)) (answers_by life_serves) (λ life books. KeepsFrom start life (see books)) (λ books. HasCleanDisk (see books).state)
 books_follow {B} see start = record { back = back; next = next }
   where
-    step : B → Exchange → B → Type 0
+    step : B → MessageExchange → B → Type 0
     step = answers_by (books_serve see)
 
-    back : (old : B) (x : Exchange) (new : B) → step old x new → HasCleanDisk (see new).state → HasCleanDisk (see old).state
+    back : (old : B) (x : MessageExchange) (new : B) → step old x new → HasCleanDisk (see new).state → HasCleanDisk (see old).state
     back old x new (outcome, inl (idle, same), text) clean = subst (λ b. HasCleanDisk (see b).state) same clean
     back old x new (outcome, inr (form, moment, request, reply, is, asks, (at, asked, replies)), text) clean = replies.clean clean
 
-    next : (life : Life) (old : B) (x : Exchange) (new : B) → KeepsFrom start life (see old) → step old x new → HasCleanDisk (see new).state
+    next : (life : Life) (old : B) (x : MessageExchange) (new : B) → KeepsFrom start life (see old) → step old x new → HasCleanDisk (see new).state
         → (after : Life) × answers_by life_serves life x after × KeepsFrom start after (see new)
     next life old x new kept (outcome, inl (idle, same), text) clean =
         (life, (outcome, inl (idle, refl), text), subst (λ b. KeepsFrom start life (see b)) (sym same) kept)
@@ -109,13 +109,13 @@ books_follow {B} see start = record { back = back; next = next }
         let goes = served_life life moment request reply (see old) (see new) kept.0 (at, asked, replies) clean in (
           goes.0,
           (outcome, inr (form, moment, request, reply, is, asks, goes.1), text),
-          (goes.2, others_then start (see old).state (see new).state kept.1 (replies.others clean life kept.0)),
+          (goes.2, others_then start (see old).state (see new).state kept.1 (replies.others clean (kept_tables life (see old) kept.0))),
         )
 
 module _ {B : Type 0} (see : B → Seen) (refusal : MessageFault → List ℕ) (old new : Timed B) (unread left held holds : Option (List ℕ)) (end : End)
     (is_run : IsRun (answers_by (books_serve see)) refusal old new unread left held holds end) (clean : HasCleanDisk (see new.0).state) where
   -- a life that books kept went on along a run of them, which left other tables alone
-  pub run_kept : (life : Life) → Keeps life (see old.0)
+  pub run_kept : (life : Life) → Represents life (see old.0)
       → (after : Life) × IsRun (answers_by life_serves) refusal (life, old.1) (after, new.1) unread left held holds end × KeepsFrom (see old.0).state after (see new.0)
   run_kept life keeps =
       let start = (see old.0).state in

@@ -6,24 +6,24 @@ use Rattle.vend_core.specs.declared.request.Stamped.{Stamped}
 use Rattle.desk.specs.declared.form.Form.{Form}
 use Rattle.desk.specs.declared.outcome.Outcome.{Outcome}
 use Rattle.desk.specs.declared.outcome.Outcome.TheVariants.{Served}
-use Rattle.desk.specs.Exchanges.{Exchange}
-use Rattle.desk.specs.Meaning.{Asks, IsIdle}
-use Rattle.desk.specs.Replies.{reply_of}
+use Rattle.desk.specs.Exchanges.{MessageExchange}
+use Rattle.desk.specs.Meaning.{MessageAsks, IsIdle}
+use Rattle.desk.specs.Replies.{reply_bytes_of}
 
 -- the message asked nothing of the office, and was told so
-pub record AskedNothing (x : Exchange) : Type 0 where
+pub record AskedNothing (x : MessageExchange) : Type 0 where
   pub outcome : Outcome
   pub idle : IsIdle x.message x.now outcome
-  pub told : x.reply ≡ reply_of outcome x.message.closes
+  pub told : x.reply ≡ reply_bytes_of outcome x.message.closes
 
 -- the message asked this of the office, and was told the reply
-pub record Asked (x : Exchange) (at : Stamped) (reply : Result Answer Refusal) : Type 0 where
+pub record Asked (x : MessageExchange) (at : Stamped) (reply : Result Answer Refusal) : Type 0 where
   pub form : Form
-  pub asks : Asks x.message x.now form at.moment at.request
-  pub told : x.reply ≡ reply_of (Served form reply) x.message.closes
+  pub asks : MessageAsks x.message x.now form at.moment at.request
+  pub told : x.reply ≡ reply_bytes_of (Served form reply) x.message.closes
 
 -- the requests and the replies of these exchanges, each once and in order, and no others
-abbrev pub AreAsked : List Exchange → List Stamped → List (Result Answer Refusal) → Type 0
+abbrev pub AreAsked : List MessageExchange → List Stamped → List (Result Answer Refusal) → Type 0
 AreAsked [] ats replies = (ats ≡ []) × (replies ≡ [])
 AreAsked (x ∷ xs) ats replies =
     (AskedNothing x × AreAsked xs ats replies)

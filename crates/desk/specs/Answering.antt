@@ -13,10 +13,10 @@ use Rattle.desk.specs.declared.form.Form.{Form}
 use Rattle.desk.specs.declared.message_fault.MessageFault.{MessageFault}
 use Rattle.desk.specs.declared.outcome.Outcome.{Outcome}
 use Rattle.desk.specs.declared.outcome.Outcome.TheVariants.{Refused, Served}
-use Rattle.desk.specs.Exchanges.{Exchange}
-use Rattle.desk.specs.Meaning.{Asks, IsIdle}
+use Rattle.desk.specs.Exchanges.{MessageExchange}
+use Rattle.desk.specs.Meaning.{MessageAsks, IsIdle}
 use Rattle.desk.specs.Messages.{Message}
-use Rattle.desk.specs.Replies.{reply_of}
+use Rattle.desk.specs.Replies.{reply_bytes_of}
 
 -- How an office serves: at a moment a request gets a reply, between the office before it and the
 -- office after it.
@@ -28,18 +28,18 @@ abbrev pub Comes : {O : Type 0} → Serving O → Message → Option ℤ → Out
 Comes serves m now outcome old new =
     (IsIdle m now outcome × (new ≡ old))
     ⊎ ((form : Form) × (moment : ℕ) × (request : Request) × (reply : Result Answer Refusal)
-    × (outcome ≡ Served form reply) × Asks m now form moment request
+    × (outcome ≡ Served form reply) × MessageAsks m now form moment request
     × serves moment request reply old new)
 
 -- the office answered a message by the reply that tells what came of it
-abbrev pub answers_by : {O : Type 0} → Serving O → O → Exchange → O → Type 0
+abbrev pub answers_by : {O : Type 0} → Serving O → O → MessageExchange → O → Type 0
 answers_by serves old x new =
     (outcome : Outcome) × Comes serves x.message x.now outcome old new
-    × (x.reply ≡ reply_of outcome x.message.closes)
+    × (x.reply ≡ reply_bytes_of outcome x.message.closes)
 
 -- the reply to a message that is refused, after which the conversation ends
-abbrev pub refusal_of : MessageFault → List ℕ
-refusal_of fault = reply_of (Refused fault) true
+abbrev pub message_refusal_of : MessageFault → List ℕ
+message_refusal_of fault = reply_bytes_of (Refused fault) true
 
 -- how books of any kind serve, by what contracts see of them
 abbrev pub books_serve : {B : Type 0} → (B → Seen) → Serving B

@@ -13,13 +13,19 @@ use Rattle.vend_core.specs.declared.row.Row.{Row}
 use Rattle.desk.specs.declared.body_fault.BodyFault.{BodyFault}
 use Rattle.desk.specs.declared.body_fault.BodyFault.TheVariants as faults
 use Rattle.desk.specs.declared.route.Route.{Route}
-use Rattle.desk.specs.declared.route.Route.TheVariants.{ShiftReport, Reprint, Receipt, ImportMeters, ImportTariffs}
-use Rattle.desk.specs.JsonBody.{IsJson, Says}
+use Rattle.desk.specs.declared.json_kind.JsonKind.{JsonKind}
+use Rattle.desk.specs.declared.json_kind.JsonKind.TheVariants as kinds
+use Rattle.desk.specs.declared.route.Route.TheVariants.{AddTariff, AddMeter, SetTariff, OpenShift, CloseShift, ShiftReport, Sell, Reprint, Receipt, ImportMeters, ImportTariffs}
+use Rattle.desk.specs.JsonBody.{IsJson, BodySays}
 use Rattle.desk.specs.Reads.{IsFoundIn}
 
--- the body is JSON that says this request to a route
-abbrev pub SaysJson : Route → List ℕ → Request → Type 0
-SaysJson route body request = (json : Data) × IsJson body json × Says route json request
+-- the body is JSON that says this request
+abbrev pub SaysJson : JsonKind → List ℕ → Request → Type 0
+SaysJson kind body request = (json : Data) × IsJson body json × BodySays kind json request
+
+-- the body says a request as JSON, or none
+abbrev pub AsksByJson : JsonKind → List ℕ → Result Request BodyFault → Type 0
+AsksByJson kind body result = IsFoundIn (SaysJson kind body) result
 
 -- what reading a file of rows answers, as a request or as why there is none
 abbrev pub import_of : Result (List Row) RowFault → Result Request BodyFault
@@ -33,12 +39,18 @@ AsksImport kind body result =
     (records : List Fields) × AreFileRecords body records
     × (read : Result (List Row) RowFault) × IsReading kind records read × (result ≡ import_of read)
 
--- what a body asks of a route: a request, or why there is none. A route that is asked by GET doesn't
--- look at the body, two are asked by files of rows, and the others by JSON
-abbrev pub IsAsked : Route → List ℕ → Result Request BodyFault → Type 0
-IsAsked (ShiftReport shift) body result = result ≡ Ok (requests.ShiftReport shift)
-IsAsked (Reprint sale) body result = result ≡ Ok (requests.Reprint sale)
-IsAsked (Receipt sale) body result = result ≡ Ok (requests.Reprint sale)
-IsAsked ImportMeters body result = AsksImport Meters body result
-IsAsked ImportTariffs body result = AsksImport Tariffs body result
-IsAsked route body result = IsFoundIn (SaysJson route body) result
+-- What a body asks of a route: a request, or why there is none. A route that is asked by GET doesn't
+-- look at the body, two are asked by files of rows, and the others by JSON. Each route has its line,
+-- so that one more has no meaning until it has one.
+abbrev pub BodyAsks : Route → List ℕ → Result Request BodyFault → Type 0
+BodyAsks AddTariff body result = AsksByJson kinds.Tariff body result
+BodyAsks AddMeter body result = AsksByJson kinds.Meter body result
+BodyAsks (SetTariff meter) body result = AsksByJson (kinds.MeterTariff meter) body result
+BodyAsks OpenShift body result = AsksByJson kinds.Opening body result
+BodyAsks CloseShift body result = AsksByJson kinds.Closing body result
+BodyAsks Sell body result = AsksByJson kinds.Order body result
+BodyAsks (ShiftReport shift) body result = result ≡ Ok (requests.ShiftReport shift)
+BodyAsks (Reprint sale) body result = result ≡ Ok (requests.Reprint sale)
+BodyAsks (Receipt sale) body result = result ≡ Ok (requests.Reprint sale)
+BodyAsks ImportMeters body result = AsksImport Meters body result
+BodyAsks ImportTariffs body result = AsksImport Tariffs body result

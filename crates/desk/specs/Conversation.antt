@@ -2,14 +2,14 @@
 use Rattle.std.specs.Prelude.{◌≡◌, ℕ, ◌<◌, ◌⊎◌, List, [], ◌++◌, length, map, take}
 use Rattle.std.specs.List.{flat_map}
 use Rattle.desk.specs.declared.message_fault.MessageFault.{MessageFault}
-use Rattle.desk.specs.Exchanges.{Exchange, Served, BeginsMessages}
+use Rattle.desk.specs.Exchanges.{MessageExchange, Exchanged, BeginsMessages}
 use Rattle.desk.specs.Messages.{Stop, ended, Message, BeginsMessage, IsRefused, Ending, finished, closing, broken, refused, Messages}
 
-abbrev pub messages_of : List Exchange → List Message
+abbrev pub messages_of : List MessageExchange → List Message
 messages_of xs = map (λ x. x.message) xs
 
 -- the replies, one after another
-abbrev pub replies_of : List Exchange → List ℕ
+abbrev pub replies_of : List MessageExchange → List ℕ
 replies_of xs = flat_map (λ x. x.reply) xs
 
 -- what an ending adds to the replies
@@ -21,28 +21,28 @@ last_words refusal broken = []
 
 -- the messages of the input were exchanged for the text, from the old office to the new one
 pub record Conversation
-    {O : Type 0} (step : O → Exchange → O → Type 0) (refusal : MessageFault → List ℕ)
+    {O : Type 0} (step : O → MessageExchange → O → Type 0) (refusal : MessageFault → List ℕ)
     (stop : Stop) (input : List ℕ) (old : O) (text : List ℕ) (ending : Ending) (new : O)
     : Type 0 where
-  pub exchanges : List Exchange
+  pub exchanges : List MessageExchange
   pub messages : Messages stop input (messages_of exchanges) ending
-  pub served : Served step old exchanges new
+  pub served : Exchanged step old exchanges new
   pub text_is : text ≡ replies_of exchanges ++ last_words refusal ending
 
 -- the messages at the front of the input were exchanged for the text, and the rest is left
 pub record Progress
-    {O : Type 0} (step : O → Exchange → O → Type 0)
+    {O : Type 0} (step : O → MessageExchange → O → Type 0)
     (input rest : List ℕ) (old : O) (text : List ℕ) (new : O) : Type 0 where
-  pub exchanges : List Exchange
+  pub exchanges : List MessageExchange
   pub begins : BeginsMessages input (messages_of exchanges) rest
-  pub served : Served step old exchanges new
+  pub served : Exchanged step old exchanges new
   pub text_is : text ≡ replies_of exchanges
 
 -- the text is the reply to the message at the front of the input
 pub record IsReply
-    {O : Type 0} (step : O → Exchange → O → Type 0)
+    {O : Type 0} (step : O → MessageExchange → O → Type 0)
     (input : List ℕ) (old : O) (text : List ℕ) (new : O) : Type 0 where
-  pub exchange : Exchange
+  pub exchange : MessageExchange
   pub rest : List ℕ
   pub begins : BeginsMessage input exchange.message rest
   pub answered : step old exchange new
@@ -59,7 +59,7 @@ pub record IsRefusal
 
 -- a writer failed: it took the texts for some messages whole, and then a beginning of the next one
 pub record IsCutOff
-    {O : Type 0} (step : O → Exchange → O → Type 0) (refusal : MessageFault → List ℕ)
+    {O : Type 0} (step : O → MessageExchange → O → Type 0) (refusal : MessageFault → List ℕ)
     (input : List ℕ) (old : O) (written : List ℕ) (new : O) : Type 0 where
   pub rest : List ℕ
   pub whole : List ℕ
@@ -73,7 +73,7 @@ pub record IsCutOff
 
 -- memory was short: the replies to some messages were written, and the next one may have been answered
 pub record IsGivenUp
-    {O : Type 0} (step : O → Exchange → O → Type 0) (gave_up : O → Message → O → Type 0)
+    {O : Type 0} (step : O → MessageExchange → O → Type 0) (gave_up : O → Message → O → Type 0)
     (input : List ℕ) (old : O) (text : List ℕ) (new : O) : Type 0 where
   pub rest : List ℕ
   pub mid : O

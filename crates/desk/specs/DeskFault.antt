@@ -4,15 +4,15 @@ use Rattle.desk.specs.declared.desk_fault.DeskFault.{DeskFault}
 use Rattle.desk.specs.declared.desk_fault.DeskFault.TheVariants.{NoRoute, Method, Clock, Body}
 
 -- each fault has a status code of its own
-abbrev pub status_of : DeskFault → ℕ
-status_of NoRoute = 404
-status_of (Method allowed) = 405
-status_of Clock = 503
-status_of Body = 422
+abbrev pub desk_fault_status : DeskFault → ℕ
+desk_fault_status NoRoute = 404
+desk_fault_status (Method allowed) = 405
+desk_fault_status Clock = 503
+desk_fault_status Body = 422
 
 -- the name of the fault
-abbrev pub word_of : DeskFault → List ℕ
-word_of NoRoute = codes "NoRoute"
-word_of (Method allowed) = codes "Method"
-word_of Clock = codes "Clock"
-word_of Body = codes "Body"
+abbrev pub desk_fault_word : DeskFault → List ℕ
+desk_fault_word NoRoute = codes "NoRoute"
+desk_fault_word (Method allowed) = codes "Method"
+desk_fault_word Clock = codes "Clock"
+desk_fault_word Body = codes "Body"

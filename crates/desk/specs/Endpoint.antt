@@ -13,11 +13,11 @@ use Rattle.desk.specs.declared.method.Method.{Method}
 use Rattle.desk.specs.declared.method.Method.TheVariants.{Get, Post}
 
 -- the method that an endpoint is asked by
-abbrev pub method_of : Endpoint → Method
-method_of Shift = Get
-method_of Sale = Get
-method_of SaleReceipt = Get
-method_of endpoint = Post
+abbrev pub endpoint_method : Endpoint → Method
+endpoint_method Shift = Get
+endpoint_method Sale = Get
+endpoint_method SaleReceipt = Get
+endpoint_method endpoint = Post
 
 -- the pattern of its targets
 abbrev pub pattern_of : Endpoint → List ℕ

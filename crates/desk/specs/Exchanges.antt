@@ -7,35 +7,35 @@ use Rattle.desk.specs.Clock.{Gives}
 use Rattle.desk.specs.Messages.{Message, BeginsMessage}
 
 -- a message, what the clock gave for it, if it was read, and the bytes of the reply
-pub record Exchange : Type 0 where
+pub record MessageExchange : Type 0 where
   pub message : Message
   pub now : Option ℤ
   pub reply : List ℕ
 
 -- what may be read of a clock for one message
-abbrev pub Reads : Option (List ℤ) → Option ℤ → Option (List ℤ) → Type 0
-Reads old None new = new ≡ old
-Reads old (Some now) new = Gives old now new
+abbrev pub ReadsClock : Option (List ℤ) → Option ℤ → Option (List ℤ) → Type 0
+ReadsClock old None new = new ≡ old
+ReadsClock old (Some now) new = Gives old now new
 
 -- an office with the answers of a clock, where they are known
 abbrev pub Timed : Type 0 → Type 0
 Timed O = O × Option (List ℤ)
 
 -- the office answered, by what its clock gave
-abbrev pub timed : {O : Type 0} → (O → Exchange → O → Type 0) → Timed O → Exchange → Timed O → Type 0
-timed step old x new = step old.0 x new.0 × Reads old.1 x.now new.1
+abbrev pub timed : {O : Type 0} → (O → MessageExchange → O → Type 0) → Timed O → MessageExchange → Timed O → Type 0
+timed step old x new = step old.0 x new.0 × ReadsClock old.1 x.now new.1
 
 -- the office gave up on the reply to this message: it is as before, or answered it all the same
-abbrev pub GaveUp : {O : Type 0} → (O → Exchange → O → Type 0) → Timed O → Message → Timed O → Type 0
+abbrev pub GaveUp : {O : Type 0} → (O → MessageExchange → O → Type 0) → Timed O → Message → Timed O → Type 0
 GaveUp step old message new =
-    (now : Option ℤ) × Reads old.1 now new.1
+    (now : Option ℤ) × ReadsClock old.1 now new.1
     × ((new.0 ≡ old.0)
     ⊎ ((reply : List ℕ) × step old.0 (record { message = message; now = now; reply = reply }) new.0))
 
 -- one exchange after another, each once, from one office to another
-abbrev pub Served : {O : Type 0} → (O → Exchange → O → Type 0) → O → List Exchange → O → Type 0
-Served step old [] new = new ≡ old
-Served {O} step old (x ∷ xs) new = (mid : O) × step old x mid × Served step mid xs new
+abbrev pub Exchanged : {O : Type 0} → (O → MessageExchange → O → Type 0) → O → List MessageExchange → O → Type 0
+Exchanged step old [] new = new ≡ old
+Exchanged {O} step old (x ∷ xs) new = (mid : O) × step old x mid × Exchanged step mid xs new
 
 -- the input begins with these messages, of which none ends the conversation, and the rest follows
 abbrev pub BeginsMessages : List ℕ → List Message → List ℕ → Type 0

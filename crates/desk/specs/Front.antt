@@ -6,13 +6,13 @@ use Rattle.httparse.specs.declared.spans.HeaderSpan.{HeaderSpan}
 use Rattle.httparse.specs.declared.spans.RequestSpans.{RequestSpans}
 use Rattle.desk.specs.declared.head.Front.{Front}
 use Rattle.desk.specs.declared.head.Front.TheVariants.{Head, Partial, Never}
-use Rattle.desk.specs.Heads.{BeginsWith, NeverHasHead, AwaitsHead}
+use Rattle.desk.specs.Heads.{BeginsWithHead, NeverHasHead, AwaitsHead}
 
 -- the input begins with a head, and the spans are those of its parts
 pub record IsHeadAt
     (input : List ℕ) (fields : List HeaderSpan) (spans : RequestSpans) : Type 0 where
   pub head : RequestHead
-  pub begins : BeginsWith input head (drop spans.len input)
+  pub begins : BeginsWithHead input head (drop spans.len input)
   pub parts : IsRequestAt input fields spans head
   pub within : IsRequestWithin input fields spans
 

@@ -11,14 +11,14 @@ abbrev pub most_fields : ℕ
 most_fields = 32
 
 -- the input begins with the head, and the rest follows it
-pub record BeginsWith (input : List ℕ) (head : RequestHead) (rest : List ℕ) : Type 0 where
+pub record BeginsWithHead (input : List ℕ) (head : RequestHead) (rest : List ℕ) : Type 0 where
   pub reads : ReadsRequest input head rest
   pub fields : length head.fields ≤ most_fields
   pub bytes : length (print_request head) ≤ longest_head
 
 -- no beginning of the input is a head
 abbrev pub HasNoHead : List ℕ → Type 0
-HasNoHead input = (head : RequestHead) (rest : List ℕ) → ¬ BeginsWith input head rest
+HasNoHead input = (head : RequestHead) (rest : List ℕ) → ¬ BeginsWithHead input head rest
 
 -- nor will one be, whatever bytes follow
 abbrev pub NeverHasHead : List ℕ → Type 0

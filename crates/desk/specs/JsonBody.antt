@@ -18,8 +18,8 @@ use Rattle.vend_core.specs.declared.meter.Meter.{Meter}
 use Rattle.vend_core.specs.declared.request.Order.{Order}
 use Rattle.vend_core.specs.declared.request.Request.{Request}
 use Rattle.vend_core.specs.declared.request.Request.TheVariants as requests
-use Rattle.desk.specs.declared.route.Route.{Route}
-use Rattle.desk.specs.declared.route.Route.TheVariants.{AddTariff, AddMeter, SetTariff, OpenShift, CloseShift, Sell}
+use Rattle.desk.specs.declared.json_kind.JsonKind.{JsonKind}
+use Rattle.desk.specs.declared.json_kind.JsonKind.TheVariants as kinds
 
 -- the body is the text of this value
 pub record IsJson (body : List ℕ) (json : Data) : Type 0 where
@@ -27,12 +27,12 @@ pub record IsJson (body : List ℕ) (json : Data) : Type 0 where
   pub reads : read body ≡ Some json
 
 -- the value is an object with so many members
-abbrev pub HasCount : Data → ℕ → Type 0
-HasCount json count = option_map members_len (as_object json) ≡ Some count
+abbrev pub HasMemberCount : Data → ℕ → Type 0
+HasMemberCount json count = option_map members_len (as_object json) ≡ Some count
 
 -- the value is an object with exactly these members: with each of them, and with no more
 pub record IsObject (json : Data) (members : List (List ℕ × Data)) : Type 0 where
-  pub count : HasCount json (length members)
+  pub count : HasMemberCount json (length members)
   pub each : AllByRecursion (λ (m : List ℕ × Data). get m.0 json ≡ Some m.1) members
 
 -- a member is the text of these steps, which a tariff may have
@@ -49,7 +49,7 @@ abbrev pub IsBaseAt : Option Data → Base → Type 0
 IsBaseAt found base = found ≡ Some (number (unsigned (year_of base)))
 
 -- the value says a tariff: its name and the text of its steps
-pub record SaysTariff (json : Data) (name : List ℕ) (steps : List Step) : Type 0 where
+pub record BodySaysTariff (json : Data) (name : List ℕ) (steps : List Step) : Type 0 where
   pub steps_text : List ℕ
   pub members : IsObject json
       ((codes "name", string name) ∷ (codes "steps", string steps_text) ∷ [])
@@ -58,7 +58,7 @@ pub record SaysTariff (json : Data) (name : List ℕ) (steps : List Step) : Type
   pub priced : IsSteps steps
 
 -- the value says a meter: the year of its base date, its key, its number and the name of its tariff
-pub record SaysMeter (json : Data) (meter : List ℕ) (m : Meter) : Type 0 where
+pub record BodySaysMeter (json : Data) (meter : List ℕ) (m : Meter) : Type 0 where
   pub key_text : List ℕ
   pub members : IsObject json
       ((codes "base", number (unsigned (year_of m.base))) ∷ (codes "key", string key_text)
@@ -73,7 +73,7 @@ pub record SaysTariffName (json : Data) (name : List ℕ) : Type 0 where
   pub named : IsName name
 
 -- the value says an operator
-pub record SaysOperator (json : Data) (operator : List ℕ) : Type 0 where
+pub record BodySaysOperator (json : Data) (operator : List ℕ) : Type 0 where
   pub members : IsObject json ((codes "operator", string operator) ∷ [])
   pub named : IsOperator operator
 
@@ -87,18 +87,19 @@ pub record SaysOrder (json : Data) (order : Order) : Type 0 where
   pub order_ref : IsName order.order_ref
   pub tender : IsTender order.tender
 
--- the value says this request to a route; to one that isn't asked by JSON it says none
-abbrev pub Says : Route → Data → Request → Type 0
-Says AddTariff json request =
+-- the value says this request, where it is to say what this kind is
+abbrev pub BodySays : JsonKind → Data → Request → Type 0
+BodySays kinds.Tariff json request =
     (name : List ℕ) × (steps : List Step) × (request ≡ requests.AddTariff name steps)
-    × SaysTariff json name steps
-Says AddMeter json request =
-    (meter : List ℕ) × (m : Meter) × (request ≡ requests.AddMeter meter m) × SaysMeter json meter m
-Says (SetTariff meter) json request =
+    × BodySaysTariff json name steps
+BodySays kinds.Meter json request =
+    (meter : List ℕ) × (m : Meter) × (request ≡ requests.AddMeter meter m)
+    × BodySaysMeter json meter m
+BodySays (kinds.MeterTariff meter) json request =
     (name : List ℕ) × (request ≡ requests.SetTariff meter name) × SaysTariffName json name
-Says OpenShift json request =
-    (operator : List ℕ) × (request ≡ requests.OpenShift operator) × SaysOperator json operator
-Says CloseShift json request =
-    (operator : List ℕ) × (request ≡ requests.CloseShift operator) × SaysOperator json operator
-Says Sell json request = (order : Order) × (request ≡ requests.Sell order) × SaysOrder json order
-Says route json request = ⊥
+BodySays kinds.Opening json request =
+    (operator : List ℕ) × (request ≡ requests.OpenShift operator) × BodySaysOperator json operator
+BodySays kinds.Closing json request =
+    (operator : List ℕ) × (request ≡ requests.CloseShift operator) × BodySaysOperator json operator
+BodySays kinds.Order json request =
+    (order : Order) × (request ≡ requests.Sell order) × SaysOrder json order

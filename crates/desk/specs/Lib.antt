@@ -17,6 +17,8 @@ pub mod Members
 pub mod MessageFault
 pub mod Messages
 pub mod Next
+pub mod OneConversation
+pub mod Parts
 pub mod Reads
 pub mod Replies
 pub mod ReplyBody
@@ -24,4 +26,5 @@ pub mod ReplyHead
 pub mod Route
 pub mod Run
 pub mod SaleText
+pub mod Uses
 pub mod Wants

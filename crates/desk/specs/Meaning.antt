@@ -16,14 +16,14 @@ use Rattle.desk.specs.declared.outcome.Outcome.{Outcome}
 use Rattle.desk.specs.declared.outcome.Outcome.TheVariants.{Faulty, Served}
 use Rattle.desk.specs.declared.route.Route.{Route}
 use Rattle.desk.specs.declared.route.Route.TheVariants.{Receipt}
-use Rattle.desk.specs.Asking.{IsAsked}
+use Rattle.desk.specs.Asking.{BodyAsks}
 use Rattle.desk.specs.Messages.{Message}
 use Rattle.desk.specs.Route.{IsRouted}
 
 -- the form in which a route tells a sale: a receipt is a paper
-abbrev pub form_of : Route → Form
-form_of (Receipt sale) = Paper
-form_of route = Json
+abbrev pub sale_form_of : Route → Form
+sale_form_of (Receipt sale) = Paper
+sale_form_of route = Json
 
 -- the target and the method lead to the route
 abbrev pub IsFor : Message → Route → Type 0
@@ -36,12 +36,12 @@ pub record ComesAt (m : Message) (now : Option ℤ) (route : Route) (moment : �
   pub is_moment : IsMoment moment
 
 -- the message asks the office this at this moment, and is told a sale in this form
-pub record Asks (m : Message) (now : Option ℤ) (form : Form) (moment : ℕ) (request : Request)
+pub record MessageAsks (m : Message) (now : Option ℤ) (form : Form) (moment : ℕ) (request : Request)
     : Type 0 where
   pub route : Route
   pub comes : ComesAt m now route moment
-  pub asked : IsAsked route m.body (Ok request)
-  pub told : form ≡ form_of route
+  pub asked : BodyAsks route m.body (Ok request)
+  pub told : form ≡ sale_form_of route
 
 -- the clock gave for a message what is no moment of the office
 pub record ComesOutside (m : Message) (now : Option ℤ) : Type 0 where
@@ -52,23 +52,23 @@ pub record ComesOutside (m : Message) (now : Option ℤ) : Type 0 where
   pub outside : (moment : ℕ) → IsMoment moment → pos moment ≢ second
 
 -- why a message asks nothing of the office; the clock is not read for one that has no route
-abbrev pub HasFault : Message → Option ℤ → DeskFault → Type 0
-HasFault m now faults.Clock = ComesOutside m now
-HasFault m now faults.Body =
-    (route : Route) × (moment : ℕ) × ComesAt m now route moment × IsAsked route m.body (Err OutsideRule)
-HasFault m now fault = IsRouted m.target m.method (Err fault) × (now ≡ None)
+abbrev pub MessageHasFault : Message → Option ℤ → DeskFault → Type 0
+MessageHasFault m now faults.Clock = ComesOutside m now
+MessageHasFault m now faults.Body =
+    (route : Route) × (moment : ℕ) × ComesAt m now route moment × BodyAsks route m.body (Err OutsideRule)
+MessageHasFault m now fault = IsRouted m.target m.method (Err fault) × (now ≡ None)
 
 -- what comes of a message that asks nothing of the office: its fault, or the refusal of its first
 -- row that is outside the rules
 abbrev pub IsIdle : Message → Option ℤ → Outcome → Type 0
-IsIdle m now (Faulty fault) = HasFault m now fault
+IsIdle m now (Faulty fault) = MessageHasFault m now fault
 IsIdle m now (Served form (Err (ImportRow row cause))) =
     (form ≡ Json) × ((route : Route) × (moment : ℕ) × ComesAt m now route moment
-    × IsAsked route m.body (Err (Row row cause)))
+    × BodyAsks route m.body (Err (Row row cause)))
 IsIdle m now outcome = ⊥
 
 -- what a message means, with what the clock gave for it
 abbrev pub IsMeaning : Message → Option ℤ → Meaning → Type 0
-IsMeaning m now (meanings.Asks form moment request) = Asks m now form moment request
+IsMeaning m now (meanings.Asks form moment request) = MessageAsks m now form moment request
 IsMeaning m now (meanings.Told outcome) = IsIdle m now outcome
 IsMeaning m now meanings.Memory = ⊤

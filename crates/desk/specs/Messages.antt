@@ -6,7 +6,7 @@ use Rattle.desk.specs.declared.message_fault.MessageFault.{MessageFault}
 use Rattle.desk.specs.declared.message_fault.MessageFault.TheVariants.{Head}
 use Rattle.desk.specs.declared.method.Method.{Method}
 use Rattle.desk.specs.Framing.{framing_of}
-use Rattle.desk.specs.Heads.{BeginsWith, HasNoHead, NeverHasHead, longest_head}
+use Rattle.desk.specs.Heads.{BeginsWithHead, HasNoHead, NeverHasHead, longest_head}
 
 -- how an input stops: it ends, or its reader fails
 pub data Stop : Type 0 where
@@ -22,7 +22,7 @@ pub record Message : Type 0 where
 -- the input begins with the message, and the rest follows it
 pub record BeginsMessage (input : List ℕ) (m : Message) (rest : List ℕ) : Type 0 where
   pub head : RequestHead
-  pub begins : BeginsWith input head (m.body ++ rest)
+  pub begins : BeginsWithHead input head (m.body ++ rest)
   pub target : head.target ≡ m.target
   pub framed : framing_of head
       ≡ Ok (record { method = m.method; body = length m.body; closes = m.closes })
@@ -31,7 +31,7 @@ pub record BeginsMessage (input : List ℕ) (m : Message) (rest : List ℕ) : Ty
 pub record BeginsFaulty (input : List ℕ) (fault : MessageFault) : Type 0 where
   pub head : RequestHead
   pub rest : List ℕ
-  pub begins : BeginsWith input head rest
+  pub begins : BeginsWithHead input head rest
   pub faulty : framing_of head ≡ Err fault
 
 -- the input ends within a message, so many bytes before the end of its body
@@ -39,13 +39,13 @@ pub record LacksBody (input : List ℕ) (missing : ℕ) : Type 0 where
   pub head : RequestHead
   pub framing : Framing
   pub body : List ℕ
-  pub begins : BeginsWith input head body
+  pub begins : BeginsWithHead input head body
   pub framed : framing_of head ≡ Ok framing
   pub lacks : length body + missing ≡ framing.body
   pub some : 0 < missing
 
-abbrev pub IsCut : List ℕ → Type 0
-IsCut input = (missing : ℕ) × LacksBody input missing
+abbrev pub IsCutMessage : List ℕ → Type 0
+IsCutMessage input = (missing : ℕ) × LacksBody input missing
 
 -- the input has bytes and begins with no head; where its reader failed, whatever might have followed
 abbrev pub BeginsNoHead : Stop → List ℕ → Type 0
@@ -65,10 +65,10 @@ pub data Ending : Type 0 where
 
 -- what is left of an input that stops so, if no message does follow, ends it like this
 abbrev pub EndsAs : Stop → List ℕ → Ending → Type 0
-EndsAs ended input finished = (input ≡ []) ⊎ IsCut input
+EndsAs ended input finished = (input ≡ []) ⊎ IsCutMessage input
 EndsAs failed input finished = ⊥
 EndsAs ended input broken = ⊥
-EndsAs failed input broken = (HasNoHead input × (length input < longest_head)) ⊎ IsCut input
+EndsAs failed input broken = (HasNoHead input × (length input < longest_head)) ⊎ IsCutMessage input
 EndsAs stop input (refused fault) = IsRefused stop input fault
 EndsAs stop input closing = ⊥
 

@@ -9,9 +9,9 @@ IsFound Holds (Some value) = Holds value
 IsFound {A} Holds None = (value : A) → ¬ Holds value
 
 -- a value that keeps the rule and is written so was read, or there is none
-abbrev pub Reads : {A B : Type 0} → (A → Type 0) → (A → B) → B → Option A → Type 0
-Reads rule write written (Some value) = rule value × (written ≡ write value)
-Reads {A} rule write written None = (value : A) → rule value → written ≢ write value
+abbrev pub ReadsWritten : {A B : Type 0} → (A → Type 0) → (A → B) → B → Option A → Type 0
+ReadsWritten rule write written (Some value) = rule value × (written ≡ write value)
+ReadsWritten {A} rule write written None = (value : A) → rule value → written ≢ write value
 
 -- a value of a body was found of which this holds, or it holds of none, or memory was short
 abbrev pub IsFoundIn : {A : Type 0} → (A → Type 0) → Result A BodyFault → Type 0

@@ -48,5 +48,5 @@ reply_text head body =
     ++ body
 
 -- the reply that tells what came of a message, and after which the conversation ends or not
-abbrev pub reply_of : Outcome → Bool → List ℕ
-reply_of outcome closes = reply_text (head_of outcome closes) (body_of outcome)
+abbrev pub reply_bytes_of : Outcome → Bool → List ℕ
+reply_bytes_of outcome closes = reply_text (head_of outcome closes) (body_of outcome)

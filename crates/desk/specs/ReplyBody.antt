@@ -6,9 +6,9 @@ use Rattle.desk.specs.declared.form.Form.{Form}
 use Rattle.desk.specs.declared.form.Form.TheVariants.{Json, Paper}
 use Rattle.desk.specs.declared.outcome.Outcome.{Outcome}
 use Rattle.desk.specs.declared.outcome.Outcome.TheVariants.{Refused, Faulty, Served}
-use Rattle.desk.specs.DeskFault as desk_fault
+use Rattle.desk.specs.DeskFault.{desk_fault_word}
 use Rattle.desk.specs.Members.{Pair, json_text, whole}
-use Rattle.desk.specs.MessageFault.{word_of}
+use Rattle.desk.specs.MessageFault.{message_fault_word}
 use Rattle.papers.specs.Receipt.{receipt_of}
 use Rattle.papers.specs.Report.{report_of}
 use Rattle.papers.specs.Text.{change_of}
@@ -78,7 +78,7 @@ answer_body form (Report shift sales) = report_of shift sales
 
 -- the body for what came of a message
 abbrev pub body_of : Outcome → List ℕ
-body_of (Refused fault) = json_text (fault_members (word_of fault))
-body_of (Faulty fault) = json_text (fault_members (desk_fault.word_of fault))
+body_of (Refused fault) = json_text (fault_members (message_fault_word fault))
+body_of (Faulty fault) = json_text (fault_members (desk_fault_word fault))
 body_of (Served form (Ok answer)) = answer_body form answer
 body_of (Served form (Err refusal)) = json_text (refusal_members refusal)

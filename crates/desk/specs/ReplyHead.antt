@@ -8,8 +8,8 @@ use Rattle.desk.specs.declared.method.Method.{Method}
 use Rattle.desk.specs.declared.outcome.Outcome.{Outcome}
 use Rattle.desk.specs.declared.outcome.Outcome.TheVariants.{Refused, Faulty, Served}
 use Rattle.desk.specs.declared.reply_head.ReplyHead.{ReplyHead}
-use Rattle.desk.specs.DeskFault as desk_fault
-use Rattle.desk.specs.MessageFault.{status_of}
+use Rattle.desk.specs.DeskFault.{desk_fault_status}
+use Rattle.desk.specs.MessageFault.{message_fault_status}
 use Rattle.vend_core.specs.declared.answer.Answer.{Answer}
 use Rattle.vend_core.specs.declared.answer.Answer.TheVariants.{Done, Imported, Opened, Closed, Sold, Reprinted, Report}
 use Rattle.vend_core.specs.declared.refusal.Refusal.{Refusal}
@@ -57,9 +57,9 @@ form_of form (Report shift sales) = Paper
 -- refused always ends it
 abbrev pub head_of : Outcome → Bool → ReplyHead
 head_of (Refused fault) closes =
-    record { status = status_of fault; form = Json; allowed = None; closes = true }
+    record { status = message_fault_status fault; form = Json; allowed = None; closes = true }
 head_of (Faulty fault) closes =
-    record { status = desk_fault.status_of fault; form = Json; allowed = allowed_by fault; closes = closes }
+    record { status = desk_fault_status fault; form = Json; allowed = allowed_by fault; closes = closes }
 head_of (Served form (Ok answer)) closes =
     record { status = 200; form = form_of form answer; allowed = None; closes = closes }
 head_of (Served form (Err refusal)) closes =

@@ -10,7 +10,7 @@ use Rattle.desk.specs.declared.endpoint.Endpoint.TheVariants.{Tariffs, Meters, M
 use Rattle.desk.specs.declared.method.Method.{Method}
 use Rattle.desk.specs.declared.route.Route.{Route}
 use Rattle.desk.specs.declared.route.Route.TheVariants.{AddTariff, AddMeter, SetTariff, OpenShift, CloseShift, ShiftReport, Sell, Reprint, Receipt, ImportMeters, ImportTariffs}
-use Rattle.desk.specs.Endpoint.{method_of, table}
+use Rattle.desk.specs.Endpoint.{endpoint_method, table}
 
 -- the endpoint that a route is asked at
 abbrev pub endpoint_of : Route → Endpoint
@@ -27,7 +27,7 @@ endpoint_of ImportMeters = MeterImports
 endpoint_of ImportTariffs = TariffImports
 
 -- a number that a target may name
-pub record IsNumber (number : ℕ) : Type 0 where
+pub record IsTargetNumber (number : ℕ) : Type 0 where
   pub from_one : 1 ≤ number
   pub most : number ≤ 1000000000
 
@@ -41,10 +41,10 @@ pub record Finds (target : List ℕ) (endpoint : Endpoint) : Type 0 where
 abbrev pub Names : List ℕ → Route → Type 0
 Names target (SetTariff meter) =
     (target ≡ (codes "/meters/" ++ meter) ++ codes "/tariff") × IsMeterNo meter
-Names target (ShiftReport number) = (target ≡ codes "/shifts/" ++ decimal number) × IsNumber number
-Names target (Reprint number) = (target ≡ codes "/sales/" ++ decimal number) × IsNumber number
+Names target (ShiftReport number) = (target ≡ codes "/shifts/" ++ decimal number) × IsTargetNumber number
+Names target (Reprint number) = (target ≡ codes "/sales/" ++ decimal number) × IsTargetNumber number
 Names target (Receipt number) =
-    (target ≡ (codes "/sales/" ++ decimal number) ++ codes "/receipt") × IsNumber number
+    (target ≡ (codes "/sales/" ++ decimal number) ++ codes "/receipt") × IsTargetNumber number
 Names target route = ⊤
 
 -- the target leads to the route, by whatever method
@@ -55,9 +55,9 @@ pub record LeadsTo (target : List ℕ) (route : Route) : Type 0 where
 -- what a target and a method ask for: a route by its own method, or why there is none
 abbrev pub IsRouted : List ℕ → Method → Result Route DeskFault → Type 0
 IsRouted target method (Ok route) =
-    LeadsTo target route × (method_of (endpoint_of route) ≡ method)
+    LeadsTo target route × (endpoint_method (endpoint_of route) ≡ method)
 IsRouted target method (Err faults.NoRoute) = (route : Route) → ¬ LeadsTo target route
 IsRouted target method (Err (faults.Method allowed)) =
-    (route : Route) × LeadsTo target route × (method_of (endpoint_of route) ≡ allowed)
+    (route : Route) × LeadsTo target route × (endpoint_method (endpoint_of route) ≡ allowed)
     × (allowed ≢ method)
 IsRouted target method (Err fault) = ⊥

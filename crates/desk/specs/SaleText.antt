@@ -7,7 +7,7 @@ use Rattle.vend_core.specs.Names.{IsMeterNo, IsName, IsOperator}
 use Rattle.vend_core.specs.declared.sale.Sale.{Sale}
 
 -- a sale whose names keep their rules and whose token has twenty digits, as each of an office
-pub record IsTold (s : Sale) : Type 0 where
+pub record IsTellableSale (s : Sale) : Type 0 where
   pub operator : IsOperator s.operator
   pub order_ref : IsName s.order_ref
   pub meter : IsMeterNo s.meter

@@ -1,4 +1,4 @@
-ghost use Rattle.std.specs.Prelude.{◌≡◌, List, Result};
+ghost use Rattle.std.specs.Prelude.{◌≡◌, ℕ, ℤ, List, Option, Result};
 ghost use Rattle.vend_core.specs.Life.{Life};
 ghost use Rattle.vend_core.specs.LifeLaws.{extended_along};
 ghost use Rattle.vend_core.specs.declared.answer.Answer.{Answer};
@@ -6,13 +6,36 @@ ghost use Rattle.vend_core.specs.declared.refusal.Refusal.{Refusal};
 ghost use Rattle.vend_core.specs.declared.request.Stamped.{Stamped};
 ghost use Rattle.desk.specs.Along.{AreAsked};
 ghost use Rattle.desk.specs.Answering.{answers_by, life_serves};
-ghost use Rattle.desk.specs.Exchanges.{Exchange, Served, Timed, timed};
+ghost use Rattle.desk.specs.Conversation.{messages_of};
+ghost use Rattle.desk.specs.Exchanges.{Exchanged, MessageExchange, Timed, timed};
+ghost use Rattle.desk.specs.Messages.{Ending, Message, Messages, Stop};
+ghost use Rattle.desk.specs.OneConversation.{HasOneMeaning, asked_at, moments_of};
+
+use crate::asking::asking_law;
+use crate::message::message_law;
+use crate::routes::route_law;
 
 /// A life goes on along a conversation by the requests that its messages asked and the replies that
 /// they were told, each once and in order, and by nothing beside.
 pub fn desk_law()
-    ensures { (old new : Timed Life) (xs : List Exchange)
-        → Served (timed (answers_by life_serves)) old xs new
+    ensures { (old new : Timed Life) (xs : List MessageExchange)
+        → Exchanged (timed (answers_by life_serves)) old xs new
         → (ats : List Stamped) × (replies : List (Result Answer Refusal))
         × AreAsked xs ats replies × (new.0 ≡ extended_along old.0 ats replies) }
 {}
+
+/// A message has one meaning, and an input one conversation: with the same answers of the clock and
+/// the same replies of the office, two conversations of an input are the same exchanges, and ask the
+/// same requests at the same moments.
+pub fn conversation_law()
+    ensures meaning { (m : Message) (now : Option ℤ) → HasOneMeaning m now }
+    ensures one { (stop : Stop) (input : List ℕ) (xs ys : List MessageExchange) (e f : Ending)
+        (ats bts : List Stamped) (replies : List (Result Answer Refusal))
+        → Messages stop input (messages_of xs) e → Messages stop input (messages_of ys) f
+        → moments_of xs ≡ moments_of ys → AreAsked xs ats replies → AreAsked ys bts replies
+        → (xs ≡ ys) × (asked_at ats ≡ asked_at bts) }
+{
+    message_law();
+    route_law();
+    asking_law();
+}

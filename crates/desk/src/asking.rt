@@ -1,12 +1,12 @@
 ghost use Rattle.std.specs.Prelude.{◌≡◌, ◌≢◌, ℕ, List, Result, Err};
-ghost use Rattle.desk.specs.Asking.{IsAsked, SaysJson, import_of};
-ghost use Rattle.desk.specs.Reads.{IsFoundIn};
+ghost use Rattle.desk.specs.Asking.{AsksByJson, BodyAsks, import_of};
 ghost use Rattle.desk.specs.declared.body_fault.BodyFault.{BodyFault};
 ghost use Rattle.desk.specs.declared.route.Route.{Route};
 ghost use Rattle.vend_core.specs.declared.request.Request.{Request};
 
 use crate::body_fault::BodyFault;
 use crate::json_body::read_value;
+use crate::json_kind::JsonKind;
 use crate::json_requests::said;
 use crate::route::Route;
 use papers::{RowFault, import_law, read_meters, read_tariffs};
@@ -17,33 +17,38 @@ use vend_core::{Request, Rows};
 /// The request that a body asks of a route, or why it asks none. A route that is asked by GET
 /// doesn't look at the body, and takes no memory.
 pub fn request_of(alloc: Global, route: Route, body: &[u8]) -> Result<Request, BodyFault>
-    ensures { IsAsked route body.now result }
+    ensures { BodyAsks route body.now result }
 {
     match route {
         Route::ShiftReport(number) => Ok(Request::ShiftReport(number)),
         Route::Reprint(number) | Route::Receipt(number) => Ok(Request::Reprint(number)),
         Route::ImportMeters => import_of(read_meters(alloc, body)),
         Route::ImportTariffs => import_of(read_tariffs(alloc, body)),
-        _ => said_by(alloc, route, body),
+        Route::AddTariff => said_by(alloc, JsonKind::Tariff, body),
+        Route::AddMeter => said_by(alloc, JsonKind::Meter, body),
+        Route::SetTariff(meter) => said_by(alloc, JsonKind::MeterTariff(meter), body),
+        Route::OpenShift => said_by(alloc, JsonKind::Opening, body),
+        Route::CloseShift => said_by(alloc, JsonKind::Closing, body),
+        Route::Sell => said_by(alloc, JsonKind::Order, body),
     }
 }
 
 /// What a body asks of a route is one wherever memory isn't short: one request, or one fault.
 pub fn asking_law()
     ensures { (route : Route) (body : List ℕ) (a b : Result Request BodyFault)
-        → IsAsked route body a → IsAsked route body b
+        → BodyAsks route body a → BodyAsks route body b
         → a ≢ Err BodyFault.Memory → b ≢ Err BodyFault.Memory → a ≡ b }
 {
     import_law();
     steps_text_law();
 }
 
-// The request that JSON says to a route.
-fn said_by(alloc: Global, route: Route, body: &[u8]) -> Result<Request, BodyFault>
-    ensures { IsFoundIn (SaysJson route body.now) result }
+// The request that a body says as JSON.
+fn said_by(alloc: Global, kind: JsonKind, body: &[u8]) -> Result<Request, BodyFault>
+    ensures { AsksByJson kind body.now result }
 {
     match read_value(alloc, body) {
-        Ok(value) => said(alloc, route, &value),
+        Ok(value) => said(alloc, kind, &value),
         Err(fault) => Err(fault),
     }
 }

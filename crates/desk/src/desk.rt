@@ -1,17 +1,19 @@
-ghost use Rattle.std.specs.Prelude.{◌≡◌, ℤ, Option};
+ghost use Rattle.std.specs.Prelude.{◌≡◌, ℤ, List, Option};
 ghost use Rattle.sqlite.specs.State.{HasCleanDisk};
 ghost use Rattle.vend_core.specs.Life.{Life};
-ghost use Rattle.books.specs.Keeps.{Keeps, seen};
+ghost use Rattle.books.specs.Keeps.{Represents, seen};
 ghost use Rattle.books.specs.Others.{LeavesOthers};
-ghost use Rattle.desk.specs.Answering.{answers_by, books_serve, life_serves, refusal_of};
-ghost use Rattle.desk.specs.Exchanges.{Reads};
+ghost use Rattle.desk.specs.Answering.{answers_by, books_serve, life_serves, message_refusal_of};
+ghost use Rattle.desk.specs.Exchanges.{ReadsClock};
 ghost use Rattle.desk.specs.Meaning.{IsMeaning};
 ghost use Rattle.desk.specs.Next.{message_of};
 ghost use Rattle.desk.specs.Run.{IsRun};
+ghost use Rattle.desk.specs.Uses.{Grows, IsPaced, Use};
 
 use crate::clock::Clock;
 use crate::conversation::run;
 use crate::end::End;
+use crate::line::{Line, Untold};
 use crate::meaning::{Meaning, meaning_at};
 use crate::message_fault::MessageFault;
 use crate::outcome::Outcome;
@@ -44,7 +46,9 @@ impl Desk {
     /// Holds the conversation of a reader and a writer over these books: each message that is read
     /// is answered in order, and its request served once, before more is asked for. A request comes
     /// at the moment that the clock gives for it. See `End` for what was written and served by the
-    /// end; `specs/Answering.antt` says how books and their lives answer.
+    /// end; `specs/Answering.antt` says how books and their lives answer. No more is read than
+    /// `specs/Uses.antt` allows (`paced`): while a head is awaited 8192 bytes of it in all, while a
+    /// body is awaited what it lacks, and nothing after an end.
     pub fn run<S: Alter, T: BlockTransform, R: Read, W: Write, C: Clock>(
         &self,
         alloc: Global,
@@ -53,28 +57,55 @@ impl Desk {
         books: &mut Books<S, T>,
         clock: &mut C,
     ) -> End
-        ensures run { IsRun (answers_by (books_serve (seen S.Store T.forwards))) refusal_of
+        ensures run { IsRun (answers_by (books_serve (seen S.Store T.forwards))) message_refusal_of
             (books.old, C.answers clock.old) (books.new, C.answers clock.new)
             (R.remaining reader.old) (R.remaining reader.new)
             (W.contents writer.old) (W.contents writer.new) result }
+        ensures paced { (uses : List Use)
+            × IsPaced (answers_by (books_serve (seen S.Store T.forwards)))
+            (books.old, C.answers clock.old) (R.remaining reader.old) (R.remaining reader.new)
+            (W.contents writer.old) (W.contents writer.new) uses }
         ensures clean { HasCleanDisk (seen S.Store T.forwards books.new).state
             → HasCleanDisk (seen S.Store T.forwards books.old).state }
         ensures lives { HasCleanDisk (seen S.Store T.forwards books.new).state → (life : Life)
-            → Keeps life (seen S.Store T.forwards books.old)
-            → (after : Life) × IsRun (answers_by life_serves) refusal_of
+            → Represents life (seen S.Store T.forwards books.old)
+            → (after : Life) × IsRun (answers_by life_serves) message_refusal_of
             (life, C.answers clock.old) (after, C.answers clock.new)
             (R.remaining reader.old) (R.remaining reader.new)
             (W.contents writer.old) (W.contents writer.new) result
-            × Keeps after (seen S.Store T.forwards books.new)
+            × Represents after (seen S.Store T.forwards books.new)
             × LeavesOthers (seen S.Store T.forwards books.old).state
             (seen S.Store T.forwards books.new).state }
     {
-        run(self, alloc, reader, writer, books, clock)
+        run(self, alloc, &mut Untold, reader, writer, books, clock)
+    }
+
+    /// The same, where each use of the reader and the writer goes through a line: the uses that it
+    /// tells are in turn (`paced`), so that each reply is written before more input is asked for.
+    pub fn run_over<S: Alter, T: BlockTransform, L: Line, R: Read, W: Write, C: Clock>(
+        &self,
+        alloc: Global,
+        line: &mut L,
+        reader: &mut R,
+        writer: &mut W,
+        books: &mut Books<S, T>,
+        clock: &mut C,
+    ) -> End
+        ensures run { IsRun (answers_by (books_serve (seen S.Store T.forwards))) message_refusal_of
+            (books.old, C.answers clock.old) (books.new, C.answers clock.new)
+            (R.remaining reader.old) (R.remaining reader.new)
+            (W.contents writer.old) (W.contents writer.new) result }
+        ensures paced { (uses : List Use) × Grows (L.uses line.old) (L.uses line.new) uses
+            × IsPaced (answers_by (books_serve (seen S.Store T.forwards)))
+            (books.old, C.answers clock.old) (R.remaining reader.old) (R.remaining reader.new)
+            (W.contents writer.old) (W.contents writer.new) uses }
+    {
+        run(self, alloc, line, reader, writer, books, clock)
     }
 
     // What a message means. The clock is read once where it has a route, and else not.
     fn meaning_of<C: Clock>(&self, alloc: Global, clock: &mut C, message: &Received<'_>) -> Meaning
-        ensures { (now : Option ℤ) × Reads (C.answers clock.old) now (C.answers clock.new)
+        ensures { (now : Option ℤ) × ReadsClock (C.answers clock.old) now (C.answers clock.new)
             × IsMeaning (message_of message.now) now result }
     {
         match self.routes.route_of(message.target, message.method) {
@@ -86,11 +117,11 @@ impl Desk {
 
 impl<S: Alter, T: BlockTransform> Service<Books<S, T>> for Desk {
     ghost use Rattle.books.specs.Keeps.{seen};
-    ghost use Rattle.desk.specs.Answering.{answers_by, books_serve, refusal_of};
+    ghost use Rattle.desk.specs.Answering.{answers_by, books_serve, message_refusal_of};
 
     ghost step = { answers_by (books_serve (seen S.Store T.forwards)) };
 
-    ghost refusal = { refusal_of };
+    ghost refusal = { message_refusal_of };
 
     fn answer<C: Clock>(
         &self,

@@ -1,5 +1,5 @@
 ghost use Rattle.std.specs.Prelude.{◌≡◌};
-ghost use Rattle.desk.specs.DeskFault.{status_of, word_of};
+ghost use Rattle.desk.specs.DeskFault.{desk_fault_status, desk_fault_word};
 
 use crate::method::Method;
 use thiserror::Error;
@@ -24,7 +24,7 @@ pub enum DeskFault {
 impl DeskFault {
     /// The status code of its reply.
     pub fn status(self) -> u16
-        ensures { result ≡ status_of self }
+        ensures { result ≡ desk_fault_status self }
     {
         match self {
             DeskFault::NoRoute => 404,
@@ -36,7 +36,7 @@ impl DeskFault {
 
     /// The word that its reply carries.
     pub fn word(self) -> &'static str
-        ensures { result.now ≡ word_of self }
+        ensures { result.now ≡ desk_fault_word self }
     {
         match self {
             DeskFault::NoRoute => "NoRoute",

@@ -1,5 +1,5 @@
 ghost use Rattle.std.specs.Prelude.{◌≡◌};
-ghost use Rattle.desk.specs.Endpoint.{method_of, pattern_of};
+ghost use Rattle.desk.specs.Endpoint.{endpoint_method, pattern_of};
 
 use crate::method::Method;
 
@@ -22,7 +22,7 @@ pub enum Endpoint {
 impl Endpoint {
     /// The method that it is asked by.
     pub fn method(self) -> Method
-        ensures { result ≡ method_of self }
+        ensures { result ≡ endpoint_method self }
     {
         match self {
             Endpoint::Shift | Endpoint::Sale | Endpoint::SaleReceipt => Method::Get,

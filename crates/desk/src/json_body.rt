@@ -2,7 +2,7 @@ ghost use Rattle.std.specs.Prelude.{◌≡◌, ◌≢◌, ◌↔◌, ◌⊎◌, 
 ghost use Rattle.serde_json.specs.Data.{Data, number, string, unsigned};
 ghost use Rattle.serde_json.specs.Find.{get};
 ghost use Rattle.serde_json.specs.View.{view};
-ghost use Rattle.desk.specs.JsonBody.{HasCount, IsJson};
+ghost use Rattle.desk.specs.JsonBody.{HasMemberCount, IsJson};
 
 use crate::body_fault::BodyFault;
 use serde_json::Value;
@@ -23,7 +23,7 @@ pub(crate) fn read_value(alloc: Global, body: &[u8]) -> Result<Value, BodyFault>
 
 // Whether a value is an object with so many members.
 pub(crate) fn has_count(value: &Value, count: usize) -> bool
-    ensures { IsTrue result ↔ HasCount (view value.now) count }
+    ensures { IsTrue result ↔ HasMemberCount (view value.now) count }
 {
     match value.as_object() {
         Some(members) => members.len() == count,

@@ -3,7 +3,7 @@ ghost use Rattle.serde_json.specs.Data.{number, string, unsigned};
 ghost use Rattle.serde_json.specs.Find.{get};
 ghost use Rattle.serde_json.specs.View.{view};
 ghost use Rattle.desk.specs.JsonBody.{IsBaseAt, IsKeyAt, IsStepsAt};
-ghost use Rattle.desk.specs.Reads.{IsFound, IsFoundIn, Reads};
+ghost use Rattle.desk.specs.Reads.{IsFound, IsFoundIn, ReadsWritten};
 ghost use Rattle.tariff.specs.Tender.{IsTender};
 ghost use Rattle.vend_core.specs.Names.{IsMeterNo, IsName, IsOperator};
 
@@ -18,7 +18,7 @@ use vend_core::{MeterNo, Operator, Ref, TariffName, Tender};
 
 // The number of a meter that the member of a name is.
 pub(crate) fn meter_at(value: &Value, name: &str) -> Option<MeterNo>
-    ensures { Reads IsMeterNo (λ text. Some (string text)) (get name.now (view value.now)) result }
+    ensures { ReadsWritten IsMeterNo (λ text. Some (string text)) (get name.now (view value.now)) result }
 {
     match text_at(value, name) {
         Some(text) => MeterNo::read(text),
@@ -28,7 +28,7 @@ pub(crate) fn meter_at(value: &Value, name: &str) -> Option<MeterNo>
 
 // The name of a tariff that the member of a name is.
 pub(crate) fn tariff_at(value: &Value, name: &str) -> Option<TariffName>
-    ensures { Reads IsName (λ text. Some (string text)) (get name.now (view value.now)) result }
+    ensures { ReadsWritten IsName (λ text. Some (string text)) (get name.now (view value.now)) result }
 {
     match text_at(value, name) {
         Some(text) => TariffName::read(text),
@@ -38,7 +38,7 @@ pub(crate) fn tariff_at(value: &Value, name: &str) -> Option<TariffName>
 
 // The operator that the member of a name is.
 pub(crate) fn operator_at(value: &Value, name: &str) -> Option<Operator>
-    ensures { Reads IsOperator (λ text. Some (string text)) (get name.now (view value.now)) result }
+    ensures { ReadsWritten IsOperator (λ text. Some (string text)) (get name.now (view value.now)) result }
 {
     match text_at(value, name) {
         Some(text) => Operator::read(text),
@@ -48,7 +48,7 @@ pub(crate) fn operator_at(value: &Value, name: &str) -> Option<Operator>
 
 // The ref that the member of a name is.
 pub(crate) fn ref_at(value: &Value, name: &str) -> Option<Ref>
-    ensures { Reads IsName (λ text. Some (string text)) (get name.now (view value.now)) result }
+    ensures { ReadsWritten IsName (λ text. Some (string text)) (get name.now (view value.now)) result }
 {
     match text_at(value, name) {
         Some(text) => Ref::read(text),
@@ -58,7 +58,7 @@ pub(crate) fn ref_at(value: &Value, name: &str) -> Option<Ref>
 
 // The tender that the member of a name is.
 pub(crate) fn tender_at(value: &Value, name: &str) -> Option<Tender>
-    ensures { Reads IsTender (λ cents. Some (number (unsigned cents)))
+    ensures { ReadsWritten IsTender (λ cents. Some (number (unsigned cents)))
         (get name.now (view value.now)) result }
 {
     match number_at(value, name) {

@@ -1,51 +1,50 @@
 ghost use Rattle.serde_json.specs.View.{view};
-ghost use Rattle.desk.specs.JsonBody.{Says, SaysMeter, SaysOperator, SaysOrder, SaysTariff, SaysTariffName};
+ghost use Rattle.desk.specs.JsonBody.{BodySays, BodySaysMeter, BodySaysOperator, SaysOrder, BodySaysTariff, SaysTariffName};
 ghost use Rattle.desk.specs.Reads.{IsFound, IsFoundIn};
 
 use crate::body_fault::BodyFault;
 use crate::json_body::has_count;
+use crate::json_kind::JsonKind;
 use crate::json_names::{
     base_at, key_at, meter_at, operator_at, ref_at, steps_at, tariff_at, tender_at,
 };
-use crate::route::Route;
 use serde_json::Value;
 use std::alloc::Global;
 use tariff::Steps;
 use vend_core::{Meter, MeterNo, Operator, Order, Request, TariffName};
 
-// The request that a value says to a route.
-pub(crate) fn said(alloc: Global, route: Route, value: &Value) -> Result<Request, BodyFault>
-    ensures { IsFoundIn (Says route (view value.now)) result }
+// The request that a value says.
+pub(crate) fn said(alloc: Global, kind: JsonKind, value: &Value) -> Result<Request, BodyFault>
+    ensures { IsFoundIn (BodySays kind (view value.now)) result }
 {
-    match route {
-        Route::AddTariff => match tariff(alloc, value) {
+    match kind {
+        JsonKind::Tariff => match tariff(alloc, value) {
             Ok((name, steps)) => Ok(Request::AddTariff(name, steps)),
             Err(fault) => Err(fault),
         },
-        Route::AddMeter => match meter(value) {
+        JsonKind::Meter => match meter(value) {
             Some((number, meter)) => Ok(Request::AddMeter(number, meter)),
             None => Err(BodyFault::OutsideRule),
         },
-        Route::SetTariff(meter) => match tariff_name(value) {
+        JsonKind::MeterTariff(meter) => match tariff_name(value) {
             Some(name) => Ok(Request::SetTariff(meter, name)),
             None => Err(BodyFault::OutsideRule),
         },
-        Route::OpenShift => operator(value)
+        JsonKind::Opening => operator(value)
             .map(Request::OpenShift)
             .ok_or(BodyFault::OutsideRule),
-        Route::CloseShift => operator(value)
+        JsonKind::Closing => operator(value)
             .map(Request::CloseShift)
             .ok_or(BodyFault::OutsideRule),
-        Route::Sell => order(value)
+        JsonKind::Order => order(value)
             .map(Request::Sell)
             .ok_or(BodyFault::OutsideRule),
-        _ => Err(BodyFault::OutsideRule),
     }
 }
 
 // The name and the steps of the tariff that a value says.
 fn tariff(alloc: Global, value: &Value) -> Result<(TariffName, Steps), BodyFault>
-    ensures { IsFoundIn (λ said. SaysTariff (view value.now) said.0 said.1) result }
+    ensures { IsFoundIn (λ said. BodySaysTariff (view value.now) said.0 said.1) result }
 {
     if !has_count(value, 2) {
         return Err(BodyFault::OutsideRule);
@@ -61,7 +60,7 @@ fn tariff(alloc: Global, value: &Value) -> Result<(TariffName, Steps), BodyFault
 
 // The meter that a value says, with its number.
 fn meter(value: &Value) -> Option<(MeterNo, Meter)>
-    ensures { IsFound (λ said. SaysMeter (view value.now) said.0 said.1) result }
+    ensures { IsFound (λ said. BodySaysMeter (view value.now) said.0 said.1) result }
 {
     if !has_count(value, 4) {
         return None;
@@ -86,7 +85,7 @@ fn tariff_name(value: &Value) -> Option<TariffName>
 
 // The operator that a value says.
 fn operator(value: &Value) -> Option<Operator>
-    ensures { IsFound (SaysOperator (view value.now)) result }
+    ensures { IsFound (BodySaysOperator (view value.now)) result }
 {
     if has_count(value, 1) {
         operator_at(value, "operator")

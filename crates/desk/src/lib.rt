@@ -4,7 +4,7 @@
 //! that `httparse` states.
 #![tactic(auto)]
 
-pub use along::desk_law;
+pub use along::{conversation_law, desk_law};
 pub use asking::{asking_law, request_of};
 pub use body_fault::BodyFault;
 pub use clock::{Clock, Script};
@@ -16,7 +16,9 @@ pub use endpoint::Endpoint;
 pub use form::Form;
 pub use framing::{Framing, MAX_BODY};
 pub use head::{Front, MAX_FIELDS, MAX_HEAD, front_of};
+pub use json_kind::JsonKind;
 pub use laws::reply_law;
+pub use line::{Line, Untold};
 pub use machine_clock::MachineClock;
 pub use message::{Next, message_law, next_of};
 pub use message_fault::MessageFault;
@@ -42,9 +44,11 @@ mod form;
 mod framing;
 mod head;
 mod json_body;
+mod json_kind;
 mod json_names;
 mod json_requests;
 mod laws;
+mod line;
 mod machine_clock;
 mod meaning;
 mod members;
@@ -53,13 +57,12 @@ mod message_fault;
 mod method;
 mod outcome;
 mod parameter;
-mod reading;
 mod received;
 mod replies;
 mod reply_body;
 mod reply_head;
 mod route;
 mod routes;
-mod sending;
 mod service;
+mod unanswered;
 mod wants;

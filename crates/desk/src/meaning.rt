@@ -1,7 +1,7 @@
 //! What a message means, before the office is asked.
 
 ghost use Rattle.std.specs.Prelude.{◌≡◌, Some, Ok, pos};
-ghost use Rattle.desk.specs.Meaning.{IsFor, IsMeaning, form_of};
+ghost use Rattle.desk.specs.Meaning.{IsFor, IsMeaning, sale_form_of};
 ghost use Rattle.desk.specs.Next.{message_of};
 
 use crate::asking::request_of;
@@ -28,7 +28,7 @@ pub(crate) enum Meaning {
 impl Route {
     // The form in which a sale is told.
     pub(crate) fn form(&self) -> Form
-        ensures { result ≡ form_of self.now }
+        ensures { result ≡ sale_form_of self.now }
     {
         match self {
             Route::Receipt(_) => Form::Paper,

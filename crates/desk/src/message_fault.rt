@@ -1,5 +1,5 @@
 ghost use Rattle.std.specs.Prelude.{◌≡◌};
-ghost use Rattle.desk.specs.MessageFault.{status_of, word_of};
+ghost use Rattle.desk.specs.MessageFault.{message_fault_status, message_fault_word};
 
 use thiserror::Error;
 
@@ -29,7 +29,7 @@ pub enum MessageFault {
 impl MessageFault {
     /// The status code of its reply.
     pub fn status(self) -> u16
-        ensures { result ≡ status_of self }
+        ensures { result ≡ message_fault_status self }
     {
         match self {
             MessageFault::Head | MessageFault::Host | MessageFault::Length => 400,
@@ -40,7 +40,7 @@ impl MessageFault {
 
     /// The word that its reply carries.
     pub fn word(self) -> &'static str
-        ensures { result.now ≡ word_of self }
+        ensures { result.now ≡ message_fault_word self }
     {
         match self {
             MessageFault::Head => "Head",

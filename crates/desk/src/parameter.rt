@@ -1,6 +1,6 @@
 ghost use Rattle.std.specs.Prelude.{◌++◌, ◌≤◌, ◌↔◌, IsTrue, decimal, slice_index};
-ghost use Rattle.desk.specs.Reads.{Reads};
-ghost use Rattle.desk.specs.Route.{IsNumber};
+ghost use Rattle.desk.specs.Reads.{ReadsWritten};
+ghost use Rattle.desk.specs.Route.{IsTargetNumber};
 ghost use Rattle.vend_core.specs.Names.{IsMeterNo};
 
 use std::str;
@@ -11,7 +11,7 @@ const GREATEST: u32 = 1_000_000_000;
 
 // The number that stands behind this front.
 pub(crate) fn number_after(text: &[u8], front: &[u8]) -> Option<u32>
-    ensures { Reads IsNumber (λ number. front.now ++ decimal number) text.now result }
+    ensures { ReadsWritten IsTargetNumber (λ number. front.now ++ decimal number) text.now result }
 {
     match text.strip_prefix(front) {
         Some(digits) => read_number(digits),
@@ -21,7 +21,7 @@ pub(crate) fn number_after(text: &[u8], front: &[u8]) -> Option<u32>
 
 // The number that stands between a front and an end.
 pub(crate) fn number_between(text: &[u8], front: &[u8], end: &[u8]) -> Option<u32>
-    ensures { Reads IsNumber
+    ensures { ReadsWritten IsTargetNumber
         (λ number. (front.now ++ decimal number) ++ end.now) text.now result }
 {
     match text.strip_suffix(end) {
@@ -32,7 +32,7 @@ pub(crate) fn number_between(text: &[u8], front: &[u8], end: &[u8]) -> Option<u3
 
 // The number of a meter that stands between a front and an end.
 pub(crate) fn meter_between(text: &[u8], front: &[u8], end: &[u8]) -> Option<MeterNo>
-    ensures { Reads IsMeterNo (λ meter. (front.now ++ meter) ++ end.now) text.now result }
+    ensures { ReadsWritten IsMeterNo (λ meter. (front.now ++ meter) ++ end.now) text.now result }
 {
     match text.strip_suffix(end) {
         Some(text) => meter_after(text, front),
@@ -42,7 +42,7 @@ pub(crate) fn meter_between(text: &[u8], front: &[u8], end: &[u8]) -> Option<Met
 
 // The number of a meter that stands behind this front.
 fn meter_after(text: &[u8], front: &[u8]) -> Option<MeterNo>
-    ensures { Reads IsMeterNo (λ meter. front.now ++ meter) text.now result }
+    ensures { ReadsWritten IsMeterNo (λ meter. front.now ++ meter) text.now result }
 {
     match text.strip_prefix(front) {
         Some(digits) => MeterNo::read(digits),
@@ -52,7 +52,7 @@ fn meter_after(text: &[u8], front: &[u8]) -> Option<MeterNo>
 
 // The number that digits without leading zeros write.
 fn read_number(digits: &[u8]) -> Option<u32>
-    ensures { Reads IsNumber decimal digits.now result }
+    ensures { ReadsWritten IsTargetNumber decimal digits.now result }
 {
     match str::from_utf8(digits) {
         Ok(digits) => parse_number(digits),
@@ -62,7 +62,7 @@ fn read_number(digits: &[u8]) -> Option<u32>
 
 // The same, of text. `parse` alone would take a plus and leading zeros.
 fn parse_number(digits: &str) -> Option<u32>
-    ensures { Reads IsNumber decimal digits.now result }
+    ensures { ReadsWritten IsTargetNumber decimal digits.now result }
 {
     if !has_lead(digits) {
         return None;

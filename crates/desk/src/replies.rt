@@ -1,6 +1,6 @@
 ghost use Rattle.std.specs.Prelude.{◌≡◌, ◌++◌, IfOk, OnOk};
 ghost use Rattle.http.specs.StatusCode.{IsStatusCode};
-ghost use Rattle.desk.specs.Replies.{allow_line, connection_line, field_line, reply_of, reply_text, status_line};
+ghost use Rattle.desk.specs.Replies.{allow_line, connection_line, field_line, reply_bytes_of, reply_text, status_line};
 
 use crate::method::Method;
 use crate::outcome::Outcome;
@@ -16,7 +16,7 @@ const HEAD_ROOM: usize = 160;
 /// want of memory. Where the conversation ends after it the reply says so: that is where it is to
 /// close, and always after a message that is refused.
 pub fn reply_bytes(alloc: Global, outcome: &Outcome, closes: bool) -> Result<Vec<u8>, AllocError>
-    ensures { IfOk result (λ text. text.items ≡ reply_of outcome.now closes) }
+    ensures { IfOk result (λ text. text.items ≡ reply_bytes_of outcome.now closes) }
 {
     let body = body_of(alloc, outcome)?;
     reply_text(alloc, ReplyHead::of(outcome, closes), &body)

@@ -1,5 +1,5 @@
 ghost use Rattle.std.specs.Prelude.{◌≡◌, ℕ, List, IfOk, OnErr};
-ghost use Rattle.desk.specs.Exchanges.{Exchange, GaveUp, timed};
+ghost use Rattle.desk.specs.Exchanges.{MessageExchange, GaveUp, timed};
 ghost use Rattle.desk.specs.Next.{message_of};
 ghost use Rattle.desk.specs.declared.message_fault.MessageFault.{MessageFault};
 
@@ -11,7 +11,7 @@ use std::alloc::{AllocError, Global};
 /// What answers the messages of a conversation, over an office of type `O`.
 pub trait Service<O> {
     /// What an exchange does to the office.
-    ghost step: { O → Exchange → O → Type 0 };
+    ghost step: { O → MessageExchange → O → Type 0 };
 
     /// The bytes of the reply to a message that is refused.
     ghost refusal: { MessageFault → List ℕ };
@@ -25,7 +25,7 @@ pub trait Service<O> {
         clock: &mut C,
         message: &Received<'_>,
     ) -> Result<Vec<u8>, AllocError>
-        ensures ok { IfOk result (λ reply. (x : Exchange)
+        ensures ok { IfOk result (λ reply. (x : MessageExchange)
             × (x.message ≡ message_of message.now) × (x.reply ≡ reply.items)
             × timed step (office.old, C.answers clock.old) x (office.new, C.answers clock.new)) }
         ensures err { OnErr result (GaveUp step (office.old, C.answers clock.old)

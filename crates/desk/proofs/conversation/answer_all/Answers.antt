@@ -1,14 +1,22 @@
-use Rattle.std.proofs.Common.{◌+◌, ◌++◌, drop, subst, arith}
-use Rattle.std.proofs.KnownBytes.{Appends-trans}
+use Rattle.std.proofs.Common.{[], ◌+◌, ◌++◌, drop, subst, arith}
 use Rattle.std.proofs.lemmas.List.{drop-drop, length-drop, take_rest}
 use Rattle.desk.specs.declared.end.End.TheVariants.{Closed}
 use Rattle.desk.specs.Exchanges.{timed}
 use Rattle.desk.specs.Messages.{BeginsMessage}
 use Rattle.desk.specs.Next.{message_of}
 use Rattle.desk.proofs.EndLemmas.{answered_end, closed_end, told_end, end_after}
-use Rattle.desk.proofs.ProgressLemmas.{progress_one, progress_trans}
+use Rattle.desk.proofs.ProgressLemmas.{progress_none, progress_one, progress_trans}
 use Rattle.desk.proofs.ReadingLemmas.{message_takes}
+use Rattle.desk.proofs.UsesLemmas.{whole_after, whole_none}
 use Rattle.desk.proofs.conversation.answer_all.Goals as goal
+
+pub messages-init : goal.messages-init
+messages-init g c = record {
+  within = omega arith;
+  text = [];
+  wrote = whole_none _;
+  progress = progress_none (timed g.S.Service.step) c.args.input.now _;
+}
 
 pub returns-in-Err : goal.returns-in-Err
 returns-in-Err g c =
@@ -18,7 +26,7 @@ returns-in-Err g c =
     let len = c.messages.len in
     let inv = c.messages.invariant in
     let whole = rw (take_rest input len) at c.in-Whole.ensures.next in
-    end_after step refusal _ _ _ _ _ _ input (drop len input) inv.text c.in-Err.end inv.written inv.progress
+    end_after step refusal _ _ _ _ _ _ input (drop len input) inv.text c.in-Err.end inv.wrote inv.progress
     (answered_end (Unit {0}) step refusal _ _ _ _ (drop len input) (message_of c.in-Whole.message) _ c.in-Err.end whole.begins c.in-Err.ensures)
 
 pub returns-then-message : goal.returns-then-message
@@ -30,8 +38,8 @@ returns-then-message g c =
     let inv = c.messages.invariant in
     let whole = rw (take_rest input len) at c.in-Whole.ensures.next in
     let x = c.in_default.ensures in
-    end_after step refusal _ _ _ _ _ _ input (drop len input) inv.text Closed inv.written inv.progress
-    (x.0.reply, x.3, closed_end step refusal _ _ (drop len input) (message_of c.in-Whole.message) _ x.0 whole.begins c.if-message.true x.1 x.2)
+    end_after step refusal _ _ _ _ _ _ input (drop len input) inv.text Closed inv.wrote inv.progress
+    (x.0.reply, x.3.writes, closed_end step refusal _ _ (drop len input) (message_of c.in-Whole.message) _ x.0 whole.begins c.if-message.true x.1 x.2)
 
 pub messages-smaller : goal.messages-smaller
 messages-smaller g c =
@@ -55,7 +63,7 @@ messages-preserved g c =
     record {
       within = omega (arith, whole.len, length-drop len input, inv.within);
       text = inv.text ++ x.0.reply;
-      written = Appends-trans _ _ _ inv.text x.0.reply inv.written x.3;
+      wrote = whole_after _ _ _ inv.text x.0.reply inv.wrote x.3;
       progress = progress_trans (timed step) input (drop len input) _ _ _ _ inv.text x.0.reply inv.progress
           (progress_one (timed step) (drop len input) (message_of m) _ x.0 _ _ begins c.if-message.false x.1 x.2);
     }
@@ -68,5 +76,5 @@ returns-in-Refused g c =
     let len = c.messages.len in
     let inv = c.messages.invariant in
     let ever = rw (take_rest input len) at c.in-Refused.ensures.next in
-    end_after step refusal _ _ _ _ _ _ input (drop len input) inv.text c.refuse.result inv.written inv.progress
+    end_after step refusal _ _ _ _ _ _ input (drop len input) inv.text c.refuse.result inv.wrote inv.progress
     (told_end step refusal _ _ _ (drop len input) c.in-Refused.fault c.refuse.result ever c.refuse.ensures)

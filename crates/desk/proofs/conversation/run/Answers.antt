@@ -1,73 +1,102 @@
-use Rattle.std.proofs.Common.{◌≡◌, ◌++◌, [], sym, subst}
-use Rattle.std.proofs.KnownBytes.{Appends-nil, Appends-trans, Consumes-nil}
+use Rattle.std.proofs.Common.{◌≡◌, ◌++◌, ◌∷◌, ◌∙◌, [], Some, List, refl, ap, sym, subst, arith, append-nil}
+use Rattle.std.specs.Io.KnownBytes.{Keeps}
+use Rattle.std.proofs.KnownBytes.{Consumes-kept, Consumes-nil}
 use Rattle.desk.specs.Exchanges.{timed}
 use Rattle.desk.specs.Heads.{longest_head}
+use Rattle.desk.specs.Uses.{asked}
 use Rattle.desk.specs.Wants.{IsAwaited}
 use Rattle.desk.specs.declared.wants.Wants.TheVariants.{Head}
-use Rattle.desk.proofs.EndLemmas.{end_after, end_here_after, run_early, run_here}
+use Rattle.desk.proofs.EndLemmas.{bytes_after, bytes_here_after, run_early, run_here}
 use Rattle.desk.proofs.ProgressLemmas.{progress_none, progress_trans}
-use Rattle.desk.proofs.RunLemmas.{after_read, awaits_nothing, failed_run, over_end, read_run}
+use Rattle.desk.proofs.RunLemmas.{after_read, awaited_fits, awaits_nothing, bytes_of, failed_run, over_end, paced_after, paced_read, read_run, used_none, went_on}
 use Rattle.desk.proofs.conversation.run.Goals as goal
 
 pub reads-init : goal.reads-init
 reads-init g c =
-    let none : [] ≡ c.new-buffer.result.items = sym c.new-buffer.ensures.items in
+    let none : [] ≡ c.new-unanswered.result.bytes.items = sym c.new-unanswered.ensures in
     record {
-      taken = [];
-      read = Consumes-nil _;
-      text = [];
-      written = Appends-nil _;
+      uses = [];
+      used = used_none g.S.Service.step _ _ _ _;
+      still_open = tt;
       progress = rw (← none) (progress_none (timed g.S.Service.step) [] _);
       awaited = subst (λ rest. IsAwaited rest (Head longest_head)) none awaits_nothing;
     }
 
-pub returns-in-Ok-eq0 : goal.returns-in-Ok-eq0
-returns-in-Ok-eq0 g c =
+pub read_more-requires-clause-room : goal.read_more-requires-clause-room
+read_more-requires-clause-room g c =
+    omega (arith, awaited_fits c.reads.unanswered.bytes.items c.reads.wants c.reads.invariant.awaited, c.count.ensures, c.reads.unanswered.bytes.ok.0)
+
+pub returns-in-Ok-eq0-clause-run : goal.returns-in-Ok-eq0-clause-run
+returns-in-Ok-eq0-clause-run g c =
     let step = g.S.Service.step in
     let refusal = g.S.Service.refusal in
     let inv = c.reads.invariant in
     let read = c.in-Ok-eq0.ensures in
-    let now = after_read step _ _ _ _ _ inv.taken c.reads.buffer.items c.read_more.new.buffer.items read.0 inv.text inv.read inv.progress read.3 read.2 in
-    let over = rw c.deref.ensures.value at c.finish.ensures in
-    run_here step refusal _ _ _ _ _ _ (inv.taken ++ read.0) c.finish.result now.0 (read.4 c.in-Ok-eq0.field-0-test)
-    (end_here_after step refusal _ _ _ _ _ _ (inv.taken ++ read.0) c.read_more.new.buffer.items inv.text c.finish.result inv.written now.1
-    (over_end step refusal _ _ _ c.read_more.new.buffer.items c.finish.result over))
+    let rest = c.read_more.new.self.bytes.items in
+    let now = after_read step _ _ _ _ _ _ c.reads.unanswered.bytes.items rest read.0 _ inv.used.paced.reads inv.progress read.3 read.2 in
+    let over = rw c.as_slice.ensures at c.finish.ensures in
+    run_here step refusal _ _ _ _ _ _ _ c.finish.result now.0 (read.4 c.in-Ok-eq0.field-0-test)
+    (bytes_here_after step refusal _ _ _ _ _ _ _ rest _ c.finish.result inv.used.paced.writes now.1
+    (bytes_of _ _ _ (over_end step refusal _ _ _ rest c.finish.result over)))
 
-pub returns-in-Err : goal.returns-in-Err
-returns-in-Err g c =
+pub returns-in-Ok-eq0-clause-paced : goal.returns-in-Ok-eq0-clause-paced
+returns-in-Ok-eq0-clause-paced g c =
+    let step = g.S.Service.step in
     let inv = c.reads.invariant in
-    read_run g.S.Service.step g.S.Service.refusal _ _ _ _ _ _ _ inv.taken c.reads.buffer.items _ inv.text c.reads.wants c.in-Err.end
-    inv.read c.in-Err.ensures inv.written inv.progress inv.awaited
+    let over = rw c.as_slice.ensures at c.finish.ensures in
+    let said = over_end step g.S.Service.refusal (c.reads.office, g.C.Clock.answers c.reads.clock) _ _ _ c.finish.result over in
+    paced_after step _ _ _ _ _ _ _ _ _ _ inv.uses c.reads.unanswered.bytes.items _ c.reads.wants _ c.in-Ok-eq0.field-0 c.count.ensures
+    inv.used inv.still_open inv.progress inv.awaited c.in-Ok-eq0.ensures _ _ said.0 said.1
 
-pub returns-in-Err-answer_all : goal.returns-in-Err-answer_all
-returns-in-Err-answer_all g c =
+pub returns-in-Err-clause-run : goal.returns-in-Err-clause-run
+returns-in-Err-clause-run g c =
+    let inv = c.reads.invariant in
+    read_run g.S.Service.step g.S.Service.refusal _ _ _ _ _ _ _ _ _ _ _ c.reads.unanswered.bytes.items _ _ c.reads.wants c.in-Err.end
+    inv.used.paced.reads c.in-Err.ensures inv.used.paced.writes inv.progress inv.awaited
+
+pub returns-in-Err-clause-paced : goal.returns-in-Err-clause-paced
+returns-in-Err-clause-paced g c =
+    let inv = c.reads.invariant in
+    paced_read g.S.Service.step _ _ _ _ _ _ _ _ _ _ inv.uses c.reads.unanswered.bytes.items _ c.reads.wants _ c.in-Err.end c.count.ensures
+    inv.used inv.still_open inv.progress inv.awaited c.in-Err.ensures
+
+pub returns-in-Err-answer_all-clause-run : goal.returns-in-Err-answer_all-clause-run
+returns-in-Err-answer_all-clause-run g c =
     let step = g.S.Service.step in
     let refusal = g.S.Service.refusal in
     let inv = c.reads.invariant in
     let read = c.in-Ok.ensures in
-    let now = after_read step _ _ _ _ _ inv.taken c.reads.buffer.items c.read_more.new.buffer.items read.0 inv.text inv.read inv.progress read.3 read.2 in
-    let ends = rw c.deref-in-reads.ensures.value at c.in-Err-answer_all.ensures in
-    run_early step refusal _ _ _ _ _ _ (inv.taken ++ read.0) c.in-Err-answer_all.end now.0
-    (end_after step refusal _ _ _ _ _ _ (inv.taken ++ read.0) c.read_more.new.buffer.items inv.text c.in-Err-answer_all.end inv.written now.1 ends)
+    let rest = c.read_more.new.self.bytes.items in
+    let now = after_read step _ _ _ _ _ _ c.reads.unanswered.bytes.items rest read.0 _ inv.used.paced.reads inv.progress read.3 read.2 in
+    let ends = rw c.as_slice-in-reads.ensures at c.in-Err-answer_all.ensures in
+    run_early step refusal _ _ _ _ _ _ _ c.in-Err-answer_all.end now.0
+    (bytes_after step refusal _ _ _ _ _ _ _ rest _ c.in-Err-answer_all.end inv.used.paced.writes now.1 (bytes_of _ _ _ ends))
+
+pub returns-in-Err-answer_all-clause-paced : goal.returns-in-Err-answer_all-clause-paced
+returns-in-Err-answer_all-clause-paced g c =
+    let step = g.S.Service.step in
+    let inv = c.reads.invariant in
+    let ends = rw c.as_slice-in-reads.ensures at c.in-Err-answer_all.ensures in
+    paced_after step _ _ _ _ _ _ _ _ _ _ inv.uses c.reads.unanswered.bytes.items _ c.reads.wants _ c.in-Ok.field-0 c.count.ensures
+    inv.used inv.still_open inv.progress inv.awaited c.in-Ok.ensures _ _ ends.0 ends.1
 
 pub reads-preserved : goal.reads-preserved
 reads-preserved g c =
     let step = g.S.Service.step in
     let inv = c.reads.invariant in
-    let read = c.in-Ok.ensures in
-    let now = after_read step _ _ _ _ _ inv.taken c.reads.buffer.items c.read_more.new.buffer.items read.0 inv.text inv.read inv.progress read.3 read.2 in
-    let more = rw c.deref-in-reads.ensures.value at c.in-Ok-answer_all.ensures in
+    let more = rw c.as_slice-in-reads.ensures at c.in-Ok-answer_all.ensures in
     let rest = sym c.drop_front.ensures in
+    let on = went_on step _ _ _ _ _ _ _ _ _ _ inv.uses c.reads.unanswered.bytes.items _ c.reads.wants _ c.in-Ok.field-0 c.count.ensures
+    inv.used inv.still_open inv.progress inv.awaited c.in-Ok.ensures _ _ more.0 _ _ c.in-Ok.field-0-test.1 more.1 more.3 in
     record {
-      taken = inv.taken ++ read.0;
-      read = now.0;
-      text = inv.text ++ more.0;
-      written = Appends-trans _ _ _ inv.text more.0 inv.written more.1;
-      progress = rw (← rest) (progress_trans (timed step) (inv.taken ++ read.0) c.read_more.new.buffer.items _ _ _ _ inv.text more.0 now.1 more.3);
-      awaited = subst (λ left. IsAwaited left c.in-Ok-answer_all.answered.wants) rest more.4;
+      uses = on.0;
+      used = on.1;
+      still_open = on.2;
+      progress = rw (← rest) on.3;
+      awaited = subst (λ left. IsAwaited left c.in-Ok-answer_all.awaiting.wants) rest more.4;
     }
 
-pub returns : goal.returns
-returns g c =
+pub returns-clause-run : goal.returns-clause-run
+returns-clause-run g c =
     let inv = c.reads.invariant in
-    failed_run g.S.Service.step g.S.Service.refusal _ _ _ _ _ _ inv.taken c.reads.buffer.items inv.text c.reads.wants inv.read inv.written inv.progress inv.awaited
+    failed_run g.S.Service.step g.S.Service.refusal _ _ _ _ _ _ _ c.reads.unanswered.bytes.items _ c.reads.wants inv.used.paced.reads inv.used.paced.writes inv.progress inv.awaited

@@ -1,18 +1,19 @@
-use Rattle.std.proofs.Common.{ℕ, List}
-use Rattle.std.specs.Io.KnownBytes.{Appends, Consumes}
+use Rattle.std.proofs.Common.{List}
 use Rattle.desk.specs.Conversation.{Progress}
 use Rattle.desk.specs.Exchanges.{timed}
+use Rattle.desk.specs.Uses.{AreOpen, Use, received, written}
 use Rattle.desk.specs.Wants.{IsAwaited}
+use Rattle.desk.proofs.RunLemmas.{Used}
 use Rattle.desk.proofs.conversation.run.Given as goal
 
--- of what was read all whole messages were answered, and the buffer is left of it
+-- of what was read all whole messages were answered, and this is left of it
 abbrev pub invariant-reads : goal.invariant-reads
 invariant-reads g l = record {
-  taken : List ℕ;
-  read : Consumes (g.R.Read.remaining l.fn.reader) (g.R.Read.remaining l.reader) taken;
-  text : List ℕ;
-  written : Appends (g.W.Write.contents l.fn.writer) (g.W.Write.contents l.writer) text;
-  progress : Progress (timed g.S.Service.step) taken l.buffer.items
-      (l.fn.office, g.C.Clock.answers l.fn.clock) text (l.office, g.C.Clock.answers l.clock);
-  awaited : IsAwaited l.buffer.items l.wants;
+  uses : List Use;
+  used : Used g.S.Service.step (l.fn.office, g.C.Clock.answers l.fn.clock) (g.L.Line.uses l.fn.line) (g.L.Line.uses l.line)
+      (g.R.Read.remaining l.fn.reader) (g.R.Read.remaining l.reader) (g.W.Write.contents l.fn.writer) (g.W.Write.contents l.writer) uses;
+  still_open : AreOpen uses;
+  progress : Progress (timed g.S.Service.step) (received uses) l.unanswered.bytes.items
+      (l.fn.office, g.C.Clock.answers l.fn.clock) (written uses) (l.office, g.C.Clock.answers l.clock);
+  awaited : IsAwaited l.unanswered.bytes.items l.wants;
 }

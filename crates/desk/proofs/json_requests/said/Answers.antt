@@ -4,7 +4,7 @@ use Rattle.desk.proofs.json_requests.said.Goals as goal
 
 pub returns-in-Err : goal.returns-in-Err
 returns-in-Err c =
-    no_tariff c.args.route (view c.args.value.now) c.in-Err.fault c.in-AddTariff.is c.in-Err.ensures
+    no_tariff c.args.kind (view c.args.value.now) c.in-Err.fault c.in-Tariff.is c.in-Err.ensures
 
 pub returns-in-None : goal.returns-in-None
-returns-in-None c = rw c.in-AddMeter.is (λ request says. c.in-None.ensures (says.0, says.1) says.3)
+returns-in-None c = rw c.in-Meter.is (λ request says. c.in-None.ensures (says.0, says.1) says.3)

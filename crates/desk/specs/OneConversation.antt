@@ -1,0 +1,31 @@
+-- What is one: the meaning of a message, and the conversation of an input.
+use Rattle.std.specs.Prelude.{◌≡◌, ℕ, ℤ, List, map, Option}
+use Rattle.vend_core.specs.declared.request.Request.{Request}
+use Rattle.vend_core.specs.declared.request.Stamped.{Stamped}
+use Rattle.desk.specs.declared.form.Form.{Form}
+use Rattle.desk.specs.declared.outcome.Outcome.{Outcome}
+use Rattle.desk.specs.Exchanges.{MessageExchange}
+use Rattle.desk.specs.Meaning.{IsIdle, MessageAsks}
+use Rattle.desk.specs.Messages.{Message}
+
+-- With what the clock gave for it a message asks one thing of the office, or one thing comes of it
+-- without the office, and never both.
+pub record HasOneMeaning (m : Message) (now : Option ℤ) : Type 0 where
+  pub asks : (form other : Form) (moment later : ℕ) (request another : Request)
+      → MessageAsks m now form moment request → MessageAsks m now other later another
+      → (form ≡ other) × (moment ≡ later) × (request ≡ another)
+  pub idle : (outcome other : Outcome) → IsIdle m now outcome → IsIdle m now other
+      → outcome ≡ other
+  pub never_both : (form : Form) (moment : ℕ) (request : Request) (outcome : Outcome)
+      → MessageAsks m now form moment request → ¬ IsIdle m now outcome
+
+-- what the clock gave for each
+abbrev pub moments_of : List MessageExchange → List (Option ℤ)
+moments_of xs = map (λ x. x.now) xs
+
+-- a request at a moment, whatever its nibble
+abbrev pub AskedAt : Type 0
+AskedAt = ℕ × Request
+
+abbrev pub asked_at : List Stamped → List AskedAt
+asked_at ats = map (λ at. (at.moment, at.request)) ats

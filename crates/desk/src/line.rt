@@ -1,0 +1,49 @@
+ghost use Rattle.std.specs.Prelude.{◌∷◌, [], List, Option, None, length};
+ghost use Rattle.std.specs.Io.{ReadsAtMost};
+ghost use Rattle.std.specs.Io.KnownBytes.{ReadConsumes};
+ghost use Rattle.desk.specs.Ends.{IsSent};
+ghost use Rattle.desk.specs.Uses.{Grows, Use, asked, came_of};
+
+use crate::end::End;
+use papers::{TextFault, write_whole};
+use std::io::{self, Read, Write};
+
+/// What each use of a reader and a writer goes through. It may tell contracts which uses were made,
+/// in order: how many bytes each read asked for, and what was handed to the writer before it.
+pub trait Line {
+    /// The uses that were made so far, where they are told.
+    ghost uses: { Self → Option (List Use) } = { λ _. None };
+
+    /// One read, which asks for as many bytes as the buffer has.
+    fn read<R: Read>(&mut self, reader: &mut R, buffer: &mut [u8]) -> io::Result<usize>
+        ensures bound { ReadsAtMost result buffer.new }
+        ensures bytes { ReadConsumes (R.remaining reader.old) (R.remaining reader.new) result
+            buffer.new }
+        ensures told { Grows (uses self.old) (uses self.new)
+            (asked (length buffer.old) (came_of buffer.new result) ∷ []) };
+
+    /// Hands a whole text to the writer, by as many writes as it takes.
+    fn send<W: Write>(&mut self, writer: &mut W, text: &[u8]) -> Result<(), End>
+        ensures sent { IsSent (W.contents writer.old, uses self.old)
+            (W.contents writer.new, uses self.new) text.now result };
+}
+
+/// The line that tells no use.
+#[derive(Clone, Copy, Debug)]
+pub struct Untold;
+
+impl Line for Untold {
+    ghost uses = { λ _. None };
+
+    fn read<R: Read>(&mut self, reader: &mut R, buffer: &mut [u8]) -> io::Result<usize> {
+        reader.read(buffer)
+    }
+
+    fn send<W: Write>(&mut self, writer: &mut W, text: &[u8]) -> Result<(), End> {
+        match write_whole(text, writer) {
+            Ok(()) => Ok(()),
+            Err(TextFault::Write) => Err(End::WriteFault),
+            Err(TextFault::Memory) => Err(End::Memory),
+        }
+    }
+}
