@@ -18,7 +18,7 @@ use Rattle.clap.specs.declared.error.Error.{Error}
 use Rattle.clap.specs.declared.parser.matches.ArgMatches.{ArgMatches}
 use Rattle.sts_fields.specs.Text.{Text}
 use Rattle.command_line.specs.Line.{IsDescribed, command_in, faults_in, line_of_commands, vend_line}
-use Rattle.command_line.specs.Said.{rows_in}
+use Rattle.command_line.specs.Said.{argument_rows}
 
 pub is_simple_line : is_simple vend_line ≡ true
 unfolding clap_on_literals
@@ -56,8 +56,8 @@ met_name m = name_there (out-ArgMatches m).subcommand
 
 -- the command that was met, by its name and its rows
 pub met : (r : Option (Bor Text × Bor ArgMatches)) (o : Option (Text × List Row)) → option_map (λ p. p.0.now) r ≡ option_map (λ p. p.0) o → option_map (λ p. rows_of (found_of p.1.now)) r ≡ option_map (λ p. p.1) o
-    → option_map (λ p. (p.0.now, rows_in p.1.now)) r ≡ o
-unfolding rows_in
+    → option_map (λ p. (p.0.now, argument_rows p.1.now)) r ≡ o
+unfolding argument_rows
 met None None name rows = refl
 met None (Some y) name rows = cc
 met (Some x) None name rows = cc

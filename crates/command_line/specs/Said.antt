@@ -8,27 +8,27 @@ use Rattle.command_line.specs.declared.words.BadWords.{BadWords}
 use Rattle.command_line.specs.declared.words.BadWords.TheVariants.{Value, Memory}
 
 -- the rows of a command that was parsed
-unfoldable pub rows_in : ArgMatches → List Row
-rows_in matches = rows_of (found_of matches)
+unfoldable pub argument_rows : ArgMatches → List Row
+argument_rows matches = rows_of (found_of matches)
 
 -- the first text that stands for an argument, and all of them
-unfoldable pub said : Text → List Row → Option Text
-said id rows = first_of id rows
+unfoldable pub parsed_argument : Text → List Row → Option Text
+parsed_argument id rows = first_of id rows
 
-unfoldable pub all_said : Text → List Row → Option (List Text)
-all_said id rows = all_of id rows
+unfoldable pub parsed_arguments : Text → List Row → Option (List Text)
+parsed_arguments id rows = all_of id rows
 
 -- the argument is there, and says the value
-abbrev pub IsSaid : {X V : Type 0} → (X → V → Type 0) → Option X → V → Type 0
-IsSaid Says None v = ⊥
-IsSaid Says (Some x) v = Says x v
+abbrev pub IsArgument : {X V : Type 0} → (X → V → Type 0) → Option X → V → Type 0
+IsArgument Says None v = ⊥
+IsArgument Says (Some x) v = Says x v
 
 -- the same, where the argument may be left out
-abbrev pub MayBeSaid : {V : Type 0} → (Text → V → Type 0) → Option Text → Option V → Type 0
-MayBeSaid Says None None = ⊤
-MayBeSaid Says None (Some v) = ⊥
-MayBeSaid Says (Some text) None = ⊥
-MayBeSaid Says (Some text) (Some v) = Says text v
+abbrev pub IsOptionalArgument : {V : Type 0} → (Text → V → Type 0) → Option Text → Option V → Type 0
+IsOptionalArgument Says None None = ⊤
+IsOptionalArgument Says None (Some v) = ⊥
+IsOptionalArgument Says (Some text) None = ⊥
+IsOptionalArgument Says (Some text) (Some v) = Says text v
 
 -- what is read, where the words say `v` by `Says v`: a value that they say, and nothing exactly
 -- where they say none

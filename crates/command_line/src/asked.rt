@@ -1,5 +1,5 @@
 ghost use Rattle.clap.specs.Simple.{subcommand_rows_of};
-ghost use Rattle.command_line.specs.Asked.{Asks};
+ghost use Rattle.command_line.specs.Asked.{CommandAsks};
 ghost use Rattle.command_line.specs.Said.{ReadsOrFull};
 
 use crate::commands::import::ImportWords;
@@ -33,7 +33,7 @@ pub enum Asked<'m, 'a> {
 impl<'m, 'a> Asked<'m, 'a> {
     /// Reads the words of the command that the matches have.
     pub fn read(alloc: Global, matches: &'m ArgMatches<'a>) -> Result<Asked<'m, 'a>, BadWords>
-        ensures { ReadsOrFull result (Asks (subcommand_rows_of matches.now)) }
+        ensures { ReadsOrFull result (CommandAsks (subcommand_rows_of matches.now)) }
     {
         match said::command(matches) {
             Some(("trial", words)) => match TrialWords::read(alloc, words) {

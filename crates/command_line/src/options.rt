@@ -5,7 +5,7 @@ ghost use Rattle.clap.specs.Simple.{Shape};
 ghost use Rattle.command_line.specs.Line.{IsDescribed, command_named};
 ghost use Rattle.command_line.specs.Line.{at_option, needed, option_named, transform_option};
 ghost use Rattle.command_line.specs.Line.{word_named, words_named};
-ghost use Rattle.command_line.specs.Said.{IsSaid, MayBeSaid, ReadsWhat, rows_in, said};
+ghost use Rattle.command_line.specs.Said.{IsArgument, IsOptionalArgument, ReadsWhat, argument_rows, parsed_argument};
 ghost use Rattle.command_line.specs.Values.{SaysBase, SaysKey, SaysMoment, SaysOperator};
 ghost use Rattle.command_line.specs.Values.{SaysTender, SaysText, SaysTransform};
 
@@ -89,8 +89,8 @@ pub(crate) fn transform<'a>(alloc: Global) -> Arg<'a>
 }
 
 pub(crate) fn read_transform(matches: &ArgMatches) -> Option<Shipped>
-    ensures { ReadsWhat result (IsSaid SaysTransform
-        (said (codes "transform") (rows_in matches.now))) }
+    ensures { ReadsWhat result (IsArgument SaysTransform
+        (parsed_argument (codes "transform") (argument_rows matches.now))) }
 {
     Shipped::read(said::text(matches, "transform")?)
 }
@@ -107,8 +107,8 @@ pub(crate) fn at<'a>(alloc: Global) -> Arg<'a>
 
 /// The moment that is given, or `None` within where none is.
 pub(crate) fn read_at(matches: &ArgMatches) -> Option<Option<Moment>>
-    ensures { ReadsWhat result (MayBeSaid SaysMoment
-        (said (codes "at") (rows_in matches.now))) }
+    ensures { ReadsWhat result (IsOptionalArgument SaysMoment
+        (parsed_argument (codes "at") (argument_rows matches.now))) }
 {
     match said::text(matches, "at") {
         Some(word) => Some(Some(values::moment(word)?)),
@@ -126,8 +126,8 @@ pub(crate) fn file<'a>(alloc: Global) -> Arg<'a>
 }
 
 pub(crate) fn read_file<'a>(matches: &ArgMatches<'a>) -> Option<&'a str>
-    ensures { ReadsWhat result (IsSaid SaysText
-        (said (codes "file") (rows_in matches.now))) }
+    ensures { ReadsWhat result (IsArgument SaysText
+        (parsed_argument (codes "file") (argument_rows matches.now))) }
 {
     said::text(matches, "file")
 }
@@ -142,8 +142,8 @@ pub(crate) fn operator<'a>(alloc: Global) -> Arg<'a>
 }
 
 pub(crate) fn read_operator(matches: &ArgMatches) -> Option<Operator>
-    ensures { ReadsWhat result (IsSaid SaysOperator
-        (said (codes "operator") (rows_in matches.now))) }
+    ensures { ReadsWhat result (IsArgument SaysOperator
+        (parsed_argument (codes "operator") (argument_rows matches.now))) }
 {
     Operator::read(said::text(matches, "operator")?.as_bytes())
 }
@@ -158,8 +158,8 @@ pub(crate) fn base<'a>(alloc: Global) -> Arg<'a>
 }
 
 pub(crate) fn read_base(matches: &ArgMatches) -> Option<Base>
-    ensures { ReadsWhat result (IsSaid SaysBase
-        (said (codes "base") (rows_in matches.now))) }
+    ensures { ReadsWhat result (IsArgument SaysBase
+        (parsed_argument (codes "base") (argument_rows matches.now))) }
 {
     values::base(said::text(matches, "base")?)
 }
@@ -175,16 +175,16 @@ pub(crate) fn key<'a>(alloc: Global) -> Arg<'a>
 }
 
 pub(crate) fn read_key_of(matches: &ArgMatches) -> Option<u64>
-    ensures { ReadsWhat result (IsSaid SaysKey
-        (said (codes "key") (rows_in matches.now))) }
+    ensures { ReadsWhat result (IsArgument SaysKey
+        (parsed_argument (codes "key") (argument_rows matches.now))) }
 {
     read_key(said::text(matches, "key")?.as_bytes())
 }
 
 /// The tender of a word or an option `tender`.
 pub(crate) fn read_tender(matches: &ArgMatches) -> Option<Tender>
-    ensures { ReadsWhat result (IsSaid SaysTender
-        (said (codes "tender") (rows_in matches.now))) }
+    ensures { ReadsWhat result (IsArgument SaysTender
+        (parsed_argument (codes "tender") (argument_rows matches.now))) }
 {
     values::tender(said::text(matches, "tender")?)
 }

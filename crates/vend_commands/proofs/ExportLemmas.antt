@@ -6,7 +6,7 @@ use Rattle.std.proofs.lemmas.List.{drop_all, take-append-drop}
 use Rattle.std.specs.Io.KnownBytes as bytes
 use Rattle.std.specs.Io.KnownBytes.{Appends}
 use Rattle.sqlite.specs.State.{HasCleanDisk}
-use Rattle.books.specs.Keeps.{Keeps, Seen}
+use Rattle.books.specs.Keeps.{Represents, Seen}
 use Rattle.papers.specs.Export.{export_of}
 use Rattle.papers.specs.declared.fault.TextFault.TheVariants as text_fault
 use Rattle.vend_core.specs.Life.{Life, present}
@@ -56,17 +56,17 @@ past_short sales page short = omega (arith, short, length-take 1000 (drop (page 
 -- the pages before one stand on the output
 pub record SoFar (old now : Seen) (held holds : Held) (page : ℕ) (front : List ℕ) : Type 0 where
   pub put : Appends held holds front
-  pub left : HasCleanDisk now.state → (life : Life) → Keeps life old → front ++ export_from (present life).sales page ≡ export_of true (present life).sales
-  pub keeps : (life : Life) → Keeps life old → Keeps life now
+  pub left : HasCleanDisk now.state → (life : Life) → Represents life old → front ++ export_from (present life).sales page ≡ export_of true (present life).sales
+  pub keeps : (life : Life) → Represents life old → Represents life now
 
 pub no_pages : (books : Seen) (held : Held) → SoFar books books held held 0 []
 no_pages books held = record { put = Appends-nil held; left = λ clean life keeps. refl; keeps = λ life keeps. keeps }
 
 module _ (old mid new : Seen) (held part left : Held) (page : ℕ) (front : List ℕ) (law : PagesLaw) (so_far : SoFar old mid held part page front)
-    (keeps : (life : Life) → Keeps life mid → Keeps life new) (clean_mid : HasCleanDisk new.state → HasCleanDisk mid.state) where
+    (keeps : (life : Life) → Represents life mid → Represents life new) (clean_mid : HasCleanDisk new.state → HasCleanDisk mid.state) where
   -- what is left behind the page of these sales
-  behind : (sales : List Sale) → (HasCleanDisk new.state → (life : Life) → Keeps life mid → sales ≡ page_of (present life).sales page)
-      → HasCleanDisk new.state → (life : Life) → Keeps life old → (front ++ export_of (page == 0) sales) ++ export_from (present life).sales (page + 1) ≡ export_of true (present life).sales
+  behind : (sales : List Sale) → (HasCleanDisk new.state → (life : Life) → Represents life mid → sales ≡ page_of (present life).sales page)
+      → HasCleanDisk new.state → (life : Life) → Represents life old → (front ++ export_of (page == 0) sales) ++ export_from (present life).sales (page + 1) ≡ export_of true (present life).sales
   behind sales given clean life kept =
       let all = (present life).sales in
       let are = given clean life (so_far.keeps life kept) in
@@ -86,7 +86,7 @@ module _ (old mid new : Seen) (held part left : Held) (page : ℕ) (front : List
   page_last err put =
       let text = front ++ export_of (page == 0) put.0 in
       let short : length put.0 ≢ 1000 = eqb-false (length put.0) 1000 (sym put.3) in
-      let whole : HasCleanDisk new.state → (life : Life) → Keeps life old → text ≡ export_of true (present life).sales = λ clean life kept.
+      let whole : HasCleanDisk new.state → (life : Life) → Represents life old → text ≡ export_of true (present life).sales = λ clean life kept.
       let all = (present life).sales in
       let are = put.1 clean life (so_far.keeps life kept) in
       let past = past_short all page (λ e. short (ap length are ∙ e)) in
@@ -135,10 +135,10 @@ module _ (old mid new : Seen) (held part left : Held) (page : ℕ) (front : List
 
 -- all pages that an office may have stand there
 pub all_pages : (old new : Seen) (held left err : Held) (page : ℕ) (front : List ℕ) → 1 ≤ page → SoFar old new held left page front
-    → (HasCleanDisk new.state → (life : Life) → Keeps life new → length (present life).sales ≤ page * 1000)
+    → (HasCleanDisk new.state → (life : Life) → Represents life new → length (present life).sales ≤ page * 1000)
     → IsExported old new (outputs held left err err) how.Done
 all_pages old new held left err page front later so_far few =
-    let whole : HasCleanDisk new.state → (life : Life) → Keeps life old → front ≡ export_of true (present life).sales = λ clean life kept.
+    let whole : HasCleanDisk new.state → (life : Life) → Represents life old → front ≡ export_of true (present life).sales = λ clean life kept.
     let all = (present life).sales in
     let past = few clean life (so_far.keeps life kept) in
     sym (append-nil front) ∙ ap (λ l. front ++ l) (sym (export_end all page later past)) ∙ so_far.left clean life kept in

@@ -10,7 +10,7 @@ use Rattle.sqlite_wal.specs.Recovery.{Image}
 use Rattle.books.specs.Keeps.{Seen}
 use Rattle.books.proofs.OthersLemmas.{others_same, others_then}
 use Rattle.sts_fields.specs.Text.{Text}
-use Rattle.vend_commands.specs.Listening.{AreHeld, AreServed, GoOn, IsHeld, IsPortFor, IsServing, WereOpen, stop_end, stop_line}
+use Rattle.vend_commands.specs.Listening.{AreHeld, AreServed, GoOn, IsHeld, IsPortFor, IsServing, WereOpen, serving_stop_end, stop_line}
 use Rattle.vend_commands.specs.Printed.{address_text, line_of, listening_line}
 use Rattle.vend_commands.specs.Told.{HasBeginning, Held, outputs}
 use Rattle.vend_commands.specs.Visited.{IsOpened}
@@ -66,7 +66,7 @@ Serves asked all old new = GoOn old new (λ life after. AreServed asked all (lif
 -- books were open: where was told, then connections were served, and what stopped it was told
 pub were_open : (words : ServeWords) (old new : Seen) (held err_old mid err_new : Held) (address : Text) (port : ℕ) (served all : Bool) (end : End)
     → IsPortFor words.listen port → address ≡ address_text words.listen port → Appends err_old mid (line_of (codes "listening" ∷ address ∷ []))
-    → HasBeginning mid err_new (stop_line all) → end ≡ stop_end all → served ≡ all → Serves words.connections served old new
+    → HasBeginning mid err_new (stop_line all) → end ≡ serving_stop_end all → served ≡ all → Serves words.connections served old new
     → WereOpen words old new (outputs held held err_old err_new) end
 were_open words old new held err_old mid err_new address port served all end is_port is put stopped ends same lives = record {
   port = port;

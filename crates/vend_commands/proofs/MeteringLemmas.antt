@@ -7,7 +7,7 @@ use Rattle.std.specs.List.{concat}
 use Rattle.sim_meter.specs.Meter.{ComesFrom, answer_after}
 use Rattle.sim_meter.specs.declared.answer.Answer.{Answer}
 use Rattle.sim_meter.specs.declared.meter.Meter.{Meter}
-use Rattle.sts_token.specs.Token.{Way}
+use Rattle.sts_token.specs.Token.{BlockFunction}
 use Rattle.sts_fields.specs.Text.{Text}
 use Rattle.sts_token.specs.Meter.{Entry, Reader, credit_of, entered}
 use Rattle.vend_commands.specs.Metered.{answers_after, metering}
@@ -57,7 +57,7 @@ next_answer read words i d front whole text answer within same is left =
     next_line read words i d front whole within left ∙ ap (λ a. front ++ (answer_line a ++ lines_from read words (i + 1))) (sym (is ∙ ap (λ t. answer_after read (history words i) t) same))
 
 -- a word more was entered
-pub entered_more : {T : Type 0} (inverses : T → Way) (read : Reader) (words : List (Bor Text)) (i : ℕ) (d : Bor Text) (text : Text) (meter : Meter T) → i < length words → text ≡ (get_or words i d).now
+pub entered_more : {T : Type 0} (inverses : T → BlockFunction) (read : Reader) (words : List (Bor Text)) (i : ℕ) (d : Bor Text) (text : Text) (meter : Meter T) → i < length words → text ≡ (get_or words i d).now
     → ComesFrom inverses read (history words i ++ entered text ∷ []) meter → ComesFrom inverses read (history words (i + 1)) meter
 entered_more inverses read words i d text meter within same from =
     subst (λ h. ComesFrom inverses read h meter) (ap (λ t. history words i ++ entered t ∷ []) same ∙ sym (history-more words i d within)) from

@@ -7,7 +7,7 @@ use Rattle.std.specs.Io.KnownBytes.{Appends}
 use Rattle.std.specs.List.{join_with_byte}
 use Rattle.std.specs.Borrow.{Bor}
 use Rattle.std.specs.Prelude.{IsErrAnd}
-use Rattle.papers.specs.Output.{IsLeft, IsWritten}
+use Rattle.papers.specs.Output.{IsLeftByFault, IsWritten}
 use Rattle.papers.specs.declared.fault.TextFault.{TextFault}
 use Rattle.papers.specs.declared.fault.TextFault.TheVariants.{Memory, Write}
 use Rattle.sts_fields.specs.Text.{Text}
@@ -31,7 +31,7 @@ take-behind n front piece back within = take-append-add front (piece ++ back) n 
 
 -- a piece that was cut leaves the whole cut
 pub cut-behind : (old mid new : Option (List ℕ)) (front piece back whole : List ℕ) (fault : TextFault) → fault ≢ Memory → Appends old mid front → whole ≡ front ++ (piece ++ back)
-    → IsLeft mid new piece fault → IsLeft old new whole fault
+    → IsLeftByFault mid new piece fault → IsLeftByFault old new whole fault
 cut-behind old mid new front piece back whole Memory not_memory put is left = absurd (not_memory refl)
 cut-behind old mid new front piece back whole Write not_memory put is (n, short, cut) =
     let longer : length whole ≡ length front + (length piece + length back) = ap length is ∙ length-append front (piece ++ back) ∙ ap (λ k. length front + k) (length-append piece back) in
@@ -45,10 +45,10 @@ put-behind old mid new front piece back whole put is more = (Appends-trans old m
 
 -- the fault of a piece that was cut goes up as it is
 pub cut-up : (r : Result Unit TextFault) (old mid new : Option (List ℕ)) (front piece back whole : List ℕ) (fault : TextFault) → IsErrAnd r (λ e. e ≡ fault) → (◌≡◌ {A = Result Unit TextFault} (Err fault) (Err Memory) → ⊥)
-    → Appends old mid front → whole ≡ front ++ (piece ++ back) → IsLeft mid new piece fault → IsWritten old new whole r
+    → Appends old mid front → whole ≡ front ++ (piece ++ back) → IsLeftByFault mid new piece fault → IsWritten old new whole r
 cut-up (Ok u) old mid new front piece back whole fault is not_memory put left cut = absurd is
 cut-up (Err e) old mid new front piece back whole fault is not_memory put left cut =
-    subst (IsLeft old new whole) (sym is) (cut-behind old mid new front piece back whole fault (λ m. not_memory (ap Err m)) put left cut)
+    subst (IsLeftByFault old new whole) (sym is) (cut-behind old mid new front piece back whole fault (λ m. not_memory (ap Err m)) put left cut)
 
 -- the last piece
 pub last-put : (r : Result Unit TextFault) (old mid new : Option (List ℕ)) (front piece whole : List ℕ) → r ≢ Err Memory → Appends old mid front → whole ≡ front ++ piece → IsWritten mid new piece r → IsWritten old new whole r
@@ -77,7 +77,7 @@ pub none_told : (held : Option (List ℕ)) → HasBeginning held held []
 none_told held = (0, omega arith, Appends-nil held)
 
 -- a text that was cut
-pub cut : (fault : TextFault) (old new : Option (List ℕ)) (text : List ℕ) → (◌≡◌ {A = Result Unit TextFault} (Err fault) (Err Memory) → ⊥) → IsLeft old new text fault → IsCut old new text
+pub cut : (fault : TextFault) (old new : Option (List ℕ)) (text : List ℕ) → (◌≡◌ {A = Result Unit TextFault} (Err fault) (Err Memory) → ⊥) → IsLeftByFault old new text fault → IsCut old new text
 cut Memory old new text not_memory left = absurd (not_memory refl)
 cut Write old new text not_memory left = left
 

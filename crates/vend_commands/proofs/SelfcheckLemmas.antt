@@ -1,7 +1,7 @@
 -- What a selfcheck does and finds.
 use Rattle.std.proofs.Common.{◌≡◌, ◌∙◌, ℕ, Result, Ok, ap}
 use Rattle.books.specs.Asking.{ReplyAt}
-use Rattle.books.specs.Keeps.{Keeps, Seen}
+use Rattle.books.specs.Keeps.{Represents, Seen}
 use Rattle.vend_core.specs.Life.{Life}
 use Rattle.vend_core.specs.LifeLaws.{extended_by}
 use Rattle.vend_core.specs.declared.answer.Answer.{Answer}
@@ -19,7 +19,7 @@ found_more o end less (failed fault told) = failed fault told
 
 -- books that granted a request keep the life that went on by it
 pub granted : (reply : Result Answer Refusal) (answer : Answer) (moment : ℕ) (request : Request) (old new : Seen) → reply ≡ Ok answer → moment ≡ clock_moment → ReplyAt moment request reply old new
-    → (life : Life) → Keeps life old → (after : Life) × IsGranted request life after × Keeps after new
+    → (life : Life) → Represents life old → (after : Life) × IsGranted request life after × Represents after new
 granted reply answer moment request old new is now (at, asked, replied) life keeps = (
   extended_by life at reply,
   record {

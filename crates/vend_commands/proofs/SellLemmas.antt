@@ -3,15 +3,15 @@ use Rattle.std.proofs.Common.{◌≡◌, ◌∙◌, ℕ, ◌+◌, ◌%◌, Bool,
 use Rattle.std.specs.Prelude.{All, Contains, if◌then◌else◌}
 use Rattle.std.specs.Io.KnownBytes.{Appends}
 use Rattle.std.specs.Option.{ok_or}
-use Rattle.books.specs.Keeps.{IsKept, LeftFor}
+use Rattle.books.specs.Keeps.{IsRepresented, RecoversTo}
 use Rattle.books.specs.Path.{StandsIn}
 use Rattle.sqlite_trees.specs.declared.store.Store.{Ghosts}
 use Rattle.sqlite_wal.specs.Recovery.{Image}
 use Rattle.sts_fields.specs.Text.{Text}
 use Rattle.sts_fields.specs.Tid.{fresh_after, minute_of}
-use Rattle.sts_token.specs.Token.{Way}
+use Rattle.sts_token.specs.Token.{BlockFunction}
 use Rattle.tariff.specs.Purchase.{purchase_of}
-use Rattle.vend_core.specs.Decision.{Buyer, ◌>>=◌, decision_of, next_number, or_refusal, sell, sell_once, unchanged}
+use Rattle.vend_core.specs.Decision.{MeterAccount, ◌>>=◌, decision_of, next_number, or_refusal, sell, sell_once, unchanged}
 use Rattle.vend_core.specs.Fold.{after, replies_to, reply, reply_of, step}
 use Rattle.vend_core.specs.Handed.{sales_of}
 use Rattle.vend_core.specs.Life.{IsLife, MayLeave}
@@ -53,7 +53,7 @@ same_gives : (same : Bool) (first : Sale) → GivesSale (if same then unchanged 
 same_gives true first = λ answer is. is_given first answer _ refl is
 same_gives false first = λ answer is. absurd (cc)
 
-new_gives : (forward : Way) (moment nibble : ℕ) (order : Order) (shift : Option Shift) (meter : Option Buyer) (count : ℕ) → GivesSale (sell forward moment nibble order shift meter count)
+new_gives : (forward : BlockFunction) (moment nibble : ℕ) (order : Order) (shift : Option Shift) (meter : Option MeterAccount) (count : ℕ) → GivesSale (sell forward moment nibble order shift meter count)
 new_gives forward moment nibble order shift meter count =
     next_gives (ok_or shift refusals.NoShift) _ (λ s.
     next_gives (ok_or meter refusals.NoMeter) _ (λ m.
@@ -62,26 +62,26 @@ new_gives forward moment nibble order shift meter count =
     next_gives (ok_or (purchase_of m.steps m.prior order.tender) refusals.TooLittle) _ (λ buy.
     next_gives (next_number count) _ (λ number answer is. is_given _ answer _ refl is))))))
 
-once_gives : (forward : Way) (moment nibble : ℕ) (order : Order) (first : Option Sale) (shift : Option Shift) (meter : Option Buyer) (count : ℕ) → GivesSale (sell_once forward moment nibble order first shift meter count)
+once_gives : (forward : BlockFunction) (moment nibble : ℕ) (order : Order) (first : Option Sale) (shift : Option Shift) (meter : Option MeterAccount) (count : ℕ) → GivesSale (sell_once forward moment nibble order first shift meter count)
 once_gives forward moment nibble order (Some first) shift meter count = same_gives _ first
 once_gives forward moment nibble order None shift meter count = new_gives forward moment nibble order shift meter count
 
-sell_gives : (forward : Way) (office : Office) (at : Stamped) (order : Order) (answer : Answer) → at.request ≡ Sell order → reply forward office at ≡ Ok answer → (sale : Sale) × (answer ≡ Sold sale)
+sell_gives : (forward : BlockFunction) (office : Office) (at : Stamped) (order : Order) (answer : Answer) → at.request ≡ Sell order → reply forward office at ≡ Ok answer → (sale : Sale) × (answer ≡ Sold sale)
 sell_gives forward office at order answer is granted =
     once_gives forward at.moment at.nibble order _ _ _ _ answer (subst (λ request. reply_of (decision_of forward office at.moment at.nibble request) ≡ Ok answer) is granted)
 
 -- ---- a life of one request
 
-now_is : (forward : Way) (office present : Office) → IsRunning (opened forward office) present → office ≡ present
+now_is : (forward : BlockFunction) (office present : Office) → IsRunning (opened forward office) present → office ≡ present
 unfolding after
 now_is forward office present running = running.present
 
-one_reply : (forward : Way) (office : Office) (at : Stamped) (answer : Answer) → IsLife (extended_by (opened forward office) at (Ok answer)) → reply forward office at ≡ Ok answer
+one_reply : (forward : BlockFunction) (office : Office) (at : Stamped) (answer : Answer) → IsLife (extended_by (opened forward office) at (Ok answer)) → reply forward office at ≡ Ok answer
 unfolding replies_to
 one_reply forward office at answer is =
     let same : (Ok answer ∷ []) ≡ (reply forward office at ∷ []) = is.replies in cc
 
-one_left : (forward : Way) (office : Office) (at : Stamped) (answer : Answer) (left : Office) → MayLeave (extended_by (opened forward office) at (Ok answer)) left → left ≡ step forward office at
+one_left : (forward : BlockFunction) (office : Office) (at : Stamped) (answer : Answer) (left : Office) → MayLeave (extended_by (opened forward office) at (Ok answer)) left → left ≡ step forward office at
 unfolding after
 one_left forward office at answer left (inl is) = is
 one_left forward office at answer left (inr (doubted, there, is)) = absurd (omega (arith, there.1))
@@ -98,7 +98,7 @@ is_answered (Ok answer) o (inl (inr (cut, kept, is))) = absurd (cc)
 is_answered (Ok answer) o (inr (paper, told)) = absurd (not_refused o _ _ told)
 is_answered (Err refusal) o told = absurd (not_refused o _ _ told)
 
-pub ends_sold : {S : Type 0} (store : Ghosts S) (answers_stand : (forward : Way) (o : Office) (at : Stamped) → All (Contains (step forward o at).sales) (sales_of (reply forward o at))) (image : Image) (words : SellWords) (moment : ℕ) (office : Office) (o : Outputs) → StandsIn image office → IsSold store image words moment o how.Done → EndsSold store words moment office o
+pub ends_sold : {S : Type 0} (store : Ghosts S) (answers_stand : (forward : BlockFunction) (o : Office) (at : Stamped) → All (Contains (step forward o at).sales) (sales_of (reply forward o at))) (image : Image) (words : SellWords) (moment : ℕ) (office : Office) (o : Outputs) → StandsIn image office → IsSold store image words moment o how.Done → EndsSold store words moment office o
 ends_sold store answers_stand image words moment office o stands (unopened fault new told) = absurd (not_refused o _ _ told)
 ends_sold store answers_stand image words moment office o stands (visited old new begins done) =
     let forward = forward_of words.transform in
@@ -109,7 +109,7 @@ ends_sold store answers_stand image words moment office o stands (visited old ne
       new,
       λ clean.
           let present = (begins.opens office stands (replies.clean clean)).running begins.running in
-          let kept = subst (λ reply. IsKept (extended_by (opened forward office) at reply) (seen_in new)) told.1 (replies.keeps (opened forward office) (begins.opens office stands) clean) in
+          let kept = subst (λ reply. IsRepresented (extended_by (opened forward office) at reply) (seen_in new)) told.1 (replies.keeps (opened forward office) (begins.opens office stands) clean) in
           let granted = one_reply forward office at told.0 kept.is_life in
           let given = sell_gives forward office at words.order told.0 asked.for_request granted in
           let by_rules : reply forward office at ≡ Ok (Sold given.0) = granted ∙ ap Ok given.1 in
@@ -124,6 +124,6 @@ ends_sold store answers_stand image words moment office o stands (visited old ne
             by_rules = by_rules;
             printed = subst (λ answer. Appends o.old o.new (answer_text answer)) given.1 told.2;
             stands = subst (λ r. All (Contains (step forward office at).sales) (sales_of r)) by_rules (answers_stand forward office at) 0 given.0 (omega arith);
-            left = λ trees may. let some = kept.left trees may in subst (LeftFor trees) (one_left forward office at told.0 some.0 some.1) some.2;
+            left = λ trees may. let some = kept.left trees may in subst (RecoversTo trees) (one_left forward office at told.0 some.0 some.1) some.2;
           },
     )

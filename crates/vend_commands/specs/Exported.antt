@@ -3,7 +3,7 @@ use Rattle.std.specs.Prelude.{◌≡◌, ℕ, ◌*◌, ◌==◌, Bool, true, Lis
 use Rattle.std.specs.Io.KnownBytes.{Appends}
 use Rattle.std.specs.Io.KnownBytes as bytes
 use Rattle.sqlite.specs.State.{HasCleanDisk}
-use Rattle.books.specs.Keeps.{Keeps, Seen}
+use Rattle.books.specs.Keeps.{Represents, Seen}
 use Rattle.papers.specs.Export.{export_of}
 use Rattle.sts_fields.specs.Text.{Text}
 use Rattle.vend_core.specs.Life.{Life, present}
@@ -24,7 +24,7 @@ page_of sales page = take 1000 (drop (page * 1000) sales)
 
 -- these are the sales of the page in every life that the books kept
 abbrev pub IsPageOf : (old new : Seen) → ℕ → List Sale → Type 0
-IsPageOf old new page sales = HasCleanDisk new.state → (life : Life) → Keeps life old
+IsPageOf old new page sales = HasCleanDisk new.state → (life : Life) → Represents life old
     → sales ≡ page_of (present life).sales page
 
 -- the sales of the page stand on the output, the first page behind the header; or it was refused,
@@ -50,9 +50,9 @@ abbrev pub stop_errors : Option Refusal → Text
 stop_errors None = []
 stop_errors (Some refusal) = refusal_line refusal
 
-abbrev pub stop_end : Option Refusal → End
-stop_end None = how.Done
-stop_end (Some refusal) = how.Refused
+abbrev pub export_stop_end : Option Refusal → End
+export_stop_end None = how.Done
+export_stop_end (Some refusal) = how.Refused
 
 -- the text is a beginning of the export of all these sales, and the whole where it is done
 pub record IsExportOf (sales : List Sale) (text : Text) (end : End) : Type 0 where
@@ -64,7 +64,7 @@ pub record IsExportOf (sales : List Sale) (text : Text) (end : End) : Type 0 whe
 pub record IsExported (old new : Seen) (o : Outputs) (end : End) : Type 0 where
   pub text : Text
   pub stop : Option Refusal
-  pub told : IsTold o text (stop_errors stop) (stop_end stop) end
-  pub sales : HasCleanDisk new.state → (life : Life) → Keeps life old
+  pub told : IsTold o text (stop_errors stop) (export_stop_end stop) end
+  pub sales : HasCleanDisk new.state → (life : Life) → Represents life old
       → IsExportOf (present life).sales text end
-  pub keeps : (life : Life) → Keeps life old → Keeps life new
+  pub keeps : (life : Life) → Represents life old → Represents life new

@@ -3,11 +3,11 @@ use Rattle.std.specs.Prelude.{◌≡◌, ◌≢◌, ◌↔◌, ℕ, zero, suc, �
 use Rattle.sqlite.specs.State.{HasCleanDisk}
 use Rattle.sqlite_trees.specs.declared.store.Store.{Ghosts}
 use Rattle.sqlite_wal.specs.Recovery.{Image}
-use Rattle.books.specs.Keeps.{Keeps, Seen}
+use Rattle.books.specs.Keeps.{Represents, Seen}
 use Rattle.books.specs.Others.{LeavesOthers}
 use Rattle.books.specs.declared.fault.OpenFault.{OpenFault}
 use Rattle.books.specs.declared.fault.OpenFault.TheVariants.{OldOffice}
-use Rattle.desk.specs.Answering.{answers_by, life_serves, refusal_of}
+use Rattle.desk.specs.Answering.{answers_by, life_serves, message_refusal_of}
 use Rattle.desk.specs.Exchanges.{Timed}
 use Rattle.desk.specs.Run.{IsRun}
 use Rattle.desk.specs.declared.end.End as conversation
@@ -25,14 +25,14 @@ use Rattle.vend_commands.specs.declared.file_books.FileBooks.{FileBooks}
 
 -- Every life that books kept they keep as it went on so, and no table of another name has changed.
 abbrev pub GoOn : (old new : Seen) → (Life → Life → Type 0) → Type 0
-GoOn old new Goes = HasCleanDisk new.state → (life : Life) → Keeps life old
-    → (after : Life) × Goes life after × Keeps after new × LeavesOthers old.state new.state
+GoOn old new Goes = HasCleanDisk new.state → (life : Life) → Represents life old
+    → (after : Life) × Goes life after × Represents after new × LeavesOthers old.state new.state
 
 -- A conversation was held over what a connection sent and took, and the life has gone on by it.
 abbrev pub IsHeld : Timed Life → Timed Life → Type 0
 IsHeld old new =
     (unread left held holds : Option (List ℕ)) × (end : conversation.End)
-    × IsRun (answers_by life_serves) refusal_of old new unread left held holds end
+    × IsRun (answers_by life_serves) message_refusal_of old new unread left held holds end
 
 -- so many of them, one after another
 abbrev pub AreHeld : ℕ → Timed Life → Timed Life → Type 0
@@ -55,9 +55,9 @@ abbrev pub stop_line : Bool → Text
 stop_line true = []
 stop_line false = net_line
 
-abbrev pub stop_end : Bool → End
-stop_end true = Done
-stop_end false = Refused
+abbrev pub serving_stop_end : Bool → End
+serving_stop_end true = Done
+serving_stop_end false = Refused
 
 -- Books were open to connections: every life that they kept they keep as it went on by what the
 -- connections asked, and by nothing beside.
@@ -65,7 +65,7 @@ pub record WereOpen (words : ServeWords) (old new : Seen) (o : Outputs) (end : E
   pub port : ℕ
   pub is_port : IsPortFor words.listen port
   pub all : Bool
-  pub told : IsTold o [] (listening_line words.listen port ++ stop_line all) (stop_end all) end
+  pub told : IsTold o [] (listening_line words.listen port ++ stop_line all) (serving_stop_end all) end
   pub lives : GoOn old new (λ life after.
       AreServed words.connections all (life, None) (after, None))
 

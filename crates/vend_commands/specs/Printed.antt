@@ -1,12 +1,12 @@
 -- What the program prints, a definition a line.
 use Rattle.std.specs.Prelude.{ℕ, List, [], ◌∷◌, ◌++◌, codes, decimal}
 use Rattle.std.specs.List.{join_with_byte}
-use Rattle.books.specs.Fault as open_fault
+use Rattle.books.specs.Fault.{open_fault_name, open_fault_number}
 use Rattle.books.specs.declared.fault.OpenFault.{OpenFault}
 use Rattle.sim_meter.specs.declared.answer.Answer.{Answer}
 use Rattle.sim_meter.specs.declared.answer.Answer.TheVariants.{Accepted, Used, Old, Refused}
 use Rattle.sts_fields.specs.Text.{Text}
-use Rattle.sts_token.specs.TokenFault.{fault_name, fault_number}
+use Rattle.sts_token.specs.TokenFault.{token_fault_name, token_fault_number}
 use Rattle.tariff.specs.declared.bought.Buy.{Buy}
 use Rattle.vend_core.specs.Refusal.{refusal_name, refusal_number}
 use Rattle.vend_core.specs.RowCause.{cause_text}
@@ -27,7 +27,7 @@ answer_line (Accepted tenths) = line_of (codes "accepted" ∷ decimal tenths ∷
 answer_line Used = line_of (codes "used" ∷ [])
 answer_line Old = line_of (codes "old" ∷ [])
 answer_line (Refused fault) =
-    line_of (codes "refused" ∷ decimal (fault_number fault) ∷ fault_name fault ∷ [])
+    line_of (codes "refused" ∷ decimal (token_fault_number fault) ∷ token_fault_name fault ∷ [])
 
 abbrev pub credit_line : ℕ → Text
 credit_line tenths = line_of (codes "credit" ∷ decimal tenths ∷ [])
@@ -55,7 +55,7 @@ clock_line = line_of (codes "refused" ∷ codes "clock" ∷ [])
 -- a fault of opening, by its number and its name
 abbrev pub opening_line : OpenFault → Text
 opening_line fault =
-    line_of (codes "open" ∷ decimal (open_fault.fault_number fault) ∷ open_fault.fault_name fault ∷ [])
+    line_of (codes "open" ∷ decimal (open_fault_number fault) ∷ open_fault_name fault ∷ [])
 
 -- how many rows an import added, the number of a shift, and a selfcheck that found no fault
 abbrev pub added_line : ℕ → Text

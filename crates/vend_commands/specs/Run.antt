@@ -31,20 +31,20 @@ IsTimed (Some moment) At o end = At moment
 IsTimed None At o end = ((moment : ℕ) × At moment) ⊎ IsTold o [] clock_line Refused end
 
 -- what is asked for is done
-abbrev pub IsAnswered : {S : Type 0} → Ghosts S → Image → Asked → Outputs → End → Type 0
-IsAnswered store image (Trial words) o end =
+abbrev pub IsCarriedOut : {S : Type 0} → Ghosts S → Image → Asked → Outputs → End → Type 0
+IsCarriedOut store image (Trial words) o end =
     IsTimed words.at (λ moment. IsTried words moment o end) o end
-IsAnswered store image (Import words) o end =
+IsCarriedOut store image (Import words) o end =
     IsTimed words.at (λ moment. IsFileImported store image words moment o end) o end
-IsAnswered store image (Shift words) o end =
+IsCarriedOut store image (Shift words) o end =
     IsTimed words.at (λ moment. IsShifted store image words moment o end) o end
-IsAnswered store image (Sell words) o end =
+IsCarriedOut store image (Sell words) o end =
     IsTimed words.at (λ moment. IsSold store image words moment o end) o end
-IsAnswered store image (Report words) o end = IsReported store image words o end
-IsAnswered store image (Meter words) o end = IsMetered words o end
-IsAnswered store image (Quote words) o end = IsQuoted words o end
-IsAnswered store image (Serve words) o end = IsServing store image words o end
-IsAnswered store image (Selfcheck words) o end = IsSelfchecked (HasReplies words.transform) o end
+IsCarriedOut store image (Report words) o end = IsReported store image words o end
+IsCarriedOut store image (Meter words) o end = IsMetered words o end
+IsCarriedOut store image (Quote words) o end = IsQuoted words o end
+IsCarriedOut store image (Serve words) o end = IsServing store image words o end
+IsCarriedOut store image (Selfcheck words) o end = IsSelfchecked (HasReplies words.transform) o end
 
 -- `clap` has a fault of this kind: no room to read the words, which is told; a call for help, which
 -- goes to the output and is done where the output took it; or what is wrong with the words, which
@@ -58,12 +58,12 @@ IsExplained kind o end = Keeps o.old o.new × (end ≡ BadWords)
 -- The words ask for something, and that is done; or they are a command's, and a value is outside
 -- its rule; or `clap` has a fault of theirs; or there was no room to read them. What is done at an
 -- office is done over this store of files, which held this image as they were opened.
-pub data IsRun {S : Type 0} (store : Ghosts S) (image : Image) (words : List Text)
+pub data IsProgramRun {S : Type 0} (store : Ghosts S) (image : Image) (words : List Text)
     (o : Outputs) (end : End) : Type 0 where
-  answered : (asked : Asked) → AskFor words asked → IsAnswered store image asked o end
-      → IsRun store image words o end
+  answered : (asked : Asked) → AskFor words asked → IsCarriedOut store image asked o end
+      → IsProgramRun store image words o end
   bad_word : faults_in words ≡ [] → ((asked : Asked) → ¬ AskFor words asked)
-      → IsTold o [] bad_word_line BadWords end → IsRun store image words o end
+      → IsTold o [] bad_word_line BadWords end → IsProgramRun store image words o end
   explained : (kind : ErrorKind) → IsAmong kind (faults_in words) → IsExplained kind o end
-      → IsRun store image words o end
-  no_room : IsTold o [] (refusal_line Memory) Refused end → IsRun store image words o end
+      → IsProgramRun store image words o end
+  no_room : IsTold o [] (refusal_line Memory) Refused end → IsProgramRun store image words o end

@@ -2,14 +2,14 @@
 -- are compared with those.
 use Rattle.std.specs.Prelude.{◌≡◌, ℕ, pos, List, [], ◌∷◌, ◌++◌, Some, None, Ok, codes}
 use Rattle.std.specs.Io.KnownBytes.{Appends}
-use Rattle.desk.specs.Answering.{answers_by, life_serves, refusal_of}
+use Rattle.desk.specs.Answering.{answers_by, life_serves, message_refusal_of}
 use Rattle.desk.specs.Exchanges.{Timed}
 use Rattle.desk.specs.Replies.{line_end}
 use Rattle.desk.specs.Run.{IsAll, IsRun}
 use Rattle.desk.specs.declared.end.End.TheVariants.{Closed}
 use Rattle.sts_fields.specs.Text.{Text}
 use Rattle.sts_fields.specs.declared.base.Base.TheVariants.{Y2014}
-use Rattle.sts_token.specs.Token.{Way}
+use Rattle.sts_token.specs.Token.{BlockFunction}
 use Rattle.vend_core.specs.Life.{Life}
 use Rattle.vend_core.specs.LifeLaws.{extended_by, opened}
 use Rattle.vend_core.specs.Office.{empty_office}
@@ -39,11 +39,11 @@ flat_name = codes "flat"
 abbrev pub add_flat : Request
 add_flat = AddTariff flat_name (record { ends = None; price = 100 } ∷ [])
 
-abbrev pub add_meter : Request
-add_meter = AddMeter (codes "12345678903") (record { base = Y2014; tariff = flat_name; key = 0 })
+abbrev pub add_selfcheck_meter : Request
+add_selfcheck_meter = AddMeter (codes "12345678903") (record { base = Y2014; tariff = flat_name; key = 0 })
 
-abbrev pub open_shift : Request
-open_shift = OpenShift (codes "ann")
+abbrev pub open_selfcheck_shift : Request
+open_selfcheck_shift = OpenShift (codes "ann")
 
 -- the life went on by this request, at the moment of the clock, and it was granted
 pub record IsGranted (request : Request) (old new : Life) : Type 0 where
@@ -60,9 +60,9 @@ AreGranted (request ∷ requests) old new =
     (mid : Life) × IsGranted request old mid × AreGranted requests mid new
 
 -- the life of an empty office that was prepared to sell to a meter
-abbrev pub IsPrepared : Way → Life → Type 0
+abbrev pub IsPrepared : BlockFunction → Life → Type 0
 IsPrepared forward life =
-    AreGranted (add_flat ∷ add_meter ∷ open_shift ∷ []) (opened forward empty_office) life
+    AreGranted (add_flat ∷ add_selfcheck_meter ∷ open_selfcheck_shift ∷ []) (opened forward empty_office) life
 
 -- ---- the conversation
 
@@ -74,34 +74,34 @@ messages = codes "POST /sales HTTP/1.1" ++ line_end ++ codes "Host: d" ++ line_e
     ++ codes "GET /sales/1/receipt HTTP/1.1" ++ line_end ++ codes "Host: d" ++ line_end ++ line_end
 
 -- all that was read was answered from this life on, and what is written now is the replies
-abbrev pub AreAnswered : Life → (unread held holds : Held) → Type 0
-AreAnswered life unread held holds =
+abbrev pub IsAnsweredFrom : Life → (unread held holds : Held) → Type 0
+IsAnsweredFrom life unread held holds =
     (after : Timed Life) × (left : Held)
-    × IsRun (answers_by life_serves) refusal_of (life, Some (pos clock_moment ∷ [])) after
+    × IsRun (answers_by life_serves) message_refusal_of (life, Some (pos clock_moment ∷ [])) after
     unread left held holds Closed
 
 -- the text is the replies of an office that was prepared to these messages
-abbrev pub AreReplies : Way → Text → Type 0
+abbrev pub AreReplies : BlockFunction → Text → Type 0
 AreReplies forward text =
-    (life : Life) × IsPrepared forward life × AreAnswered life (Some messages) (Some []) (Some text)
+    (life : Life) × IsPrepared forward life × IsAnsweredFrom life (Some messages) (Some []) (Some text)
 
 -- the messages were written on this stream, and nothing more
-abbrev pub IsSent : {S : Type 0} → (contents : S → Held) → S → Type 0
-IsSent {S} contents stream = (fresh : S) × Appends (contents fresh) (contents stream) messages
+abbrev pub MessagesAreSent : {S : Type 0} → (contents : S → Held) → S → Type 0
+MessagesAreSent {S} contents stream = (fresh : S) × Appends (contents fresh) (contents stream) messages
 
 -- the desk of an office so prepared answered all that came on one stream, and wrote that on another
-abbrev pub IsAnsweredOver : {S : Type 0} → (remaining contents : S → Held) → Way → Type 0
+abbrev pub IsAnsweredOver : {S : Type 0} → (remaining contents : S → Held) → BlockFunction → Type 0
 IsAnsweredOver {S} remaining contents forward =
     (life : Life) × IsPrepared forward life × (reader old new : S)
-    × AreAnswered life (remaining reader) (contents old) (contents new)
+    × IsAnsweredFrom life (remaining reader) (contents old) (contents new)
 
 -- The messages were sent on a stream of this kind, and the desk answered over such streams; all that
 -- came back, where that is known, was exactly the replies that it writes over memory.
-pub record AgreesOver {S : Type 0} (remaining contents : S → Held) (forward : Way) : Type 0 where
+pub record AgreesOver {S : Type 0} (remaining contents : S → Held) (forward : BlockFunction) : Type 0 where
   pub text : Text
   pub replies : AreReplies forward text
   pub stream : S
-  pub sent : IsSent contents stream
+  pub sent : MessagesAreSent contents stream
   pub answered : IsAnsweredOver remaining contents forward
   pub received : IsAll (remaining stream) text
 
@@ -111,13 +111,13 @@ HasReplies transform = (text : Text) × AreReplies (forward_of transform) text
 
 -- ---- what is told
 
-abbrev pub fault_line : SelfcheckFault → Text
-fault_line Net = net_line
-fault_line (Unopened fault) = opening_line fault
-fault_line (Refused refusal) = refusal_line refusal
+abbrev pub selfcheck_fault_line : SelfcheckFault → Text
+selfcheck_fault_line Net = net_line
+selfcheck_fault_line (Unopened fault) = opening_line fault
+selfcheck_fault_line (Refused refusal) = refusal_line refusal
 
 -- the same replies came over a stream, and that is told; or why they did not
 pub data IsSelfchecked (Agrees : Type 0) (o : Outputs) (end : End) : Type 0 where
   agreed : Agrees → IsTold o selfcheck_line [] Done end → IsSelfchecked Agrees o end
-  failed : (fault : SelfcheckFault) → IsTold o [] (fault_line fault) IsRefused end
+  failed : (fault : SelfcheckFault) → IsTold o [] (selfcheck_fault_line fault) IsRefused end
       → IsSelfchecked Agrees o end

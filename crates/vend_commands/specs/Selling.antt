@@ -1,12 +1,12 @@
 -- What `sell` has done where it ends as done, by the rules of the office that the files stand for.
 use Rattle.std.specs.Prelude.{◌≡◌, ℕ, ◌+◌, ◌%◌, length, Contains, Ok}
 use Rattle.std.specs.Io.KnownBytes.{Appends}
-use Rattle.books.specs.Keeps.{LeftFor, Seen}
+use Rattle.books.specs.Keeps.{RecoversTo, Seen}
 use Rattle.papers.specs.Receipt.{receipt_of}
 use Rattle.sqlite.specs.State.{HasCleanDisk}
 use Rattle.sqlite_trees.specs.Tree.{Trees}
 use Rattle.sqlite_trees.specs.declared.store.Store.{Ghosts}
-use Rattle.sts_token.specs.Token.{Way}
+use Rattle.sts_token.specs.Token.{BlockFunction}
 use Rattle.vend_core.specs.Fold.{reply, step}
 use Rattle.vend_core.specs.Office.{Office}
 use Rattle.vend_core.specs.declared.answer.Answer.TheVariants.{Sold}
@@ -28,7 +28,7 @@ pub record IsOrdered (moment : ℕ) (order : Order) (office : Office) (at : Stam
 
 -- The output has the receipt of the sale that the office's rules give for the order. The sale stands
 -- in the office after it, and all that a crash may leave of the files stands for that office.
-pub record HasSold (forward : Way) (office : Office) (order : Order) (moment : ℕ) (o : Outputs)
+pub record HasSold (forward : BlockFunction) (office : Office) (order : Order) (moment : ℕ) (o : Outputs)
     (books : Seen) : Type 0 where
   pub at : Stamped
   pub ordered : IsOrdered moment order office at
@@ -37,7 +37,7 @@ pub record HasSold (forward : Way) (office : Office) (order : Order) (moment : �
   pub printed : Appends o.old o.new (receipt_of sale)
   pub stands : Contains (step forward office at).sales sale
   pub left : (trees : Trees) → books.state.may_leave trees
-      → LeftFor trees (step forward office at)
+      → RecoversTo trees (step forward office at)
 
 -- so with the books as the command left them, as long as the disk returned what was written
 abbrev pub EndsSold : {S : Type 0} → Ghosts S → SellWords → (moment : ℕ) → Office → Outputs → Type 0

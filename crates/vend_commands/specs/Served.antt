@@ -47,7 +47,7 @@ TellsReply (Ok answer) o end = TellsAnswer answer o end
 TellsReply (Err refusal) o end = IsTold o [] (refusal_line refusal) how.Refused end
 
 -- Books replied to the request at this moment, and the text of that reply is told.
-pub record IsServed (moment : ℕ) (request : Request) (old new : Seen) (o : Outputs) (end : End)
+pub record IsServedAndTold (moment : ℕ) (request : Request) (old new : Seen) (o : Outputs) (end : End)
     : Type 0 where
   pub reply : Result core.Answer Refusal
   pub replied : ReplyAt moment request reply old new

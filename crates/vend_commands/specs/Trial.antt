@@ -4,7 +4,7 @@ use Rattle.sts_fields.specs.Amount.{IsRepresentable}
 use Rattle.sts_fields.specs.Tid.{FreshOutcome, minute_of}
 use Rattle.sts_fields.specs.declared.base.Base.{Base}
 use Rattle.sts_fields.specs.declared.fault.TidFault.{TidFault}
-use Rattle.sts_token.specs.Token.{IsToken, Way}
+use Rattle.sts_token.specs.Token.{IsToken, BlockFunction}
 use Rattle.vend_commands.specs.declared.trial.TrialFault.{TrialFault}
 use Rattle.vend_commands.specs.declared.trial.TrialFault.TheVariants.{Amount, Tid, Memory}
 
@@ -19,7 +19,7 @@ TidOutcome base moment used outcome =
     (λ fault. outcome ≡ Err fault)
 
 -- sale number n, from 1: its amount, the fresh identifier after those before, and the token of both
-pub record IsSale (forward : Way) (key : ℕ) (base : Base) (moment : ℕ) (used : List ℕ)
+pub record IsSale (forward : BlockFunction) (key : ℕ) (base : Base) (moment : ℕ) (used : List ℕ)
     (n tenths tid : ℕ) (token : List ℕ) : Type 0 where
   pub sellable : IsSellable tenths
   pub fresh : TidOutcome base moment used (Ok tid)
@@ -43,7 +43,7 @@ EndsBy base moment amounts tids (Some fault) =
 
 -- the tokens are those of the first amounts, in order, each with the identifier that is fresh after
 -- those before
-pub record IsTrial (forward : Way) (key : ℕ) (base : Base) (moment : ℕ)
+pub record IsTrial (forward : BlockFunction) (key : ℕ) (base : Base) (moment : ℕ)
     (amounts tids : List ℕ) (tokens : List (List ℕ)) (fault : Option TrialFault) : Type 0 where
   pub one_each : length tokens ≡ length tids
   pub within : length tids ≤ length amounts

@@ -19,14 +19,14 @@ abbrev pub token_lines : List Text → Text
 token_lines tokens = concat (map token_line tokens)
 
 -- why a trial stopped
-abbrev pub fault_line : TrialFault → Text
-fault_line Amount = amount_line
-fault_line (Tid fault) = refusal_line (refusal_of fault)
-fault_line Memory = refusal_line refusal.Memory
+abbrev pub trial_fault_line : TrialFault → Text
+trial_fault_line Amount = amount_line
+trial_fault_line (Tid fault) = refusal_line (refusal_of fault)
+trial_fault_line Memory = refusal_line refusal.Memory
 
 abbrev pub trial_errors : Option TrialFault → Text
 trial_errors None = []
-trial_errors (Some fault) = fault_line fault
+trial_errors (Some fault) = trial_fault_line fault
 
 abbrev pub trial_end : Option TrialFault → End
 trial_end None = Done

@@ -3,7 +3,7 @@
 use Rattle.std.specs.Prelude.{◌≡◌, ◌≢◌, ⊤, false, []}
 use Rattle.sqlite_trees.specs.declared.store.Store.{Ghosts}
 use Rattle.sqlite_wal.specs.Recovery.{Image}
-use Rattle.books.specs.Keeps.{Keeps, Seen, seen}
+use Rattle.books.specs.Keeps.{Represents, Seen, seen}
 use Rattle.books.specs.Path.{StandsIn}
 use Rattle.books.specs.declared.fault.OpenFault.{OpenFault}
 use Rattle.books.specs.declared.fault.OpenFault.TheVariants.{OldOffice}
@@ -11,7 +11,7 @@ use Rattle.vend_core.specs.LifeLaws.{opened}
 use Rattle.vend_core.specs.Office.{Office}
 use Rattle.vend_commands.specs.Exported.{IsExported}
 use Rattle.vend_commands.specs.Printed.{opening_line}
-use Rattle.vend_commands.specs.Served.{IsServed}
+use Rattle.vend_commands.specs.Served.{IsServedAndTold}
 use Rattle.vend_commands.specs.Told.{Outputs, IsTold}
 use Rattle.vend_commands.specs.Ways.{forward_of}
 use Rattle.vend_commands.specs.declared.end.End.{End}
@@ -41,12 +41,12 @@ pub record IsOpened {S : Type 0} {store : Ghosts S} (image : Image) (transform :
     (books : FileBooks S store) : Type 0 where
   pub under : IsUnder transform books
   pub opens : (office : Office) → StandsIn image office
-      → Keeps (opened (forward_of transform) office) (seen_in books)
+      → Represents (opened (forward_of transform) office) (seen_in books)
   pub running : (seen_in books).stopped ≡ false
 
 -- what is done at books that are open
 abbrev pub IsDone : Task → (old new : Seen) → Outputs → End → Type 0
-IsDone (Ask moment request) old new o end = IsServed moment request old new o end
+IsDone (Ask moment request) old new o end = IsServedAndTold moment request old new o end
 IsDone Export old new o end = IsExported old new o end
 
 -- The file is not opened, and that is told, before anything is printed; or books are opened in it,

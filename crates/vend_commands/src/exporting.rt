@@ -2,7 +2,7 @@
 
 ghost use Rattle.std.specs.Prelude.{◌≡◌, ◌≤◌};
 ghost use Rattle.sqlite.specs.State.{HasCleanDisk};
-ghost use Rattle.books.specs.Keeps.{Keeps, seen};
+ghost use Rattle.books.specs.Keeps.{Represents, seen};
 ghost use Rattle.vend_commands.specs.Exported.{IsExported, IsPage, IsStopTold};
 ghost use Rattle.vend_commands.specs.Told.{outputs};
 ghost use Rattle.vend_core.specs.Life.{Life};
@@ -79,8 +79,8 @@ fn write_page<S: Alter, T: BlockTransform, O: Write>(
     requires { page ≤ 1000000 }
     ensures page { IsPage (seen S.Store T.forwards books.old) (seen S.Store T.forwards books.new)
         page (O.contents out.old) (O.contents out.new) result }
-    ensures keeps { (life : Life) → Keeps life (seen S.Store T.forwards books.old)
-        → Keeps life (seen S.Store T.forwards books.new) }
+    ensures keeps { (life : Life) → Represents life (seen S.Store T.forwards books.old)
+        → Represents life (seen S.Store T.forwards books.new) }
     ensures clean { HasCleanDisk (seen S.Store T.forwards books.new).state
         → HasCleanDisk (seen S.Store T.forwards books.old).state }
 {

@@ -3,9 +3,9 @@
 ghost use Rattle.std.specs.Prelude.{◌≡◌, ◌∷◌, [], None, IfOk, OnOk};
 ghost use Rattle.sqlite.specs.Steps.{over_memory};
 ghost use Rattle.vend_core.specs.Life.{Life};
-ghost use Rattle.books.specs.Keeps.{Keeps, seen};
-ghost use Rattle.vend_commands.specs.Selfchecked.{IsGranted, IsPrepared, add_flat, add_meter};
-ghost use Rattle.vend_commands.specs.Selfchecked.{clock_moment, flat_name, open_shift};
+ghost use Rattle.books.specs.Keeps.{Represents, seen};
+ghost use Rattle.vend_commands.specs.Selfchecked.{IsGranted, IsPrepared, add_flat, add_selfcheck_meter};
+ghost use Rattle.vend_commands.specs.Selfchecked.{clock_moment, flat_name, open_selfcheck_shift};
 
 use crate::selfcheck_fault::SelfcheckFault;
 use books::Books;
@@ -25,7 +25,7 @@ pub(crate) fn prepare<T: BlockTransform + Drop>(
     transform: T,
 ) -> Result<Books<MemStore, T>, SelfcheckFault>
     ensures { IfOk result (λ books. (life : Life) × IsPrepared (T.forwards transform) life
-        × Keeps life (seen over_memory T.forwards books)) }
+        × Represents life (seen over_memory T.forwards books)) }
 {
     let mut books = match Books::in_memory(alloc, transform) {
         Ok(books) => books,
@@ -33,8 +33,8 @@ pub(crate) fn prepare<T: BlockTransform + Drop>(
     };
     let tariff = add_flat(alloc)?;
     grant(&mut books, tariff)?;
-    grant(&mut books, add_meter())?;
-    grant(&mut books, open_shift())?;
+    grant(&mut books, add_selfcheck_meter())?;
+    grant(&mut books, open_selfcheck_shift())?;
     Ok(books)
 }
 
@@ -43,9 +43,9 @@ fn grant<S: Alter, T: BlockTransform>(
     books: &mut Books<S, T>,
     request: Request,
 ) -> Result<(), SelfcheckFault>
-    ensures { OnOk result ((life : Life) → Keeps life (seen S.Store T.forwards books.old)
+    ensures { OnOk result ((life : Life) → Represents life (seen S.Store T.forwards books.old)
         → (after : Life) × IsGranted request life after
-        × Keeps after (seen S.Store T.forwards books.new)) }
+        × Represents after (seen S.Store T.forwards books.new)) }
 {
     match books.ask(clock_moment(), request) {
         Ok(_) => Ok(()),
@@ -80,8 +80,8 @@ fn add_flat(alloc: Global) -> Result<Request, SelfcheckFault>
     }
 }
 
-fn add_meter() -> Request
-    ensures { result ≡ add_meter }
+fn add_selfcheck_meter() -> Request
+    ensures { result ≡ add_selfcheck_meter }
 {
     let meter = Meter {
         base: Base::Y2014,
@@ -91,8 +91,8 @@ fn add_meter() -> Request
     Request::AddMeter(MeterNo::read(b"12345678903").unwrap(), meter)
 }
 
-fn open_shift() -> Request
-    ensures { result ≡ open_shift }
+fn open_selfcheck_shift() -> Request
+    ensures { result ≡ open_selfcheck_shift }
 {
     Request::OpenShift(Operator::read(b"ann").unwrap())
 }

@@ -4,9 +4,9 @@ ghost use Rattle.sqlite_wal.specs.Files.{image_at};
 ghost use Rattle.command_line.specs.Asked.{AskFor};
 ghost use Rattle.vend_commands.specs.Imported.{IsFileImported};
 ghost use Rattle.vend_commands.specs.Printed.{clock_line};
-ghost use Rattle.vend_commands.specs.Run.{IsAnswered, IsExplained, IsRun, IsTimed};
+ghost use Rattle.vend_commands.specs.Run.{IsCarriedOut, IsExplained, IsProgramRun, IsTimed};
 ghost use Rattle.vend_commands.specs.Selfchecked.{HasReplies, IsSelfchecked};
-ghost use Rattle.vend_commands.specs.Status.{status_of};
+ghost use Rattle.vend_commands.specs.Status.{exit_status_of};
 ghost use Rattle.vend_commands.specs.Tasks.{IsShifted, IsSold};
 ghost use Rattle.vend_commands.specs.Told.{HasBeginning, outputs};
 ghost use Rattle.vend_commands.specs.Tried.{IsTried};
@@ -41,10 +41,10 @@ pub fn run<B: Start, O: Write, E: Write>(
     out: &mut O,
     err: &mut E,
 ) -> u8
-    ensures run { (end : End) × IsRun ⟦<FileStore<FileFrom<B>> as Store>⟧ (image_at B.Start)
+    ensures run { (end : End) × IsProgramRun ⟦<FileStore<FileFrom<B>> as Store>⟧ (image_at B.Start)
         (map (λ w. w.now) words.now)
         (outputs (O.contents out.old) (O.contents out.new)
-        (E.contents err.old) (E.contents err.new)) end × (result ≡ status_of end) }
+        (E.contents err.old) (E.contents err.new)) end × (result ≡ exit_status_of end) }
     ensures asked { (asked : Asked) → AskFor (map (λ w. w.now) words.now) asked → result ≤ 1 }
 {
     carry_out(rt, start, words, out, err).status()
@@ -58,7 +58,7 @@ fn carry_out<B: Start, O: Write, E: Write>(
     out: &mut O,
     err: &mut E,
 ) -> End
-    ensures { IsRun ⟦<FileStore<FileFrom<B>> as Store>⟧ (image_at B.Start)
+    ensures { IsProgramRun ⟦<FileStore<FileFrom<B>> as Store>⟧ (image_at B.Start)
         (map (λ w. w.now) words.now)
         (outputs (O.contents out.old) (O.contents out.new)
         (E.contents err.old) (E.contents err.new)) result }
@@ -80,7 +80,7 @@ fn answer<B: Start, O: Write, E: Write>(
     out: &mut O,
     err: &mut E,
 ) -> End
-    ensures { IsAnswered ⟦<FileStore<FileFrom<B>> as Store>⟧ (image_at B.Start)
+    ensures { IsCarriedOut ⟦<FileStore<FileFrom<B>> as Store>⟧ (image_at B.Start)
         asked.now (outputs (O.contents out.old) (O.contents out.new)
         (E.contents err.old) (E.contents err.new)) result }
 {

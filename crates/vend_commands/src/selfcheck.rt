@@ -4,9 +4,9 @@
 ghost use Rattle.std.specs.Prelude.{◌≡◌, ◌↔◌, true, IfOk, IfSome, OnOk};
 ghost use Rattle.sqlite.specs.Steps.{over_memory};
 ghost use Rattle.vend_core.specs.Life.{Life};
-ghost use Rattle.books.specs.Keeps.{Keeps, seen};
-ghost use Rattle.vend_commands.specs.Selfchecked.{AgreesOver, AreAnswered, AreReplies};
-ghost use Rattle.vend_commands.specs.Selfchecked.{IsAnsweredOver, IsSent};
+ghost use Rattle.books.specs.Keeps.{Represents, seen};
+ghost use Rattle.vend_commands.specs.Selfchecked.{AgreesOver, IsAnsweredFrom, AreReplies};
+ghost use Rattle.vend_commands.specs.Selfchecked.{IsAnsweredOver, MessagesAreSent};
 
 use crate::prepared::{NOW, prepare};
 use crate::selfcheck_fault::SelfcheckFault;
@@ -71,7 +71,7 @@ fn replies_over_net<N: Net, T: BlockTransform + Drop>(
     net: &N,
     transform: T,
 ) -> Result<N::Stream, SelfcheckFault>
-    ensures sent { IfOk result (IsSent N.Stream.contents) }
+    ensures sent { IfOk result (MessagesAreSent N.Stream.contents) }
     ensures answered { OnOk result (IsAnsweredOver N.Stream.remaining N.Stream.contents
         (T.forwards transform)) }
 {
@@ -89,7 +89,7 @@ fn replies_over_net<N: Net, T: BlockTransform + Drop>(
 
 // The two ends of a connection. The messages, and no more, were written at the first.
 fn connection<N: Net>(net: &N) -> io::Result<(N::Stream, N::Stream)>
-    ensures { IfOk result (λ ends. IsSent N.Stream.contents ends.0) }
+    ensures { IfOk result (λ ends. MessagesAreSent N.Stream.contents ends.0) }
 {
     let listener = TcpListener::bind(net, "127.0.0.1:0")?;
     let mut near = TcpStream::connect(net, listener.local_addr()?)?;
@@ -108,8 +108,8 @@ fn answer<T: BlockTransform, R: Read, W: Write>(
     writer: &mut W,
     books: &mut Books<MemStore, T>,
 ) -> Result<(), End>
-    ensures { OnOk result ((life : Life) → Keeps life (seen over_memory T.forwards books.old)
-        → AreAnswered life (R.remaining reader.old)
+    ensures { OnOk result ((life : Life) → Represents life (seen over_memory T.forwards books.old)
+        → IsAnsweredFrom life (R.remaining reader.old)
         (W.contents writer.old) (W.contents writer.new)) }
 {
     let Ok(desk) = Desk::new(alloc) else {

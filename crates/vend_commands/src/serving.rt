@@ -3,7 +3,7 @@
 ghost use Rattle.std.specs.Prelude.{◌≡◌, Err};
 ghost use Rattle.books.specs.Keeps.{seen};
 ghost use Rattle.papers.specs.Output.{IsWritten};
-ghost use Rattle.vend_commands.specs.Served.{IsPaper, IsServed, TellsAnswer, answer_text};
+ghost use Rattle.vend_commands.specs.Served.{IsPaper, IsServedAndTold, TellsAnswer, answer_text};
 ghost use Rattle.vend_commands.specs.Told.{outputs};
 
 use crate::end::End;
@@ -29,7 +29,7 @@ pub(crate) fn ask<S: Alter, T: BlockTransform, O: Write, E: Write>(
     out: &mut O,
     err: &mut E,
 ) -> End
-    ensures { IsServed moment request (seen S.Store T.forwards books.old)
+    ensures { IsServedAndTold moment request (seen S.Store T.forwards books.old)
         (seen S.Store T.forwards books.new) (outputs (O.contents out.old) (O.contents out.new)
         (E.contents err.old) (E.contents err.new)) result }
 {

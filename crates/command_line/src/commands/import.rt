@@ -1,7 +1,7 @@
 ghost use Rattle.std.specs.Prelude.{codes, IfOk};
 ghost use Rattle.command_line.specs.Commands.{SaysImport, SaysKind};
 ghost use Rattle.command_line.specs.Line.{IsDescribed, import_command};
-ghost use Rattle.command_line.specs.Said.{IsSaid, ReadsWhat, rows_in, said};
+ghost use Rattle.command_line.specs.Said.{IsArgument, ReadsWhat, argument_rows, parsed_argument};
 ghost use Rattle.command_line.specs.Values.{SaysText};
 
 use crate::options::{self, with};
@@ -44,7 +44,7 @@ pub(crate) fn describe<'a>(alloc: Global) -> Result<Command<'a>, AllocError>
 
 impl<'a> ImportWords<'a> {
     pub(crate) fn read(matches: &ArgMatches<'a>) -> Option<ImportWords<'a>>
-        ensures { ReadsWhat result (SaysImport (rows_in matches.now)) }
+        ensures { ReadsWhat result (SaysImport (argument_rows matches.now)) }
     {
         Some(ImportWords {
             transform: options::read_transform(matches)?,
@@ -57,8 +57,8 @@ impl<'a> ImportWords<'a> {
 }
 
 fn read_kind(matches: &ArgMatches) -> Option<FileKind>
-    ensures { ReadsWhat result (IsSaid SaysKind
-        (said (codes "kind") (rows_in matches.now))) }
+    ensures { ReadsWhat result (IsArgument SaysKind
+        (parsed_argument (codes "kind") (argument_rows matches.now))) }
 {
     match said::text(matches, "kind")? {
         "tariffs" => Some(FileKind::Tariffs),
@@ -68,8 +68,8 @@ fn read_kind(matches: &ArgMatches) -> Option<FileKind>
 }
 
 fn read_csv<'a>(matches: &ArgMatches<'a>) -> Option<&'a str>
-    ensures { ReadsWhat result (IsSaid SaysText
-        (said (codes "csv") (rows_in matches.now))) }
+    ensures { ReadsWhat result (IsArgument SaysText
+        (parsed_argument (codes "csv") (argument_rows matches.now))) }
 {
     said::text(matches, "csv")
 }

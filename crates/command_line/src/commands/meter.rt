@@ -1,7 +1,7 @@
 ghost use Rattle.std.specs.Prelude.{IfOk};
-ghost use Rattle.command_line.specs.Commands.{SaysMeter};
+ghost use Rattle.command_line.specs.Commands.{SaysMeterCommand};
 ghost use Rattle.command_line.specs.Line.{IsDescribed, meter_command};
-ghost use Rattle.command_line.specs.Said.{ReadsWhat, rows_in};
+ghost use Rattle.command_line.specs.Said.{ReadsWhat, argument_rows};
 
 use crate::options::{self, with};
 use crate::said;
@@ -32,7 +32,7 @@ pub(crate) fn describe<'a>(alloc: Global) -> Result<Command<'a>, AllocError>
 
 impl<'m, 'a> MeterWords<'m, 'a> {
     pub(crate) fn read(matches: &'m ArgMatches<'a>) -> Option<MeterWords<'m, 'a>>
-        ensures { ReadsWhat result (SaysMeter (rows_in matches.now)) }
+        ensures { ReadsWhat result (SaysMeterCommand (argument_rows matches.now)) }
     {
         Some(MeterWords {
             transform: options::read_transform(matches)?,

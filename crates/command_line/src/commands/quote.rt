@@ -1,7 +1,7 @@
 ghost use Rattle.std.specs.Prelude.{◌≤◌, codes, IfOk};
 ghost use Rattle.tariff.specs.Cost.{greatest_prior};
 ghost use Rattle.command_line.specs.Line.{IsDescribed, quote_command};
-ghost use Rattle.command_line.specs.Said.{IsSaid, ReadsOrFull, ReadsWhat, rows_in, said};
+ghost use Rattle.command_line.specs.Said.{IsArgument, ReadsOrFull, ReadsWhat, argument_rows, parsed_argument};
 ghost use Rattle.command_line.specs.Values.{SaysPrior, SaysSteps};
 
 use crate::options::{self, with};
@@ -44,7 +44,7 @@ impl QuoteWords {
     ghost use Rattle.command_line.specs.Commands.{SaysQuote};
 
     pub(crate) fn read(alloc: Global, matches: &ArgMatches) -> Result<QuoteWords, BadWords>
-        ensures { ReadsOrFull result (SaysQuote (rows_in matches.now)) }
+        ensures { ReadsOrFull result (SaysQuote (argument_rows matches.now)) }
     {
         let Some(transform) = options::read_transform(matches) else {
             return Err(BadWords::Value);
@@ -68,15 +68,15 @@ impl QuoteWords {
 }
 
 fn read_prior(matches: &ArgMatches) -> Option<u64>
-    ensures { ReadsWhat result (IsSaid SaysPrior
-        (said (codes "prior") (rows_in matches.now))) }
+    ensures { ReadsWhat result (IsArgument SaysPrior
+        (parsed_argument (codes "prior") (argument_rows matches.now))) }
 {
     values::prior(said::text(matches, "prior")?)
 }
 
 fn read_steps(alloc: Global, matches: &ArgMatches) -> Result<Steps, BadWords>
-    ensures { ReadsOrFull result (IsSaid SaysSteps
-        (said (codes "steps") (rows_in matches.now))) }
+    ensures { ReadsOrFull result (IsArgument SaysSteps
+        (parsed_argument (codes "steps") (argument_rows matches.now))) }
 {
     let Some(word) = said::text(matches, "steps") else {
         return Err(BadWords::Value);

@@ -1,7 +1,7 @@
 ghost use Rattle.std.specs.Prelude.{codes, IfOk};
 ghost use Rattle.command_line.specs.Commands.{SaysPaper, SaysReport};
 ghost use Rattle.command_line.specs.Line.{IsDescribed, report_command};
-ghost use Rattle.command_line.specs.Said.{IsSaid, ReadsWhat, rows_in, said};
+ghost use Rattle.command_line.specs.Said.{IsArgument, ReadsWhat, argument_rows, parsed_argument};
 ghost use Rattle.command_line.specs.Values.{SaysItem};
 
 use crate::options::{self, needed, with};
@@ -45,7 +45,7 @@ pub(crate) fn describe<'a>(alloc: Global) -> Result<Command<'a>, AllocError>
 
 impl<'a> ReportWords<'a> {
     pub(crate) fn read(matches: &ArgMatches<'a>) -> Option<ReportWords<'a>>
-        ensures { ReadsWhat result (SaysReport (rows_in matches.now)) }
+        ensures { ReadsWhat result (SaysReport (argument_rows matches.now)) }
     {
         Some(ReportWords {
             file: options::read_file(matches)?,
@@ -56,7 +56,7 @@ impl<'a> ReportWords<'a> {
 
 fn read_paper(matches: &ArgMatches) -> Option<Paper>
     ensures { ReadsWhat result (SaysPaper
-        (said (codes "kind") (rows_in matches.now)) (said (codes "number") (rows_in matches.now))) }
+        (parsed_argument (codes "kind") (argument_rows matches.now)) (parsed_argument (codes "number") (argument_rows matches.now))) }
 {
     match said::text(matches, "kind")? {
         "shift" => Some(Paper::Shift(read_number(matches)?)),
@@ -67,8 +67,8 @@ fn read_paper(matches: &ArgMatches) -> Option<Paper>
 }
 
 fn read_number(matches: &ArgMatches) -> Option<u32>
-    ensures { ReadsWhat result (IsSaid SaysItem
-        (said (codes "number") (rows_in matches.now))) }
+    ensures { ReadsWhat result (IsArgument SaysItem
+        (parsed_argument (codes "number") (argument_rows matches.now))) }
 {
     values::item(said::text(matches, "number")?)
 }

@@ -1,6 +1,6 @@
 ghost use Rattle.std.specs.Prelude.{IfOk};
 ghost use Rattle.command_line.specs.Line.{IsDescribed, selfcheck_command};
-ghost use Rattle.command_line.specs.Said.{ReadsWhat, rows_in};
+ghost use Rattle.command_line.specs.Said.{ReadsWhat, argument_rows};
 
 use crate::options::{self, with};
 use crate::transform::Shipped;
@@ -27,7 +27,7 @@ impl SelfcheckWords {
     ghost use Rattle.command_line.specs.Commands.{SaysSelfcheck};
 
     pub(crate) fn read(matches: &ArgMatches) -> Option<SelfcheckWords>
-        ensures { ReadsWhat result (SaysSelfcheck (rows_in matches.now)) }
+        ensures { ReadsWhat result (SaysSelfcheck (argument_rows matches.now)) }
     {
         let transform = options::read_transform(matches)?;
         Some(SelfcheckWords { transform })

@@ -1,7 +1,7 @@
 ghost use Rattle.std.specs.Prelude.{codes, IfOk};
 ghost use Rattle.command_line.specs.Commands.{SaysSell};
 ghost use Rattle.command_line.specs.Line.{IsDescribed, sell_command};
-ghost use Rattle.command_line.specs.Said.{IsSaid, ReadsWhat, rows_in, said};
+ghost use Rattle.command_line.specs.Said.{IsArgument, ReadsWhat, argument_rows, parsed_argument};
 ghost use Rattle.command_line.specs.Values.{SaysMeterNo, SaysRef};
 
 use crate::options::{self, needed, with};
@@ -46,7 +46,7 @@ pub(crate) fn describe<'a>(alloc: Global) -> Result<Command<'a>, AllocError>
 
 impl<'a> SellWords<'a> {
     pub(crate) fn read(matches: &ArgMatches<'a>) -> Option<SellWords<'a>>
-        ensures { ReadsWhat result (SaysSell (rows_in matches.now)) }
+        ensures { ReadsWhat result (SaysSell (argument_rows matches.now)) }
     {
         let order = Order {
             operator: options::read_operator(matches)?,
@@ -64,15 +64,15 @@ impl<'a> SellWords<'a> {
 }
 
 fn read_ref(matches: &ArgMatches) -> Option<Ref>
-    ensures { ReadsWhat result (IsSaid SaysRef
-        (said (codes "ref") (rows_in matches.now))) }
+    ensures { ReadsWhat result (IsArgument SaysRef
+        (parsed_argument (codes "ref") (argument_rows matches.now))) }
 {
     Ref::read(said::text(matches, "ref")?.as_bytes())
 }
 
 fn read_meter(matches: &ArgMatches) -> Option<MeterNo>
-    ensures { ReadsWhat result (IsSaid SaysMeterNo
-        (said (codes "meter") (rows_in matches.now))) }
+    ensures { ReadsWhat result (IsArgument SaysMeterNo
+        (parsed_argument (codes "meter") (argument_rows matches.now))) }
 {
     MeterNo::read(said::text(matches, "meter")?.as_bytes())
 }

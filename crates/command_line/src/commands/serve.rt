@@ -2,7 +2,7 @@ ghost use Rattle.std.specs.Prelude.{codes, IfOk};
 ghost use Rattle.command_line.specs.Address.{SaysAddress};
 ghost use Rattle.command_line.specs.Commands.{SaysServe};
 ghost use Rattle.command_line.specs.Line.{IsDescribed, serve_command};
-ghost use Rattle.command_line.specs.Said.{IsSaid, ReadsWhat, rows_in, said};
+ghost use Rattle.command_line.specs.Said.{IsArgument, ReadsWhat, argument_rows, parsed_argument};
 ghost use Rattle.command_line.specs.Values.{SaysConnections};
 
 use crate::address::Address;
@@ -41,7 +41,7 @@ pub(crate) fn describe<'a>(alloc: Global) -> Result<Command<'a>, AllocError>
 
 impl<'a> ServeWords<'a> {
     pub(crate) fn read(matches: &ArgMatches<'a>) -> Option<ServeWords<'a>>
-        ensures { ReadsWhat result (SaysServe (rows_in matches.now)) }
+        ensures { ReadsWhat result (SaysServe (argument_rows matches.now)) }
     {
         Some(ServeWords {
             transform: options::read_transform(matches)?,
@@ -53,15 +53,15 @@ impl<'a> ServeWords<'a> {
 }
 
 fn read_listen(matches: &ArgMatches) -> Option<Address>
-    ensures { ReadsWhat result (IsSaid SaysAddress
-        (said (codes "listen") (rows_in matches.now))) }
+    ensures { ReadsWhat result (IsArgument SaysAddress
+        (parsed_argument (codes "listen") (argument_rows matches.now))) }
 {
     Address::read(said::text(matches, "listen")?)
 }
 
 fn read_connections(matches: &ArgMatches) -> Option<u32>
-    ensures { ReadsWhat result (IsSaid SaysConnections
-        (said (codes "connections") (rows_in matches.now))) }
+    ensures { ReadsWhat result (IsArgument SaysConnections
+        (parsed_argument (codes "connections") (argument_rows matches.now))) }
 {
     values::connections(said::text(matches, "connections")?)
 }

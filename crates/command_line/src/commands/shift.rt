@@ -1,7 +1,7 @@
 ghost use Rattle.std.specs.Prelude.{codes, IfOk};
 ghost use Rattle.command_line.specs.Commands.{SaysAct, SaysShift};
 ghost use Rattle.command_line.specs.Line.{IsDescribed, shift_command};
-ghost use Rattle.command_line.specs.Said.{IsSaid, ReadsWhat, rows_in, said};
+ghost use Rattle.command_line.specs.Said.{IsArgument, ReadsWhat, argument_rows, parsed_argument};
 
 use crate::options::{self, with};
 use crate::said;
@@ -46,7 +46,7 @@ pub(crate) fn describe<'a>(alloc: Global) -> Result<Command<'a>, AllocError>
 
 impl<'a> ShiftWords<'a> {
     pub(crate) fn read(matches: &ArgMatches<'a>) -> Option<ShiftWords<'a>>
-        ensures { ReadsWhat result (SaysShift (rows_in matches.now)) }
+        ensures { ReadsWhat result (SaysShift (argument_rows matches.now)) }
     {
         Some(ShiftWords {
             transform: options::read_transform(matches)?,
@@ -59,8 +59,8 @@ impl<'a> ShiftWords<'a> {
 }
 
 fn read_act(matches: &ArgMatches) -> Option<Act>
-    ensures { ReadsWhat result (IsSaid SaysAct
-        (said (codes "act") (rows_in matches.now))) }
+    ensures { ReadsWhat result (IsArgument SaysAct
+        (parsed_argument (codes "act") (argument_rows matches.now))) }
 {
     match said::text(matches, "act")? {
         "open" => Some(Act::Open),

@@ -1,7 +1,7 @@
 ghost use Rattle.std.specs.Prelude.{Err, IfOk};
 ghost use Rattle.command_line.specs.Commands.{SaysTrial};
 ghost use Rattle.command_line.specs.Line.{IsDescribed, trial_command};
-ghost use Rattle.command_line.specs.Said.{ReadsOrFull, rows_in};
+ghost use Rattle.command_line.specs.Said.{ReadsOrFull, argument_rows};
 
 use crate::options::{self, with};
 use crate::transform::Shipped;
@@ -42,7 +42,7 @@ pub(crate) fn describe<'a>(alloc: Global) -> Result<Command<'a>, AllocError>
 
 impl TrialWords {
     pub(crate) fn read(alloc: Global, matches: &ArgMatches) -> Result<TrialWords, BadWords>
-        ensures { ReadsOrFull result (SaysTrial (rows_in matches.now)) }
+        ensures { ReadsOrFull result (SaysTrial (argument_rows matches.now)) }
     {
         let Some(transform) = options::read_transform(matches) else {
             return Err(BadWords::Value);

@@ -1,4 +1,4 @@
-ghost use Rattle.vend_commands.specs.Selfchecked.{fault_line};
+ghost use Rattle.vend_commands.specs.Selfchecked.{selfcheck_fault_line};
 ghost use Rattle.vend_commands.specs.Told.{HasBeginning, outputs};
 ghost use Rattle.vend_commands.specs.Ways.{forward_of};
 ghost use Rattle.std.specs.Prelude.{OnOk};
@@ -53,7 +53,7 @@ fn compare<N: Net>(words: &SelfcheckWords, alloc: Global, net: &N) -> Result<(),
 
 // Tells why the same replies did not come.
 fn tell_fault<E: Write>(fault: SelfcheckFault, err: &mut E)
-    ensures { HasBeginning (E.contents err.old) (E.contents err.new) (fault_line fault) }
+    ensures { HasBeginning (E.contents err.old) (E.contents err.new) (selfcheck_fault_line fault) }
 {
     match fault {
         SelfcheckFault::Net => tell(&[b"net"], err),

@@ -2,7 +2,7 @@ ghost use Rattle.std.specs.Prelude.{◌≢◌, ℕ, List, Err};
 ghost use Rattle.papers.specs.Output.{IsWritten};
 ghost use Rattle.vend_commands.specs.Told.{HasBeginning, outputs};
 ghost use Rattle.vend_commands.specs.Trial.{IsTrial};
-ghost use Rattle.vend_commands.specs.Tried.{IsTried, fault_line, token_lines};
+ghost use Rattle.vend_commands.specs.Tried.{IsTried, trial_fault_line, token_lines};
 ghost use Rattle.vend_commands.specs.Ways.{forward_of};
 
 use crate::end::End;
@@ -65,7 +65,7 @@ fn write_tokens<O: Write>(tokens: &[[u8; 20]], out: &mut O) -> Result<(), TextFa
 
 // Tells why no more was sold.
 fn tell_fault<E: Write>(fault: TrialFault, err: &mut E)
-    ensures { HasBeginning (E.contents err.old) (E.contents err.new) (fault_line fault) }
+    ensures { HasBeginning (E.contents err.old) (E.contents err.new) (trial_fault_line fault) }
 {
     match fault {
         TrialFault::Amount => tell(&[b"refused", b"amount"], err),

@@ -1,9 +1,9 @@
 use Rattle.std.proofs.Common.{◌∙◌}
 use Rattle.clap.proofs.WalkLemmas.{first_value-rows}
 use Rattle.clap.specs.Matches.{found_of}
-use Rattle.command_line.specs.Said.{rows_in, said}
+use Rattle.command_line.specs.Said.{argument_rows, parsed_argument}
 use Rattle.command_line.proofs.said.text.Goals as goal
 
 pub returns : goal.returns
-unfolding said rows_in
+unfolding parsed_argument argument_rows
 returns c = c.get_str.ensures ∙ first_value-rows (found_of c.args.matches.now) c.args.id.now

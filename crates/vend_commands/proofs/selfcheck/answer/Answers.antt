@@ -1,7 +1,7 @@
 use Rattle.std.proofs.Common.{List, Some, subst}
 use Rattle.std.specs.Prelude.{ℤ}
 use Rattle.sqlite.proofs.Callers.{memory_is_clean}
-use Rattle.desk.specs.Answering.{answers_by, life_serves, refusal_of}
+use Rattle.desk.specs.Answering.{answers_by, life_serves, message_refusal_of}
 use Rattle.desk.specs.Clock.{script_answers}
 use Rattle.desk.specs.Exchanges.{Timed}
 use Rattle.desk.specs.Run.{IsRun}
@@ -14,6 +14,6 @@ returns-in-Closed g c = λ life keeps.
     let lives = c.in-Closed.ensures.lives (memory_is_clean c.run.new.books.conn) life keeps in
     let after : Timed Life = (lives.0, Some (script_answers c.run.new.clock)) in
     let left = g.R.Read.remaining c.run.new.reader in
-    let run = subst (λ (answers : List ℤ). IsRun (answers_by life_serves) refusal_of (life, Some answers) after (g.R.Read.remaining c.args.reader.now) left
+    let run = subst (λ (answers : List ℤ). IsRun (answers_by life_serves) message_refusal_of (life, Some answers) after (g.R.Read.remaining c.args.reader.now) left
     (g.W.Write.contents c.args.writer.now) (g.W.Write.contents c.run.new.writer) Closed) c.new-clock.ensures lives.1 in
     (after, left, run)
