@@ -1,6 +1,6 @@
 //! Bodies, and what each asks for or why it is refused.
 use desk::{BodyFault, Route, request_of};
-use std::alloc::{AllocError, Global};
+use std::alloc::Global;
 use std::process::Abort;
 use std::test::Fail;
 use sts_fields::Base;
@@ -138,22 +138,6 @@ fn others_outside_their_rule(rt: HostRuntime) {
     for (route, body) in rows {
         is_outside(&rt, route, body);
     }
-}
-
-// So many brackets.
-fn brackets(alloc: Global, count: usize) -> Result<Vec<u8>, AllocError> {
-    let mut body = Vec::new(alloc);
-    for _ in 0..count {
-        body.push(b'[')?;
-    }
-    Ok(body)
-}
-
-#[test]
-fn deep_bodies(rt: HostRuntime) -> Result<(), Fail> {
-    is_outside(&rt, Route::Sell, &brackets(rt.alloc(), 200)?);
-    is_outside(&rt, Route::Sell, &brackets(rt.alloc(), 1_048_576)?);
-    Ok(())
 }
 
 #[test]

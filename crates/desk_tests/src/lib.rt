@@ -13,7 +13,7 @@ mod asked;
 #[cfg(test)]
 mod bodies;
 #[cfg(test)]
-mod conversation;
+mod cuts;
 #[cfg(test)]
 mod faults;
 #[cfg(test)]
@@ -25,8 +25,14 @@ mod messages;
 #[cfg(test)]
 mod offices;
 #[cfg(test)]
+mod prepared;
+#[cfg(test)]
 mod replies;
 #[cfg(test)]
 mod routes;
 #[cfg(test)]
-mod serving;
+mod rows;
+#[cfg(test)]
+mod streams;
+#[cfg(test)]
+mod wanted;

@@ -1,93 +1,91 @@
-//! Heads and bodies at their greatest size, and one byte or field above it.
-use crate::inputs::first;
-use desk::{MAX_BODY, MAX_FIELDS, MAX_HEAD, MessageFault, Next, next_of};
+//! Conversations over books at their limits, byte for byte.
+use crate::prepared::{hold, prepared};
+use crate::rows::{Parts, rows};
+use crate::streams::Pieces;
+use desk::End;
 use std::alloc::{AllocError, Global};
 use std::test::Fail;
 
-// A head with a field as long as wanted: 32 bytes more than that.
-fn long_head(alloc: Global, field: usize) -> Result<Vec<u8>, AllocError> {
-    let mut head = Vec::new(alloc);
-    head.extend_from_slice(b"GET / HTTP/1.1\r\nHost: d\r\nX: ")?;
-    for _ in 0..field {
-        head.push(b'x')?;
+fn text_of(alloc: Global, parts: Parts) -> Result<Vec<u8>, AllocError> {
+    let mut text = Vec::new(alloc);
+    for (part, times) in parts {
+        for _ in 0..*times {
+            text.extend_from_slice(part)?;
+        }
     }
-    head.extend_from_slice(b"\r\n\r\n")?;
-    Ok(head)
+    Ok(text)
 }
 
-// A head with so many fields besides `Host`.
-fn wide_head(alloc: Global, others: usize) -> Result<Vec<u8>, AllocError> {
-    let mut head = Vec::new(alloc);
-    head.extend_from_slice(b"GET / HTTP/1.1\r\nHost: d\r\n")?;
-    for _ in 0..others {
-        head.extend_from_slice(b"X: x\r\n")?;
-    }
-    head.extend_from_slice(b"\r\n")?;
-    Ok(head)
-}
-
-fn is_whole(input: &[u8]) -> bool {
-    matches!(next_of(input), Next::Whole(_))
-}
-
+// Each over an office of its own.
 #[test]
-fn the_longest_head(rt: HostRuntime) -> Result<(), Fail> {
-    assert_eq!(rt; MAX_HEAD, 8192);
-    let longest = long_head(rt.alloc(), 8160)?;
-    assert_eq!(rt; longest.len(), 8192);
-    assert!(rt; is_whole(&longest));
-    assert_eq!(rt; next_of(first(&longest, 8191)), Next::NeedHead);
-    let longer = long_head(rt.alloc(), 8161)?;
-    assert_eq!(rt; longer.len(), 8193);
-    assert_eq!(rt; next_of(&longer), Next::Refused(MessageFault::Head));
-    assert_eq!(rt;
-        next_of(first(&longer, 8192)),
-        Next::Refused(MessageFault::Head)
-    );
-    assert_eq!(rt; next_of(first(&longer, 8191)), Next::NeedHead);
+fn each_row(rt: HostRuntime) -> Result<(), Fail> {
+    let alloc = rt.alloc();
+    for (index, (input, size, reply, ends)) in rows().iter().enumerate() {
+        let input = text_of(alloc, input)?;
+        let mut reader = Pieces {
+            rest: &input,
+            size: *size,
+            fails: false,
+        };
+        let mut text = Vec::new(alloc);
+        let mut books = prepared(alloc).ok_or("no office")?;
+        let end = hold(alloc, &mut books, &mut reader, &mut text).ok_or("no desk")?;
+        assert_eq!(rt; text, text_of(alloc, reply)?, "{index}");
+        assert_eq!(rt; end, *ends, "{index}");
+    }
     Ok(())
 }
 
-// Empty lines before a head count towards its length.
-#[test]
-fn empty_lines_count(rt: HostRuntime) -> Result<(), Fail> {
-    let mut input = Vec::new(rt.alloc());
-    for _ in 0..8174 {
-        input.push(b'\n')?;
+// So many sales of ten cents each, by refs of their own, and the report of the shift.
+fn many_sales(alloc: Global, count: u32) -> Result<Vec<u8>, AllocError> {
+    let mut input = Vec::new(alloc);
+    for number in 1..=count {
+        let front = format!(in alloc;
+            "{{\"meter\":\"12345678903\",\"operator\":\"ann\",\"ref\":\""
+        )?;
+        let body = format!(in alloc; "{front}B-{number}\",\"tender\":10}}")?;
+        let len = body.len();
+        let head = format!(in alloc;
+            "POST /sales HTTP/1.1\r\nHost: d\r\nContent-Length: {len}\r\n"
+        )?;
+        input.extend_from_slice(head.as_bytes())?;
+        input.extend_from_slice(b"\r\n")?;
+        input.extend_from_slice(body.as_bytes())?;
     }
-    input.extend_from_slice(b"GET / HTTP/1.0\r\n\r\n")?;
-    assert_eq!(rt; input.len(), 8192);
-    assert!(rt; is_whole(&input));
-    input.insert(0, b'\n')?;
-    assert_eq!(rt; next_of(&input), Next::Refused(MessageFault::Head));
-    Ok(())
+    input.extend_from_slice(b"GET /shifts/1 HTTP/1.1\r\nHost: d\r\n\r\n")?;
+    Ok(input)
+}
+
+// The report of them: a line of 56 bytes for each sale.
+fn their_report(alloc: Global, count: u32) -> Result<Vec<u8>, AllocError> {
+    let mut body = Vec::new(alloc);
+    body.extend_from_slice(b"SHIFT 1 ann\nOPENED 2014-01-01T00:00:30Z\nCLOSED -\n")?;
+    for number in 1..=count {
+        let line = format!(in alloc;
+            "{number:>10} 12345678903        1        10        10         0\n"
+        )?;
+        body.extend_from_slice(line.as_bytes())?;
+    }
+    let cash = count.saturating_mul(10);
+    let sums = format!(in alloc; "SALES {count}\nTENTHS {count}\nCASH {cash}\n")?;
+    body.extend_from_slice(sums.as_bytes())?;
+    Ok(body)
 }
 
 #[test]
-fn the_most_fields(rt: HostRuntime) -> Result<(), Fail> {
-    assert_eq!(rt; MAX_FIELDS, 32);
-    assert!(rt; is_whole(&wide_head(rt.alloc(), 31)?));
-    assert_eq!(rt;
-        next_of(&wide_head(rt.alloc(), 32)?),
-        Next::Refused(MessageFault::Head)
-    );
-    Ok(())
-}
-
-#[test]
-fn the_longest_body(rt: HostRuntime) -> Result<(), Fail> {
-    assert_eq!(rt; MAX_BODY, 1_048_576);
-    let longest = b"POST / HTTP/1.0\r\nContent-Length: 01048576\r\n\r\n";
-    assert_eq!(rt; next_of(longest), Next::NeedBody(1_048_576));
-    let longer = b"POST / HTTP/1.0\r\nContent-Length: 1048577\r\n\r\n";
-    assert_eq!(rt; next_of(longer), Next::Refused(MessageFault::Body));
-    let mut input = Vec::new(rt.alloc());
-    input.extend_from_slice(longest)?;
-    for _ in 0..1_048_575 {
-        input.push(b'x')?;
-    }
-    assert_eq!(rt; next_of(&input), Next::NeedBody(1));
-    input.push(b'x')?;
-    assert!(rt; is_whole(&input));
+fn a_shift_of_500_sales(rt: HostRuntime) -> Result<(), Fail> {
+    let alloc = rt.alloc();
+    let input = many_sales(alloc, 500)?;
+    let mut reader = input.as_slice();
+    let mut text = Vec::new(alloc);
+    let mut books = prepared(alloc).ok_or("no office")?;
+    let end = hold(alloc, &mut books, &mut reader, &mut text).ok_or("no desk")?;
+    assert_eq!(rt; end, End::Closed);
+    let report = their_report(alloc, 500)?;
+    let len = report.len();
+    let head = format!(in alloc; "Content-Type: text/plain\r\nContent-Length: {len}\r\n\r\n")?;
+    assert!(rt; text.ends_with(&report));
+    text.truncate(text.len().saturating_sub(len));
+    assert!(rt; text.ends_with(head.as_bytes()));
     Ok(())
 }

@@ -1,5 +1,6 @@
 //! Messages cut after every byte, blank lines, and what a message says of its body and its end.
-use crate::inputs::{SALE, first};
+use crate::inputs::first;
+use crate::prepared::SALE;
 use desk::{Method, Next, Received, next_of};
 
 fn get(target: &[u8], closes: bool, len: usize) -> Next<'_> {

@@ -136,7 +136,7 @@ type Fault = (
 );
 
 // Each fault of the desk, each message that is refused, and files that are no imports.
-static FAULTS: [Fault; 19] = [
+static FAULTS: [Fault; 12] = [
     (
         FIRST_DAY,
         b"GET /nowhere HTTP/1.1\r\nHost: d\r\n\r\n",
@@ -227,66 +227,10 @@ static FAULTS: [Fault; 19] = [
     ),
     (
         FIRST_DAY,
-        b"GET",
-        "400 Bad Request",
-        CLOSES,
-        "{\"error\":\"Head\"}",
-        End::BadMessage,
-    ),
-    (
-        FIRST_DAY,
-        b"DELETE /sales HTTP/1.1\r\nHost: d\r\n\r\n",
-        "501 Not Implemented",
-        CLOSES,
-        "{\"error\":\"Method\"}",
-        End::BadMessage,
-    ),
-    (
-        FIRST_DAY,
         b"GET /sales/1 HTTP/1.1\r\n\r\n",
         "400 Bad Request",
         CLOSES,
         "{\"error\":\"Host\"}",
-        End::BadMessage,
-    ),
-    (
-        FIRST_DAY,
-        b"POST /sales HTTP/1.1\r\nHost: d\r\nTransfer-Encoding: chunked\r\n\r\n",
-        "501 Not Implemented",
-        CLOSES,
-        "{\"error\":\"Coding\"}",
-        End::BadMessage,
-    ),
-    (
-        FIRST_DAY,
-        b"POST /sales HTTP/1.1\r\nHost: d\r\nContent-Length: +2\r\n\r\n{}",
-        "400 Bad Request",
-        CLOSES,
-        "{\"error\":\"Length\"}",
-        End::BadMessage,
-    ),
-    (
-        FIRST_DAY,
-        b"POST /sales HTTP/1.1\r\nHost: d\r\nContent-Length: 2\r\nContent-Length: 2\r\n\r\n{}",
-        "400 Bad Request",
-        CLOSES,
-        "{\"error\":\"Length\"}",
-        End::BadMessage,
-    ),
-    (
-        FIRST_DAY,
-        b"POST /sales HTTP/1.1\r\nHost: d\r\nContent-Length: 1048577\r\n\r\n",
-        "413 Payload Too Large",
-        CLOSES,
-        "{\"error\":\"Body\"}",
-        End::BadMessage,
-    ),
-    (
-        FIRST_DAY,
-        b"POST /nowhere HTTP/1.1\r\nHost: d\r\nContent-Length: 1048577\r\n\r\n",
-        "413 Payload Too Large",
-        CLOSES,
-        "{\"error\":\"Body\"}",
         End::BadMessage,
     ),
 ];
@@ -323,30 +267,14 @@ fn come_to<S: Alter, T: BlockTransform>(
     Ok(())
 }
 
-// A file of tariffs with one row more than an import may have.
-fn too_many_rows(alloc: Global) -> Result<Vec<u8>, Fail> {
-    let mut input = Vec::new(alloc);
-    input.extend_from_slice(b"POST /imports/tariffs HTTP/1.1\r\nHost: d\r\n")?;
-    input.extend_from_slice(b"Content-Length: 50016\r\n\r\nname,steps\n")?;
-    for _ in 0..10_001 {
-        input.extend_from_slice(b"a,:1\n")?;
-    }
-    Ok(input)
-}
-
-const TOO_MANY_ROWS: &[u8] = b"HTTP/1.1 422 Unprocessable Entity\r\n\
-    Content-Type: application/json\r\nContent-Length: 68\r\n\r\n\
-    {\"cause\":\"TooManyRows\",\"error\":\"ImportRow\",\"refusal\":14,\"row\":10001}";
-
 // After the list: what it left, and what is no request changes nothing.
 fn converse_on<S: Alter, T: BlockTransform>(
     rt: &(impl Abort + AllocGlobal),
     both: &mut Both<S, T>,
 ) -> Result<(), Fail> {
-    let (books, many) = (&mut both.books, too_many_rows(rt.alloc())?);
+    let books = &mut both.books;
     comes_to(rt, books, FIRST_DAY, PAPERS, WRITTEN, End::Closed)?;
     come_to(rt, books, faults())?;
-    comes_to(rt, books, FIRST_DAY, &many, TOO_MANY_ROWS, End::Closed)?;
     comes_to(rt, books, FIRST_DAY, b"", b"", End::Closed)?;
     agree(both)
 }

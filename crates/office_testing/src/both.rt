@@ -33,8 +33,8 @@ pub fn office(alloc: Global, base: Base, steps: Steps) -> Result<Both<MemStore, 
     Ok(both)
 }
 
-/// Opens ann's shift, and adds two meters on the tariff `block`.
-pub fn furnish<S: Alter, T: BlockTransform>(
+// Opens ann's shift, and adds two meters on the tariff `block`.
+fn furnish<S: Alter, T: BlockTransform>(
     both: &mut Both<S, T>,
     base: Base,
     steps: Steps,
@@ -111,35 +111,14 @@ pub fn sold<S: Alter, T: BlockTransform>(
     }
 }
 
-pub fn reprinted<S: Alter, T: BlockTransform>(
-    both: &mut Both<S, T>,
-    number: u32,
-) -> Result<Sale, Fail> {
-    let reply = ask(both, FIRST_DAY, Request::Reprint(number))?;
-    match &reply {
-        Ok(Answer::Reprinted(sale)) => Ok(*sale),
-        _ => Ok(None.ok_or("not reprinted")?),
-    }
-}
-
-/// Both refuse the request on the office's first day.
+/// Both refuse the request on the office's first day, and show as before.
 pub fn refuses<S: Alter, T: BlockTransform>(
     both: &mut Both<S, T>,
     request: Request,
     refusal: Refusal,
 ) -> Result<(), Fail> {
-    refuses_at(both, FIRST_DAY, request, refusal)
-}
-
-/// Both refuse the request, and show as before.
-pub fn refuses_at<S: Alter, T: BlockTransform>(
-    both: &mut Both<S, T>,
-    seconds: i64,
-    request: Request,
-    refusal: Refusal,
-) -> Result<(), Fail> {
     let next = next_number(&both.books);
-    let is_refused = match ask(both, seconds, request)? {
+    let is_refused = match ask(both, FIRST_DAY, request)? {
         Ok(_) => false,
         Err(given) => given == refusal,
     };

@@ -8,4 +8,6 @@
 pub mod asks;
 pub mod both;
 pub mod in_file;
+pub mod lines;
+pub mod listed;
 pub mod values;

@@ -40,11 +40,6 @@ pub fn flat(alloc: Global, price: u32) -> Result<Steps, Fail> {
     Ok(Steps::read(alloc, &[Step { ends: None, price }])?)
 }
 
-/// 500 tenths a month cost 100 cents a kWh, the others 200.
-pub fn block(alloc: Global) -> Result<Steps, Fail> {
-    Ok(Steps::of_text(alloc, b"500:100;:200")?)
-}
-
 /// A meter of the key 0.
 pub fn meter(base: Base, tariff: &[u8]) -> Result<Meter, Fail> {
     Ok(Meter {

@@ -1,0 +1,151 @@
+//! A sale and the call for its receipt, 159 bytes, over books: cut after any byte, in pieces, by a
+//! reader that fails, and to a writer that fails.
+use crate::inputs::first;
+use crate::prepared::{NO_HEAD, PRINTED, RECEIPT, SALE, SOLD, hold, prepared};
+use crate::streams::{Asking, Counting, Failing, Pieces};
+use desk::End;
+use std::alloc::{AllocError, Global};
+use std::cell::Cell;
+use std::process::Abort;
+use std::test::Fail;
+
+fn joined(alloc: Global, front: &[u8], back: &[u8]) -> Result<Vec<u8>, AllocError> {
+    let mut text = Vec::new(alloc);
+    text.extend_from_slice(front)?;
+    text.extend_from_slice(back)?;
+    Ok(text)
+}
+
+// From so many bytes on: what is written where the input ends there, and how that ends.
+type Cut = (usize, &'static [&'static [u8]], End);
+
+static CUTS: [Cut; 6] = [
+    (0, &[], End::Closed),
+    (1, &[NO_HEAD], End::BadMessage),
+    (53, &[], End::Closed),
+    (117, &[SOLD], End::Closed),
+    (118, &[SOLD, NO_HEAD], End::BadMessage),
+    (159, &[SOLD, PRINTED], End::Closed),
+];
+
+// It has no clause: a proof takes much longer over a list that it knows item by item.
+fn cuts() -> &'static [Cut] {
+    &CUTS
+}
+
+// What has to be written for the first so many bytes, and the end. A reader that fails there gives
+// no refusal.
+fn wanted(alloc: Global, count: usize, fails: bool) -> Result<(Vec<u8>, End), AllocError> {
+    let mut text = Vec::new(alloc);
+    let mut end = End::Memory;
+    for (from, texts, ends) in cuts() {
+        if *from <= count {
+            text.truncate(0);
+            for one in *texts {
+                if !fails || *one != NO_HEAD {
+                    text.extend_from_slice(one)?;
+                }
+            }
+            end = if fails { End::ReadFault } else { *ends };
+        }
+    }
+    Ok((text, end))
+}
+
+// Each beginning in one piece or byte by byte, over one office: the same ref gives the same sale.
+fn each_beginning(
+    rt: &(impl Abort + AllocGlobal),
+    input: &[u8],
+    size: usize,
+    fails: bool,
+) -> Result<(), Fail> {
+    let alloc = rt.alloc();
+    let mut books = prepared(alloc).ok_or("no office")?;
+    for count in 0..=159_usize {
+        let mut reader = Pieces {
+            rest: first(input, count),
+            size,
+            fails,
+        };
+        let mut text = Vec::new(alloc);
+        let end = hold(alloc, &mut books, &mut reader, &mut text).ok_or("no desk")?;
+        let (written, ends) = wanted(alloc, count, fails)?;
+        assert_eq!(rt; text, written, "{count}");
+        assert_eq!(rt; end, ends, "{count}");
+        let next = if count < 117 { 1 } else { 2 };
+        assert_eq!(rt; books.next_number(), next, "{count}");
+    }
+    Ok(())
+}
+
+#[test]
+fn an_input_that_ends_or_fails_after_any_byte(rt: HostRuntime) -> Result<(), Fail> {
+    let input = joined(rt.alloc(), SALE, RECEIPT)?;
+    assert_eq!(rt; (SALE.len(), input.len()), (117, 159));
+    assert_eq!(rt; (SOLD.len(), PRINTED.len()), (261, 184));
+    for size in [usize::MAX, 1] {
+        for fails in [false, true] {
+            each_beginning(&rt, &input, size, fails)?;
+        }
+    }
+    Ok(())
+}
+
+#[test]
+fn pieces_of_any_length_and_a_writer_that_fails(rt: HostRuntime) -> Result<(), Fail> {
+    let alloc = rt.alloc();
+    let input = joined(alloc, SALE, RECEIPT)?;
+    let replies = joined(alloc, SOLD, PRINTED)?;
+    let mut books = prepared(alloc).ok_or("no office")?;
+    for room in 0..=445_usize {
+        let mut reader = Pieces {
+            rest: &input,
+            size: room.saturating_add(1),
+            fails: false,
+        };
+        let mut writer = Failing {
+            taken: Vec::new(alloc),
+            room,
+        };
+        let end = hold(alloc, &mut books, &mut reader, &mut writer).ok_or("no desk")?;
+        let ends = if room < 445 {
+            End::WriteFault
+        } else {
+            End::Closed
+        };
+        assert_eq!(rt; end, ends, "{room}");
+        assert_eq!(rt; writer.taken.as_slice(), first(&replies, room), "{room}");
+    }
+    Ok(())
+}
+
+#[test]
+fn a_reply_leaves_before_more_is_asked_for(rt: HostRuntime) -> Result<(), Fail> {
+    let alloc = rt.alloc();
+    let written = Cell::new(0);
+    let twice = joined(alloc, RECEIPT, RECEIPT)?;
+    let calls = joined(alloc, &twice, b"GET")?;
+    let (head, body) = SALE.split_at(53);
+    let (front, back) = body.split_at(60);
+    let steps = [
+        (0, 8192, head),
+        (0, 64, front),
+        (0, 4, back),
+        (261, 8192, calls.as_slice()),
+        (629, 8189, b"".as_slice()),
+    ];
+    let mut reader = Asking {
+        steps: &steps,
+        count: 0,
+        written: &written,
+        late: false,
+        greedy: false,
+    };
+    let mut writer = Counting { written: &written };
+    let mut books = prepared(alloc).ok_or("no office")?;
+    let end = hold(alloc, &mut books, &mut reader, &mut writer).ok_or("no desk")?;
+    assert_eq!(rt; end, End::BadMessage);
+    assert_eq!(rt; (reader.late, reader.greedy), (false, false));
+    assert_eq!(rt; (reader.count, written.get()), (5, 629 + NO_HEAD.len()));
+    Ok(())
+}

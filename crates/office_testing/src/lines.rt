@@ -1,0 +1,166 @@
+//! Requests and replies as lines of text. `tools/oracle` says what a line is, and answers such lines
+//! from the rules alone.
+
+use crate::values::{import, meter_no, operator, order_of, tariff_name};
+use std::alloc::Global;
+use std::test::Fail;
+use sts_fields::Base;
+use sts_token::read_key;
+use tariff::Steps;
+use vend_core::{Answer, Meter, Refusal, Reply, Request, Row, Sale, Sales, Shift};
+
+/// The moment of a line, in Unix seconds, and its request.
+pub fn request_of(alloc: Global, line: &str) -> Result<(i64, Request), Fail> {
+    let (moment, asked) = line.split_once(' ').ok_or("no moment")?;
+    let (word, values) = asked.split_once(' ').unwrap_or((asked, ""));
+    let seconds: u32 = moment.parse()?;
+    Ok((i64::from(seconds), request(alloc, word, values)?))
+}
+
+fn request(alloc: Global, word: &str, text: &str) -> Result<Request, Fail> {
+    let [one, two, three, four, _] = values(text, ' ');
+    match word {
+        "add-tariff" => Ok(Request::AddTariff(name(one)?, steps(alloc, two)?)),
+        "add-meter" => Ok(Request::AddMeter(number(one)?, meter(two, three, four)?)),
+        "set-tariff" => Ok(Request::SetTariff(number(one)?, name(two)?)),
+        "open-shift" => Ok(Request::OpenShift(operator(one.as_bytes())?)),
+        "close-shift" => Ok(Request::CloseShift(operator(one.as_bytes())?)),
+        "sell" => order_of(
+            one.as_bytes(),
+            two.as_bytes(),
+            three.as_bytes(),
+            four.parse()?,
+        ),
+        "reprint" => Ok(Request::Reprint(one.parse()?)),
+        "report" => Ok(Request::ShiftReport(one.parse()?)),
+        "import" => rows(alloc, text),
+        _ => Err(Fail::new(format_args!("no request: {word}"))),
+    }
+}
+
+fn rows(alloc: Global, text: &str) -> Result<Request, Fail> {
+    let mut rows = Vec::new(alloc);
+    for row in text.split_whitespace() {
+        let [kind, one, two, three, four] = values(row, ',');
+        rows.push(match kind {
+            "t" => Row::Tariff(name(one)?, steps(alloc, two)?),
+            "m" => Row::Meter(number(one)?, meter(two, three, four)?),
+            _ => return Err(Fail::new(format_args!("no row: {row}"))),
+        })?;
+    }
+    import(rows)
+}
+
+// The first values of a text, and empty ones where it has fewer.
+fn values(text: &str, between: char) -> [&str; 5] {
+    let mut pieces = text.split(between);
+    let one = pieces.next().unwrap_or("");
+    let two = pieces.next().unwrap_or("");
+    let three = pieces.next().unwrap_or("");
+    let four = pieces.next().unwrap_or("");
+    let five = pieces.next().unwrap_or("");
+    [one, two, three, four, five]
+}
+
+fn name(text: &str) -> Result<vend_core::TariffName, Fail> {
+    tariff_name(text.as_bytes())
+}
+
+fn number(text: &str) -> Result<vend_core::MeterNo, Fail> {
+    meter_no(text.as_bytes())
+}
+
+fn steps(alloc: Global, text: &str) -> Result<Steps, Fail> {
+    Ok(Steps::of_text(alloc, text.as_bytes())?)
+}
+
+fn meter(base: &str, tariff: &str, key: &str) -> Result<Meter, Fail> {
+    Ok(Meter {
+        base: Base::of_year(base.parse()?).ok_or("no base date")?,
+        tariff: name(tariff)?,
+        key: read_key(key.as_bytes()).ok_or("no key")?,
+    })
+}
+
+/// The reply as a line, without its end.
+pub fn told(alloc: Global, reply: &Reply) -> Result<String, Fail> {
+    match reply {
+        Ok(answer) => told_answer(alloc, answer),
+        Err(refusal) => told_refusal(alloc, *refusal),
+    }
+}
+
+fn told_refusal(alloc: Global, refusal: Refusal) -> Result<String, Fail> {
+    let (number, name) = (refusal.number(), refusal.name());
+    match refusal {
+        Refusal::ImportRow(row, cause) => {
+            Ok(format!(in alloc; "refused {number} {name} {row} {cause}")?)
+        }
+        _ => Ok(format!(in alloc; "refused {number} {name}")?),
+    }
+}
+
+fn told_answer(alloc: Global, answer: &Answer) -> Result<String, Fail> {
+    match answer {
+        Answer::Done => Ok(format!(in alloc; "done")?),
+        Answer::Imported(count) => Ok(format!(in alloc; "imported {count}")?),
+        Answer::Opened(number) => Ok(format!(in alloc; "opened {number}")?),
+        Answer::Closed(number) => Ok(format!(in alloc; "closed {number}")?),
+        Answer::Sold(sale) => told_sale(alloc, "sold", sale),
+        Answer::Reprinted(sale) => told_sale(alloc, "reprinted", sale),
+        Answer::Report(shift, sales) => told_report(alloc, shift, sales),
+    }
+}
+
+fn told_sale(alloc: Global, word: &str, sale: &Sale) -> Result<String, Fail> {
+    let (front, back) = (told_order(alloc, sale)?, told_token(alloc, sale)?);
+    let (number, moment, shift) = (sale.number, sale.moment.secs(), sale.shift);
+    Ok(format!(in alloc; "{word} {number} {moment} {shift} {front} {back}")?)
+}
+
+fn told_order(alloc: Global, sale: &Sale) -> Result<String, Fail> {
+    let operator = str::from_utf8(sale.operator.as_bytes())?;
+    let order_ref = str::from_utf8(sale.order_ref.as_bytes())?;
+    let (meter, base) = (str::from_utf8(sale.meter.as_bytes())?, sale.base.year());
+    Ok(format!(in alloc; "{operator} {order_ref} {meter} {base}")?)
+}
+
+fn told_token(alloc: Global, sale: &Sale) -> Result<String, Fail> {
+    let (tid, rnd, tenths) = (sale.tid, sale.rnd, sale.tenths.tenths());
+    let (price, tender) = (sale.price, sale.tender.cents());
+    let token = str::from_utf8(&sale.digits)?;
+    let bought = format!(in alloc; "{tid} {rnd} {tenths}")?;
+    Ok(format!(in alloc; "{bought} {price} {tender} {token}")?)
+}
+
+fn told_report(alloc: Global, shift: &Shift, sales: &Sales) -> Result<String, Fail> {
+    let operator = str::from_utf8(shift.operator.as_bytes())?;
+    let (number, opened) = (shift.number, shift.opened.secs());
+    let closed = match shift.closed {
+        Some(moment) => format!(in alloc; "{}", moment.secs())?,
+        None => format!(in alloc; "-")?,
+    };
+    let front = format!(in alloc; "report {number} {operator} {opened} {closed}")?;
+    let of_sales = told_sales(alloc, sales.as_slice())?;
+    Ok(format!(in alloc; "{front} {of_sales}")?)
+}
+
+// How many there are, their tenths and their prices, and their numbers.
+fn told_sales(alloc: Global, sales: &[Sale]) -> Result<String, Fail> {
+    let (mut tenths, mut cash) = (0u64, 0u64);
+    let mut numbers = String::new(alloc);
+    for sale in sales {
+        tenths = tenths.saturating_add(u64::from(sale.tenths.tenths()));
+        cash = cash.saturating_add(u64::from(sale.price));
+        let before = if numbers.is_empty() { "" } else { "," };
+        let number = format!(in alloc; "{before}{}", sale.number)?;
+        numbers.push_str(number.as_str())?;
+    }
+    let joined = if sales.is_empty() {
+        "-"
+    } else {
+        numbers.as_str()
+    };
+    let count = sales.len();
+    Ok(format!(in alloc; "{count} {tenths} {cash} {joined}")?)
+}

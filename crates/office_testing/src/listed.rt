@@ -1,0 +1,191 @@
+//! Lives of requests as lines of text, asked of three offices: of plain lists, of books in memory,
+//! and of books in a file, which are opened again where a line says so.
+
+use crate::both::{Both, agree, is_same, serve};
+use crate::in_file::{Life, live, live_and_stop, remove};
+use crate::lines::{request_of, told};
+use crate::values::stamped;
+use books::Books;
+use sqlite::{Alter, Connection, MemStore};
+use std::alloc::{AllocError, Global};
+use std::test::Fail;
+use sts_token::{BlockTransform, Demo, Plain};
+use vend_core::{Lists, Reply};
+
+/// What stays of the offices from life to life, but for the one that is in the file.
+#[derive(Drop)]
+struct Staying {
+    lists: Lists<Plain>,
+    memory: Connection<MemStore>,
+    /// A line for each reply that was another one.
+    differences: String,
+}
+
+/// Asks the requests of these texts, and fails with each reply that is not the one that stands behind
+/// its request. A text is of whole lives, and the file is removed before and afterwards.
+pub fn ask_texts(host: &HostRuntime, path: &str, texts: &[&str]) -> Result<(), Fail> {
+    let alloc = host.alloc();
+    remove(alloc, host, path)?;
+    let mut staying = Staying {
+        lists: Lists::new(alloc, Plain),
+        memory: Connection::open_in_memory(alloc)?,
+        differences: String::new(alloc),
+    };
+    for text in texts {
+        staying = ask_text(host, path, staying, text)?;
+    }
+    remove(alloc, host, path)?;
+    if staying.differences.is_empty() {
+        return Ok(());
+    }
+    Err(Fail::new(format_args!("{}", staying.differences)))
+}
+
+// Each second life ends as a program that stops.
+fn ask_text(host: &HostRuntime, path: &str, staying: Staying, text: &str) -> Result<Staying, Fail> {
+    let (mut staying, mut is_stopped) = (staying, false);
+    for life in text.split("open ").skip(1) {
+        let (transform, asked) = life.split_once('\n').ok_or("no transform")?;
+        staying = match transform {
+            "plain" => live_through(host, path, Plain, staying, asked, is_stopped)?,
+            "demo" => live_through(host, path, Demo, staying, asked, is_stopped)?,
+            _ => return Err(Fail::new(format_args!("no transform: {transform}"))),
+        };
+        is_stopped = !is_stopped;
+    }
+    Ok(staying)
+}
+
+// A life of all three under a transform.
+fn live_through<T: BlockTransform + Copy + Drop>(
+    host: &HostRuntime,
+    path: &str,
+    transform: T,
+    staying: Staying,
+    asked: &str,
+    is_stopped: bool,
+) -> Result<Staying, Fail> {
+    let alloc = host.alloc();
+    let Staying {
+        lists,
+        memory,
+        differences,
+    } = staying;
+    let life = Listed {
+        alloc,
+        memory: opened_again(alloc, memory, transform)?,
+        asked,
+        differences,
+    };
+    let lists = lists.with_transform(transform);
+    let (lists, (memory, differences)) = if is_stopped {
+        live_and_stop(host, path, transform, lists, life)?
+    } else {
+        live(host, path, transform, lists, life)?
+    };
+    Ok(Staying {
+        lists: lists.with_transform(Plain),
+        memory,
+        differences,
+    })
+}
+
+fn opened_again<T: BlockTransform + Drop>(
+    alloc: Global,
+    memory: Connection<MemStore>,
+    transform: T,
+) -> Result<Books<MemStore, T>, Fail> {
+    if !memory.is_autocommit() {
+        return Err("a transaction is open".into());
+    }
+    match Books::open_from(alloc, memory, transform) {
+        Ok(books) => Ok(books),
+        Err((fault, _)) => Err(fault.into()),
+    }
+}
+
+// The lines of a life, beside the office in memory.
+#[derive(Drop)]
+struct Listed<'a, T> {
+    alloc: Global,
+    memory: Books<MemStore, T>,
+    asked: &'a str,
+    differences: String,
+}
+
+impl<T: BlockTransform + Drop> Life<T, (Connection<MemStore>, String)> for Listed<'_, T> {
+    fn live<S: Alter>(self, both: &mut Both<S, T>) -> Result<(Connection<MemStore>, String), Fail> {
+        let Listed {
+            alloc,
+            mut memory,
+            asked,
+            mut differences,
+        } = self;
+        let count = both.lists.sales().len();
+        let mut last = format!(in alloc; "opened {count}")?;
+        for line in asked.lines() {
+            match line.strip_prefix("  ") {
+                Some(wanted) => compare(alloc, &last, wanted, &mut differences)?,
+                None => last = answer(alloc, both, &mut memory, line, &mut differences)?,
+            }
+        }
+        agree(both)?;
+        Ok((memory.into_connection(), differences))
+    }
+}
+
+// The reply that the lists give. What the books answer otherwise is noted.
+fn answer<S: Alter, T: BlockTransform>(
+    alloc: Global,
+    both: &mut Both<S, T>,
+    memory: &mut Books<MemStore, T>,
+    line: &str,
+    differences: &mut String,
+) -> Result<String, Fail> {
+    let (seconds, request) = request_of(alloc, line)?;
+    // That of the next sale's number.
+    let nibble = (both.lists.sales().len() % 16) as u8;
+    let at = stamped(seconds, nibble.saturating_add(1), request)?;
+    let reply = both.lists.serve(&at);
+    let in_memory = serve(memory, &at);
+    compare_books(alloc, "in memory", &in_memory, &reply, differences)?;
+    let in_file = serve(&mut both.books, &at);
+    compare_books(alloc, "in a file", &in_file, &reply, differences)?;
+    told(alloc, &reply)
+}
+
+fn compare_books(
+    alloc: Global,
+    place: &str,
+    reply: &Reply,
+    wanted: &Reply,
+    differences: &mut String,
+) -> Result<(), Fail> {
+    if is_same(reply, wanted) {
+        return Ok(());
+    }
+    let text = told(alloc, reply)?;
+    Ok(note(alloc, place, text.as_str(), differences)?)
+}
+
+fn compare(
+    alloc: Global,
+    reply: &String,
+    wanted: &str,
+    differences: &mut String,
+) -> Result<(), AllocError> {
+    if reply.as_str() == wanted {
+        return Ok(());
+    }
+    note(alloc, wanted, reply.as_str(), differences)
+}
+
+fn note(
+    alloc: Global,
+    wanted: &str,
+    given: &str,
+    differences: &mut String,
+) -> Result<(), AllocError> {
+    let line = format!(in alloc; "{wanted}: {given}\n")?;
+    differences.push_str(line.as_str())
+}
