@@ -1,10 +1,13 @@
 -- The sales that are answered stand, and what a decision leaves as it was.
 use Rattle.std.proofs.Common.{◌≡◌, ℕ, ◌⊎◌, inl, inr, Bool, true, false, List, [], ◌∷◌, ◌++◌, length, Option, Some, None, Result, Ok, Err, refl, sym, subst}
-use Rattle.std.specs.Prelude.{◌==◌, All, Contains, bytes_eq, if◌then◌else◌, is_some}
+use Rattle.std.specs.Prelude.{◌==◌, All, Contains, bytes_eq, if◌then◌else◌, is_some, nat_lt}
+use Rattle.sts_fields.specs.Base.{base_date, base_eq}
+use Rattle.sts_fields.specs.Day.{day_at}
+use Rattle.sts_fields.specs.declared.base.Base.{Base}
 use Rattle.std.proofs.lemmas.List.Elements.{All-contains_itself, All-cons, All-filter, All-nil, Contains-push}
 use Rattle.sts_token.specs.Token.{KeepsRange}
 use Rattle.tariff.specs.declared.step.Step.{Step}
-use Rattle.vend_core.specs.Decision.{MeterAccount, add_meter, add_rows, add_tariff, changed, close_shift, decision_of, import, meter_eq, new_rows, account_of, next_number, open_a_shift, report, reprint, sell, sell_once, set_tariff, steps_eq, unchanged}
+use Rattle.vend_core.specs.Decision.{MeterAccount, add_meter, add_rows, add_steps, add_tariff, changed, close_shift, decision_of, import, is_earlier, meter_eq, move_base, new_rows, account_of, next_number, open_a_shift, report, reprint, sell, sell_once, set_tariff, steps_eq, unchanged}
 use Rattle.vend_core.specs.Edits.{with_row, with_rows}
 use Rattle.vend_core.specs.Fold.{office_after, reply, reply_of, step}
 use Rattle.vend_core.specs.Handed.{sales_in, sales_of}
@@ -18,6 +21,7 @@ use Rattle.vend_core.specs.declared.change.Change.{Change}
 use Rattle.vend_core.specs.declared.change.Edit.TheVariants as edits
 use Rattle.vend_core.specs.declared.meter.Meter.{Meter}
 use Rattle.vend_core.specs.declared.refusal.Refusal.{Refusal}
+use Rattle.vend_core.specs.declared.refusal.Refusal.TheVariants as refusals
 use Rattle.vend_core.specs.declared.request.Order.{Order}
 use Rattle.vend_core.specs.declared.request.Request.{Request}
 use Rattle.vend_core.specs.declared.request.Request.TheVariants as requests
@@ -58,6 +62,15 @@ module _ (o : Office) (New : Sale → Type 0) where
   stand_add_tariff name steps None = record { stand = nothing o; adds = inl refl }
   stand_add_tariff name steps (Some there) = stand_if (steps_eq there steps) _ _ (nothing o)
 
+  stand_day : (name : List ℕ) (day : ℕ) (steps : List Step) (b : Bool) → IsHonest o New (if b then changed (edits.AddSteps name day steps) answers.Done else Err refusals.DayPast)
+  stand_day name day steps true = record { stand = nothing o; adds = inl refl }
+  stand_day name day steps false = record { stand = nothing o; adds = inl refl }
+
+  stand_add_steps : (name : List ℕ) (day today : ℕ) (steps : List Step) (has : Bool) (there : Option (List Step)) → IsHonest o New (add_steps name day steps today has there)
+  stand_add_steps name day today steps false there = record { stand = nothing o; adds = inl refl }
+  stand_add_steps name day today steps true (Some there) = stand_if (steps_eq there steps) _ _ (nothing o)
+  stand_add_steps name day today steps true None = stand_day name day steps (nat_lt today day)
+
   stand_add_meter : (number : List ℕ) (m : Meter) (there : Option Meter) (has : Bool) → IsHonest o New (add_meter number m there has)
   stand_add_meter number m (Some there) has = stand_if (meter_eq there m) _ _ (nothing o)
   stand_add_meter number m None true = record { stand = nothing o; adds = inl refl }
@@ -72,18 +85,30 @@ module _ (o : Office) (New : Sale → Type 0) where
   stand_set_tariff number name (Some m) false = record { stand = nothing o; adds = inl refl }
   stand_set_tariff number name (Some m) true = stand_set (bytes_eq m.tariff name) number name
 
+  stand_later : (number : List ℕ) (base : Base) (same earlier before : Bool)
+      → IsHonest o New (if same then unchanged answers.Done else (if earlier then Err refusals.NotLater else (if before then Err refusals.BeforeBase else changed (edits.MoveBase number base) answers.Done)))
+  stand_later number base true earlier before = record { stand = nothing o; adds = inl refl }
+  stand_later number base false true before = record { stand = nothing o; adds = inl refl }
+  stand_later number base false false true = record { stand = nothing o; adds = inl refl }
+  stand_later number base false false false = record { stand = nothing o; adds = inl refl }
+
+  stand_move_base : (number : List ℕ) (base : Base) (moment : ℕ) (there : Option Meter) → IsHonest o New (move_base number base moment there)
+  stand_move_base number base moment None = record { stand = nothing o; adds = inl refl }
+  stand_move_base number base moment (Some m) = stand_later number base (base_eq m.base base) (is_earlier base m.base) (nat_lt moment (base_date base))
+
   -- rows add no sale
   rows_add_none : (new : List Row) (p : Office) → (with_rows new p).sales ≡ p.sales
   rows_add_none [] p = refl
   rows_add_none (kinds.Tariff name steps ∷ rest) p = rows_add_none rest (with_row (kinds.Tariff name steps) p)
+  rows_add_none (kinds.Steps name day steps ∷ rest) p = rows_add_none rest (with_row (kinds.Steps name day steps) p)
   rows_add_none (kinds.Meter number m ∷ rest) p = rows_add_none rest (with_row (kinds.Meter number m) p)
 
   stand_rows : (new : List Row) → IsHonest o New (add_rows new)
   stand_rows [] = record { stand = nothing o; adds = inl refl }
   stand_rows (row ∷ rest) = record { stand = nothing (with_rows (row ∷ rest) o); adds = inl (rows_add_none (row ∷ rest) o) }
 
-  stand_import : (rows : List Row) → IsHonest o New (import o rows)
-  stand_import rows = after_test (IsHonest o New) (new_rows o 1 rows) add_rows (λ refusal. record { stand = nothing o; adds = inl refl }) (λ new e. stand_rows new)
+  stand_import : (today : ℕ) (rows : List Row) → IsHonest o New (import o today rows)
+  stand_import today rows = after_test (IsHonest o New) (new_rows o today 1 rows) add_rows (λ refusal. record { stand = nothing o; adds = inl refl }) (λ new e. stand_rows new)
 
   stand_open_shift : (moment : ℕ) (operator : List ℕ) (there : Option Shift) (count : ℕ) → IsHonest o New (open_a_shift moment operator there count)
   stand_open_shift moment operator (Some there) count = record { stand = nothing o; adds = inl refl }
@@ -128,9 +153,11 @@ module _ (o : Office) (New : Sale → Type 0) where
 
     pub honest : (request : Request) → ((order : Order) → request ≡ requests.Sell order → SellsNew (sold_to order)) → IsHonest o New (decision_of forward o moment nibble request)
     honest (requests.AddTariff name steps) sells = stand_add_tariff name steps (o.tariffs name)
+    honest (requests.AddSteps name day steps) sells = stand_add_steps name day (day_at moment) steps (is_some (o.tariffs name)) (o.dated_steps name day)
     honest (requests.AddMeter number m) sells = stand_add_meter number m (o.meters number) (is_some (o.tariffs m.tariff))
-    honest (requests.Import rows) sells = stand_import rows
+    honest (requests.Import rows) sells = stand_import (day_at moment) rows
     honest (requests.SetTariff number name) sells = stand_set_tariff number name (o.meters number) (is_some (o.tariffs name))
+    honest (requests.MoveBase number base) sells = stand_move_base number base moment (o.meters number)
     honest (requests.OpenShift operator) sells = stand_open_shift moment operator (open_shift o operator) (length o.shifts)
     honest (requests.CloseShift operator) sells = stand_close_shift moment (open_shift o operator)
     honest (requests.Sell order) sells =

@@ -1,13 +1,16 @@
 -- The edit of a granted request fits the office: its meter's tariff is there, its identifier is in range, and there is room.
-use Rattle.std.proofs.Common.{◌≡◌, ℕ, ◌<◌, ◌≤◌, Bool, true, false, List, [], ◌∷◌, Option, Some, None, Result, Ok, Err, IsSome, bytes_eq, is_some, length, refl, sym, subst, inl, inr, if◌then◌else◌, arith}
+use Rattle.std.proofs.Common.{◌≡◌, ℕ, ◌<◌, ◌≤◌, Bool, true, false, List, [], ◌∷◌, Option, Some, None, Result, Ok, Err, IsSome, bytes_eq, is_some, length, nat_lt, refl, sym, subst, inl, inr, if◌then◌else◌, arith}
 use Rattle.std.proofs.lemmas.Bool.{false≢true}
 use Rattle.std.proofs.lemmas.Bool.Decides.{nat_tests}
 use Rattle.std.proofs.lemmas.Option.{none-some, same_Some}
 use Rattle.std.specs.Option.{ok_or}
 use Rattle.sts_fields.specs.Tid.{fresh_after, last_tid, minute_of}
+use Rattle.sts_fields.specs.Base.{base_date, base_eq}
+use Rattle.sts_fields.specs.Day.{day_at}
+use Rattle.sts_fields.specs.declared.base.Base.{Base}
 use Rattle.tariff.specs.Purchase.{purchase_of}
 use Rattle.tariff.specs.declared.step.Step.{Step}
-use Rattle.vend_core.specs.Decision.{◌>>=◌, MeterAccount, add_meter, add_rows, add_tariff, changed, close_shift, decision, decision_of, import, meter_eq, new_rows, account_of, next_number, open_a_shift, or_refusal, report, reprint, sell, sell_again, sell_once, set_tariff, steps_eq, unchanged}
+use Rattle.vend_core.specs.Decision.{◌>>=◌, MeterAccount, add_meter, add_rows, add_steps, add_tariff, changed, close_shift, decision, decision_of, import, is_earlier, meter_eq, move_base, new_rows, account_of, next_number, open_a_shift, or_refusal, report, reprint, sell, sell_again, sell_once, set_tariff, steps_eq, unchanged}
 use Rattle.vend_core.specs.Facts.{IsUnlessMemory, keeps_lists}
 use Rattle.vend_core.specs.Lists.{Fits, RowsFit, sets_only}
 use Rattle.vend_core.specs.Lookup.{open_shift, sale_numbered, sale_of_ref, sales_of_shift, shift_numbered}
@@ -17,9 +20,10 @@ use Rattle.vend_core.specs.declared.change.Change.{Change}
 use Rattle.vend_core.specs.declared.change.Edit.{Edit}
 use Rattle.vend_core.specs.declared.meter.Meter.{Meter}
 use Rattle.vend_core.specs.declared.refusal.Refusal.{Refusal}
+use Rattle.vend_core.specs.declared.refusal.Refusal.TheVariants as refusals
 use Rattle.vend_core.specs.declared.request.Order.{Order}
 use Rattle.vend_core.specs.declared.request.Request.{Request}
-use Rattle.vend_core.specs.declared.request.Request.TheVariants.{AddTariff, AddMeter, Import, SetTariff, OpenShift, CloseShift, Sell, Reprint, ShiftReport}
+use Rattle.vend_core.specs.declared.request.Request.TheVariants.{AddTariff, AddSteps, AddMeter, Import, SetTariff, MoveBase, OpenShift, CloseShift, Sell, Reprint, ShiftReport}
 use Rattle.vend_core.specs.declared.request.Stamped.{Stamped}
 use Rattle.vend_core.specs.declared.answer.Answer.TheVariants as answers
 use Rattle.vend_core.specs.declared.change.Edit.TheVariants as edits
@@ -52,6 +56,15 @@ if_add_tariff : (o : Office) (name : List ℕ) (steps : List Step) (there : Opti
 if_add_tariff o name steps None = if_changed o _ tt
 if_add_tariff o name steps (Some there) = if_tested o (steps_eq there steps) _ _
 
+if_day : (o : Office) (name : List ℕ) (day : ℕ) (steps : List Step) (b : Bool) → EditFits o (if b then changed (edits.AddSteps name day steps) answers.Done else Err refusals.DayPast)
+if_day o name day steps true = if_changed o _ tt
+if_day o name day steps false = tt
+
+if_add_steps : (o : Office) (name : List ℕ) (day today : ℕ) (steps : List Step) (has : Bool) (there : Option (List Step)) → EditFits o (add_steps name day steps today has there)
+if_add_steps o name day today steps false there = tt
+if_add_steps o name day today steps true (Some there) = if_tested o (steps_eq there steps) _ _
+if_add_steps o name day today steps true None = if_day o name day steps (nat_lt today day)
+
 if_add_meter : (o : Office) (number : List ℕ) (m : Meter) (there : Option Meter) (has : Bool)
     → is_some (o.tariffs m.tariff) ≡ has → EditFits o (add_meter number m there has)
 if_add_meter o number m (Some there) has is = if_tested o (meter_eq there m) _ _
@@ -62,8 +75,8 @@ if_rows : (o : Office) (new : List Row) → RowsFit new o → EditFits o (add_ro
 if_rows o [] fits = if_unchanged o
 if_rows o (row ∷ rest) fits = if_changed o _ fits
 
-if_import : (o : Office) (rows : List Row) → EditFits o (import o rows)
-if_import o rows = if_bound o (new_rows o 1 rows) add_rows (λ new is. if_rows o new (new_rows_fit o 1 rows new is))
+if_import : (o : Office) (today : ℕ) (rows : List Row) → EditFits o (import o today rows)
+if_import o today rows = if_bound o (new_rows o today 1 rows) add_rows (λ new is. if_rows o new (new_rows_fit o today 1 rows new is))
 
 if_set : (o : Office) (number name : List ℕ) (b : Bool) → IsSome (o.tariffs name) → EditFits o (if b then unchanged answers.Done else changed (edits.SetTariff number name) answers.Done)
 if_set o number name true is = if_unchanged o
@@ -74,6 +87,16 @@ if_set_tariff : (o : Office) (number name : List ℕ) (meter : Option Meter) (ha
 if_set_tariff o number name None has is = tt
 if_set_tariff o number name (Some m) false is = tt
 if_set_tariff o number name (Some m) true is = if_set o number name (bytes_eq m.tariff name) is
+
+if_later : (o : Office) (number : List ℕ) (base : Base) (same earlier before : Bool) → EditFits o (if same then unchanged answers.Done else (if earlier then Err refusals.NotLater else (if before then Err refusals.BeforeBase else changed (edits.MoveBase number base) answers.Done)))
+if_later o number base true earlier before = if_unchanged o
+if_later o number base false true before = tt
+if_later o number base false false true = tt
+if_later o number base false false false = if_changed o _ tt
+
+if_move_base : (o : Office) (number : List ℕ) (base : Base) (moment : ℕ) (there : Option Meter) → EditFits o (move_base number base moment there)
+if_move_base o number base moment None = tt
+if_move_base o number base moment (Some m) = if_later o number base (base_eq m.base base) (is_earlier base m.base) (nat_lt moment (base_date base))
 
 if_open_shift : (o : Office) (moment : ℕ) (operator : List ℕ) (there : Option Shift) (count : ℕ) → EditFits o (open_a_shift moment operator there count)
 if_open_shift o moment operator (Some there) count = tt
@@ -119,9 +142,11 @@ if_sell_once o forward moment nibble order None shift meter = if_sell o forward 
 
 pub decision_fits : (forward : ℕ → ℕ → ℕ) (o : Office) (moment nibble : ℕ) (request : Request) → EditFits o (decision_of forward o moment nibble request)
 decision_fits forward o moment nibble (AddTariff name steps) = if_add_tariff o name steps (o.tariffs name)
+decision_fits forward o moment nibble (AddSteps name day steps) = if_add_steps o name day (day_at moment) steps (is_some (o.tariffs name)) (o.dated_steps name day)
 decision_fits forward o moment nibble (AddMeter number m) = if_add_meter o number m (o.meters number) (is_some (o.tariffs m.tariff)) refl
-decision_fits forward o moment nibble (Import rows) = if_import o rows
+decision_fits forward o moment nibble (Import rows) = if_import o (day_at moment) rows
 decision_fits forward o moment nibble (SetTariff number name) = if_set_tariff o number name (o.meters number) (is_some (o.tariffs name)) refl
+decision_fits forward o moment nibble (MoveBase number base) = if_move_base o number base moment (o.meters number)
 decision_fits forward o moment nibble (OpenShift operator) = if_open_shift o moment operator (open_shift o operator) (length o.shifts)
 decision_fits forward o moment nibble (CloseShift operator) = if_close_shift o moment (open_shift o operator)
 decision_fits forward o moment nibble (Sell order) =

@@ -20,35 +20,35 @@ use Rattle.vend_core.proofs.StayLemmas.{differs_still, stayed_by_row, stayed_twi
 use Rattle.vend_core.proofs.TakenLemmas.{with_rows-push}
 
 -- the facts of the first row, and those of the rest where that row does not differ
-pub record Walks (o : Office) (row : Row) (rest : List Row) (gs : List RowFacts) : Type 0 where
+pub record Walks (o : Office) (today : ℕ) (row : Row) (rest : List Row) (gs : List RowFacts) : Type 0 where
   pub first : RowFacts
   pub further : List RowFacts
   pub are : gs ≡ first ∷ further
   pub first_is : first ≡ row_facts o row
-  pub rest_are : (row_decision o row ≡ Err refusals.Differs) ⊎ AreRowsFacts o rest further
+  pub rest_are : (row_decision o today row ≡ Err refusals.Differs) ⊎ AreRowsFacts o today rest further
 
-walks_first : (o : Office) (row : Row) (rest : List Row) (gs : List RowFacts) → AreRowsFacts o (row ∷ rest) gs → Walks o row rest gs
-walks_first o row rest [] facts = absurd facts
-walks_first o row rest (g ∷ gs) facts = record { first = g; further = gs; are = refl; first_is = facts.0; rest_are = facts.1 }
+walks_first : (o : Office) (today : ℕ) (row : Row) (rest : List Row) (gs : List RowFacts) → AreRowsFacts o today (row ∷ rest) gs → Walks o today row rest gs
+walks_first o today row rest [] facts = absurd facts
+walks_first o today row rest (g ∷ gs) facts = record { first = g; further = gs; are = refl; first_is = facts.0; rest_are = facts.1 }
 
 -- the row of a place, and the rows after it
 pub rows_at : (rows : List Row) (i : ℕ) (row : Row) → i < length rows → row ≡ get_or rows i row → drop i rows ≡ row ∷ drop (i + 1) rows
 rows_at rows i row within is = drop_more rows i row within ∙ ap (λ (r : Row). r ∷ drop (i + 1) rows) (sym is)
 
-pub record FactsAt (o : Office) (rows : List Row) (fs : List RowFacts) (i : ℕ) (row : Row) : Type 0 where
+pub record FactsAt (o : Office) (today : ℕ) (rows : List Row) (fs : List RowFacts) (i : ℕ) (row : Row) : Type 0 where
   pub found : slice_get fs i ≡ Some (row_facts o row)
-  pub rest : (row_decision o row ≡ Err refusals.Differs) ⊎ AreRowsFacts o (drop (i + 1) rows) (drop (i + 1) fs)
+  pub rest : (row_decision o today row ≡ Err refusals.Differs) ⊎ AreRowsFacts o today (drop (i + 1) rows) (drop (i + 1) fs)
 
-pub facts_at : (o : Office) (rows : List Row) (fs : List RowFacts) (i : ℕ) (row : Row) → i < length rows → row ≡ get_or rows i row → AreRowsFacts o (drop i rows) (drop i fs) → FactsAt o rows fs i row
-facts_at o rows fs i row within is facts =
-    let w = walks_first o row (drop (i + 1) rows) (drop i fs) (subst (λ (l : List Row). AreRowsFacts o l (drop i fs)) (rows_at rows i row within is) facts) in
+pub facts_at : (o : Office) (today : ℕ) (rows : List Row) (fs : List RowFacts) (i : ℕ) (row : Row) → i < length rows → row ≡ get_or rows i row → AreRowsFacts o today (drop i rows) (drop i fs) → FactsAt o today rows fs i row
+facts_at o today rows fs i row within is facts =
+    let w = walks_first o today row (drop (i + 1) rows) (drop i fs) (subst (λ (l : List Row). AreRowsFacts o today l (drop i fs)) (rows_at rows i row within is) facts) in
     let long : i < length fs = omega (arith, length-drop i fs, ap length w.are) in
     let parts : get_or fs i w.first ∷ drop (i + 1) fs ≡ w.first ∷ w.further = sym (drop_more fs i w.first long) ∙ w.are in
     let head : get_or fs i w.first ≡ w.first = cc in
     let tail : drop (i + 1) fs ≡ w.further = cc in
     record {
       found = slice_get-get_or fs i w.first long ∙ ap Some (head ∙ w.first_is);
-      rest = subst (λ (l : List RowFacts). (row_decision o row ≡ Err refusals.Differs) ⊎ AreRowsFacts o (drop (i + 1) rows) l) (sym tail) w.rest_are;
+      rest = subst (λ (l : List RowFacts). (row_decision o today row ≡ Err refusals.Differs) ⊎ AreRowsFacts o today (drop (i + 1) rows) l) (sym tail) w.rest_are;
     }
 
 -- what a look-up by place gives
@@ -71,43 +71,43 @@ ahead_more taken row true (Ok new) = ap (λ (l : List Row). let r : Result (List
 ahead_more taken row false (Ok new) = ap (λ (l : List Row). let r : Result (List Row) Refusal = Ok (l ++ new) in r) (sym (append-nil taken))
 ahead_more taken row b (Err refusal) = refl
 
-module _ (o : Office) (rows : List Row) (taken : List Row) (i : ℕ) (row : Row) (within : i < length rows) (is : row ≡ get_or rows i row)
-    (invariant : new_rows o 1 rows ≡ ahead taken (new_rows (with_rows taken o) (i + 1) (drop i rows))) where
-  at_this : new_rows o 1 rows ≡ ahead taken (new_rows (with_rows taken o) (i + 1) (row ∷ drop (i + 1) rows))
-  at_this = invariant ∙ ap (λ (l : List Row). ahead taken (new_rows (with_rows taken o) (i + 1) l)) (rows_at rows i row within is)
+module _ (o : Office) (today : ℕ) (rows : List Row) (taken : List Row) (i : ℕ) (row : Row) (within : i < length rows) (is : row ≡ get_or rows i row)
+    (invariant : new_rows o today 1 rows ≡ ahead taken (new_rows (with_rows taken o) today (i + 1) (drop i rows))) where
+  at_this : new_rows o today 1 rows ≡ ahead taken (new_rows (with_rows taken o) today (i + 1) (row ∷ drop (i + 1) rows))
+  at_this = invariant ∙ ap (λ (l : List Row). ahead taken (new_rows (with_rows taken o) today (i + 1) l)) (rows_at rows i row within is)
 
-  pub walks_on : (change : Change) → row_decision (with_rows taken o) row ≡ Ok change
-      → new_rows o 1 rows ≡ ahead (taken_more taken row change) (new_rows (with_rows (taken_more taken row change) o) (i + 1 + 1) (drop (i + 1) rows))
+  pub walks_on : (change : Change) → row_decision (with_rows taken o) today row ≡ Ok change
+      → new_rows o today 1 rows ≡ ahead (taken_more taken row change) (new_rows (with_rows (taken_more taken row change) o) today (i + 1 + 1) (drop (i + 1) rows))
   walks_on change granted =
       let p = with_rows taken o in
       at_this
-      ∙ ap (λ (r : Result Change Refusal). ahead taken (at_row (i + 1) r >>= (λ change. new_rows (office_after p (Ok change)) (i + 1 + 1) (drop (i + 1) rows) >>= (λ new. Ok (if is_some change.edit then row ∷ new else new))))) granted
-      ∙ ahead_more taken row (is_some change.edit) (new_rows (office_after p (Ok change)) (i + 1 + 1) (drop (i + 1) rows))
-      ∙ ap (λ (q : Office). ahead (taken_more taken row change) (new_rows q (i + 1 + 1) (drop (i + 1) rows))) (sym (office_more taken row change o (row_grants p row change granted)))
+      ∙ ap (λ (r : Result Change Refusal). ahead taken (at_row (i + 1) r >>= (λ change. new_rows (office_after p (Ok change)) today (i + 1 + 1) (drop (i + 1) rows) >>= (λ new. Ok (if is_some change.edit then row ∷ new else new))))) granted
+      ∙ ahead_more taken row (is_some change.edit) (new_rows (office_after p (Ok change)) today (i + 1 + 1) (drop (i + 1) rows))
+      ∙ ap (λ (q : Office). ahead (taken_more taken row change) (new_rows q today (i + 1 + 1) (drop (i + 1) rows))) (sym (office_more taken row change o (row_grants p today row change granted)))
 
-  pub stops_there : (refusal : Refusal) → at_row (i + 1) (row_decision (with_rows taken o) row) ≡ Err refusal → new_rows o 1 rows ≡ Err refusal
+  pub stops_there : (refusal : Refusal) → at_row (i + 1) (row_decision (with_rows taken o) today row) ≡ Err refusal → new_rows o today 1 rows ≡ Err refusal
   stops_there refusal refused =
       let p = with_rows taken o in
       at_this
-      ∙ ap (λ (r : Result Change Refusal). ahead taken (r >>= (λ change. new_rows (office_after p (Ok change)) (i + 1 + 1) (drop (i + 1) rows) >>= (λ new. Ok (if is_some change.edit then row ∷ new else new))))) refused
+      ∙ ap (λ (r : Result Change Refusal). ahead taken (r >>= (λ change. new_rows (office_after p (Ok change)) today (i + 1 + 1) (drop (i + 1) rows) >>= (λ new. Ok (if is_some change.edit then row ∷ new else new))))) refused
 
-pub stays_on : (o : Office) (taken : List Row) (row : Row) (change : Change) → HaveStayed o (with_rows taken o) → row_decision (with_rows taken o) row ≡ Ok change → HaveStayed o (with_rows (taken_more taken row change) o)
-stays_on o taken row change stayed granted =
+pub stays_on : (o : Office) (today : ℕ) (taken : List Row) (row : Row) (change : Change) → HaveStayed o (with_rows taken o) → row_decision (with_rows taken o) today row ≡ Ok change → HaveStayed o (with_rows (taken_more taken row change) o)
+stays_on o today taken row change stayed granted =
     let p = with_rows taken o in
-    subst (HaveStayed o) (sym (office_more taken row change o (row_grants p row change granted)))
-    (stayed_twice o p (office_after p (Ok change)) stayed (subst (λ (r : Result Change Refusal). HaveStayed p (office_after p r)) granted (stayed_by_row p row)))
+    subst (HaveStayed o) (sym (office_more taken row change o (row_grants p today row change granted)))
+    (stayed_twice o p (office_after p (Ok change)) stayed (subst (λ (r : Result Change Refusal). HaveStayed p (office_after p r)) granted (stayed_by_row p today row)))
 
 -- where the row was granted, it does not differ
-pub facts_further : (o : Office) (rows : List Row) (fs : List RowFacts) (taken : List Row) (i : ℕ) (row : Row) (change : Change) → HaveStayed o (with_rows taken o) → row_decision (with_rows taken o) row ≡ Ok change
-    → FactsAt o rows fs i row → AreRowsFacts o (drop (i + 1) rows) (drop (i + 1) fs)
-facts_further o rows fs taken i row change stayed granted at = further at.rest
+pub facts_further : (o : Office) (today : ℕ) (rows : List Row) (fs : List RowFacts) (taken : List Row) (i : ℕ) (row : Row) (change : Change) → HaveStayed o (with_rows taken o) → row_decision (with_rows taken o) today row ≡ Ok change
+    → FactsAt o today rows fs i row → AreRowsFacts o today (drop (i + 1) rows) (drop (i + 1) fs)
+facts_further o today rows fs taken i row change stayed granted at = further at.rest
   where
-    further : (row_decision o row ≡ Err refusals.Differs) ⊎ AreRowsFacts o (drop (i + 1) rows) (drop (i + 1) fs) → AreRowsFacts o (drop (i + 1) rows) (drop (i + 1) fs)
-    further (inl differs) = let still = differs_still o (with_rows taken o) row stayed differs in cc
+    further : (row_decision o today row ≡ Err refusals.Differs) ⊎ AreRowsFacts o today (drop (i + 1) rows) (drop (i + 1) fs) → AreRowsFacts o today (drop (i + 1) rows) (drop (i + 1) fs)
+    further (inl differs) = let still = differs_still o (with_rows taken o) today row stayed differs in cc
     further (inr rest) = rest
 
 -- at the end nothing is left
-pub walked : (o : Office) (rows taken : List Row) (i : ℕ) → length rows ≤ i → new_rows o 1 rows ≡ ahead taken (new_rows (with_rows taken o) (i + 1) (drop i rows)) → new_rows o 1 rows ≡ Ok taken
-walked o rows taken i past invariant =
-    invariant ∙ ap (λ (l : List Row). ahead taken (new_rows (with_rows taken o) (i + 1) l)) (drop_all i rows past)
+pub walked : (o : Office) (today : ℕ) (rows taken : List Row) (i : ℕ) → length rows ≤ i → new_rows o today 1 rows ≡ ahead taken (new_rows (with_rows taken o) today (i + 1) (drop i rows)) → new_rows o today 1 rows ≡ Ok taken
+walked o today rows taken i past invariant =
+    invariant ∙ ap (λ (l : List Row). ahead taken (new_rows (with_rows taken o) today (i + 1) l)) (drop_all i rows past)
     ∙ ap (λ (l : List Row). let r : Result (List Row) Refusal = Ok l in r) (append-nil taken)

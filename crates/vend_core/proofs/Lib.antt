@@ -2,7 +2,10 @@ pub mod AgainLemmas
 pub mod AgainLifeLemmas
 pub mod AlongLemmas
 pub mod AnswerLemmas
+pub mod BaseLemmas
 pub mod CashLemmas
+pub mod ClearedLemmas
+pub mod DatedLemmas
 pub mod DecisionLemmas
 pub mod EditLemmas
 pub mod ExtendLemmas
@@ -23,9 +26,11 @@ pub mod NewSaleLemmas
 pub mod OfficeLemmas
 pub mod OrderLemmas
 pub mod PlainRowLemmas
+pub mod PriceLemmas
 pub mod RefusalLemmas
 pub mod RiseLemmas
 pub mod RowLemmas
+pub mod RowMeetsLemmas
 pub mod SaleLemmas
 pub mod ShortTextLemmas
 pub mod StayLemmas

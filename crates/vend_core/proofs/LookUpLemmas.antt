@@ -1,11 +1,12 @@
 -- One element more, in a scan for the greatest number and for the sum of what passes a test.
-use Rattle.std.proofs.Common.{◌≡◌, ℕ, ◌+◌, ◌<◌, ◌≤◌, Bool, true, false, cond, List, [], ◌∷◌, ◌++◌, Option, Some, None, length, get_or, take, filter, map, max, unwrap_or, sum_by, refl, sym, ◌∙◌, ap, arith}
+use Rattle.std.proofs.Common.{◌≡◌, ℕ, zero, suc, ◌+◌, ◌<◌, ◌≤◌, Bool, true, false, cond, List, [], ◌∷◌, ◌++◌, Option, Some, None, length, get_or, take, filter, map, max, unwrap_or, sum_by, refl, sym, ◌∙◌, ap, arith}
 use Rattle.std.proofs.lemmas.List.{append-nil, map-append}
 use Rattle.std.proofs.lemmas.List.Elements.{filter_more}
 use Rattle.std.proofs.lemmas.List.Sums.{sum_by-append}
 use Rattle.std.proofs.lemmas.Option.{same_Some}
-use Rattle.std.specs.Option.{ForSome}
-use Rattle.vend_core.specs.Lookup.{greatest_of}
+use Rattle.std.specs.Option.{ForSome, option_or}
+use Rattle.tariff.specs.declared.step.Step.{Step}
+use Rattle.vend_core.specs.Lookup.{greatest_of, latest}
 
 -- the greatest of some numbers and one more at the end
 pub greatest_of-push : (ns : List ℕ) (n : ℕ) → greatest_of (ns ++ n ∷ []) ≡ Some (max (unwrap_or (greatest_of ns) 0) n)
@@ -59,3 +60,20 @@ greatest_within None r t bound before next is =
     λ x at. let e : max 0 t ≡ x = same_Some (max 0 t) x (sym is ∙ at) in omega arith
 greatest_within (Some k) r t bound before next is =
     λ x at. let e : max k t ≡ x = same_Some (max k t) x (sym is ∙ at) in let k_within : k ≤ bound = before k refl in omega arith
+
+-- the latest steps: those of the day, or else those of the day before
+pub latest-here : (dated : ℕ → Option (List Step)) (day : ℕ) (steps : List Step) → dated day ≡ Some steps → latest dated day ≡ Some steps
+unfolding latest
+latest-here dated zero steps is = is
+latest-here dated (suc day) steps is = ap (λ (o : Option (List Step)). option_or o (latest dated day)) is
+
+pub latest-before : (dated : ℕ → Option (List Step)) (day before : ℕ) → day ≡ before + 1 → dated day ≡ None → latest dated day ≡ latest dated before
+unfolding latest
+latest-before dated zero before next none = absurd (omega (arith, next))
+latest-before dated (suc day) before next none =
+    let same : day ≡ before = omega (arith, next) in
+    ap (λ (o : Option (List Step)). option_or o (latest dated day)) none ∙ ap (latest dated) same
+
+pub latest-first : (dated : ℕ → Option (List Step)) (day : ℕ) → day ≡ 0 → latest dated day ≡ dated day
+unfolding latest
+latest-first dated day first = ap (latest dated) first ∙ sym (ap dated first)

@@ -1,60 +1,42 @@
 -- The edit of a granted request meets what it needs in the office: a free name, the tariff, the
 -- open shift, the next number.
-use Rattle.std.proofs.Common.{◌≡◌, ℕ, ◌+◌, ◌<◌, inl, inr, Bool, true, false, List, [], ◌∷◌, Option, Some, None, Result, Ok, Err, is_some, length, refl, sym, ◌∙◌, ap, subst, if◌then◌else◌, arith}
-use Rattle.std.specs.Prelude.{All, IsSome, bytes_eq}
+use Rattle.std.proofs.Common.{◌≡◌, ℕ, ◌<◌, Bool, true, false, List, Option, Some, None, Result, Ok, Err, is_some, length, refl, sym, ◌∙◌, ap, subst, if◌then◌else◌, arith}
+use Rattle.std.specs.Prelude.{All, IsSome, bytes_eq, nat_lt}
 use Rattle.std.proofs.lemmas.Bool.{false≢true}
-use Rattle.std.proofs.lemmas.List.Elements.{All-head, All-tail}
+use Rattle.std.proofs.lemmas.Bool.Decides.{nat_tests}
 use Rattle.std.proofs.lemmas.Slice.Eq.{bytes_eq-Decides}
-use Rattle.std.proofs.lemmas.Option.{none-some, same_Some}
 use Rattle.sts_token.specs.Token.{KeepsRange}
-use Rattle.tariff.specs.Steps.{IsSteps}
-use Rattle.tariff.specs.declared.step.Step.{Step}
-use Rattle.vend_core.specs.Decision.{add_meter, add_rows, add_tariff, changed, close_shift, decision, decision_of, import, meter_eq, account_of, new_rows, next_number, open_a_shift, report, reprint, row_decision, sell, sell_once, set_tariff, steps_eq, unchanged}
-use Rattle.vend_core.specs.Edits.{office_after}
+use Rattle.sts_fields.specs.Base.{base_date, base_eq, year_of}
+use Rattle.sts_fields.specs.Day.{day_at}
+use Rattle.sts_fields.specs.declared.base.Base.{Base}
+use Rattle.vend_core.specs.Decision.{changed, close_shift, decision, decision_of, is_earlier, move_base, account_of, next_number, open_a_shift, report, reprint, sell, sell_once, set_tariff, unchanged}
 use Rattle.vend_core.specs.Lookup.{open_shift, sale_numbered, sale_of_ref, sales_of_shift, shift_numbered, used}
-use Rattle.vend_core.specs.Names.{IsName, IsOperator}
+use Rattle.vend_core.specs.Names.{IsOperator}
 use Rattle.vend_core.specs.NewSale.{IsNewSale}
 use Rattle.sts_fields.specs.Moment.{IsMoment}
 use Rattle.vend_core.specs.Office.{IsOffice, Office, greatest_count}
-use Rattle.vend_core.specs.Request.{IsMeter, IsOrder, IsRequest, IsRow, IsStamped}
-use Rattle.vend_core.specs.Store.{MeetRows, Meets, MeetsNewSale, MeetsRow}
-use Rattle.vend_core.specs.declared.answer.Answer.{Answer}
+use Rattle.vend_core.specs.Request.{IsOrder, IsRequest, IsStamped}
+use Rattle.vend_core.specs.Store.{Meets, MeetsNewSale}
 use Rattle.vend_core.specs.declared.answer.Answer.TheVariants as answers
 use Rattle.vend_core.specs.declared.change.Change.{Change}
 use Rattle.vend_core.specs.declared.change.Edit.{Edit}
 use Rattle.vend_core.specs.declared.change.Edit.TheVariants as edits
 use Rattle.vend_core.specs.declared.meter.Meter.{Meter}
 use Rattle.vend_core.specs.declared.refusal.Refusal.{Refusal}
+use Rattle.vend_core.specs.declared.refusal.Refusal.TheVariants as refusals
 use Rattle.vend_core.specs.declared.request.Order.{Order}
 use Rattle.vend_core.specs.declared.request.Request.{Request}
 use Rattle.vend_core.specs.declared.request.Request.TheVariants as requests
 use Rattle.vend_core.specs.declared.request.Stamped.{Stamped}
-use Rattle.vend_core.specs.declared.row.Row.{Row}
 use Rattle.vend_core.specs.declared.row.Row.TheVariants as kinds
 use Rattle.vend_core.specs.declared.sale.Sale.{Sale}
 use Rattle.vend_core.specs.declared.shift.Shift.{Shift}
 use Rattle.vend_core.proofs.DecisionLemmas.{after_test, next_number_ok, same_Ok}
-use Rattle.vend_core.proofs.ImportLemmas.{Grants, takes}
 use Rattle.vend_core.proofs.NewSaleLemmas.{LowerLaws, granted_sale}
 use Rattle.vend_core.proofs.OfficeLemmas.{after_sales, new_row}
 use Rattle.vend_core.proofs.RowLemmas.{same_number}
 use Rattle.vend_core.proofs.StoreLemmas.{open_shift_is}
-
--- the edit of a granted request, where there is one, meets what it needs
-abbrev EditMeets : Office → Result Change Refusal → Type 0
-EditMeets o (Ok change) = (edit : Edit) → change.edit ≡ Some edit → Meets edit o
-EditMeets o (Err refusal) = Unit {0}
-
-if_unchanged : (o : Office) (edit : Edit) → ◌≡◌ {A = Option Edit} None (Some edit) → Meets edit o
-if_unchanged o edit is = absurd (none-some edit is)
-
-if_changed : (o : Office) (e : Edit) → Meets e o → (edit : Edit) → Some e ≡ Some edit → Meets edit o
-if_changed o e meets edit is = subst (λ (k : Edit). Meets k o) (same_Some e edit is) meets
-
-if_tested : (o : Office) (b : Bool) (a : Answer) (e : Refusal)
-    → EditMeets o (if b then unchanged a else Err e)
-if_tested o true a e = if_unchanged o
-if_tested o false a e = tt
+use Rattle.vend_core.proofs.RowMeetsLemmas.{EditMeets, if_changed, if_import, if_tested, if_unchanged, not_moved_yet, row_meets}
 
 if_set : (o : Office) (number name : List ℕ) (m : Meter) (b : Bool) → bytes_eq m.tariff name ≡ b
     → o.meters number ≡ Some m → IsSome (o.tariffs name)
@@ -70,90 +52,6 @@ if_set o number name m false is meter_is there =
       tariff = there;
     })
 
--- a tariff or a meter that is added
-tariff_meets : (o : Office) (name : List ℕ) (steps : List Step) (there : Option (List Step))
-    → IsName name → IsSteps steps → o.tariffs name ≡ there
-    → EditMeets o (add_tariff name steps there)
-tariff_meets o name steps None named priced e = if_changed o _ (named, priced, e)
-tariff_meets o name steps (Some there) named priced e = if_tested o (steps_eq there steps) _ _
-
-meter_meets : (o : Office) (number : List ℕ) (m : Meter) (there : Option Meter) (has : Bool)
-    → IsMeter number m → o.meters number ≡ there → is_some (o.tariffs m.tariff) ≡ has
-    → EditMeets o (add_meter number m there has)
-meter_meets o number m (Some there) has is meter_is has_is = if_tested o (meter_eq there m) _ _
-meter_meets o number m None true is meter_is has_is = if_changed o _ (is, meter_is, has_is)
-meter_meets o number m None false is meter_is has_is = tt
-
-row_meets : (o : Office) (row : Row) → IsRow row → EditMeets o (row_decision o row)
-row_meets o (kinds.Tariff name steps) is = tariff_meets o name steps (o.tariffs name) is.0 is.1 refl
-row_meets o (kinds.Meter number m) is =
-    meter_meets o number m (o.meters number) (is_some (o.tariffs m.tariff)) is refl refl
-
--- a row that is new was free
-not_new : (b : Bool) (answer : Answer) (refusal : Refusal) (change : Change)
-    → (if b then unchanged answer else Err refusal) ≡ Ok change → is_some change.edit ≡ true → ⊥
-not_new true answer refusal change e new =
-    false≢true (ap (λ (c : Change). is_some c.edit) (same_Ok _ change e) ∙ new)
-not_new false answer refusal change e new = cc
-
-new_tariff_meets : (o : Office) (name : List ℕ) (steps : List Step) (there : Option (List Step))
-    (change : Change) → IsName name → IsSteps steps → o.tariffs name ≡ there
-    → add_tariff name steps there ≡ Ok change → is_some change.edit ≡ true
-    → MeetsRow (kinds.Tariff name steps) o
-new_tariff_meets o name steps None change named priced is e new = (named, priced, is)
-new_tariff_meets o name steps (Some there) change named priced is e new =
-    absurd (not_new (steps_eq there steps) _ _ change e new)
-
-new_meter_meets : (o : Office) (number : List ℕ) (m : Meter) (there : Option Meter) (has : Bool)
-    (change : Change) → IsMeter number m → o.meters number ≡ there
-    → is_some (o.tariffs m.tariff) ≡ has → add_meter number m there has ≡ Ok change
-    → is_some change.edit ≡ true → MeetsRow (kinds.Meter number m) o
-new_meter_meets o number m (Some there) has change is meter_is has_is e new =
-    absurd (not_new (meter_eq there m) _ _ change e new)
-new_meter_meets o number m None true change is meter_is has_is e new = (is, meter_is, has_is)
-new_meter_meets o number m None false change is meter_is has_is e new = cc
-
-new_row_meets : (o : Office) (row : Row) (change : Change) → IsRow row
-    → row_decision o row ≡ Ok change → is_some change.edit ≡ true → MeetsRow row o
-new_row_meets o (kinds.Tariff name steps) change is e new =
-    new_tariff_meets o name steps (o.tariffs name) change is.0 is.1 refl e new
-new_row_meets o (kinds.Meter number m) change is e new =
-    new_meter_meets o number m (o.meters number)
-    (is_some (o.tariffs m.tariff)) change is refl refl e new
-
--- so are the new rows of an import, one after another
-new_rows_meet : (o : Office) (number : ℕ) (rows new : List Row) → All IsRow rows
-    → new_rows o number rows ≡ Ok new → MeetRows new o
-new_rows_meet o number [] new are e =
-    subst (λ (rows : List Row). MeetRows rows o) (same_Ok _ new e) tt
-new_rows_meet o number (row ∷ rest) new are e =
-    let t = takes o number row rest new e in
-    subst (λ (rows : List Row). MeetRows rows o) (sym t.new_is)
-    (first_meets t.change t.more t.granted t.grants
-    (new_rows_meet (office_after o (Ok t.change)) (number + 1) rest t.more
-    (All-tail IsRow row rest are) t.further))
-  where
-    first_meets : (change : Change) (more : List Row) → row_decision o row ≡ Ok change
-        → Grants o row change → MeetRows more (office_after o (Ok change))
-        → MeetRows (if is_some change.edit then row ∷ more else more) o
-    first_meets change more granted (inl (none, same)) meet =
-        subst (λ (b : Bool). MeetRows (if b then row ∷ more else more) o) (sym none)
-        (subst (MeetRows more) same meet)
-    first_meets change more granted (inr (some, put, fits)) meet =
-        subst (λ (b : Bool). MeetRows (if b then row ∷ more else more) o) (sym some) (
-          new_row_meets o row change (All-head IsRow row rest are) granted some,
-          subst (MeetRows more) put meet,
-        )
-
-rows_meet : (o : Office) (new : List Row) → MeetRows new o → EditMeets o (add_rows new)
-rows_meet o [] meet = if_unchanged o
-rows_meet o (row ∷ rest) meet = if_changed o _ (omega arith, meet)
-
-if_import : (o : Office) (rows : List Row) → All IsRow rows → EditMeets o (import o rows)
-if_import o rows are =
-    after_test (EditMeets o) (new_rows o 1 rows) add_rows (λ refusal. tt)
-    (λ new e. rows_meet o new (new_rows_meet o 1 rows new are e))
-
 module _ (o : Office) (office : IsOffice o) where
   if_set_tariff : (number name : List ℕ) (meter : Option Meter) (has : Bool)
       → o.meters number ≡ meter → is_some (o.tariffs name) ≡ has
@@ -162,6 +60,31 @@ module _ (o : Office) (office : IsOffice o) where
   if_set_tariff number name (Some m) false meter_is has_is = tt
   if_set_tariff number name (Some m) true meter_is has_is =
       if_set o number name m (bytes_eq m.tariff name) refl meter_is has_is
+
+  if_later : (number : List ℕ) (base : Base) (m : Meter) (same earlier before : Bool)
+      → o.meters number ≡ Some m → base_eq m.base base ≡ same → is_earlier base m.base ≡ earlier
+      → EditMeets o (if same then unchanged answers.Done
+      else (if earlier then Err refusals.NotLater
+      else (if before then Err refusals.BeforeBase
+      else changed (edits.MoveBase number base) answers.Done)))
+  if_later number base m true earlier before there same_is earlier_is = if_unchanged o
+  if_later number base m false true before there same_is earlier_is = tt
+  if_later number base m false false true there same_is earlier_is = tt
+  if_later number base m false false false there same_is earlier_is =
+      let later : year_of m.base < year_of base = grind (arith, nat_tests) in
+      if_changed o _ (record {
+        meter = m;
+        meter_is = there;
+        later = later;
+        no_base = not_moved_yet o number base m office there later;
+      })
+
+  if_move_base : (number : List ℕ) (base : Base) (moment : ℕ) (meter : Option Meter)
+      → o.meters number ≡ meter → EditMeets o (move_base number base moment meter)
+  if_move_base number base moment None meter_is = tt
+  if_move_base number base moment (Some m) meter_is =
+      if_later number base m (base_eq m.base base) (is_earlier base m.base)
+      (nat_lt moment (base_date base)) meter_is refl refl
 
   if_open_shift : (moment : ℕ) (operator : List ℕ) (there : Option Shift) → IsMoment moment
       → IsOperator operator → open_shift o operator ≡ there
@@ -249,11 +172,17 @@ module _ (o : Office) (office : IsOffice o) where
 
     if_decided : (request : Request) → IsRequest request
         → EditMeets o (decision_of forward o at.moment at.nibble request)
-    if_decided (requests.AddTariff name steps) is = row_meets o (kinds.Tariff name steps) is
-    if_decided (requests.AddMeter number m) is = row_meets o (kinds.Meter number m) is
-    if_decided (requests.Import rows) is = if_import o rows is
+    if_decided (requests.AddTariff name steps) is =
+        row_meets o (day_at at.moment) (kinds.Tariff name steps) office is
+    if_decided (requests.AddSteps name day steps) is =
+        row_meets o (day_at at.moment) (kinds.Steps name day steps) office is
+    if_decided (requests.AddMeter number m) is =
+        row_meets o (day_at at.moment) (kinds.Meter number m) office is
+    if_decided (requests.Import rows) is = if_import o (day_at at.moment) rows office is
     if_decided (requests.SetTariff number name) is =
         if_set_tariff number name (o.meters number) (is_some (o.tariffs name)) refl refl
+    if_decided (requests.MoveBase number base) is =
+        if_move_base number base at.moment (o.meters number) refl
     if_decided (requests.OpenShift operator) is =
         if_open_shift at.moment operator (open_shift o operator) moment is refl
     if_decided (requests.CloseShift operator) is =

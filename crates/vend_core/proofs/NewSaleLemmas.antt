@@ -4,6 +4,7 @@ use Rattle.std.specs.Prelude.{Contains, unwrap_or}
 use Rattle.std.proofs.lemmas.Bool.{cases_lt}
 use Rattle.std.proofs.lemmas.List.Elements.{All-cons, All-weaker}
 use Rattle.sts_fields.specs.Calendar.{month_at}
+use Rattle.sts_fields.specs.Day.{day_at}
 use Rattle.sts_fields.specs.Tid.{FreshOutcome, IsLast, fresh_after, minute_of}
 use Rattle.sts_token.specs.Fields.{AreFields, TokenFields}
 use Rattle.sts_token.specs.Token.{IsToken, KeepsRange, token_of}
@@ -11,7 +12,7 @@ use Rattle.tariff.specs.Purchase.{IsPurchase, purchase_of}
 use Rattle.tariff.specs.declared.bought.Buy.{Buy}
 use Rattle.tariff.specs.declared.step.Step.{Step}
 use Rattle.vend_core.specs.Decision.{MeterAccount, account_of, sell}
-use Rattle.vend_core.specs.Lookup.{greatest_of, open_shift, prior, steps_for, used}
+use Rattle.vend_core.specs.Lookup.{greatest_of, open_shift, prior, steps_on, used}
 use Rattle.vend_core.specs.NewSale.{IsNewSale}
 use Rattle.vend_core.specs.Office.{IsOffice, Office, greatest_count}
 use Rattle.vend_core.specs.declared.change.Change.{Change}
@@ -48,7 +49,7 @@ greatest_is_last (n ∷ ns) = greatest_more n ns (greatest_of ns) (greatest_is_l
 -- the new sale
 module _ (laws : LowerLaws) (forward : ℕ → ℕ → ℕ) (o : Office) (at : Stamped) (order : Order) where
   abbrev pub facts_of : Meter → MeterAccount
-  facts_of m = record { meter = m; steps = steps_for o m; last = greatest_of (used o order.meter m.base); prior = prior o order.meter (month_at at.moment) }
+  facts_of m = record { meter = m; steps = steps_on o m.tariff (day_at at.moment); last = greatest_of (used o order.meter m.base); prior = prior o order.meter (month_at at.moment) }
 
   fresh_is : (m : Meter) (now tid : ℕ) → fresh_after now (greatest_of (used o order.meter m.base)) ≡ Ok tid → FreshOutcome (used o order.meter m.base) now (Ok tid)
   fresh_is m now tid e = subst (λ r. FreshOutcome (used o order.meter m.base) now r) e (laws.fresh (used o order.meter m.base) now _ (greatest_is_last (used o order.meter m.base)))

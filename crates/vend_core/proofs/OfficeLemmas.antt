@@ -1,19 +1,20 @@
 -- A step of an office leads to an office.
 use Rattle.std.proofs.Common.{◌≡◌, ℕ, ◌<◌, Bool, true, false, List, length, Option, Some, None, Result, Ok, Err, refl, sym, ◌∙◌, ap, subst, arith}
-use Rattle.std.specs.Prelude.{◌&&◌, All, Contains, IsSome, bytes_eq, filter, is_some, if◌then◌else◌}
+use Rattle.std.specs.Prelude.{◌&&◌, ◌≤◌, All, Contains, IsSome, bytes_eq, filter, is_some, nat_lt, if◌then◌else◌}
+use Rattle.std.proofs.lemmas.Bool.Decides.{nat_tests}
 use Rattle.std.proofs.lemmas.Bool.{false≢true}
 use Rattle.std.proofs.lemmas.List.Elements.{All-contains, All-nil}
 use Rattle.std.proofs.lemmas.Slice.Eq.{bytes_eq-Decides}
 use Rattle.sts_fields.specs.Amount.{IsRepresentable}
+use Rattle.sts_fields.specs.Day.{IsDay, day_at}
 use Rattle.sts_fields.specs.declared.base.Base.{Base}
-use Rattle.sts_fields.specs.declared.base.Base.TheVariants.{Y1993, Y2014, Y2035}
 use Rattle.sts_token.specs.Token.{KeepsRange}
 use Rattle.tariff.specs.Steps.{IsSteps}
 use Rattle.tariff.specs.Tender.{IsTender}
 use Rattle.tariff.specs.declared.step.Step.{Step}
-use Rattle.vend_core.specs.Decision.{add_meter, add_tariff, changed, close_shift, decision_of, import, account_of, meter_eq, next_number, open_a_shift, report, reprint, row_decision, sell, sell_again, sell_once, set_tariff, steps_eq, unchanged}
+use Rattle.vend_core.specs.Decision.{add_meter, add_steps, add_tariff, changed, close_shift, decision_of, import, is_earlier, account_of, meter_eq, move_base, next_number, open_a_shift, report, reprint, row_decision, sell, sell_again, sell_once, set_tariff, steps_eq, unchanged}
 use Rattle.vend_core.specs.Fold.{office_after, step}
-use Rattle.sts_fields.specs.Base.{base_eq}
+use Rattle.sts_fields.specs.Base.{base_date, base_eq, year_of}
 use Rattle.vend_core.specs.Lookup.{open_shift, sale_numbered, sale_of_ref, sales_of_shift, shift_numbered, used}
 use Rattle.vend_core.specs.Names.{IsName, IsOperator}
 use Rattle.vend_core.specs.NewSale.{IsNewSale}
@@ -26,6 +27,7 @@ use Rattle.vend_core.specs.declared.change.Change.{Change}
 use Rattle.vend_core.specs.declared.change.Edit.TheVariants as edits
 use Rattle.vend_core.specs.declared.meter.Meter.{Meter}
 use Rattle.vend_core.specs.declared.refusal.Refusal.{Refusal}
+use Rattle.vend_core.specs.declared.refusal.Refusal.TheVariants as refusals
 use Rattle.vend_core.specs.declared.request.Order.{Order}
 use Rattle.vend_core.specs.declared.request.Request.{Request}
 use Rattle.vend_core.specs.declared.request.Request.TheVariants as requests
@@ -35,16 +37,10 @@ use Rattle.vend_core.specs.declared.row.Row.TheVariants as kinds
 use Rattle.vend_core.specs.declared.sale.Sale.{Sale}
 use Rattle.vend_core.specs.declared.shift.Shift.{Shift}
 use Rattle.vend_core.proofs.DecisionLemmas.{after_test, next_number_ok}
-use Rattle.vend_core.proofs.EditLemmas.{keeps_add_meter, keeps_add_sale, keeps_add_tariff, keeps_close_shift, keeps_open_shift, keeps_set_tariff}
+use Rattle.vend_core.proofs.EditLemmas.{base_eq-refl, keeps_add_meter, keeps_add_sale, keeps_add_steps, keeps_add_tariff, keeps_close_shift, keeps_move_base, keeps_open_shift, keeps_set_tariff}
 use Rattle.vend_core.proofs.ImportLemmas.{import_keeps}
 use Rattle.vend_core.proofs.NewSaleLemmas.{LowerLaws, granted_sale}
 use Rattle.vend_core.proofs.RowLemmas.{both_true, contains_map, found, found_none, kept, number_within}
-
--- one base has one year, and so the test of two bases tells that they are one
-pub base_eq-refl : (b : Base) → base_eq b b ≡ true
-base_eq-refl Y1993 = refl
-base_eq-refl Y2014 = refl
-base_eq-refl Y2035 = refl
 
 -- where a test decides between no change and a refusal, the office stays
 kept_if : (o : Office) (b : Bool) (answer : Answer) (refusal : Refusal) → IsOffice o → IsOffice (office_after o (if b then unchanged answer else Err refusal))
@@ -56,10 +52,19 @@ module _ (o : Office) (office : IsOffice o) where
   by_add_tariff name steps None named priced = keeps_add_tariff o name steps office named priced
   by_add_tariff name steps (Some there) named priced = kept_if o (steps_eq there steps) _ _ office
 
-  by_add_meter : (number : List ℕ) (m : Meter) (there : Option Meter) (has : Bool) → is_some (o.tariffs m.tariff) ≡ has → IsMeter number m → IsOffice (office_after o (add_meter number m there has))
-  by_add_meter number m (Some there) has e is = kept_if o (meter_eq there m) _ _ office
-  by_add_meter number m None true e is = keeps_add_meter o number m office is e
-  by_add_meter number m None false e is = office
+  by_day : (name : List ℕ) (day today : ℕ) (steps : List Step) (b : Bool) → IsDay day → IsSteps steps → IsSome (o.tariffs name) → IsOffice (office_after o (if b then changed (edits.AddSteps name day steps) answers.Done else Err refusals.DayPast))
+  by_day name day today steps true is priced tariff = keeps_add_steps o name day steps office is priced tariff
+  by_day name day today steps false is priced tariff = office
+
+  by_add_steps : (name : List ℕ) (day today : ℕ) (steps : List Step) (has : Bool) (there : Option (List Step)) → is_some (o.tariffs name) ≡ has → IsDay day → IsSteps steps → IsOffice (office_after o (add_steps name day steps today has there))
+  by_add_steps name day today steps false there e is priced = office
+  by_add_steps name day today steps true (Some there) e is priced = kept_if o (steps_eq there steps) _ _ office
+  by_add_steps name day today steps true None e is priced = by_day name day today steps (nat_lt today day) is priced e
+
+  by_add_meter : (number : List ℕ) (m : Meter) (there : Option Meter) (has : Bool) → o.meters number ≡ there → is_some (o.tariffs m.tariff) ≡ has → IsMeter number m → IsOffice (office_after o (add_meter number m there has))
+  by_add_meter number m (Some there) has at e is = kept_if o (meter_eq there m) _ _ office
+  by_add_meter number m None true at e is = keeps_add_meter o number m office is at e
+  by_add_meter number m None false at e is = office
 
   by_set : (number name : List ℕ) (b : Bool) → IsSome (o.tariffs name) → IsOffice (office_after o (if b then unchanged answers.Done else changed (edits.SetTariff number name) answers.Done))
   by_set number name true there = office
@@ -70,13 +75,30 @@ module _ (o : Office) (office : IsOffice o) where
   by_set_tariff number name (Some m) false e = office
   by_set_tariff number name (Some m) true e = by_set number name (bytes_eq m.tariff name) e
 
-  by_row : (row : Row) → IsRow row → IsOffice (office_after o (row_decision o row))
-  by_row (kinds.Tariff name steps) is = by_add_tariff name steps (o.tariffs name) is.0 is.1
-  by_row (kinds.Meter number m) is = by_add_meter number m (o.meters number) (is_some (o.tariffs m.tariff)) refl is
+  by_moving : (number : List ℕ) (base : Base) (m : Meter) (b : Bool) → o.meters number ≡ Some m → year_of m.base ≤ year_of base → IsOffice (office_after o (if b then Err refusals.BeforeBase else changed (edits.MoveBase number base) answers.Done))
+  by_moving number base m true there later = office
+  by_moving number base m false there later = keeps_move_base o number base m office there later
+
+  not_earlier : (a b : Base) → is_earlier a b ≡ false → year_of b ≤ year_of a
+  not_earlier a b e = grind (arith, nat_tests)
+
+  by_later : (number : List ℕ) (base : Base) (moment : ℕ) (m : Meter) (same earlier : Bool) → o.meters number ≡ Some m → is_earlier base m.base ≡ earlier → IsOffice (office_after o (if same then unchanged answers.Done else (if earlier then Err refusals.NotLater else (if nat_lt moment (base_date base) then Err refusals.BeforeBase else changed (edits.MoveBase number base) answers.Done))))
+  by_later number base moment m true earlier there e = office
+  by_later number base moment m false true there e = office
+  by_later number base moment m false false there e = by_moving number base m (nat_lt moment (base_date base)) there (not_earlier base m.base e)
+
+  by_move_base : (number : List ℕ) (base : Base) (moment : ℕ) (there : Option Meter) → o.meters number ≡ there → IsOffice (office_after o (move_base number base moment there))
+  by_move_base number base moment None at = office
+  by_move_base number base moment (Some m) at = by_later number base moment m (base_eq m.base base) (is_earlier base m.base) at refl
+
+  pub by_row : (today : ℕ) (row : Row) → IsRow row → IsOffice (office_after o (row_decision o today row))
+  by_row today (kinds.Tariff name steps) is = by_add_tariff name steps (o.tariffs name) is.0 is.1
+  by_row today (kinds.Steps name day steps) is = by_add_steps name day today steps (is_some (o.tariffs name)) (o.dated_steps name day) refl is.1 is.2
+  by_row today (kinds.Meter number m) is = by_add_meter number m (o.meters number) (is_some (o.tariffs m.tariff)) refl refl is
 
 -- an import leads to an office
-by_import : (o : Office) (rows : List Row) → IsOffice o → All IsRow rows → IsOffice (office_after o (import o rows))
-by_import o rows office are = import_keeps IsOffice IsRow (λ p row is kept. by_row p kept row is) o rows are office
+by_import : (o : Office) (today : ℕ) (rows : List Row) → IsOffice o → All IsRow rows → IsOffice (office_after o (import o today rows))
+by_import o today rows office are = import_keeps IsOffice IsRow today (λ p row is kept. by_row p kept today row is) o rows are office
 
 module _ (o : Office) (office : IsOffice o) where
   by_open_shift : (moment : ℕ) (operator : List ℕ) (there : Option Shift) → open_shift o operator ≡ there → IsMoment moment → IsOperator operator → IsOffice (office_after o (open_a_shift moment operator there (length o.shifts)))
@@ -124,6 +146,7 @@ module _ (o : Office) (office : IsOffice o) where
       let opened = found _ o.shifts new.in_shift new.shift_is in
       let number = number_within (λ s. s.number) o.shifts new.in_shift office.shift_numbers opened.0 in
       let some : IsSome (o.meters order.meter) = ap is_some new.meter_is in
+      let had = (office.meters order.meter new.to_meter new.meter_is).base in
       let nibble = at.nibble_in_range in
       let tid = new.tid.0.may_sell.within in
       let bought = new.bought_is in
@@ -133,6 +156,7 @@ module _ (o : Office) (office : IsOffice o) where
         operator = subst IsOperator (sym new.operator) ordered.operator;
         order_ref = subst IsName (sym new.order_ref) ordered.order_ref;
         meter = subst (λ n. IsSome (o.meters n)) (sym new.meter) some;
+        base = subst (λ n. o.bases n s.base ≡ true) (sym new.meter) (subst (λ b. o.bases order.meter b ≡ true) (sym new.base) had);
         tid = tid;
         rnd = omega (arith, nibble, new.rnd);
         tenths = subst IsRepresentable (sym new.tenths) bought.representable;
@@ -165,9 +189,12 @@ module _ (o : Office) (office : IsOffice o) where
 
     by_request : (request : Request) → IsRequest request → IsOffice (office_after o (decision_of forward o at.moment at.nibble request))
     by_request (requests.AddTariff name steps) is = by_add_tariff o office name steps (o.tariffs name) is.0 is.1
-    by_request (requests.AddMeter number m) is = by_add_meter o office number m (o.meters number) (is_some (o.tariffs m.tariff)) refl is
-    by_request (requests.Import rows) is = by_import o rows office is
+    by_request (requests.AddSteps name day steps) is =
+        by_add_steps o office name day (day_at at.moment) steps (is_some (o.tariffs name)) (o.dated_steps name day) refl is.1 is.2
+    by_request (requests.AddMeter number m) is = by_add_meter o office number m (o.meters number) (is_some (o.tariffs m.tariff)) refl refl is
+    by_request (requests.Import rows) is = by_import o (day_at at.moment) rows office is
     by_request (requests.SetTariff number name) is = by_set_tariff o office number name (o.meters number) (is_some (o.tariffs name)) refl
+    by_request (requests.MoveBase number base) is = by_move_base o office number base at.moment (o.meters number) refl
     by_request (requests.OpenShift operator) is = by_open_shift at.moment operator (open_shift o operator) refl moment is
     by_request (requests.CloseShift operator) is = by_close_shift at.moment (open_shift o operator) moment
     by_request (requests.Sell order) is = by_sell order (sale_of_ref o order.operator order.order_ref) refl is
@@ -183,6 +210,8 @@ pub empty_is_office : IsOffice empty_office
 empty_is_office = record {
   tariffs = λ name steps e. cc;
   meters = λ number m e. cc;
+  bases = λ number base e. cc;
+  dated_steps = λ name day steps e. cc;
   shifts = All-nil IsShiftRow;
   shift_numbers = λ i row e. cc;
   one_open = λ i j d before within. absurd (omega arith);

@@ -1,16 +1,18 @@
 -- Sales by number: a list of them is told by which ones it has, and those above a number are the
 -- last ones.
-use Rattle.std.proofs.Common.{◌≡◌, ℕ, ◌+◌, ◌-◌, ◌<◌, ◌↔◌, inl, inr, List, [], ◌∷◌, length, get_or, drop, take, Some, refl, sym, ◌∙◌, ap, subst, arith, add-one}
+use Rattle.std.proofs.Common.{◌≡◌, ℕ, ◌+◌, ◌-◌, ◌<◌, ◌↔◌, inl, inr, List, [], ◌∷◌, ◌++◌, length, get_or, drop, take, Some, refl, sym, ◌∙◌, ap, subst, arith, add-one}
 use Rattle.std.specs.Prelude.{◌==◌, AllPairs, Contains, filter, nat_lt}
+use Rattle.std.proofs.lemmas.Bool.{cases_lt}
 use Rattle.std.proofs.lemmas.Bool.Decides.{Decides-eqb, nat_tests}
 use Rattle.std.proofs.lemmas.List.{get_or-drop, length-drop}
+use Rattle.std.proofs.lemmas.List.Elements.{Contains-append_left, Contains-get_or, Contains-push, Contains-push_cases}
 use Rattle.std.proofs.lemmas.List.Kept.{AllPairs-filter}
 use Rattle.std.proofs.lemmas.Option.{slice_get-get_or}
 use Rattle.vend_core.specs.Lookup.{sales_of_shift}
 use Rattle.vend_core.specs.Office.{AreNumbered, IsOffice, Office}
-use Rattle.vend_core.specs.Store.{AreByNumber, sales_above}
+use Rattle.vend_core.specs.Store.{AreByNumber, HasOneSaleMore, sales_above}
 use Rattle.vend_core.specs.declared.sale.Sale.{Sale}
-use Rattle.vend_core.proofs.RowLemmas.{contains_cases, contains_first, contains_further, kept, kept_from}
+use Rattle.vend_core.proofs.RowLemmas.{contains_cases, contains_first, contains_further, kept, kept_from, number_within, pairs_push, same_number}
 
 module _ {X : Type 0} (number : X → ℕ) where
   abbrev pub AreRising : List X → Type 0
@@ -134,3 +136,53 @@ pub sales_above_are : (o : Office) (number limit : ℕ) → IsOffice o
     → sales_above o number limit ≡ take limit (drop number o.sales)
 sales_above_are o number limit office =
     ap (λ sales. take limit sales) (rows_above number_of o.sales number office.sale_numbers)
+
+-- the sales of an office that has one more, whatever their order: the new one is the last
+module _ (o p : Office) (s : Sale) (office : IsOffice o) (later : IsOffice p)
+    (more : HasOneSaleMore o s p) where
+  still_there : (t : Sale) → Contains o.sales t → Contains p.sales t
+  still_there t there = (more.members t).1 (inl there)
+
+  s_there : Contains p.sales s
+  s_there = (more.members s).1 (inr refl)
+
+  -- the number of the new one is of no sale before it
+  none_of_its_number : (t : Sale) → Contains o.sales t → number_of t ≡ number_of s → ⊥
+  none_of_its_number t there same =
+      let e : t ≡ s = same_number number_of p.sales t s later.sale_numbers (still_there t there)
+      s_there same in
+      more.new (subst (λ u. Contains o.sales u) e there)
+
+  number_past : length o.sales < number_of s
+  number_past =
+      let from_one = (number_within number_of p.sales s later.sale_numbers s_there).0 in
+      elim (cases_lt (length o.sales) (number_of s)) [
+        | inl past ↦ past
+        | inr within ↦
+            let i = number_of s - 1 in
+            let t = get_or o.sales i s in
+            let below : i < length o.sales = omega (arith, within, from_one) in
+            let place = office.sale_numbers i t (slice_get-get_or o.sales i s below) in
+            absurd (none_of_its_number t (Contains-get_or o.sales i s below)
+            (omega (arith, place, from_one)))
+      ]
+
+  pushed_rise : AreRising number_of (o.sales ++ s ∷ [])
+  pushed_rise =
+      pairs_push (λ (a : Sale) (b : Sale). number_of a < number_of b) o.sales s
+      (numbered_rise number_of o.sales office.sale_numbers)
+      (λ t there. omega
+      (arith, number_past, (number_within number_of o.sales t office.sale_numbers there).1))
+
+  pub sales_with_one_more : p.sales ≡ o.sales ++ s ∷ []
+  sales_with_one_more =
+      same_rising number_of p.sales (o.sales ++ s ∷ [])
+      (numbered_rise number_of p.sales later.sale_numbers) pushed_rise
+      (λ t there. elim ((more.members t).0 there) [
+        | inl before ↦ Contains-append_left o.sales (s ∷ []) t before
+        | inr new ↦ subst (λ u. Contains (o.sales ++ s ∷ []) u) (sym new) (Contains-push o.sales s)
+      ])
+      (λ t there. elim (Contains-push_cases o.sales s t there) [
+        | inl before ↦ still_there t before
+        | inr new ↦ subst (λ u. Contains p.sales u) new s_there
+      ])

@@ -73,6 +73,25 @@ last_sale_is o number base s office is =
           omega (arith, below, from.4)),
     ))
 
+pub last_is_of_a_sale : (o : Office) (number : List ℕ) (base : Base) (tid : ℕ) → IsOffice o
+    → greatest_of (used o number base) ≡ Some tid
+    → (s : Sale) × IsLastSale o number base s × (s.tid ≡ tid)
+last_is_of_a_sale o number base tid office e =
+    let is = (last_is_greatest (used o number base) (Some tid)).1 (sym e) in
+    let from = used_from o number base tid is.0 in (
+      from.0,
+      record {
+        stands = from.1;
+        meter = from.2;
+        under = from.3;
+        greatest = λ t there same_meter same_base.
+            let below : t.tid ≤ tid = All-contains (λ u. u ≤ tid) (used o number base) t.tid is.1
+            (used_by o office t number base there same_meter same_base) in
+            omega (arith, below, from.4);
+      },
+      from.4,
+    )
+
 empty_if_none : (ns : List ℕ) → ((n : ℕ) → Contains ns n → ⊥) → ns ≡ []
 empty_if_none [] none = refl
 empty_if_none (n ∷ ns) none = absurd (none n (contains_first n ns))

@@ -1,7 +1,8 @@
--- The last identifier and the month's tenths: how one sale changes them, and how large they are.
+-- The last identifier, the month's tenths and the totals of a shift: how one sale changes them, and
+-- how large they are.
 use Rattle.std.proofs.Common.{◌≡◌, ℕ, ◌+◌, ◌*◌, ◌^◌, ◌<◌, ◌≤◌, Bool, true, false, cond, List, [], ◌∷◌, ◌++◌, length, max, Option, Some, None, refl, ◌∙◌, ap, arith}
 use Rattle.std.specs.Prelude.{◌&&◌, ◌==◌, All, bytes_eq, filter, if◌then◌else◌, map, sum_by, unwrap_or}
-use Rattle.std.proofs.lemmas.List.{append-nil, map-append}
+use Rattle.std.proofs.lemmas.List.{append-nil, length-append, map-append}
 use Rattle.std.proofs.lemmas.List.Elements.{All-contains, All-filter, All-map, All-weaker, filter-append}
 use Rattle.std.proofs.lemmas.List.Sums.{sum_by-append, sum_by-le}
 use Rattle.std.proofs.lemmas.Slice.Eq.{bytes_eq-Decides}
@@ -9,15 +10,18 @@ use Rattle.sts_fields.specs.Amount.{IsRepresentable}
 use Rattle.sts_fields.specs.Calendar.{month_at}
 use Rattle.sts_fields.specs.Tid.{IsLast, last_tid}
 use Rattle.sts_fields.specs.declared.base.Base.{Base}
+use Rattle.vend_core.specs.Cash.{cash_of}
 use Rattle.vend_core.specs.Fold.{applied}
 use Rattle.sts_fields.specs.Base.{base_eq}
-use Rattle.vend_core.specs.Lookup.{greatest_of, prior, used}
+use Rattle.vend_core.specs.Lookup.{greatest_of, prior, sales_of_shift, used}
 use Rattle.vend_core.specs.Office.{IsOffice, IsSaleRow, Office}
+use Rattle.vend_core.specs.Store.{HasOneSaleMore, TotalsGrow}
 use Rattle.vend_core.specs.declared.change.Edit.TheVariants as edits
 use Rattle.vend_core.specs.declared.sale.Sale.{Sale}
 use Rattle.vend_core.proofs.LookUpLemmas.{greatest_of-push}
 use Rattle.vend_core.proofs.NewSaleLemmas.{greatest_is_last}
-use Rattle.vend_core.proofs.OfficeLemmas.{base_eq-refl}
+use Rattle.vend_core.proofs.EditLemmas.{base_eq-refl}
+use Rattle.vend_core.proofs.OrderLemmas.{sales_with_one_more}
 use Rattle.vend_core.proofs.RowLemmas.{both_true}
 use Rattle.vend_core.proofs.StoreLemmas.{is_to}
 
@@ -72,9 +76,10 @@ is_in number month s = bytes_eq s.meter number && (month_at s.moment == month)
 abbrev tenths_of : Sale → ℕ
 tenths_of s = s.tenths
 
-sum_if : (s : Sale) (b : Bool) → sum_by tenths_of (cond b (s ∷ []) []) ≡ (if b then s.tenths else 0)
-sum_if s true = omega arith
-sum_if s false = refl
+sum_if : (f : Sale → ℕ) (s : Sale) (b : Bool)
+    → sum_by f (cond b (s ∷ []) []) ≡ (if b then f s else 0)
+sum_if f s true = omega arith
+sum_if f s false = refl
 
 pub prior_grows_by : (o : Office) (s : Sale) (number : List ℕ) (month : ℕ)
     → prior (applied (edits.AddSale s) o) number month
@@ -84,7 +89,67 @@ prior_grows_by o s number month =
     ap (λ sales. sum_by tenths_of sales) (filter-append (is_in number month) o.sales (s ∷ []))
     ∙ sum_by-append tenths_of (filter (is_in number month) o.sales)
     (cond (is_in number month s) (s ∷ []) [])
-    ∙ ap (λ n. prior o number month + n) (sum_if s (is_in number month s))
+    ∙ ap (λ n. prior o number month + n) (sum_if tenths_of s (is_in number month s))
+
+-- the sales of a shift, with one sale more
+abbrev is_of : ℕ → Sale → Bool
+is_of number s = s.shift == number
+
+shift_more : (o : Office) (s : Sale) (number : ℕ)
+    → sales_of_shift (applied (edits.AddSale s) o) number
+    ≡ sales_of_shift o number ++ cond (is_of number s) (s ∷ []) []
+shift_more o s number = filter-append (is_of number) o.sales (s ∷ [])
+
+shift_sum_grows : (f : Sale → ℕ) (o : Office) (s : Sale) (number : ℕ)
+    → sum_by f (sales_of_shift (applied (edits.AddSale s) o) number)
+    ≡ sum_by f (sales_of_shift o number) + (if s.shift == number then f s else 0)
+shift_sum_grows f o s number =
+    ap (λ sales. sum_by f sales) (shift_more o s number)
+    ∙ sum_by-append f (sales_of_shift o number) (cond (is_of number s) (s ∷ []) [])
+    ∙ ap (λ n. sum_by f (sales_of_shift o number) + n) (sum_if f s (is_of number s))
+
+shift_count_grows : (o : Office) (s : Sale) (number : ℕ)
+    → length (sales_of_shift (applied (edits.AddSale s) o) number)
+    ≡ length (sales_of_shift o number) + (if s.shift == number then 1 else 0)
+shift_count_grows o s number =
+    ap (λ (sales : List Sale). length sales) (shift_more o s number)
+    ∙ length-append (sales_of_shift o number) (cond (is_of number s) (s ∷ []) [])
+    ∙ ap (λ n. length (sales_of_shift o number) + n) (one_if (is_of number s))
+  where
+    one_if : (b : Bool) → length (cond b (s ∷ []) []) ≡ (if b then 1 else 0)
+    one_if true = refl
+    one_if false = refl
+
+pub totals_added : (o : Office) (s : Sale) → TotalsGrow o s (applied (edits.AddSale s) o)
+totals_added o s = record {
+  last = last_grows_by o s;
+  month = prior_grows_by o s;
+  count = shift_count_grows o s;
+  tenths = shift_sum_grows tenths_of o s;
+  cash = shift_sum_grows (λ (t : Sale). t.price) o s;
+}
+
+-- totals are of the sales alone
+totals_of_sales : (o p q : Office) (s : Sale) → q.sales ≡ p.sales → TotalsGrow o s p
+    → TotalsGrow o s q
+totals_of_sales o p q s same grows = record {
+  last = λ number base. ap (λ (sales : List Sale). greatest_of
+      (map tid_of (filter (is_to number base) sales))) same ∙ grows.last number base;
+  month = λ number month. ap (λ (sales : List Sale). sum_by tenths_of
+      (filter (is_in number month) sales)) same ∙ grows.month number month;
+  count = λ number. ap (λ (sales : List Sale). length (filter (is_of number) sales)) same
+      ∙ grows.count number;
+  tenths = λ number. ap (λ (sales : List Sale). sum_by tenths_of (filter (is_of number) sales)) same
+      ∙ grows.tenths number;
+  cash = λ number. ap (λ (sales : List Sale). cash_of (filter (is_of number) sales)) same
+      ∙ grows.cash number;
+}
+
+pub totals_grow : (o p : Office) (s : Sale) → IsOffice o → IsOffice p → HasOneSaleMore o s p
+    → TotalsGrow o s p
+totals_grow o p s office later more =
+    totals_of_sales o (applied (edits.AddSale s) o) p s (sales_with_one_more o p s office later more)
+    (totals_added o s)
 
 pub used_in_range : (o : Office) (number : List ℕ) (base : Base) → IsOffice o
     → All (λ tid. tid ≤ last_tid) (used o number base)

@@ -2,6 +2,7 @@
 use Rattle.std.specs.Prelude.{ℕ, ◌+◌, ◌&&◌, ◌==◌, Bool, true, false, List, [], ◌∷◌, length, nat_lt, if◌then◌else◌, Option, Some, None, Result, Ok, Err, is_some, option_map, bytes_eq}
 use Rattle.std.specs.Option.{ok_or}
 use Rattle.sts_fields.specs.Calendar.{month_at}
+use Rattle.sts_fields.specs.Day.{day_at}
 use Rattle.sts_fields.specs.Tid.{fresh_after, minute_of}
 use Rattle.sts_fields.specs.declared.fault.TidFault.{TidFault}
 use Rattle.sts_fields.specs.declared.fault.TidFault.TheVariants.{BeforeBase, PastEnd, IdentifiersSpent, IdentifierAhead}
@@ -10,8 +11,9 @@ use Rattle.tariff.specs.Purchase.{purchase_of}
 pub use Rattle.tariff.specs.StepsEq.{step_eq, steps_eq}
 use Rattle.tariff.specs.declared.step.Step.{Step}
 use Rattle.vend_core.specs.Edits.{office_after}
-use Rattle.sts_fields.specs.Base.{base_eq}
-use Rattle.vend_core.specs.Lookup.{greatest_of, open_shift, prior, sale_numbered, sale_of_ref, sales_of_shift, shift_numbered, steps_for, used}
+use Rattle.sts_fields.specs.Base.{base_date, base_eq, year_of}
+use Rattle.sts_fields.specs.declared.base.Base.{Base}
+use Rattle.vend_core.specs.Lookup.{greatest_of, open_shift, prior, sale_numbered, sale_of_ref, sales_of_shift, shift_numbered, steps_on, used}
 use Rattle.vend_core.specs.Office.{Office, greatest_count}
 use Rattle.vend_core.specs.declared.answer.Answer.{Answer}
 use Rattle.vend_core.specs.declared.answer.Answer.TheVariants as answers
@@ -49,6 +51,10 @@ changed edit answer = Ok (record { edit = Some edit; answer = answer })
 abbrev pub meter_eq : Meter → Meter → Bool
 meter_eq a b = base_eq a.base b.base && bytes_eq a.tariff b.tariff && (a.key == b.key)
 
+-- the base is earlier than the other
+abbrev pub is_earlier : Base → Base → Bool
+is_earlier a b = nat_lt (year_of a) (year_of b)
+
 -- why a moment has no minute, or a sale no identifier, as a refusal
 abbrev pub refusal_of : TidFault → Refusal
 refusal_of BeforeBase = refusals.BeforeBase
@@ -70,6 +76,17 @@ add_tariff name steps None = changed (edits.AddTariff name steps) answers.Done
 add_tariff name steps (Some there) =
     if steps_eq there steps then unchanged answers.Done else Err refusals.Differs
 
+-- AddSteps from a day on, where it is today, and there are a tariff of the name or none and these
+-- steps of the same first day
+abbrev pub add_steps : List ℕ → ℕ → List Step → ℕ → Bool → Option (List Step)
+    → Result Change Refusal
+add_steps name day steps today false there = Err refusals.NoTariff
+add_steps name day steps today true (Some there) =
+    if steps_eq there steps then unchanged answers.Done else Err refusals.Differs
+add_steps name day steps today true None =
+    if nat_lt today day then changed (edits.AddSteps name day steps) answers.Done
+    else Err refusals.DayPast
+
 -- AddMeter, where there is this meter under the number, and a tariff of its tariff's name or none
 abbrev pub add_meter : List ℕ → Meter → Option Meter → Bool → Result Change Refusal
 add_meter number m (Some there) has_tariff =
@@ -77,10 +94,12 @@ add_meter number m (Some there) has_tariff =
 add_meter number m None true = changed (edits.AddMeter number m) answers.Done
 add_meter number m None false = Err refusals.NoTariff
 
--- a row of an import in an office: AddTariff or AddMeter
-abbrev pub row_decision : Office → Row → Result Change Refusal
-row_decision o (kinds.Tariff name steps) = add_tariff name steps (o.tariffs name)
-row_decision o (kinds.Meter number m) =
+-- a row of an import in an office, where it is today: AddTariff, AddSteps or AddMeter
+abbrev pub row_decision : Office → ℕ → Row → Result Change Refusal
+row_decision o today (kinds.Tariff name steps) = add_tariff name steps (o.tariffs name)
+row_decision o today (kinds.Steps name day steps) =
+    add_steps name day steps today (is_some (o.tariffs name)) (o.dated_steps name day)
+row_decision o today (kinds.Meter number m) =
     add_meter number m (o.meters number) (is_some (o.tariffs m.tariff))
 
 -- whether a granted request changes something, or why it is refused
@@ -93,15 +112,16 @@ abbrev pub at_row : ℕ → Result Change Refusal → Result Change Refusal
 at_row number (Ok change) = Ok change
 at_row number (Err refusals.Differs) = Err (refusals.ImportRow number causes.Differs)
 at_row number (Err refusals.NoTariff) = Err (refusals.ImportRow number causes.NoTariff)
+at_row number (Err refusals.DayPast) = Err (refusals.ImportRow number causes.DayPast)
 at_row number (Err refusal) = Err refusal
 
 -- the new ones of some rows, of which the first has this number, or why one is refused:
 -- each row sees the rows before it
-abbrev pub new_rows : Office → ℕ → List Row → Result (List Row) Refusal
-new_rows o number [] = Ok []
-new_rows o number (row ∷ rest) = do
-  change ← at_row number (row_decision o row)
-  new ← new_rows (office_after o (Ok change)) (number + 1) rest
+abbrev pub new_rows : Office → ℕ → ℕ → List Row → Result (List Row) Refusal
+new_rows o today number [] = Ok []
+new_rows o today number (row ∷ rest) = do
+  change ← at_row number (row_decision o today row)
+  new ← new_rows (office_after o (Ok change)) today (number + 1) rest
   Ok (if is_some change.edit then row ∷ new else new)
 
 -- Import, with these new rows: all are added, or there is none and nothing changes
@@ -111,9 +131,9 @@ add_rows (row ∷ rest) =
     changed (edits.AddRows (row ∷ rest)) (answers.Imported (length (row ∷ rest)))
 
 -- Import: the first row that is refused refuses them all
-abbrev pub import : Office → List Row → Result Change Refusal
-import o rows = do
-  new ← new_rows o 1 rows
+abbrev pub import : Office → ℕ → List Row → Result Change Refusal
+import o today rows = do
+  new ← new_rows o today 1 rows
   add_rows new
 
 -- SetTariff, where there is this meter, and a tariff of the name or none;
@@ -124,6 +144,15 @@ set_tariff number name (Some m) false = Err refusals.NoTariff
 set_tariff number name (Some m) true =
     if bytes_eq m.tariff name then unchanged answers.Done
     else changed (edits.SetTariff number name) answers.Done
+
+-- MoveBase, where there is this meter; one that has the base is left alone
+abbrev pub move_base : List ℕ → Base → ℕ → Option Meter → Result Change Refusal
+move_base number base moment None = Err refusals.NoMeter
+move_base number base moment (Some m) =
+    if base_eq m.base base then unchanged answers.Done
+    else (if is_earlier base m.base then Err refusals.NotLater
+    else (if nat_lt moment (base_date base) then Err refusals.BeforeBase
+    else changed (edits.MoveBase number base) answers.Done))
 
 -- OpenShift, where the operator has this open shift and there are so many shifts
 abbrev pub open_a_shift : ℕ → List ℕ → Option Shift → ℕ → Result Change Refusal
@@ -150,8 +179,8 @@ sell_again order first =
     then unchanged (answers.Sold first)
     else Err refusals.RefReused
 
--- what a sale looks at of its meter: the meter, the steps of its tariff, the last identifier
--- under its base, the month's tenths
+-- what a sale looks at of its meter: the meter, the steps of its tariff on the day, the last
+-- identifier under its base, the month's tenths
 pub record MeterAccount : Type 0 where
   pub meter : Meter
   pub steps : List Step
@@ -209,7 +238,7 @@ abbrev pub account_of : Office → List ℕ → ℕ → Option MeterAccount
 account_of o number moment =
     option_map (λ m. record {
       meter = m;
-      steps = steps_for o m;
+      steps = steps_on o m.tariff (day_at moment);
       last = greatest_of (used o number m.base);
       prior = prior o number (month_at moment);
     }) (o.meters number)
@@ -218,11 +247,15 @@ account_of o number moment =
 abbrev pub decision_of : BlockFunction → Office → ℕ → ℕ → Request → Result Change Refusal
 decision_of forward o moment nibble (requests.AddTariff name steps) =
     add_tariff name steps (o.tariffs name)
+decision_of forward o moment nibble (requests.AddSteps name day steps) =
+    add_steps name day steps (day_at moment) (is_some (o.tariffs name)) (o.dated_steps name day)
 decision_of forward o moment nibble (requests.AddMeter number m) =
     add_meter number m (o.meters number) (is_some (o.tariffs m.tariff))
-decision_of forward o moment nibble (requests.Import rows) = import o rows
+decision_of forward o moment nibble (requests.Import rows) = import o (day_at moment) rows
 decision_of forward o moment nibble (requests.SetTariff number name) =
     set_tariff number name (o.meters number) (is_some (o.tariffs name))
+decision_of forward o moment nibble (requests.MoveBase number base) =
+    move_base number base moment (o.meters number)
 decision_of forward o moment nibble (requests.OpenShift operator) =
     open_a_shift moment operator (open_shift o operator) (length o.shifts)
 decision_of forward o moment nibble (requests.CloseShift operator) =

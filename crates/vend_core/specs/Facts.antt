@@ -1,5 +1,6 @@
 -- What the tests of a request look at, and how an answer may fall short of the decision.
 use Rattle.std.specs.Prelude.{◌≡◌, ◌⊎◌, ℕ, Bool, true, false, List, [], ◌∷◌, Option, Some, None, IsNone, IsSome, Result, Err, is_some, length, option_map}
+use Rattle.sts_fields.specs.Day.{day_at}
 use Rattle.vend_core.specs.Decision.{account_of, row_decision, unchanged}
 use Rattle.vend_core.specs.Lookup.{open_shift, sale_numbered, sale_of_ref, sales_of_shift, shift_numbered}
 use Rattle.vend_core.specs.Office.{Office}
@@ -11,7 +12,7 @@ use Rattle.vend_core.specs.declared.refusal.Refusal.{Refusal}
 use Rattle.vend_core.specs.declared.refusal.Refusal.TheVariants.{Differs, Memory, NoSuchShift}
 use Rattle.vend_core.specs.declared.request.Order.{Order}
 use Rattle.vend_core.specs.declared.request.Request.{Request}
-use Rattle.vend_core.specs.declared.request.Request.TheVariants.{AddTariff, AddMeter, Import, SetTariff, OpenShift, CloseShift, Sell, Reprint, ShiftReport}
+use Rattle.vend_core.specs.declared.request.Request.TheVariants.{AddTariff, AddSteps, AddMeter, Import, SetTariff, MoveBase, OpenShift, CloseShift, Sell, Reprint, ShiftReport}
 use Rattle.vend_core.specs.declared.request.Stamped.{Stamped}
 use Rattle.vend_core.specs.declared.row.Row.{Row}
 use Rattle.vend_core.specs.declared.row.Row.TheVariants as kinds
@@ -26,6 +27,7 @@ no_facts = record {
   tariff = None;
   meter = None;
   has_tariff = false;
+  dated_steps = None;
   rows = None;
   open_shift = None;
   shift_count = 0;
@@ -46,6 +48,11 @@ pub record AreMeterFacts (o : Office) (number : List ℕ) (m : Meter) (f : Facts
 pub record AreSettingFacts (o : Office) (number name : List ℕ) (f : Facts) : Type 0 where
   pub meter : f.meter ≡ o.meters number
   pub has_tariff : IsSome f.meter → f.has_tariff ≡ is_some (o.tariffs name)
+
+-- AddSteps looks at the steps of the day only where the tariff stands
+pub record AreDatedFacts (o : Office) (name : List ℕ) (day : ℕ) (f : Facts) : Type 0 where
+  pub has_tariff : f.has_tariff ≡ is_some (o.tariffs name)
+  pub dated_steps : f.has_tariff ≡ true → f.dated_steps ≡ o.dated_steps name day
 
 -- OpenShift counts the shifts only where the operator has no open one
 pub record AreOpeningFacts (o : Office) (operator : List ℕ) (f : Facts) : Type 0 where
@@ -71,15 +78,18 @@ meter_found None has_tariff = found.NoMeter has_tariff
 
 abbrev pub row_facts : Office → Row → RowFacts
 row_facts o (kinds.Tariff name steps) = found.Tariff (o.tariffs name)
+row_facts o (kinds.Steps name day steps) =
+    found.Steps (is_some (o.tariffs name)) (o.dated_steps name day)
 row_facts o (kinds.Meter number m) = meter_found (o.meters number) (is_some (o.tariffs m.tariff))
 
 -- what the office, without the rows of the import, has of each row's names, up to the first row
 -- that differs from it: whatever rows came before, that row is refused
-abbrev pub AreRowsFacts : Office → List Row → List RowFacts → Type 0
-AreRowsFacts o [] fs = Unit {0}
-AreRowsFacts o (row ∷ rest) [] = ⊥
-AreRowsFacts o (row ∷ rest) (f ∷ fs) =
-    (f ≡ row_facts o row) × ((row_decision o row ≡ Err Differs) ⊎ AreRowsFacts o rest fs)
+abbrev pub AreRowsFacts : Office → ℕ → List Row → List RowFacts → Type 0
+AreRowsFacts o today [] fs = Unit {0}
+AreRowsFacts o today (row ∷ rest) [] = ⊥
+AreRowsFacts o today (row ∷ rest) (f ∷ fs) =
+    (f ≡ row_facts o row)
+    × ((row_decision o today row ≡ Err Differs) ⊎ AreRowsFacts o today rest fs)
 
 -- the shift of a number with its sales
 abbrev pub report_of : Office → ℕ → Option (Shift × List Sale)
@@ -88,10 +98,12 @@ report_of o number = option_map (λ s. (s, sales_of_shift o number)) (shift_numb
 -- what a request looks at in an office; of the rest nothing is said
 abbrev pub AreFactsOf : Office → ℕ → Request → Facts → Type 0
 AreFactsOf o moment (AddTariff name steps) f = f.tariff ≡ o.tariffs name
+AreFactsOf o moment (AddSteps name day steps) f = AreDatedFacts o name day f
 AreFactsOf o moment (AddMeter number m) f = AreMeterFacts o number m f
 AreFactsOf o moment (Import rows) f =
-    (fs : List RowFacts) × (f.rows ≡ Some fs) × AreRowsFacts o rows fs
+    (fs : List RowFacts) × (f.rows ≡ Some fs) × AreRowsFacts o (day_at moment) rows fs
 AreFactsOf o moment (SetTariff number name) f = AreSettingFacts o number name f
+AreFactsOf o moment (MoveBase number base) f = f.meter ≡ o.meters number
 AreFactsOf o moment (OpenShift operator) f = AreOpeningFacts o operator f
 AreFactsOf o moment (CloseShift operator) f = f.open_shift ≡ open_shift o operator
 AreFactsOf o moment (Sell order) f = AreSaleFacts o moment order f
@@ -104,6 +116,7 @@ AreFacts o at f = AreFactsOf o at.moment at.request f
 -- the requests that take memory to be decided: they add steps, or hand out a list
 abbrev pub takes_memory : Request → Bool
 takes_memory (AddTariff name steps) = true
+takes_memory (AddSteps name day steps) = true
 takes_memory (Import rows) = true
 takes_memory (ShiftReport number) = true
 takes_memory request = false

@@ -2,7 +2,7 @@
 use Rattle.std.specs.Prelude.{List, [], ◌∷◌, Result, Ok, Err}
 use Rattle.sts_token.specs.Token.{BlockFunction}
 use Rattle.vend_core.specs.Decision.{decision}
-pub use Rattle.vend_core.specs.Edits.{applied, closed_at, office_after, with_tariff}
+pub use Rattle.vend_core.specs.Edits.{applied, closed_at, office_after, with_base, with_tariff}
 use Rattle.vend_core.specs.Office.{Office}
 use Rattle.vend_core.specs.declared.answer.Answer.{Answer}
 use Rattle.vend_core.specs.declared.change.Change.{Change}

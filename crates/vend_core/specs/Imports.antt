@@ -6,20 +6,21 @@ use Rattle.vend_core.specs.Life.{Exchange}
 use Rattle.vend_core.specs.Office.{Office}
 use Rattle.vend_core.specs.declared.answer.Answer.TheVariants.{Imported}
 use Rattle.vend_core.specs.declared.request.Request.{Request}
-use Rattle.vend_core.specs.declared.request.Request.TheVariants.{SetTariff}
+use Rattle.vend_core.specs.declared.request.Request.TheVariants.{SetTariff, MoveBase}
 use Rattle.vend_core.specs.declared.request.Stamped.{Stamped}
 
--- a request other than SetTariff
-abbrev pub IsNoSetTariff : Request → Type 0
-IsNoSetTariff (SetTariff number name) = ⊥
-IsNoSetTariff request = Unit {0}
+-- a request other than SetTariff and MoveBase
+abbrev pub IsNoMeterChange : Request → Type 0
+IsNoMeterChange (SetTariff number name) = ⊥
+IsNoMeterChange (MoveBase number base) = ⊥
+IsNoMeterChange request = Unit {0}
 
-abbrev pub SetsNoTariff : Stamped → Type 0
-SetsNoTariff at = IsNoSetTariff at.request
+abbrev pub ChangesNoMeter : Stamped → Type 0
+ChangesNoMeter at = IsNoMeterChange at.request
 
 -- an exchange whose request is another
-abbrev pub AsksNoSetTariff : Exchange → Type 0
-AsksNoSetTariff e = SetsNoTariff e.request
+abbrev pub AsksNoMeterChange : Exchange → Type 0
+AsksNoMeterChange e = ChangesNoMeter e.request
 
 -- a request is answered that no row was new, and changes nothing
 abbrev pub ImportsNothing : BlockFunction → Office → Stamped → Type 0

@@ -8,7 +8,7 @@ use Rattle.vend_core.specs.Office.{Office, greatest_count}
 use Rattle.vend_core.specs.PlainRows.{office_of_rows}
 use Rattle.vend_core.specs.declared.answer.Answer.{Answer}
 use Rattle.vend_core.specs.declared.change.Edit.{Edit}
-use Rattle.vend_core.specs.declared.change.Edit.TheVariants.{AddTariff, AddMeter, AddRows, SetTariff, OpenShift, CloseShift, AddSale}
+use Rattle.vend_core.specs.declared.change.Edit.TheVariants.{AddTariff, AddSteps, AddMeter, AddRows, SetTariff, MoveBase, OpenShift, CloseShift, AddSale}
 use Rattle.vend_core.specs.declared.lists.Lists.{Lists}
 use Rattle.vend_core.specs.declared.records.Records.{Records}
 use Rattle.vend_core.specs.declared.refusal.Refusal.{Refusal}
@@ -19,12 +19,16 @@ use Rattle.vend_core.specs.declared.row.Row.TheVariants as kinds
 
 -- the office that records stand for
 abbrev pub recorded : Records → Office
-recorded r = office_of_rows r.tariffs.items r.meters.items r.shifts.items r.sales.items
+recorded r =
+    office_of_rows r.tariffs.items r.meters.items r.bases.items r.dated_steps.items r.shifts.items
+    r.sales.items
 
 -- rows of which each meter's tariff is the office's, or one of a row before it
 abbrev pub RowsFit : List Row → Office → Type 0
 RowsFit [] o = Unit {0}
 RowsFit (kinds.Tariff name steps ∷ rest) o = RowsFit rest (with_row (kinds.Tariff name steps) o)
+RowsFit (kinds.Steps name day steps ∷ rest) o =
+    RowsFit rest (with_row (kinds.Steps name day steps) o)
 RowsFit (kinds.Meter number m ∷ rest) o =
     IsSome (o.tariffs m.tariff) × RowsFit rest (with_row (kinds.Meter number m) o)
 
@@ -32,9 +36,11 @@ RowsFit (kinds.Meter number m ∷ rest) o =
 -- and room for the count
 abbrev pub Fits : Edit → Office → Type 0
 Fits (AddTariff name steps) o = Unit {0}
+Fits (AddSteps name day steps) o = Unit {0}
 Fits (AddMeter number m) o = IsSome (o.tariffs m.tariff)
 Fits (AddRows rows) o = RowsFit rows o
 Fits (SetTariff number name) o = IsSome (o.tariffs name)
+Fits (MoveBase number base) o = Unit {0}
 Fits (OpenShift s) o = Unit {0}
 Fits (CloseShift number moment) o = Unit {0}
 Fits (AddSale s) o = (s.tid ≤ last_tid) × (length o.sales < greatest_count)

@@ -1,11 +1,11 @@
 -- What is looked up in an office.
-use Rattle.std.specs.Prelude.{ℕ, ◌&&◌, ◌==◌, List, [], ◌∷◌, map, filter, find, sum_by, max, Option, Some, None, is_none, unwrap_or, bytes_eq}
+use Rattle.std.specs.Prelude.{◌≡◌, ℕ, zero, suc, ◌<◌, ◌≤◌, ◌&&◌, ◌==◌, List, [], ◌∷◌, map, filter, find, sum_by, max, Option, Some, None, is_none, unwrap_or, bytes_eq}
+use Rattle.std.specs.Option.{option_or}
 use Rattle.sts_fields.specs.Base.{base_eq}
 use Rattle.sts_fields.specs.Calendar.{month_at}
 use Rattle.sts_fields.specs.declared.base.Base.{Base}
 use Rattle.tariff.specs.declared.step.Step.{Step}
 use Rattle.vend_core.specs.Office.{Office}
-use Rattle.vend_core.specs.declared.meter.Meter.{Meter}
 use Rattle.vend_core.specs.declared.sale.Sale.{Sale}
 use Rattle.vend_core.specs.declared.shift.Shift.{Shift}
 
@@ -20,9 +20,22 @@ prior o meter month =
     sum_by (λ s. s.tenths)
     (filter (λ s. bytes_eq s.meter meter && (month_at s.moment == month)) o.sales)
 
--- the steps of a meter's tariff, which an office has
-abbrev pub steps_for : Office → Meter → List Step
-steps_for o m = unwrap_or (o.tariffs m.tariff) []
+-- of further steps by first day, those with the greatest first day that is not after a day
+unfoldable pub latest : (ℕ → Option (List Step)) → ℕ → Option (List Step)
+latest dated zero = dated zero
+latest dated (suc day) = option_or (dated (suc day)) (latest dated day)
+
+-- the same in a rule: they begin on a day that is not after the day, and none begin between
+pub record IsLatest (dated : ℕ → Option (List Step)) (day : ℕ) (steps : List Step) : Type 0 where
+  pub first : ℕ
+  pub not_after : first ≤ day
+  pub there : dated first ≡ Some steps
+  pub none_between : (other : ℕ) → first < other → other ≤ day → dated other ≡ None
+
+-- the steps of a tariff, which an office has, on a day: the latest that have begun, else the first
+abbrev pub steps_on : Office → List ℕ → ℕ → List Step
+steps_on o name day =
+    unwrap_or (option_or (latest (o.dated_steps name) day) (o.tariffs name)) []
 
 -- the open shift of an operator
 abbrev pub open_shift : Office → List ℕ → Option Shift

@@ -1,12 +1,13 @@
 -- A new sale: what the office's rules say of it.
 use Rattle.std.specs.Prelude.{◌≡◌, ℕ, ◌+◌, length, Some, Ok}
 use Rattle.sts_fields.specs.Calendar.{month_at}
+use Rattle.sts_fields.specs.Day.{day_at}
 use Rattle.sts_fields.specs.Tid.{FreshOutcome, minute_of}
 use Rattle.sts_token.specs.Fields.{TokenFields}
 use Rattle.sts_token.specs.Token.{IsToken, BlockFunction}
 use Rattle.tariff.specs.Purchase.{IsPurchase}
 use Rattle.tariff.specs.declared.bought.Buy.{Buy}
-use Rattle.vend_core.specs.Lookup.{open_shift, prior, steps_for, used}
+use Rattle.vend_core.specs.Lookup.{open_shift, prior, steps_on, used}
 use Rattle.vend_core.specs.Office.{Office}
 use Rattle.vend_core.specs.declared.meter.Meter.{Meter}
 use Rattle.vend_core.specs.declared.request.Order.{Order}
@@ -22,7 +23,7 @@ fields_of s = record { rnd = s.rnd; tid = s.tid; tenths = s.tenths }
 pub record IsNewSale (forward : BlockFunction) (o : Office) (at : Stamped) (order : Order)
     (s : Sale) : Type 0 where
   -- the meter, the operator's open shift, the present minute under the meter's base, and what the
-  -- tender buys
+  -- tender buys by the steps of the sale's own day
   pub to_meter : Meter
   pub in_shift : Shift
   pub minute : ℕ
@@ -30,7 +31,7 @@ pub record IsNewSale (forward : BlockFunction) (o : Office) (at : Stamped) (orde
   pub meter_is : o.meters order.meter ≡ Some to_meter
   pub shift_is : open_shift o order.operator ≡ Some in_shift
   pub minute_is : minute_of to_meter.base at.moment ≡ Ok minute
-  pub bought_is : IsPurchase (steps_for o to_meter)
+  pub bought_is : IsPurchase (steps_on o to_meter.tariff (day_at at.moment))
       (prior o order.meter (month_at at.moment)) order.tender bought
   -- the sale: its number is the count and one more, and its identifier is the fresh one
   pub number : s.number ≡ length o.sales + 1

@@ -1,9 +1,12 @@
 -- The office: what it holds, and what all that it holds keeps.
-use Rattle.std.specs.Prelude.{◌≡◌, ◌≢◌, ℕ, ◌+◌, ◌^◌, ◌<◌, ◌≤◌, List, [], length, Option, Some, None, IsSome, IsNone, All, AllPairs, slice_get}
+use Rattle.std.specs.Prelude.{◌≡◌, ◌≢◌, ℕ, ◌+◌, ◌^◌, ◌<◌, ◌≤◌, Bool, true, false, List, [], length, Option, Some, None, IsSome, IsNone, All, AllPairs, slice_get}
 use Rattle.sts_fields.specs.Amount.{IsRepresentable}
+use Rattle.sts_fields.specs.Base.{year_of}
+use Rattle.sts_fields.specs.Day.{IsDay}
 use Rattle.sts_fields.specs.Moment.{IsMoment}
 use Rattle.sts_fields.specs.Tid.{last_tid}
 use Rattle.sts_fields.specs.Text.{Text}
+use Rattle.sts_fields.specs.declared.base.Base.{Base}
 use Rattle.sts_token.specs.Token.{AreTwentyDigits}
 use Rattle.tariff.specs.Steps.{IsSteps}
 use Rattle.tariff.specs.Tender.{IsTender}
@@ -13,17 +16,27 @@ use Rattle.vend_core.specs.declared.meter.Meter.{Meter}
 use Rattle.vend_core.specs.declared.sale.Sale.{Sale}
 use Rattle.vend_core.specs.declared.shift.Shift.{Shift}
 
--- tariffs by name, meters by number, shifts and sales in the order that they came; no totals, and
--- no last identifier
+-- the first steps of tariffs by name, meters by number, whether a meter has or had a base, the
+-- further steps of tariffs by name and first day, shifts and sales in the order that they came; no
+-- totals, and no last identifier
 pub record Office : Type 0 where
   pub tariffs : Text → Option (List Step)
   pub meters : Text → Option Meter
+  pub bases : Text → Base → Bool
+  pub dated_steps : Text → ℕ → Option (List Step)
   pub shifts : List Shift
   pub sales : List Sale
 
 -- the office in which nothing is stored yet
 abbrev pub empty_office : Office
-empty_office = record { tariffs = λ _. None; meters = λ _. None; shifts = []; sales = [] }
+empty_office = record {
+  tariffs = λ _. None;
+  meters = λ _. None;
+  bases = λ _ _. false;
+  dated_steps = λ _ _. None;
+  shifts = [];
+  sales = [];
+}
 
 -- how many shifts and how many sales an office holds at the most
 abbrev pub greatest_count : ℕ
@@ -34,11 +47,26 @@ pub record IsTariffRow (name : Text) (steps : List Step) : Type 0 where
   pub named : IsName name
   pub priced : IsSteps steps
 
--- the values of a meter under its number; its tariff is one of the office's
+-- the values of further steps under their tariff's name and first day; the tariff is one of the
+-- office's
+pub record IsDatedRow (o : Office) (name : Text) (day : ℕ) (steps : List Step) : Type 0 where
+  pub tariff : IsSome (o.tariffs name)
+  pub in_range : IsDay day
+  pub priced : IsSteps steps
+
+-- the values of a meter under its number; its tariff is one of the office's, and its present base
+-- is among the bases that it had
 pub record IsMeterRow (o : Office) (number : Text) (m : Meter) : Type 0 where
   pub numbered : IsMeterNo number
   pub key : m.key < 2 ^ 64
   pub tariff : IsSome (o.tariffs m.tariff)
+  pub base : o.bases number m.base ≡ true
+
+-- a base that a meter had: the meter is one of the office's, and its present base is the latest
+pub record IsBaseRow (o : Office) (number : Text) (base : Base) : Type 0 where
+  pub meter : Meter
+  pub meter_is : o.meters number ≡ Some meter
+  pub not_after : year_of base ≤ year_of meter.base
 
 -- the values of a shift; it is closed at a moment or open
 pub record IsShiftRow (s : Shift) : Type 0 where
@@ -46,14 +74,15 @@ pub record IsShiftRow (s : Shift) : Type 0 where
   pub opened : IsMoment s.opened
   pub closed : (secs : ℕ) → s.closed ≡ Some secs → IsMoment secs
 
--- the values of a sale: it was made in a shift and to a meter of the office, and its price is at
--- most the tender
+-- the values of a sale: it was made in a shift and to a meter of the office, under a base that the
+-- meter had, and its price is at most the tender
 pub record IsSaleRow (o : Office) (s : Sale) : Type 0 where
   pub moment : IsMoment s.moment
   pub shift : (1 ≤ s.shift) × (s.shift ≤ length o.shifts)
   pub operator : IsOperator s.operator
   pub order_ref : IsName s.order_ref
   pub meter : IsSome (o.meters s.meter)
+  pub base : o.bases s.meter s.base ≡ true
   pub tid : s.tid ≤ last_tid
   pub rnd : s.rnd < 2 ^ 4
   pub tenths : IsRepresentable s.tenths
@@ -86,6 +115,10 @@ pub record IsOffice (o : Office) : Type 0 where
   pub tariffs : (name : Text) (steps : List Step) → o.tariffs name ≡ Some steps
       → IsTariffRow name steps
   pub meters : (number : Text) (m : Meter) → o.meters number ≡ Some m → IsMeterRow o number m
+  pub bases : (number : Text) (base : Base) → o.bases number base ≡ true
+      → IsBaseRow o number base
+  pub dated_steps : (name : Text) (day : ℕ) (steps : List Step)
+      → o.dated_steps name day ≡ Some steps → IsDatedRow o name day steps
   pub shifts : All IsShiftRow o.shifts
   pub shift_numbers : AreNumbered (λ s. s.number) o.shifts
   pub one_open : AllPairs NotBothOpen o.shifts

@@ -2,7 +2,7 @@
 use Rattle.std.specs.Prelude.{ℕ, codes}
 use Rattle.sts_fields.specs.Text.{Text}
 use Rattle.vend_core.specs.declared.refusal.Refusal.{Refusal}
-use Rattle.vend_core.specs.declared.refusal.Refusal.TheVariants.{RefReused, NoShift, ShiftOpen, NoMeter, NoTariff, Differs, BeforeBase, IdentifiersSpent, IdentifierAhead, TooLittle, OfficeFull, NoSale, NoSuchShift, ImportRow, Memory, Store, Stopped}
+use Rattle.vend_core.specs.declared.refusal.Refusal.TheVariants.{RefReused, NoShift, ShiftOpen, NoMeter, NoTariff, Differs, BeforeBase, IdentifiersSpent, IdentifierAhead, TooLittle, OfficeFull, NoSale, NoSuchShift, ImportRow, Memory, Store, Stopped, NotLater, DayPast}
 
 -- the number that a user meets
 abbrev pub refusal_number : Refusal → ℕ
@@ -23,6 +23,8 @@ refusal_number (ImportRow row cause) = 14
 refusal_number Memory = 15
 refusal_number Store = 16
 refusal_number Stopped = 17
+refusal_number NotLater = 18
+refusal_number DayPast = 19
 
 -- the name that a user meets
 abbrev pub refusal_name : Refusal → Text
@@ -43,3 +45,5 @@ refusal_name (ImportRow row cause) = codes "ImportRow"
 refusal_name Memory = codes "Memory"
 refusal_name Store = codes "Store"
 refusal_name Stopped = codes "Stopped"
+refusal_name NotLater = codes "NotLater"
+refusal_name DayPast = codes "DayPast"

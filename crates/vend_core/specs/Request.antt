@@ -3,12 +3,13 @@ use Rattle.std.specs.Prelude.{◌<◌, ◌^◌, All}
 use Rattle.tariff.specs.Steps.{IsSteps}
 use Rattle.tariff.specs.Tender.{IsTender}
 use Rattle.vend_core.specs.Names.{IsMeterNo, IsName, IsOperator}
+use Rattle.sts_fields.specs.Day.{IsDay}
 use Rattle.sts_fields.specs.Moment.{IsMoment}
 use Rattle.sts_fields.specs.Text.{Text}
 use Rattle.vend_core.specs.declared.meter.Meter.{Meter}
 use Rattle.vend_core.specs.declared.request.Order.{Order}
 use Rattle.vend_core.specs.declared.request.Request.{Request}
-use Rattle.vend_core.specs.declared.request.Request.TheVariants.{AddTariff, AddMeter, Import, SetTariff, OpenShift, CloseShift, Sell, Reprint, ShiftReport}
+use Rattle.vend_core.specs.declared.request.Request.TheVariants.{AddTariff, AddSteps, AddMeter, Import, SetTariff, MoveBase, OpenShift, CloseShift, Sell, Reprint, ShiftReport}
 use Rattle.vend_core.specs.declared.request.Stamped.{Stamped}
 use Rattle.vend_core.specs.declared.row.Row.{Row}
 use Rattle.vend_core.specs.declared.row.Row.TheVariants as kinds
@@ -22,6 +23,7 @@ pub record IsMeter (number : Text) (m : Meter) : Type 0 where
 -- a row of an import that may be stored
 abbrev pub IsRow : Row → Type 0
 IsRow (kinds.Tariff name steps) = IsName name × IsSteps steps
+IsRow (kinds.Steps name day steps) = IsName name × IsDay day × IsSteps steps
 IsRow (kinds.Meter number m) = IsMeter number m
 
 -- an order
@@ -33,9 +35,11 @@ pub record IsOrder (order : Order) : Type 0 where
 
 abbrev pub IsRequest : Request → Type 0
 IsRequest (AddTariff name steps) = IsName name × IsSteps steps
+IsRequest (AddSteps name day steps) = IsName name × IsDay day × IsSteps steps
 IsRequest (AddMeter number m) = IsMeter number m
 IsRequest (Import rows) = All IsRow rows
 IsRequest (SetTariff number name) = IsMeterNo number × IsName name
+IsRequest (MoveBase number base) = IsMeterNo number
 IsRequest (OpenShift operator) = IsOperator operator
 IsRequest (CloseShift operator) = IsOperator operator
 IsRequest (Sell order) = IsOrder order

@@ -1,11 +1,13 @@
-ghost use Rattle.std.specs.Prelude.{◌≡◌, ◌==◌, ◌≤◌, ◌<◌, IfOk, IsOk, OnOk, OnErr, IsSome, true, if◌then◌else◌, length, map, [], ◌∷◌, ◌++◌};
+ghost use Rattle.std.specs.Prelude.{◌≡◌, ◌==◌, ◌≤◌, ◌<◌, IfOk, IsOk, OnOk, OnErr, IsSome, List, ℕ, true, if◌then◌else◌, length, map, [], ◌∷◌, ◌++◌};
 ghost use Rattle.sts_fields.specs.Tid.{last_tid};
+ghost use Rattle.vend_core.specs.Edits.{set_meter, with_base};
 ghost use Rattle.vend_core.specs.Fold.{applied, closed_at};
 ghost use Rattle.vend_core.specs.Lists.{Fits, RowsFit, recorded, sets_only};
 ghost use Rattle.vend_core.specs.Office.{greatest_count};
-ghost use Rattle.vend_core.specs.PlainRows.{meters_of, row_with_tariff, tariffs_of};
+ghost use Rattle.vend_core.specs.PlainRows.{base_row, dated_steps_of, meters_of, row_put, tariffs_of};
 
 use crate::change::Edit;
+use crate::look_up;
 use crate::meter::Meter;
 use crate::meter_no::MeterNo;
 use crate::records::Records;
@@ -15,7 +17,7 @@ use crate::sale::Sale;
 use crate::shift::Shift;
 use crate::tariff_name::TariffName;
 use std::alloc::{AllocError, Global};
-use sts_fields::Moment;
+use sts_fields::{Base, Day, Moment};
 use tariff::Steps;
 
 /// Makes an edit. Want of memory leaves the records as they were.
@@ -27,12 +29,14 @@ pub(crate) fn apply(alloc: Global, records: &mut Records, edit: Edit) -> Result<
 {
     match edit {
         Edit::AddTariff(name, steps) => add_tariff(records, name, steps),
+        Edit::AddSteps(name, day, steps) => add_steps(records, name, day, steps),
         Edit::AddMeter(number, meter) => add_meter(records, number, meter),
         Edit::AddRows(rows) => add_rows(alloc, records, rows),
         Edit::SetTariff(number, name) => {
             set_tariff(records, number, name);
             Ok(())
         }
+        Edit::MoveBase(number, base) => move_base(records, number, base),
         Edit::OpenShift(shift) => open_shift(records, shift),
         Edit::CloseShift(number, moment) => {
             close_shift(records, number, moment);
@@ -51,13 +55,31 @@ fn add_tariff(records: &mut Records, name: TariffName, steps: Steps) -> Result<(
     Ok(())
 }
 
+fn add_steps(
+    records: &mut Records,
+    name: TariffName,
+    day: Day,
+    steps: Steps,
+) -> Result<(), AllocError>
+    ensures ok { OnOk result
+        (recorded records.new ≡ applied (Edit.AddSteps name day steps) (recorded records.old)) }
+    ensures err { OnErr result (recorded records.new ≡ recorded records.old) }
+{
+    records.dated_steps.insert(0, ((name, day), steps))?;
+    Ok(())
+}
+
+// Room is made first, so that both rows are added or none.
 fn add_meter(records: &mut Records, number: MeterNo, meter: Meter) -> Result<(), AllocError>
     requires { IsSome ((recorded records.old).tariffs meter.tariff) }
     ensures ok { OnOk result
         (recorded records.new ≡ applied (Edit.AddMeter number meter) (recorded records.old)) }
     ensures err { OnErr result (recorded records.new ≡ recorded records.old) }
 {
+    let base = meter.base;
+    records.bases.reserve(1)?;
     records.meters.insert(0, (number, meter))?;
+    records.bases.insert(0, (number, base))?;
     Ok(())
 }
 
@@ -68,67 +90,114 @@ fn add_rows(alloc: Global, records: &mut Records, rows: Rows) -> Result<(), Allo
         (recorded records.new ≡ applied (Edit.AddRows rows) (recorded records.old)) }
     ensures err { OnErr result (recorded records.new ≡ recorded records.old) }
 {
-    let (mut tariffs, mut meters) = last_first(alloc, rows)?;
+    let (mut tariffs, mut dated_steps, mut meters) = last_first(alloc, rows)?;
+    let mut bases = bases_of(alloc, &meters)?;
     tariffs.reserve(records.tariffs.len())?;
+    dated_steps.reserve(records.dated_steps.len())?;
     meters.reserve(records.meters.len())?;
+    bases.reserve(records.bases.len())?;
     tariffs.append(&mut records.tariffs)?;
+    dated_steps.append(&mut records.dated_steps)?;
     meters.append(&mut records.meters)?;
+    bases.append(&mut records.bases)?;
     records.tariffs = tariffs;
+    records.dated_steps = dated_steps;
     records.meters = meters;
+    records.bases = bases;
     Ok(())
 }
 
-type TariffsAndMeters = (Vec<(TariffName, Steps)>, Vec<(MeterNo, Meter)>);
+type RowsByKind = (
+    Vec<(TariffName, Steps)>,
+    Vec<((TariffName, Day), Steps)>,
+    Vec<(MeterNo, Meter)>,
+);
 
-// The tariffs and the meters among rows, the last one in front.
-fn last_first(alloc: Global, rows: Rows) -> Result<TariffsAndMeters, AllocError>
+// The tariffs, the further steps and the meters among rows, the last one in front.
+fn last_first(alloc: Global, rows: Rows) -> Result<RowsByKind, AllocError>
     ensures { IfOk result
-        (λ both. (both.0.items ≡ tariffs_of rows) × (both.1.items ≡ meters_of rows)) }
+        (λ all. (all.0.items ≡ tariffs_of rows) × (all.1.items ≡ dated_steps_of rows)
+        × (all.2.items ≡ meters_of rows)) }
 {
     let mut rest = rows.into_vec();
     let mut tariffs = Vec::new(alloc);
+    let mut dated_steps = Vec::new(alloc);
     let mut meters = Vec::new(alloc);
     while let Some(row) = rest.pop() {
         match row {
             Row::Tariff(name, steps) => tariffs.push((name, steps))?,
+            Row::Steps(name, day, steps) => dated_steps.push(((name, day), steps))?,
             Row::Meter(number, meter) => meters.push((number, meter))?,
         }
     }
-    Ok((tariffs, meters))
+    Ok((tariffs, dated_steps, meters))
+}
+
+// The base of each meter.
+fn bases_of(alloc: Global, meters: &[(MeterNo, Meter)]) -> Result<Vec<(MeterNo, Base)>, AllocError>
+    ensures { IfOk result (λ bases. bases.items ≡ map base_row meters.now) }
+{
+    meters.iter().map(|row| (row.0, row.1.base)).collect(alloc)
 }
 
 fn set_tariff(records: &mut Records, number: MeterNo, name: TariffName)
     requires { IsSome ((recorded records.old).tariffs name) }
     ensures { recorded records.new ≡ applied (Edit.SetTariff number name) (recorded records.old) }
 {
-    set_tariff_in(&mut records.meters, number, name);
-}
-
-fn set_tariff_in(meters: &mut Vec<(MeterNo, Meter)>, number: MeterNo, name: TariffName)
-    ensures { meters.new.items ≡ map (row_with_tariff number name) meters.old.items }
-{
-    set_tariff_of(meters, number, name);
-}
-
-fn set_tariff_of(meters: &mut [(MeterNo, Meter)], number: MeterNo, name: TariffName)
-    ensures { meters.new ≡ map (row_with_tariff number name) meters.old }
-{
-    for row in meters.iter_mut() {
-        *row = row_with_tariff(row, number, name);
+    match look_up::meter_under(&records.meters, &number) {
+        Some(meter) => {
+            let set = Meter {
+                tariff: name,
+                ..meter
+            };
+            put_meter(&mut records.meters, number, set);
+        }
+        None => {}
     }
 }
 
-// The row with this tariff, where it has this number.
-fn row_with_tariff(row: &(MeterNo, Meter), number: MeterNo, name: TariffName) -> (MeterNo, Meter)
-    ensures { result ≡ row_with_tariff number name row.now }
+fn move_base(records: &mut Records, number: MeterNo, base: Base) -> Result<(), AllocError>
+    ensures ok { OnOk result
+        (recorded records.new ≡ applied (Edit.MoveBase number base) (recorded records.old)) }
+    ensures err { OnErr result (recorded records.new ≡ recorded records.old) }
 {
-    let (own_number, meter) = *row;
-    if own_number.as_bytes() == number.as_bytes() {
-        let set = Meter {
-            tariff: name,
-            ..meter
-        };
-        (own_number, set)
+    records.bases.insert(0, (number, base))?;
+    set_base(records, number, base);
+    Ok(())
+}
+
+// Sets the present base of a meter.
+fn set_base(records: &mut Records, number: MeterNo, base: Base)
+    ensures { recorded records.new ≡ record (recorded records.old) {
+      meters = set_meter number (with_base base) (recorded records.old).meters;
+    } }
+{
+    match look_up::meter_under(&records.meters, &number) {
+        Some(meter) => put_meter(&mut records.meters, number, Meter { base, ..meter }),
+        None => {}
+    }
+}
+
+fn put_meter(meters: &mut Vec<(MeterNo, Meter)>, number: MeterNo, meter: Meter)
+    ensures { meters.new.items ≡ map (row_put number meter) meters.old.items }
+{
+    put_meter_in(meters, number, meter);
+}
+
+fn put_meter_in(meters: &mut [(MeterNo, Meter)], number: MeterNo, meter: Meter)
+    ensures { meters.new ≡ map (row_put number meter) meters.old }
+{
+    for row in meters.iter_mut() {
+        *row = row_put(row, number, &meter);
+    }
+}
+
+// The row with this meter, where it has this number.
+fn row_put(row: &(MeterNo, Meter), number: MeterNo, meter: &Meter) -> (MeterNo, Meter)
+    ensures { result ≡ row_put number meter.now row.now }
+{
+    if row.0.as_bytes() == number.as_bytes() {
+        (row.0, *meter)
     } else {
         *row
     }

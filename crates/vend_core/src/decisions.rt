@@ -1,10 +1,13 @@
-ghost use Rattle.std.specs.Prelude.{◌≡◌, ◌≢◌, ◌⊎◌, ℕ, List, IfErr, Ok, Err, Some, None, false};
+ghost use Rattle.std.specs.Prelude.{◌≡◌, ◌≢◌, Ok, Err, Some, None, false, nat_lt};
 ghost use Rattle.std.specs.Option.{option_copied};
+ghost use Rattle.sts_fields.specs.Base.{base_date};
+ghost use Rattle.sts_fields.specs.Day.{day_at};
 ghost use Rattle.tariff.specs.Purchase.{purchase_of};
-ghost use Rattle.vend_core.specs.Decision.{add_meter, add_tariff, changed, close_shift, decision, is_new, meter_eq, next_number, open_a_shift, reprint, sell, sell_again, set_tariff, steps_eq};
+ghost use Rattle.vend_core.specs.Decision.{add_meter, add_steps, add_tariff, changed, close_shift, decision, move_base, next_number, open_a_shift, reprint, sell, sell_again, set_tariff};
 ghost use Rattle.vend_core.specs.Facts.{AreFacts, IsUnlessMemory, report_found, takes_memory};
 ghost use Rattle.vend_core.specs.Office.{Office};
 
+use crate::additions::{is_new_meter, is_new_steps, is_new_tariff};
 use crate::answer::Answer;
 use crate::change::{Change, Edit};
 use crate::facts::Facts;
@@ -20,12 +23,12 @@ use crate::sales::Sales;
 use crate::shift::Shift;
 use crate::tariff_name::TariffName;
 use std::alloc::Global;
-use sts_fields::{Moment, minute, next_tid};
+use sts_fields::{Base, Day, Moment, TidFault, day_of, minute, next_tid};
 use sts_token::{BlockTransform, Fields, write};
 use tariff::{Buy, Steps, Tender, buy};
 
-// The greatest number of shifts, and of sales.
-const GREATEST_COUNT: u64 = 1_000_000_000;
+/// The greatest number of shifts, and of sales.
+pub const GREATEST_COUNT: u64 = 1_000_000_000;
 
 /// How an office with these facts decides a request: what changes, and the answer.
 ///
@@ -44,19 +47,28 @@ pub fn decide<T: BlockTransform>(
 {
     match &at.request {
         Request::AddTariff(name, steps) => add_tariff(*name, steps, facts.tariff.as_ref()),
+        Request::AddSteps(name, day, steps) => add_steps(
+            *name,
+            *day,
+            steps,
+            at.moment,
+            facts.has_tariff,
+            facts.dated_steps.as_ref(),
+        ),
         Request::AddMeter(number, meter) => add_meter(
             *number,
             *meter,
             facts.meter,
             facts.has_tariff,
         ),
-        Request::Import(rows) => import(alloc, rows, facts.rows.as_ref()),
+        Request::Import(rows) => import(alloc, rows, at.moment, facts.rows.as_ref()),
         Request::SetTariff(number, name) => set_tariff(
             *number,
             *name,
             facts.meter,
             facts.has_tariff,
         ),
+        Request::MoveBase(number, base) => move_base(*number, *base, at.moment, facts.meter),
         Request::OpenShift(operator) => open_shift(
             at.moment,
             *operator,
@@ -108,58 +120,32 @@ fn next_number(count: u64) -> Result<u32, Refusal>
     }
 }
 
-pub(crate) fn same_steps(there: &Steps, steps: &Steps) -> bool
-    ensures { result ≡ steps_eq there.now steps.now }
-{
-    there.as_slice() == steps.as_slice()
-}
-
-pub(crate) fn same_meter(there: &Meter, meter: &Meter) -> bool
-    ensures { result ≡ meter_eq there.now meter.now }
-{
-    there.base.year() == meter.base.year()
-        && there.tariff.as_bytes() == meter.tariff.as_bytes()
-        && there.key == meter.key
-}
-
-// Whether a tariff is new where these steps are under its name, or why it is refused.
-pub(crate) fn is_new_tariff(steps: &Steps, there: Option<&Steps>) -> Result<bool, Refusal>
-    ensures value { (name : List ℕ)
-        → result ≡ is_new (add_tariff name steps.now (option_copied there.entry)) }
-    ensures cause { IfErr result (λ refusal. refusal ≡ Refusal.Differs) }
-{
-    match there {
-        None => Ok(true),
-        Some(there) if same_steps(there, steps) => Ok(false),
-        Some(_) => Err(Refusal::Differs),
-    }
-}
-
-// The same of a meter, where there is this one under its number, and a tariff for it or none.
-pub(crate) fn is_new_meter(
-    meter: &Meter,
-    there: Option<Meter>,
-    has_tariff: bool,
-) -> Result<bool, Refusal>
-    ensures value { (number : List ℕ)
-        → result ≡ is_new (add_meter number meter.now there has_tariff) }
-    ensures causes { IfErr result
-        (λ refusal. (refusal ≡ Refusal.Differs) ⊎ (refusal ≡ Refusal.NoTariff)) }
-{
-    match there {
-        Some(there) if same_meter(&there, meter) => Ok(false),
-        Some(_) => Err(Refusal::Differs),
-        None if has_tariff => Ok(true),
-        None => Err(Refusal::NoTariff),
-    }
-}
-
 fn add_tariff(name: TariffName, steps: &Steps, there: Option<&Steps>) -> Result<Change, Refusal>
     ensures { IsUnlessMemory result (add_tariff name steps.now (option_copied there.entry)) }
 {
     if is_new_tariff(steps, there)? {
         let steps = steps.clone()?;
         changed(Edit::AddTariff(name, steps), Answer::Done)
+    } else {
+        unchanged(Answer::Done)
+    }
+}
+
+fn add_steps(
+    name: TariffName,
+    day: Day,
+    steps: &Steps,
+    moment: Moment,
+    has_tariff: bool,
+    there: Option<&Steps>,
+) -> Result<Change, Refusal>
+    ensures { IsUnlessMemory result
+        (add_steps name day steps.now (day_at moment) has_tariff (option_copied there.entry)) }
+{
+    let today = day_of(moment);
+    if is_new_steps(day, steps, today, has_tariff, there)? {
+        let own = steps.clone()?;
+        changed(Edit::AddSteps(name, day, own), Answer::Done)
     } else {
         unchanged(Answer::Done)
     }
@@ -197,6 +183,34 @@ fn set_tariff(
     } else {
         changed(Edit::SetTariff(number, name), Answer::Done)
     }
+}
+
+fn move_base(
+    number: MeterNo,
+    base: Base,
+    moment: Moment,
+    meter: Option<Meter>,
+) -> Result<Change, Refusal>
+    ensures { result ≡ move_base number base moment meter }
+{
+    let present = meter.ok_or(Refusal::NoMeter)?.base;
+    if present.year() == base.year() {
+        return unchanged(Answer::Done);
+    }
+    if base.year() < present.year() {
+        return Err(Refusal::NotLater);
+    }
+    if is_before(moment, base) {
+        return Err(Refusal::BeforeBase);
+    }
+    changed(Edit::MoveBase(number, base), Answer::Done)
+}
+
+// Whether a moment is before a base date.
+fn is_before(moment: Moment, base: Base) -> bool
+    ensures { result ≡ nat_lt moment (base_date base) }
+{
+    matches!(minute(base, moment), Err(TidFault::BeforeBase))
 }
 
 fn open_shift(

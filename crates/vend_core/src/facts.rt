@@ -13,10 +13,13 @@ use tariff::Steps;
 pub struct Facts {
     /// The steps under the name of the tariff that is added.
     pub tariff: Option<Steps>,
-    /// The meter under the request's number, where a meter is added or set.
+    /// The meter under the request's number, where a meter is added, set or moved.
     pub meter: Option<Meter>,
-    /// Whether there is a tariff of that meter's tariff name, or of the one that it is set to.
+    /// Whether there is a tariff of that meter's tariff name, of the one that it is set to, or of
+    /// the one that steps are added to.
     pub has_tariff: bool,
+    /// The steps of the tariff that have the first day of those that are added.
+    pub dated_steps: Option<Steps>,
     /// What there is under the names of an import's rows.
     pub rows: Option<ImportFacts>,
     /// The open shift of the request's operator.
@@ -47,6 +50,7 @@ impl Facts {
             tariff: None,
             meter: None,
             has_tariff: false,
+            dated_steps: None,
             rows: None,
             open_shift: None,
             shift_count: 0,

@@ -1,13 +1,13 @@
-ghost use Rattle.std.specs.Prelude.{◌≡◌, IfOk, IsNone, IsOk, List, Err, Some, is_some, length, true};
+ghost use Rattle.std.specs.Prelude.{◌≡◌, ℕ, IfOk, IsNone, IsOk, List, Err, Some, is_some, length, true};
 ghost use Rattle.std.specs.Option.{option_copied};
 ghost use Rattle.vend_core.specs.Decision.{account_of, row_decision};
-ghost use Rattle.vend_core.specs.Facts.{AreFacts, AreMeterFacts, AreNewSaleFacts, AreOpeningFacts, AreRowsFacts, AreSaleFacts, AreSettingFacts, keeps_lists, report_of, row_facts};
+ghost use Rattle.vend_core.specs.Facts.{AreDatedFacts, AreFacts, AreMeterFacts, AreNewSaleFacts, AreOpeningFacts, AreRowsFacts, AreSaleFacts, AreSettingFacts, keeps_lists, report_of, row_facts};
 ghost use Rattle.vend_core.specs.Lists.{recorded};
-ghost use Rattle.vend_core.specs.Lookup.{steps_for};
+ghost use Rattle.vend_core.specs.Lookup.{steps_on};
 ghost use Rattle.vend_core.specs.Office.{Office};
 ghost use Rattle.vend_core.specs.declared.row_facts.RowFacts.{RowFacts};
 
-use crate::decisions::{same_meter, same_steps};
+use crate::additions::{same_meter, same_steps};
 use crate::facts::Facts;
 use crate::import_facts::ImportFacts;
 use crate::look_up;
@@ -23,7 +23,7 @@ use crate::row_facts::RowFacts;
 use crate::rows::Rows;
 use crate::tariff_name::TariffName;
 use std::alloc::{AllocError, Global};
-use sts_fields::{Moment, month_of};
+use sts_fields::{Day, Moment, day_of, month_of};
 use tariff::Steps;
 
 /// What the tests of a request look at in these records.
@@ -33,9 +33,14 @@ pub(crate) fn facts(alloc: Global, records: &Records, at: &Stamped) -> Result<Fa
 {
     match &at.request {
         Request::AddTariff(name, _) => tariff_facts(records, name),
+        Request::AddSteps(name, day, _) => dated_facts(records, name, *day),
         Request::AddMeter(number, meter) => Ok(meter_facts(records, number, meter)),
         Request::Import(rows) => import_facts(alloc, records, rows),
         Request::SetTariff(number, name) => Ok(setting_facts(records, number, name)),
+        Request::MoveBase(number, _) => Ok(Facts {
+            meter: look_up::meter_under(&records.meters, number),
+            ..Facts::none()
+        }),
         Request::OpenShift(operator) => Ok(opening_facts(records, operator)),
         Request::CloseShift(operator) => Ok(Facts {
             open_shift: look_up::open_shift(&records.shifts, operator),
@@ -75,6 +80,16 @@ fn has_tariff(records: &Records, name: &TariffName) -> bool
     look_up::steps_under(&records.tariffs, name).is_some()
 }
 
+fn dated_facts(records: &Records, name: &TariffName, day: Day) -> Result<Facts, AllocError>
+    ensures { IfOk result (AreDatedFacts (recorded records.now) name.now day) }
+{
+    Ok(Facts {
+        has_tariff: has_tariff(records, name),
+        dated_steps: owned(look_up::steps_from(&records.dated_steps, name, day.days()))?,
+        ..Facts::none()
+    })
+}
+
 fn meter_facts(records: &Records, number: &MeterNo, meter: &Meter) -> Facts
     ensures { AreMeterFacts (recorded records.now) number.now meter.now result }
 {
@@ -100,7 +115,7 @@ fn setting_facts(records: &Records, number: &MeterNo, name: &TariffName) -> Fact
 // What is under the names of the rows, up to the first row that differs from it.
 fn import_facts(alloc: Global, records: &Records, rows: &Rows) -> Result<Facts, AllocError>
     ensures { IfOk result (λ f. (fs : List RowFacts) × (f.rows ≡ Some fs)
-        × AreRowsFacts (recorded records.now) rows.now fs) }
+        × ((today : ℕ) → AreRowsFacts (recorded records.now) today rows.now fs)) }
 {
     let found = found_of(alloc, records, rows.as_slice())?;
     Ok(Facts {
@@ -110,7 +125,8 @@ fn import_facts(alloc: Global, records: &Records, rows: &Rows) -> Result<Facts, 
 }
 
 fn found_of(alloc: Global, records: &Records, rows: &[Row]) -> Result<Vec<RowFacts>, AllocError>
-    ensures { IfOk result (λ found. AreRowsFacts (recorded records.now) rows.now found.items) }
+    ensures { (today : ℕ)
+        → IfOk result (λ found. AreRowsFacts (recorded records.now) today rows.now found.items) }
 {
     let mut found = Vec::new(alloc);
     for row in rows {
@@ -132,6 +148,10 @@ fn row_facts(records: &Records, row: &Row) -> Result<RowFacts, AllocError>
             &records.tariffs,
             name,
         ))?)),
+        Row::Steps(name, day, _) => Ok(RowFacts::Steps(
+            has_tariff(records, name),
+            owned(look_up::steps_from(&records.dated_steps, name, day.days()))?,
+        )),
         Row::Meter(number, meter) => match look_up::meter_under(&records.meters, number) {
             Some(there) => Ok(RowFacts::Meter(there)),
             None => Ok(RowFacts::NoMeter(has_tariff(records, &meter.tariff))),
@@ -141,11 +161,12 @@ fn row_facts(records: &Records, row: &Row) -> Result<RowFacts, AllocError>
 
 // Whether something else is there under the row's name.
 fn differs(row: &Row, found: &RowFacts) -> bool
-    ensures { (o : Office) → found.now ≡ row_facts o row.now
-        → result ≡ true → row_decision o row.now ≡ Err Refusal.Differs }
+    ensures { (o : Office) (today : ℕ) → found.now ≡ row_facts o row.now
+        → result ≡ true → row_decision o today row.now ≡ Err Refusal.Differs }
 {
     match (row, found) {
         (Row::Tariff(_, steps), RowFacts::Tariff(Some(there))) => !same_steps(there, steps),
+        (Row::Steps(_, _, steps), RowFacts::Steps(true, Some(there))) => !same_steps(there, steps),
         (Row::Meter(_, meter), RowFacts::Meter(there)) => !same_meter(there, meter),
         _ => false,
     }
@@ -201,7 +222,7 @@ fn account(
     let Some(meter) = look_up::meter_under(&records.meters, number) else {
         return Ok(None);
     };
-    let steps = own_tariff_of(records, number, &meter)?;
+    let steps = own_steps_on(records, number, &meter, day_of(moment))?;
     let month = month_of(moment).unwrap();
     Ok(Some(MeterAccount {
         meter,
@@ -211,20 +232,37 @@ fn account(
     }))
 }
 
-// The steps of a meter's tariff.
+// The first steps of a meter's tariff.
 fn tariff_of<'a>(records: &'a Records, number: &MeterNo, meter: &Meter) -> &'a Steps
     requires { (recorded records.now).meters number.now ≡ Some meter.now }
-    ensures { result.now ≡ steps_for (recorded records.now) meter.now }
+    ensures { Some result.now ≡ (recorded records.now).tariffs meter.now.tariff }
 {
     look_up::steps_under(&records.tariffs, &meter.tariff).unwrap()
 }
 
-// The same, of one's own.
-fn own_tariff_of(records: &Records, number: &MeterNo, meter: &Meter) -> Result<Steps, AllocError>
+// The steps of a meter's tariff on a day.
+fn steps_on<'a>(records: &'a Records, number: &MeterNo, meter: &Meter, day: Day) -> &'a Steps
     requires { (recorded records.now).meters number.now ≡ Some meter.now }
-    ensures { IfOk result (λ steps. steps ≡ steps_for (recorded records.now) meter.now) }
+    ensures { result.now ≡ steps_on (recorded records.now) meter.now.tariff day }
 {
-    tariff_of(records, number, meter).clone()
+    match look_up::latest_steps(&records.dated_steps, &meter.tariff, day) {
+        Some(steps) => steps,
+        None => tariff_of(records, number, meter),
+    }
+}
+
+// The same, of one's own.
+fn own_steps_on(
+    records: &Records,
+    number: &MeterNo,
+    meter: &Meter,
+    day: Day,
+) -> Result<Steps, AllocError>
+    requires { (recorded records.now).meters number.now ≡ Some meter.now }
+    ensures { IfOk result
+        (λ steps. steps ≡ steps_on (recorded records.now) meter.now.tariff day) }
+{
+    steps_on(records, number, meter, day).clone()
 }
 
 fn report_facts(alloc: Global, records: &Records, number: u32) -> Result<Facts, AllocError>

@@ -1,13 +1,14 @@
-ghost use Rattle.std.specs.Prelude.{◌≡◌, ◌-◌, ◌<◌, ◌≤◌, ◌^◌, ◌↔◌, ◌++◌, ◌∷◌, [], ℕ, List, Option, Ok, Some, All, AllPairs, Contains, map, sum_by};
+ghost use Rattle.std.specs.Prelude.{◌≡◌, ◌+◌, ◌-◌, ◌<◌, ◌≤◌, ◌^◌, ◌↔◌, ◌++◌, ◌∷◌, [], ℕ, List, Ok, All, AllPairs, Contains, map, min, sum_by};
 ghost use Rattle.sts_fields.specs.Tid.{IsReserved};
-ghost use Rattle.sts_token.specs.Meter.{Accepts, WasAccepted, credit_of};
-ghost use Rattle.sts_token.specs.Token.{KeepsRange, BlockFunction};
+ghost use Rattle.sts_fields.specs.Text.{Text};
+ghost use Rattle.sts_token.specs.Fields.{TokenFields};
+ghost use Rattle.sts_token.specs.Meter.{Accepts, Entry, WasAccepted, cleared, credit_of};
+ghost use Rattle.sts_token.specs.Token.{BlockFunction};
 ghost use Rattle.vend_core.specs.Cash.{AskForReports, cash_of, cash_of_reports};
-ghost use Rattle.vend_core.specs.Imports.{AsksNoSetTariff, ImportsNothing};
+ghost use Rattle.vend_core.specs.Imports.{AsksNoMeterChange, ImportsNothing};
 ghost use Rattle.vend_core.specs.Life.{Answered, AreLives, Exchange, IsHanded, IsLife, Life, MayLeave};
 ghost use Rattle.vend_core.specs.NewSale.{fields_of};
 ghost use Rattle.vend_core.specs.Office.{IsOffice, Office, Rises};
-ghost use Rattle.vend_core.specs.Request.{IsStamped};
 ghost use Rattle.vend_core.specs.SoldTokens.{AreSalesTo, SimMeter, WasWritten, accepted_of, digits_of, later_sales_come, reads_by, tokens_of};
 ghost use Rattle.vend_core.specs.declared.answer.Answer.{Answer};
 ghost use Rattle.vend_core.specs.declared.request.Request.{Request};
@@ -53,13 +54,14 @@ pub fn history_law()
         → AreLives lives o → All (λ s. 1 ≤ s.tenths) o.sales }
 
     // An import that a life granted and that comes again, later in it or in a later one, with no
-    // SetTariff in between, changes nothing and has no new row, whatever transform is there then.
+    // SetTariff and no MoveBase in between, changes nothing and has no new row, whatever transform
+    // is there then.
     ensures imported_again { (earlier later : List Life) (life : Life) (o : Office)
         (before between : List Exchange) (e : Exchange) (rows : List Row) (new : ℕ)
         (forward : BlockFunction) (again : Stamped)
         → AreLives (earlier ++ life ∷ later) o → life.exchanges ≡ before ++ e ∷ between
         → e.request.request ≡ Request.Import rows → e.reply ≡ Ok (Answer.Imported new)
-        → All AsksNoSetTariff between → All (λ l. All AsksNoSetTariff l.exchanges) later
+        → All AsksNoMeterChange between → All (λ l. All AsksNoMeterChange l.exchanges) later
         → again.request ≡ Request.Import rows → ImportsNothing forward o again }
 
     // A reprint is the first token, whatever transforms the lives have.
@@ -106,6 +108,17 @@ pub fn history_law()
     ensures below_bound { (lives : List Life) (o : Office) (m : SimMeter) (sales : List Sale)
         → AreLives lives o → AreSalesTo lives m sales
         → sum_by (λ s. s.tenths) sales < 2 ^ 64 - 1 }
+
+    // A meter that is moved to a later base is cleared then: whatever came before, it accepts from
+    // there on what a new one accepts, and its credit goes on. So what is said of a new meter holds
+    // of it under each of its bases, between two clearings.
+    ensures cleared { (m : SimMeter) (before history : List Entry) (text : Text)
+        (fields : TokenFields)
+        → (Accepts (reads_by m) (before ++ cleared ∷ history) text fields
+        ↔ Accepts (reads_by m) history text fields) }
+    ensures credit_goes_on { (m : SimMeter) (before history : List Entry)
+        → credit_of (reads_by m) (before ++ cleared ∷ history)
+        ≡ min (2 ^ 64 - 1) (credit_of (reads_by m) before + credit_of (reads_by m) history) }
 
     // The reports of all shifts hold the money of all sales.
     ensures cash { (lives : List Life) (forward : BlockFunction) (o : Office) (ats : ℕ → Stamped)

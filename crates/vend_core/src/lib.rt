@@ -5,7 +5,7 @@
 
 pub use answer::{Answer, Reply};
 pub use change::{Change, Edit};
-pub use decisions::decide;
+pub use decisions::{GREATEST_COUNT, decide};
 pub use facts::Facts;
 pub use history::history_law;
 pub use import_facts::ImportFacts;
@@ -31,6 +31,7 @@ pub use sts_fields::Moment;
 pub use tariff::Tender;
 pub use tariff_name::TariffName;
 
+mod additions;
 mod answer;
 mod apply;
 mod change;

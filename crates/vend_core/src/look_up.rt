@@ -3,9 +3,9 @@ ghost use Rattle.std.specs.Option.{ForSome, option_copied};
 ghost use Rattle.sts_fields.specs.Calendar.{month_at};
 ghost use Rattle.sts_fields.specs.Tid.{last_tid};
 ghost use Rattle.sts_fields.specs.Base.{base_eq};
-ghost use Rattle.vend_core.specs.Lookup.{greatest_of};
+ghost use Rattle.vend_core.specs.Lookup.{greatest_of, latest};
 ghost use Rattle.vend_core.specs.Office.{greatest_count};
-ghost use Rattle.vend_core.specs.PlainRows.{row_of};
+ghost use Rattle.vend_core.specs.PlainRows.{row_of, steps_from};
 
 use crate::meter::Meter;
 use crate::meter_no::MeterNo;
@@ -16,7 +16,7 @@ use crate::sales::Sales;
 use crate::shift::Shift;
 use crate::tariff_name::TariffName;
 use std::alloc::{AllocError, Global};
-use sts_fields::{Base, amount_law, month_of};
+use sts_fields::{Base, Day, amount_law, month_of};
 use tariff::Steps;
 
 /// The steps under a name.
@@ -32,6 +32,48 @@ pub(crate) fn steps_under<'a>(
         }
     }
     None
+}
+
+// Whether a row has this name and this first day.
+fn is_from(row: &((TariffName, Day), Steps), name: &TariffName, day: u32) -> bool
+    ensures { result ≡ (bytes_eq name.now row.now.0.0 && (day == row.now.0.1)) }
+{
+    name.as_bytes() == row.0.0.as_bytes() && day == row.0.1.days()
+}
+
+/// The further steps under a name and a first day, in days since 1993-01-01.
+pub(crate) fn steps_from<'a>(
+    rows: &'a [((TariffName, Day), Steps)],
+    name: &TariffName,
+    day: u32,
+) -> Option<&'a Steps>
+    ensures { option_copied result ≡ steps_from rows.now name.now day }
+{
+    for row in rows {
+        if is_from(row, name, day) {
+            return Some(&row.1);
+        }
+    }
+    None
+}
+
+/// The further steps under a name that have begun last on a day. They are looked for day by day,
+/// from this one back.
+pub(crate) fn latest_steps<'a>(
+    rows: &'a [((TariffName, Day), Steps)],
+    name: &TariffName,
+    day: Day,
+) -> Option<&'a Steps>
+    ensures { option_copied result ≡ latest (steps_from rows.now name.now) day }
+{
+    let mut first = day.days();
+    while first > 0 {
+        match steps_from(rows, name, first) {
+            Some(steps) => return Some(steps),
+            None => first -= 1,
+        }
+    }
+    steps_from(rows, name, first)
 }
 
 /// The meter of a number.

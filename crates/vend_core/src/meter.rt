@@ -4,7 +4,7 @@ use sts_fields::Base;
 /// What the office keeps of a meter, beside its number.
 #[derive(Clone, Copy, Debug, PartialEq, Eq)]
 pub struct Meter {
-    /// The base date that its identifiers count from.
+    /// The present base date: its next identifiers count from it.
     pub base: Base,
     /// The tariff that its sales are priced by.
     pub tariff: TariffName,

@@ -6,7 +6,7 @@ use tariff::Steps;
 #[derive(Debug, Drop)]
 pub struct MeterAccount {
     pub meter: Meter,
-    /// The steps of the meter's tariff.
+    /// The steps of the meter's tariff on the day of the sale.
     pub steps: Steps,
     /// The greatest identifier sold to the meter under its base, at most 16777215.
     pub last: Option<u32>,

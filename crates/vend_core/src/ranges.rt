@@ -1,11 +1,17 @@
 //! What the types of a request keep, told to whoever has one.
 ghost use Rattle.std.specs.Prelude.{All};
+ghost use Rattle.sts_fields.specs.Day.{IsDay};
+ghost use Rattle.tariff.specs.Steps.{IsSteps};
+ghost use Rattle.vend_core.specs.Names.{IsName};
 ghost use Rattle.vend_core.specs.Request.{IsMeter, IsOrder, IsRequest, IsRow};
 
 use crate::meter::Meter;
 use crate::meter_no::MeterNo;
 use crate::request::{Order, Request, Stamped};
 use crate::row::Row;
+use crate::tariff_name::TariffName;
+use sts_fields::Day;
+use tariff::Steps;
 
 impl Stamped {
     ghost use Rattle.vend_core.specs.Request.{IsStamped};
@@ -28,11 +34,15 @@ fn request_keeps_ranges(request: &Request)
             let _name = name.as_bytes();
             let _steps = steps.as_slice();
         }
+        Request::AddSteps(name, day, steps) => steps_keep_ranges(name, *day, steps),
         Request::AddMeter(number, meter) => meter_keeps_ranges(number, meter),
         Request::Import(rows) => rows_keep_ranges(rows.as_slice()),
         Request::SetTariff(number, name) => {
             let _number = number.as_bytes();
             let _name = name.as_bytes();
+        }
+        Request::MoveBase(number, _) => {
+            let _number = number.as_bytes();
         }
         Request::OpenShift(operator) => {
             let _operator = operator.as_bytes();
@@ -63,8 +73,17 @@ fn row_keeps_ranges(row: &Row)
             let _name = name.as_bytes();
             let _steps = steps.as_slice();
         }
+        Row::Steps(name, day, steps) => steps_keep_ranges(name, *day, steps),
         Row::Meter(number, meter) => meter_keeps_ranges(number, meter),
     }
+}
+
+fn steps_keep_ranges(name: &TariffName, day: Day, steps: &Steps)
+    ensures { IsName name.now × IsDay day × IsSteps steps.now }
+{
+    let _name = name.as_bytes();
+    let _day = day.days();
+    let _steps = steps.as_slice();
 }
 
 fn meter_keeps_ranges(number: &MeterNo, meter: &Meter)

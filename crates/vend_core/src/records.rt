@@ -6,6 +6,7 @@ use crate::sale::Sale;
 use crate::shift::Shift;
 use crate::tariff_name::TariffName;
 use std::alloc::Global;
+use sts_fields::{Base, Day};
 use tariff::Steps;
 
 /// What an office holds, in plain vectors.
@@ -15,6 +16,10 @@ pub(crate) struct Records {
     pub(crate) tariffs: Vec<(TariffName, Steps)>,
     /// The last one that came is in front.
     pub(crate) meters: Vec<(MeterNo, Meter)>,
+    /// The bases that meters have or had. The last one that came is in front.
+    pub(crate) bases: Vec<(MeterNo, Base)>,
+    /// Further steps by their tariff and first day. The last one that came is in front.
+    pub(crate) dated_steps: Vec<((TariffName, Day), Steps)>,
     /// In the order that they were opened.
     pub(crate) shifts: Vec<Shift>,
     /// In the order that they were made.
@@ -35,6 +40,8 @@ impl Records {
         Records {
             tariffs: Vec::new(alloc),
             meters: Vec::new(alloc),
+            bases: Vec::new(alloc),
+            dated_steps: Vec::new(alloc),
             shifts: Vec::new(alloc),
             sales: Vec::new(alloc),
         }

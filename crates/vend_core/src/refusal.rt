@@ -44,6 +44,10 @@ pub enum Refusal {
     Store,
     #[error("the office has stopped")]
     Stopped,
+    #[error("the meter has a later base date")]
+    NotLater,
+    #[error("the day of the steps has begun")]
+    DayPast,
 }
 
 impl Refusal {
@@ -69,6 +73,8 @@ impl Refusal {
             Refusal::Memory => 15,
             Refusal::Store => 16,
             Refusal::Stopped => 17,
+            Refusal::NotLater => 18,
+            Refusal::DayPast => 19,
         }
     }
 
@@ -94,6 +100,8 @@ impl Refusal {
             Refusal::Memory => "Memory",
             Refusal::Store => "Store",
             Refusal::Stopped => "Stopped",
+            Refusal::NotLater => "NotLater",
+            Refusal::DayPast => "DayPast",
         }
     }
 }

@@ -6,7 +6,7 @@ use crate::operator::Operator;
 use crate::order_ref::Ref;
 use crate::rows::Rows;
 use crate::tariff_name::TariffName;
-use sts_fields::Moment;
+use sts_fields::{Base, Day, Moment};
 use tariff::{Steps, Tender};
 
 /// What an operator asks the office for, paid by a tender of money.
@@ -22,11 +22,16 @@ pub struct Order {
 /// A request to the office (`docs/OFFICE.md`).
 #[derive(Debug, Drop)]
 pub enum Request {
+    /// A tariff with its first steps.
     AddTariff(TariffName, Steps),
+    /// Further steps of a tariff, valid from this day of UTC on.
+    AddSteps(TariffName, Day, Steps),
     AddMeter(MeterNo, Meter),
     /// All the rows, or none.
     Import(Rows),
     SetTariff(MeterNo, TariffName),
+    /// The meter's next identifiers count from this base date.
+    MoveBase(MeterNo, Base),
     OpenShift(Operator),
     CloseShift(Operator),
     Sell(Order),

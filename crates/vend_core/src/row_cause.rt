@@ -2,7 +2,7 @@ use std::fmt;
 
 /// Why a row of an import is refused.
 ///
-/// The reader of a file gives the first four, and the office the other two.
+/// The reader of a file gives the first four, and the office the other three.
 #[derive(Clone, Copy, Debug, PartialEq, Eq, Hash)]
 pub enum RowCause {
     /// Row 0 is not the header, or there is none.
@@ -13,10 +13,12 @@ pub enum RowCause {
     Field(u8),
     /// The row is one more than the greatest number of rows.
     TooManyRows,
-    /// Another tariff or meter is there under the row's name or number.
+    /// Something else is there under the row's name or number, or its name and day.
     Differs,
-    /// There is no tariff of the name that the row's meter has.
+    /// There is no tariff of the name that the row's meter has, or that its steps are for.
     NoTariff,
+    /// The day of the row's steps is not after the day of the import.
+    DayPast,
 }
 
 impl fmt::Display for RowCause {
@@ -33,6 +35,7 @@ impl fmt::Display for RowCause {
             RowCause::TooManyRows => write!(f, "TooManyRows"),
             RowCause::Differs => write!(f, "Differs"),
             RowCause::NoTariff => write!(f, "NoTariff"),
+            RowCause::DayPast => write!(f, "DayPast"),
         }
     }
 }

@@ -3,13 +3,15 @@ ghost use Rattle.sts_fields.specs.Calendar.{month_at};
 ghost use Rattle.sts_fields.specs.Tid.{IsLast, last_tid};
 ghost use Rattle.sts_fields.specs.declared.base.Base.{Base};
 ghost use Rattle.sts_token.specs.Token.{KeepsRange, BlockFunction};
+ghost use Rattle.tariff.specs.declared.step.Step.{Step};
 ghost use Rattle.vend_core.specs.Decision.{decision};
 ghost use Rattle.vend_core.specs.Fold.{applied};
 ghost use Rattle.sts_fields.specs.Base.{base_eq};
-ghost use Rattle.vend_core.specs.Lookup.{greatest_of, open_shift, prior, sale_numbered, sale_of_ref, sales_of_shift, shift_numbered, used};
+ghost use Rattle.vend_core.specs.Lookup.{IsLatest, greatest_of, latest, open_shift, prior, sale_numbered, sale_of_ref, sales_of_shift, shift_numbered, used};
 ghost use Rattle.vend_core.specs.Office.{IsOffice, Office};
+ghost use Rattle.vend_core.specs.OfficeLaws.{NoneBegun};
 ghost use Rattle.vend_core.specs.Request.{IsStamped};
-ghost use Rattle.vend_core.specs.Store.{AreByNumber, IsLastSale, IsOpenShift, IsUnderRef, Meets, sales_above};
+ghost use Rattle.vend_core.specs.Store.{AreByNumber, HasOneSaleMore, IsLastSale, IsOpenShift, IsUnderRef, Meets, TotalsGrow, sales_above};
 ghost use Rattle.vend_core.specs.declared.change.Change.{Change};
 ghost use Rattle.vend_core.specs.declared.change.Edit.{Edit};
 ghost use Rattle.vend_core.specs.declared.request.Request.{Request};
@@ -29,9 +31,19 @@ pub fn store_law()
         → (IsLast used last ↔ (last ≡ greatest_of used)) }
     ensures last_sale { (o : Office) (number : List ℕ) (base : Base) (s : Sale)
         → IsOffice o → IsLastSale o number base s → greatest_of (used o number base) ≡ Some s.tid }
+    ensures of_last_sale { (o : Office) (number : List ℕ) (base : Base) (tid : ℕ)
+        → IsOffice o → greatest_of (used o number base) ≡ Some tid
+        → (s : Sale) × IsLastSale o number base s × (s.tid ≡ tid) }
     ensures no_last_sale { (o : Office) (number : List ℕ) (base : Base)
         → ((s : Sale) → Contains o.sales s → s.meter ≡ number → s.base ≢ base)
         → greatest_of (used o number base) ≡ None }
+
+    // Of further steps by first day those that hold on a day are the ones with the greatest first
+    // day that is not after it, and there are none where none begin until then.
+    ensures latest_steps { (dated : ℕ → Option (List Step)) (day : ℕ) (steps : List Step)
+        → ((latest dated day ≡ Some steps) ↔ IsLatest dated day steps) }
+    ensures no_latest_steps { (dated : ℕ → Option (List Step)) (day : ℕ)
+        → ((latest dated day ≡ None) ↔ NoneBegun dated day) }
 
     // A shift that stands, is the operator's and is open is the operator's open shift.
     ensures open_shift { (o : Office) (name : List ℕ) (s : Shift)
@@ -68,7 +80,12 @@ pub fn store_law()
     ensures sales_above { (o : Office) (number limit : ℕ)
         → IsOffice o → sales_above o number limit ≡ take limit (drop number o.sales) }
 
-    // One sale more: the last identifier and the month's tenths after it.
+    // One sale more: the last identifier, the month's tenths and the totals of a shift after it.
+    // They are told by which sales there are, and not by their order.
+    ensures totals_grow { (o p : Office) (s : Sale)
+        → IsOffice o → IsOffice p → HasOneSaleMore o s p → TotalsGrow o s p }
+    ensures totals_added { (o : Office) (s : Sale)
+        → TotalsGrow o s (applied (Edit.AddSale s) o) }
     ensures last_grows { (o : Office) (s : Sale) (number : List ℕ) (base : Base)
         → greatest_of (used (applied (Edit.AddSale s) o) number base)
         ≡ (if bytes_eq s.meter number && base_eq s.base base

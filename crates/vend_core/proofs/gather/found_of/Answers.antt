@@ -7,7 +7,7 @@ use Rattle.vend_core.specs.declared.row_facts.RowFacts.{RowFacts}
 use Rattle.vend_core.proofs.gather.found_of.Goals as goal
 
 pub returns : goal.returns
-returns c =
+returns c = λ today.
     let o = recorded c.args.records.now in
-    subst (λ (fs : List RowFacts). AreRowsFacts o c.args.rows.now fs) (append-nil c.loop-row.found.items)
-    (c.loop-row.invariant [] (subst (λ (rest : List Row). AreRowsFacts o rest []) (sym (drop_all c.loop-row.row-index c.args.rows.now c.loop-row-test.false)) tt))
+    subst (λ (fs : List RowFacts). AreRowsFacts o today c.args.rows.now fs) (append-nil c.loop-row.found.items)
+    (c.loop-row.invariant today [] (subst (λ (rest : List Row). AreRowsFacts o today rest []) (sym (drop_all c.loop-row.row-index c.args.rows.now c.loop-row-test.false)) tt))

@@ -1,4 +1,4 @@
-use Rattle.std.proofs.Common.{◌++◌, List, drop}
+use Rattle.std.proofs.Common.{ℕ, ◌++◌, List, drop}
 use Rattle.vend_core.specs.Facts.{AreRowsFacts}
 use Rattle.vend_core.specs.Lists.{recorded}
 use Rattle.vend_core.specs.declared.row_facts.RowFacts.{RowFacts}
@@ -7,4 +7,4 @@ use Rattle.vend_core.proofs.gather.found_of.Given as goal
 -- what is found for the other rows is, behind what is found so far, found for all
 abbrev pub invariant-loop-row : goal.invariant-loop-row
 invariant-loop-row l =
-    (more : List RowFacts) → AreRowsFacts (recorded l.records) (drop l.row-index l.rows) more → AreRowsFacts (recorded l.records) l.rows (l.found.items ++ more)
+    (today : ℕ) (more : List RowFacts) → AreRowsFacts (recorded l.records) today (drop l.row-index l.rows) more → AreRowsFacts (recorded l.records) today l.rows (l.found.items ++ more)

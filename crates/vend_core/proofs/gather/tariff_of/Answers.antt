@@ -1,6 +1,5 @@
-use Rattle.std.proofs.Common.{◌≡◌, [], sym, ◌∙◌, ap, List, Option, Some, None, refl, unwrap_or, is_some}
+use Rattle.std.proofs.Common.{◌≡◌, sym, ◌∙◌, ap, Option, Some, None, refl, is_some}
 use Rattle.std.specs.Option.{option_copied}
-use Rattle.tariff.specs.declared.step.Step.{Step}
 use Rattle.vend_core.specs.PlainRows.{row_of}
 use denote.Ref.{Bor}
 use Rattle.vend_core.proofs.gather.tariff_of.Goals as goal
@@ -10,6 +9,10 @@ is_some-option_copied : {T : Type 0} (r : Option (Bor T)) → is_some (option_co
 is_some-option_copied None = refl
 is_some-option_copied (Some x) = refl
 
+-- what is unwrapped is what is there
+unwrapped : {T : Type 0} (r : Option (Bor T)) (x : Bor T) → r ≡ Some x → Some x.now ≡ option_copied r
+unwrapped r x is = sym (ap option_copied is)
+
 pub unwrap-requires : goal.unwrap-requires
 unwrap-requires c =
     sym (is_some-option_copied c.steps_under.result)
@@ -18,5 +21,5 @@ unwrap-requires c =
 
 pub returns : goal.returns
 returns c =
-    ap (λ (r : Option (Bor (List Step))). unwrap_or (option_copied r) []) (sym c.unwrap.ensures)
-    ∙ ap (λ o. unwrap_or o []) (c.steps_under.ensures ∙ ap (λ l. row_of l c.args.meter.now.tariff) c.deref.ensures.value)
+    unwrapped c.steps_under.result c.unwrap.result c.unwrap.ensures
+    ∙ c.steps_under.ensures ∙ ap (λ l. row_of l c.args.meter.now.tariff) c.deref.ensures.value

@@ -1,5 +1,6 @@
 use Rattle.vend_core.proofs.AgainLifeLemmas.{imported_again_in_lives}
 use Rattle.vend_core.proofs.CashLemmas.{cash_adds_up}
+use Rattle.vend_core.proofs.ClearedLemmas.{accepts_after_clearing, credit_after_clearing}
 use Rattle.vend_core.proofs.ExtendManyLemmas.{lives_go_on}
 use Rattle.vend_core.proofs.HistoryLemmas.{one_handed_number, one_handed_ref, one_handed_tid, same_digits}
 use Rattle.vend_core.proofs.LifeLemmas.{handed_stands, lives_office}
@@ -7,6 +8,7 @@ use Rattle.vend_core.proofs.MeterLemmas.{MeterLaws, accepted_is, bound_above, cr
 use Rattle.vend_core.proofs.NewSaleLemmas.{LowerLaws}
 use Rattle.vend_core.proofs.RiseLemmas.{lives_rise, lives_sell_some}
 use Rattle.vend_core.proofs.SaleLemmas.{handed_tid, handed_token}
+use Rattle.vend_core.specs.SoldTokens.{reads_by}
 use Rattle.vend_core.proofs.history.history_law.Goals as goal
 
 -- the laws that the body calls
@@ -82,3 +84,9 @@ returns-clause-goes_on c = lives_go_on
 
 pub returns-clause-imported_again : goal.returns-clause-imported_again
 returns-clause-imported_again c = imported_again_in_lives
+
+pub returns-clause-cleared : goal.returns-clause-cleared
+returns-clause-cleared c = λ m before history text fields. accepts_after_clearing (reads_by m) before history text fields
+
+pub returns-clause-credit_goes_on : goal.returns-clause-credit_goes_on
+returns-clause-credit_goes_on c = λ m. credit_after_clearing (reads_by m)

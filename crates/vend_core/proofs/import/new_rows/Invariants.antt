@@ -12,8 +12,8 @@ abbrev pub invariant-loop-row : goal.invariant-loop-row
 invariant-loop-row l = record {
   numbered : l.number ≡ l.row-index;
   few : length l.taken.rows.items ≤ l.row-index;
-  stayed : (o : Office) → AreRowsFacts o l.rows l.found → HaveStayed o (with_rows l.taken.rows.items o);
-  facts : (o : Office) → AreRowsFacts o l.rows l.found → AreRowsFacts o (drop l.row-index l.rows) (drop l.row-index l.found);
-  rest : (o : Office) → AreRowsFacts o l.rows l.found
-      → new_rows o 1 l.rows ≡ ahead l.taken.rows.items (new_rows (with_rows l.taken.rows.items o) (l.row-index + 1) (drop l.row-index l.rows));
+  stayed : (o : Office) → AreRowsFacts o l.today l.rows l.found → HaveStayed o (with_rows l.taken.rows.items o);
+  facts : (o : Office) → AreRowsFacts o l.today l.rows l.found → AreRowsFacts o l.today (drop l.row-index l.rows) (drop l.row-index l.found);
+  rest : (o : Office) → AreRowsFacts o l.today l.rows l.found
+      → new_rows o l.today 1 l.rows ≡ ahead l.taken.rows.items (new_rows (with_rows l.taken.rows.items o) l.today (l.row-index + 1) (drop l.row-index l.rows));
 }

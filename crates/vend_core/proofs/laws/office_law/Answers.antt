@@ -3,11 +3,14 @@ use Rattle.vend_core.specs.Lookup.{used}
 use Rattle.vend_core.specs.declared.refusal.Refusal.TheVariants.{Memory, Store, Stopped}
 use Rattle.vend_core.proofs.AgainLemmas.{imported_again, step_stays}
 use Rattle.vend_core.proofs.AnswerLemmas.{answered_stand, sells_one}
+use Rattle.vend_core.proofs.BaseLemmas.{moves, moves_not_back, moves_not_before, moves_once, present_is_greatest, sales_have_bases}
 use Rattle.vend_core.proofs.CashLemmas.{cash_adds_up}
+use Rattle.vend_core.proofs.DatedLemmas.{adds_no_passed_steps, adds_steps, adds_steps_once, passed_steps_stay, steps_on_are}
 use Rattle.vend_core.proofs.FoldLemmas.{after_grows, after_keeps_office}
 use Rattle.vend_core.proofs.LawLemmas.{new_sale_is, one_of_tid, reports_the_shift, reprints_the_sale, sold_again}
 use Rattle.vend_core.proofs.NewSaleLemmas.{LowerLaws, greatest_is_last}
 use Rattle.vend_core.proofs.OfficeLemmas.{step_keeps_office}
+use Rattle.vend_core.proofs.PriceLemmas.{keeps_price}
 use Rattle.vend_core.proofs.RefusalLemmas.{never_answers}
 use Rattle.vend_core.proofs.RiseLemmas.{after_rises, after_sells_some}
 use Rattle.vend_core.proofs.laws.office_law.Goals as goal
@@ -69,3 +72,39 @@ returns-clause-stays c = step_stays
 
 pub returns-clause-imported_again : goal.returns-clause-imported_again
 returns-clause-imported_again c = imported_again
+
+pub returns-clause-own_base : goal.returns-clause-own_base
+returns-clause-own_base c = sales_have_bases
+
+pub returns-clause-present_base : goal.returns-clause-present_base
+returns-clause-present_base c = present_is_greatest
+
+pub returns-clause-moved : goal.returns-clause-moved
+returns-clause-moved c = moves
+
+pub returns-clause-moved_once : goal.returns-clause-moved_once
+returns-clause-moved_once c = moves_once
+
+pub returns-clause-not_moved_back : goal.returns-clause-not_moved_back
+returns-clause-not_moved_back c = moves_not_back
+
+pub returns-clause-not_moved_yet : goal.returns-clause-not_moved_yet
+returns-clause-not_moved_yet c = moves_not_before
+
+pub returns-clause-steps_of_day : goal.returns-clause-steps_of_day
+returns-clause-steps_of_day c = steps_on_are
+
+pub returns-clause-passed_steps : goal.returns-clause-passed_steps
+returns-clause-passed_steps c = passed_steps_stay (lower c)
+
+pub returns-clause-keeps_price : goal.returns-clause-keeps_price
+returns-clause-keeps_price c = λ forward o at order s later office range. keeps_price (lower c) forward o range office at order s later
+
+pub returns-clause-steps_added : goal.returns-clause-steps_added
+returns-clause-steps_added c = adds_steps
+
+pub returns-clause-steps_added_once : goal.returns-clause-steps_added_once
+returns-clause-steps_added_once c = adds_steps_once
+
+pub returns-clause-day_past : goal.returns-clause-day_past
+returns-clause-day_past c = adds_no_passed_steps

@@ -1,10 +1,11 @@
 use Rattle.vend_core.specs.declared.sale.Sale.{Sale}
 use Rattle.vend_core.specs.declared.shift.Shift.{Shift}
+use Rattle.vend_core.proofs.DatedLemmas.{latest_steps_are, no_latest_steps}
 use Rattle.vend_core.proofs.MeetsLemmas.{closes_the_open, decided_meets}
 use Rattle.vend_core.proofs.NewSaleLemmas.{LowerLaws}
 use Rattle.vend_core.proofs.OrderLemmas.{sales_above_are, sales_of_shift_are}
-use Rattle.vend_core.proofs.SumLemmas.{last_grows_by, last_rises_to, prior_grows_by, prior_in_range, used_in_range}
-use Rattle.vend_core.proofs.StoreLemmas.{last_is_greatest, last_sale_is, no_last_sale_is, no_number_is, no_open_shift_is, no_sale_of_ref_is, numbered_is, open_shift_is, row_at, sale_of_ref_is}
+use Rattle.vend_core.proofs.SumLemmas.{last_grows_by, last_rises_to, prior_grows_by, prior_in_range, totals_added, totals_grow, used_in_range}
+use Rattle.vend_core.proofs.StoreLemmas.{last_is_greatest, last_is_of_a_sale, last_sale_is, no_last_sale_is, no_number_is, no_open_shift_is, no_sale_of_ref_is, numbered_is, open_shift_is, row_at, sale_of_ref_is}
 use Rattle.vend_core.proofs.store.store_law.Goals as goal
 
 -- the laws that the body calls
@@ -76,3 +77,18 @@ returns-clause-meets c = decided_meets (lower c)
 
 pub returns-clause-closes : goal.returns-clause-closes
 returns-clause-closes c = closes_the_open
+
+pub returns-clause-latest_steps : goal.returns-clause-latest_steps
+returns-clause-latest_steps c = latest_steps_are
+
+pub returns-clause-no_latest_steps : goal.returns-clause-no_latest_steps
+returns-clause-no_latest_steps c = no_latest_steps
+
+pub returns-clause-totals_grow : goal.returns-clause-totals_grow
+returns-clause-totals_grow c = totals_grow
+
+pub returns-clause-totals_added : goal.returns-clause-totals_added
+returns-clause-totals_added c = totals_added
+
+pub returns-clause-of_last_sale : goal.returns-clause-of_last_sale
+returns-clause-of_last_sale c = last_is_of_a_sale
