@@ -4,5 +4,6 @@ mod ExportLemmas
 mod FieldLemmas
 mod ImportLemmas
 mod RecordLemmas
+mod ReaderLemmas
 mod ReportLemmas
 mod LawLemmas

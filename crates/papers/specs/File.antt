@@ -1,11 +1,14 @@
 -- Files of meters and of tariffs: their records, and what a record says.
-use Rattle.std.specs.Prelude.{◌≡◌, ℕ, zero, suc, ◌-◌, ◌<◌, ◌≤◌, List, [], ◌∷◌, length, slice_index_or, codes}
+use Rattle.std.specs.Prelude.{◌≡◌, ◌⊎◌, ℕ, zero, suc, ◌-◌, ◌<◌, ◌≤◌, List, [], ◌∷◌, length, slice_index_or, codes}
 use Rattle.csv.specs.Reading.{AreRecords, default_config, strip_bom}
 use Rattle.csv.specs.declared.parser.State.TheVariants.{StartRecord}
+use Rattle.papers.specs.declared.file_form.FileForm.{FileForm}
+use Rattle.papers.specs.declared.file_form.FileForm.TheVariants.{Meters, Tariffs, DatedTariffs}
 use Rattle.papers.specs.declared.file_kind.FileKind.{FileKind}
-use Rattle.papers.specs.declared.file_kind.FileKind.TheVariants.{Meters, Tariffs}
+use Rattle.papers.specs.declared.file_kind.FileKind.TheVariants as kinds
 use Rattle.sts_fields.specs.declared.base.Base.{Base}
 use Rattle.sts_fields.specs.declared.base.Base.TheVariants.{Y1993, Y2014, Y2035}
+use Rattle.sts_fields.specs.Day.{IsDayText}
 use Rattle.sts_token.specs.Key.{AreKeyDigits, IsKeyText}
 use Rattle.tariff.specs.Steps.{IsSteps}
 use Rattle.tariff.specs.StepsText.{IsStepsText}
@@ -13,7 +16,7 @@ use Rattle.tariff.specs.declared.step.Step.{Step}
 use Rattle.vend_core.specs.Names.{IsMeterNo, IsName}
 use Rattle.vend_core.specs.declared.meter.Meter as declared
 use Rattle.vend_core.specs.declared.row.Row.{Row}
-use Rattle.vend_core.specs.declared.row.Row.TheVariants.{Tariff, Meter}
+use Rattle.vend_core.specs.declared.row.Row.TheVariants.{Tariff, Meter, Steps}
 
 -- a record: its fields in order
 abbrev pub Fields : Type 0
@@ -23,10 +26,17 @@ Fields = List (List ℕ)
 abbrev pub AreFileRecords : List ℕ → List Fields → Type 0
 AreFileRecords bytes records = AreRecords default_config StartRecord (strip_bom bytes) records
 
+-- the kind of file that a form is one of
+abbrev pub kind_of : FileForm → FileKind
+kind_of Meters = kinds.Meters
+kind_of Tariffs = kinds.Tariffs
+kind_of DatedTariffs = kinds.Tariffs
+
 -- the record that stands first, and names the fields
-abbrev pub header_of : FileKind → Fields
+abbrev pub header_of : FileForm → Fields
 header_of Meters = codes "meter" ∷ codes "base" ∷ codes "tariff" ∷ codes "key" ∷ []
 header_of Tariffs = codes "name" ∷ codes "steps" ∷ []
+header_of DatedTariffs = codes "name" ∷ codes "steps" ∷ codes "from" ∷ []
 
 -- the year of a base date, in its four digits
 abbrev pub base_text : Base → List ℕ
@@ -41,25 +51,32 @@ IsBaseText text = (base : Base) × (text ≡ base_text base)
 abbrev pub IsTariffText : List ℕ → Type 0
 IsTariffText text = (steps : List Step) × IsStepsText text steps × IsSteps steps
 
+-- the first day of steps, or nothing for the steps that a tariff begins with
+abbrev pub IsFromText : List ℕ → Type 0
+IsFromText text = (text ≡ []) ⊎ ((day : ℕ) × IsDayText text day)
+
 -- the rule of a field, by its place from 0 on
-abbrev pub KeepsRule : FileKind → ℕ → List ℕ → Type 0
+abbrev pub KeepsRule : FileForm → ℕ → List ℕ → Type 0
 KeepsRule Meters zero text = IsMeterNo text
 KeepsRule Meters (suc zero) text = IsBaseText text
 KeepsRule Meters (suc (suc zero)) text = IsName text
 KeepsRule Meters (suc (suc (suc _))) text = AreKeyDigits text
 KeepsRule Tariffs zero text = IsName text
 KeepsRule Tariffs (suc _) text = IsTariffText text
+KeepsRule DatedTariffs zero text = IsName text
+KeepsRule DatedTariffs (suc zero) text = IsTariffText text
+KeepsRule DatedTariffs (suc (suc _)) text = IsFromText text
 
 -- the field at a place of a record keeps its rule
-abbrev pub KeepsRuleAt : FileKind → Fields → ℕ → Type 0
-KeepsRuleAt kind fields place = KeepsRule kind place (slice_index_or fields place [])
+abbrev pub KeepsRuleAt : FileForm → Fields → ℕ → Type 0
+KeepsRuleAt form fields place = KeepsRule form place (slice_index_or fields place [])
 
 -- the field of a number, from 1 on, is the first that does not keep its rule
-pub record IsFirstOutside (kind : FileKind) (fields : Fields) (number : ℕ) : Type 0 where
+pub record IsFirstOutside (form : FileForm) (fields : Fields) (number : ℕ) : Type 0 where
   pub from_one : 1 ≤ number
   pub within : number ≤ length fields
-  pub outside : ¬ KeepsRuleAt kind fields (number - 1)
-  pub before : (place : ℕ) → place < number - 1 → KeepsRuleAt kind fields place
+  pub outside : ¬ KeepsRuleAt form fields (number - 1)
+  pub before : (place : ℕ) → place < number - 1 → KeepsRuleAt form fields place
 
 -- a record says a meter: its number, the year of its base date, the name of its tariff and its key
 pub record RecordSaysMeter (fields : Fields) (number : List ℕ) (m : declared.Meter) : Type 0 where
@@ -69,17 +86,29 @@ pub record RecordSaysMeter (fields : Fields) (number : List ℕ) (m : declared.M
   pub named : IsName m.tariff
   pub keyed : IsKeyText m.key key_text
 
--- a record says a tariff: its name and the text of its steps
-pub record RecordSaysTariff (fields : Fields) (name : List ℕ) (steps : List Step) : Type 0 where
+-- a record says a tariff: its name, the text of its steps, and then these fields
+pub record RecordSaysTariff (fields rest : Fields) (name : List ℕ) (steps : List Step)
+    : Type 0 where
   pub steps_text : List ℕ
-  pub two : fields ≡ name ∷ steps_text ∷ []
+  pub are : fields ≡ name ∷ steps_text ∷ rest
   pub named : IsName name
   pub written : IsStepsText steps_text steps
   pub priced : IsSteps steps
 
--- a record of a file says this row
-abbrev pub RecordSays : FileKind → Fields → Row → Type 0
+-- a record says the steps of a tariff from a day on
+abbrev pub RecordSaysSteps : Fields → List ℕ → ℕ → List Step → Type 0
+RecordSaysSteps fields name day steps =
+    (from : List ℕ) × IsDayText from day × RecordSaysTariff fields (from ∷ []) name steps
+
+-- a record of a file says this row; where steps may have a first day, none makes them the tariff's
+-- first ones
+abbrev pub RecordSays : FileForm → Fields → Row → Type 0
 RecordSays Meters fields (Meter number m) = RecordSaysMeter fields number m
 RecordSays Meters fields (Tariff name steps) = ⊥
+RecordSays Meters fields (Steps name day steps) = ⊥
 RecordSays Tariffs fields (Meter number m) = ⊥
-RecordSays Tariffs fields (Tariff name steps) = RecordSaysTariff fields name steps
+RecordSays Tariffs fields (Tariff name steps) = RecordSaysTariff fields [] name steps
+RecordSays Tariffs fields (Steps name day steps) = ⊥
+RecordSays DatedTariffs fields (Meter number m) = ⊥
+RecordSays DatedTariffs fields (Tariff name steps) = RecordSaysTariff fields ([] ∷ []) name steps
+RecordSays DatedTariffs fields (Steps name day steps) = RecordSaysSteps fields name day steps

@@ -1,13 +1,15 @@
 ghost use Rattle.std.specs.Prelude.{ℕ, List, IfErr, OnOk, ◌≡◌, ◌∷◌, [], ◌++◌, length};
 ghost use Rattle.csv.specs.Records.{fields_of};
-ghost use Rattle.papers.specs.File.{AreFileRecords, Fields};
-ghost use Rattle.papers.specs.Import.{IsFault, IsReading, IsReadSoFar};
+ghost use Rattle.papers.specs.File.{AreFileRecords, Fields, kind_of};
+ghost use Rattle.papers.specs.Import.{AreRowsIn, IsFault, IsReading};
+ghost use Rattle.papers.specs.Reader.{HasGiven};
 
+use crate::file_form::FileForm;
 use crate::file_kind::FileKind;
 use crate::read_row::read_row;
-use crate::record::is_header;
+use crate::record::form_of;
 use crate::row_fault::RowFault;
-use csv::{ByteRecord, ReaderBuilder};
+use csv::{ByteRecord, ByteRecordsIntoIter, ReaderBuilder};
 use std::alloc::Global;
 use vend_core::{Row, RowCause, Rows};
 
@@ -35,53 +37,60 @@ fn read_rows(alloc: Global, kind: FileKind, bytes: &[u8]) -> Result<Rows, RowFau
     ensures { (records : List Fields) × AreFileRecords bytes.now records
         × IsReading kind records result }
 {
-    let reader = ReaderBuilder::new()
-        .has_headers(false)
-        .flexible(true)
-        .from_reader(alloc, bytes);
+    let mut records = records_of(alloc, bytes);
+    let Some(first) = records.next() else {
+        return Err(RowFault::At(0, RowCause::Header));
+    };
+    let Ok(first) = first else {
+        return Err(RowFault::Memory);
+    };
+    let Some(form) = form_of(kind, &first) else {
+        return Err(RowFault::At(0, RowCause::Header));
+    };
     let mut rows = Vec::new(alloc);
-    let mut number = 0;
-    for record in reader.into_byte_records() {
+    let mut number = 1;
+    for record in records {
         let Ok(record) = record else {
             return Err(RowFault::Memory);
         };
-        if let Err(fault) = take_record(alloc, kind, number, &record, &mut rows) {
+        if let Err(fault) = take_row(alloc, form, number, &record, &mut rows) {
             return Err(fault);
         }
         number += 1;
     }
-    if number == 0 {
-        return Err(RowFault::At(0, RowCause::Header));
-    }
     Rows::of(rows).map_err(|_| RowFault::Memory)
 }
 
-// Takes the record of this number: the header where it is 0, and else a row, which is added.
-fn take_record(
+// The records of a file, of which none was given yet.
+fn records_of(alloc: Global, bytes: &[u8]) -> ByteRecordsIntoIter<&[u8]>
+    ensures { HasGiven bytes.now result [] }
+{
+    ReaderBuilder::new()
+        .has_headers(false)
+        .flexible(true)
+        .from_reader(alloc, bytes)
+        .into_byte_records()
+}
+
+// Takes the record of the row of this number, behind the header: the row that it says is added.
+fn take_row(
     alloc: Global,
-    kind: FileKind,
+    form: FileForm,
     number: u32,
     raw: &ByteRecord,
     rows: &mut Vec<Row>,
 ) -> Result<(), RowFault>
     ensures taken { (before : List Fields)
-        → IsReadSoFar kind before rows.old.items → number ≡ length before
-        → OnOk result (IsReadSoFar kind (before ++ fields_of raw.now ∷ []) rows.new.items) }
+        → AreRowsIn form before rows.old.items → number ≡ length before
+        → OnOk result (AreRowsIn form (before ++ fields_of raw.now ∷ []) rows.new.items) }
     ensures fault { (before after : List Fields)
-        → IsReadSoFar kind before rows.old.items → number ≡ length before
-        → IfErr result (IsFault kind (before ++ fields_of raw.now ∷ after)) }
+        → AreRowsIn form before rows.old.items → number ≡ length before
+        → IfErr result (IsFault (kind_of form) (before ++ fields_of raw.now ∷ after)) }
 {
-    if number == 0 {
-        return if is_header(kind, raw) {
-            Ok(())
-        } else {
-            Err(RowFault::At(0, RowCause::Header))
-        };
-    }
     if number > LAST_ROW {
         return Err(RowFault::At(number, RowCause::TooManyRows));
     }
-    match read_row(alloc, kind, number, raw) {
+    match read_row(alloc, form, number, raw) {
         Ok(row) => rows.push(row).map_err(|_| RowFault::Memory),
         Err(fault) => Err(fault),
     }

@@ -7,6 +7,7 @@ ghost use Rattle.vend_core.specs.declared.row.Row.{Row};
 ghost use Rattle.vend_core.specs.declared.row_cause.RowCause.{RowCause};
 ghost use Rattle.vend_core.specs.declared.sale.Sale.{Sale};
 
+use sts_fields::day_law;
 use tariff::steps_text_law;
 
 /// What a file of rows means: it has one list of records, and they have one list of rows or one
@@ -23,6 +24,7 @@ pub fn import_law()
         → AreRows kind records rows → ¬ FileHasFault kind records number cause }
 {
     steps_text_law();
+    day_law();
 }
 
 /// What an export in pages means: the first one, with the header where it is asked for, and then

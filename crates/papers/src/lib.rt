@@ -15,6 +15,7 @@ pub use row_fault::RowFault;
 
 mod exports;
 mod fault;
+mod file_form;
 mod file_kind;
 mod imports;
 mod laws;

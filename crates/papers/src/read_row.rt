@@ -1,38 +1,41 @@
-ghost use Rattle.std.specs.Prelude.{◌≡◌, ◌↔◌, IsSome, IfOk, IfErr, IfSome};
+ghost use Rattle.std.specs.Prelude.{◌≡◌, ◌≤◌, ◌↔◌, IsSome, IfOk, IfErr, IfSome, drop, length};
 ghost use Rattle.csv.specs.Records.{fields_of};
-ghost use Rattle.papers.specs.File.{IsBaseText, RecordSays, base_text};
+ghost use Rattle.papers.specs.File.{IsBaseText, RecordSays, RecordSaysTariff, base_text, header_of, kind_of};
 ghost use Rattle.papers.specs.Import.{HasCause, IsRowFault};
+ghost use Rattle.papers.specs.declared.file_kind.FileKind.TheVariants as kinds;
+ghost use Rattle.papers.specs.declared.file_form.FileForm.{FileForm};
 
-use crate::file_kind::FileKind;
+use crate::file_form::FileForm;
 use crate::record::field;
 use crate::row_fault::RowFault;
 use csv::ByteRecord;
 use std::alloc::Global;
-use sts_fields::Base;
+use sts_fields::{Base, Day};
 use sts_token::read_key;
 use tariff::{Steps, StepsFault};
 use vend_core::{Meter, MeterNo, Row, RowCause, TariffName};
 
-// The row that a record says, or its fault at the row of this number.
+// The row that a record says in a form, or its fault at the row of this number.
 pub(crate) fn read_row(
     alloc: Global,
-    kind: FileKind,
+    form: FileForm,
     number: u32,
     raw: &ByteRecord,
 ) -> Result<Row, RowFault>
-    ensures says { IfOk result (RecordSays kind (fields_of raw.now)) }
-    ensures fault { IfErr result (IsRowFault kind (fields_of raw.now) number) }
+    ensures says { IfOk result (RecordSays form (fields_of raw.now)) }
+    ensures fault { IfErr result (IsRowFault form (fields_of raw.now) number) }
 {
-    match kind {
-        FileKind::Meters => read_meter(raw).map_err(|cause| RowFault::At(number, cause)),
-        FileKind::Tariffs => read_tariff(alloc, number, raw),
+    match form {
+        FileForm::Meters => read_meter(raw).map_err(|cause| RowFault::At(number, cause)),
+        FileForm::Tariffs => read_tariff(alloc, number, raw),
+        FileForm::DatedTariffs => read_dated_tariff(alloc, number, raw),
     }
 }
 
 // The meter that a record says, or why it says none.
 fn read_meter(raw: &ByteRecord) -> Result<Row, RowCause>
-    ensures says { IfOk result (RecordSays FileKind.Meters (fields_of raw.now)) }
-    ensures cause { IfErr result (HasCause FileKind.Meters (fields_of raw.now)) }
+    ensures says { IfOk result (RecordSays FileForm.Meters (fields_of raw.now)) }
+    ensures cause { IfErr result (HasCause FileForm.Meters (fields_of raw.now)) }
 {
     if raw.len() != 4 {
         return Err(RowCause::Columns);
@@ -54,17 +57,51 @@ fn read_meter(raw: &ByteRecord) -> Result<Row, RowCause>
 
 // The tariff that a record says, or its fault at the row of this number.
 fn read_tariff(alloc: Global, number: u32, raw: &ByteRecord) -> Result<Row, RowFault>
-    ensures says { IfOk result (RecordSays FileKind.Tariffs (fields_of raw.now)) }
-    ensures fault { IfErr result (IsRowFault FileKind.Tariffs (fields_of raw.now) number) }
+    ensures says { IfOk result (RecordSays FileForm.Tariffs (fields_of raw.now)) }
+    ensures fault { IfErr result (IsRowFault FileForm.Tariffs (fields_of raw.now) number) }
 {
     if raw.len() != 2 {
         return Err(RowFault::At(number, RowCause::Columns));
     }
+    let (name, steps) = read_steps(alloc, number, raw)?;
+    Ok(Row::Tariff(name, steps))
+}
+
+// The tariff, or its steps from a day on, that a record says, or its fault at the row of this
+// number.
+fn read_dated_tariff(alloc: Global, number: u32, raw: &ByteRecord) -> Result<Row, RowFault>
+    ensures says { IfOk result (RecordSays FileForm.DatedTariffs (fields_of raw.now)) }
+    ensures fault { IfErr result (IsRowFault FileForm.DatedTariffs (fields_of raw.now) number) }
+{
+    if raw.len() != 3 {
+        return Err(RowFault::At(number, RowCause::Columns));
+    }
+    let (name, steps) = read_steps(alloc, number, raw)?;
+    let from = field(raw, 2);
+    if from.is_empty() {
+        return Ok(Row::Tariff(name, steps));
+    }
+    match Day::of_text(from) {
+        Ok(day) => Ok(Row::Steps(name, day, steps)),
+        Err(_) => Err(RowFault::At(number, RowCause::Field(3))),
+    }
+}
+
+// The name and the steps that the record of a tariff begins with, or its fault at the row of this
+// number, whichever form of two fields or more the record has.
+fn read_steps(alloc: Global, number: u32, raw: &ByteRecord) -> Result<(TariffName, Steps), RowFault>
+    requires { 2 ≤ length (fields_of raw.now) }
+    ensures says { IfOk result (λ said. RecordSaysTariff (fields_of raw.now)
+        (drop 2 (fields_of raw.now)) said.0 said.1) }
+    ensures fault { IfErr result (λ fault. (form : FileForm) → kind_of form ≡ kinds.Tariffs
+        → length (fields_of raw.now) ≡ length (header_of form)
+        → IsRowFault form (fields_of raw.now) number fault) }
+{
     let Some(name) = TariffName::read(field(raw, 0)) else {
         return Err(RowFault::At(number, RowCause::Field(1)));
     };
     match Steps::of_text(alloc, field(raw, 1)) {
-        Ok(steps) => Ok(Row::Tariff(name, steps)),
+        Ok(steps) => Ok((name, steps)),
         Err(StepsFault::Memory) => Err(RowFault::Memory),
         Err(_) => Err(RowFault::At(number, RowCause::Field(2))),
     }
