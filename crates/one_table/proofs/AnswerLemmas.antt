@@ -1,10 +1,11 @@
 -- A query that runs where its text was compiled just before.
-use Rattle.std.proofs.Common.{◌≡◌, ℕ, ◌+◌, ◌<◌, ◌≤◌, length, take, get_or, List, [], ◌∷◌, ◌++◌, Result, Ok, Err, None, IfOk, IfErr, OnOk, OnErr, false, sym, subst, ◌∙◌, ap, inl, inr, true, arith}
+use Rattle.std.proofs.Common.{◌≡◌, Any, IsTrue, ℕ, ◌+◌, ◌<◌, ◌≤◌, length, take, get_or, List, [], ◌∷◌, ◌++◌, Option, Some, Result, Ok, Err, None, IfOk, IfErr, OnOk, OnErr, false, sym, subst, ◌∙◌, ap, inl, inr, true, arith}
 use Rattle.std.proofs.lemmas.List.{take_more}
 use Rattle.std.specs.List.{AllZip}
 use Rattle.sqlite_value.specs.Order.{Row}
 use Rattle.sqlite_trees.specs.declared.error.StoreError.{StoreError}
 use Rattle.sqlite_trees.specs.declared.error.StoreError.TheVariants.{OutOfMemory, Io, Corrupt, Full, Broken, Unstorable}
+use Rattle.sqlite_schema.specs.declared.command.Returning.{Returning}
 use Rattle.sqlite.specs.declared.error.Error.{Error}
 use Rattle.sqlite.specs.Clock.{timed}
 use Rattle.sqlite.specs.Effect.{Database, RefusesToRead}
@@ -102,14 +103,6 @@ module _ (sql : List ℕ) (params : Row) (old new : State) (plain : IsPlain (und
       let none = (subst IsPlain h.1.is plain).0 in
       (subst (ShowsRows old new sql h.0 (timed params h.0.formats h.1.now) rows) none h.2).3
 
-  pub fails_left : (e : Error) → FailsToQuery sql params old new e → IsLeft old new
-  unfolding FailsToQuery IsNotRun
-  fails_left e (inl (inl h)) = inl h.1
-  fails_left e (inl (inr h)) = inr h.3
-  fails_left e (inr h) =
-      let none = (subst IsPlain h.1.is plain).0 in
-      inl (subst (FailsToShow old new sql h.0 (timed params h.0.formats h.1.now) e) none h.2).3
-
 pub not_run_left : (sql : List ℕ) (params : Row) (old new : State) (e : Error) → IsNotRun old new sql params e → IsLeft old new
 unfolding IsNotRun
 not_run_left sql params old new e (inl h) = inl h.1
@@ -118,6 +111,26 @@ not_run_left sql params old new e (inr h) = inr h.3
 pub not_run_fails : (sql : List ℕ) (params : Row) (old new : State) (e : Error) → IsNotRun old new sql params e → FailsToQuery sql params old new e
 unfolding FailsToQuery
 not_run_fails sql params old new e h = inl h
+
+-- rows are shown on a connection that is open
+pub shown_open : (sql : List ℕ) (params : Row) (old new : State) (rows : List Row) → Shown sql params old new rows → IsTrue old.is_open
+unfolding Shown
+shown_open sql params old new rows h = by_returning h.0.returning h.2
+  where
+    by_returning : (o : Option Returning) → ShowsRows old new sql h.0 (timed params h.0.formats h.1.now) rows o → IsTrue old.is_open
+    by_returning None it = it.3.0.was_open
+    by_returning (Some what) it = it.1.shown.was_open
+
+-- a text that fails leaves all as it was, or its transaction is undone
+pub fails_left : (sql : List ℕ) (params : Row) (old new : State) (e : Error) → FailsToQuery sql params old new e → IsLeft old new
+unfolding FailsToQuery
+fails_left sql params old new e (inl h) = not_run_left sql params old new e h
+fails_left sql params old new e (inr h) = by_returning h.0.returning h.2
+  where
+    by_returning : (o : Option Returning) → FailsToShow old new sql h.0 (timed params h.0.formats h.1.now) e o → IsLeft old new
+    by_returning None it = inl it.3
+    by_returning (Some what) (inl it) = inl it.1
+    by_returning (Some what) (inr it) = inr it.3
 
 -- the text was compiled where the connection was open, and runs then
 pub asks_survives : (sql text : List ℕ) (params : Row) (old mid new : State) → OnlyAsks sql old → (HasCleanDisk mid → (text ≡ sql) × IsUnchanged old mid) → Survives old mid (λ _. ⊥)
@@ -144,23 +157,30 @@ has_asked items sql text params old mid new (Ok v) asks is same kept h none =
 has_asked items sql text params old mid new (Err e) asks is same kept none h =
     let plain = asks same.0.was_open in
     let fails = fails_before sql params old mid new same plain e kept.counts kept.limit (rw is at h) in
-    record { given = tt; same = tt; kept = fails_left sql params old new plain e fails; faults = fails }
+    record { given = tt; same = tt; kept = fails_left sql params old new e fails; faults = fails }
 
--- a row of the answer was refused, or there was no memory
+pub only_where : {A B : Type 0} (why : ReadFault) → (A → B) → OnlyWhere A why → OnlyWhere B why
+only_where why implies (inl none) = inl none
+only_where why implies (inr bad) = inr (bad.0, implies bad.1)
+
+-- a row of those that begin the answer was refused, or there was no memory
+stops_on : (IsReadable : Row → Type 0) (sql : List ℕ) (params : Row) (old new : State) (rows : List Row) → Begins sql params new rows → IsUnchanged old new
+    → (why : ReadFault) → OnlyWhere (Any (λ row. ¬ IsReadable row) rows) why → FailsToRead IsReadable sql params old new why
+stops_on IsReadable sql params old new rows begins same (Failed e) (inl none) = inr (none, same)
+stops_on IsReadable sql params old new rows begins same Bad (inl none) = cc
+stops_on IsReadable sql params old new rows begins same TooMuch (inl none) = cc
+stops_on IsReadable sql params old new rows begins same (Failed e) (inr bad) = absurd (let no = bad.0 in cc)
+stops_on IsReadable sql params old new rows begins same Bad (inr bad) = (record { rows = rows; begins = begins; bad = bad.1 }, same)
+stops_on IsReadable sql params old new rows begins same TooMuch (inr bad) = absurd (let no = bad.0 in cc)
+
 pub stops_at : (IsReadable : Row → Type 0) (sql : List ℕ) (params : Row) (old new : State) (rows : List Row) (i : ℕ) (row : Row) → i < length rows → row ≡ get_or rows i row
     → Begins sql params new rows → IsUnchanged old new → (why : ReadFault) → OnlyWhere (¬ IsReadable row) why → FailsToRead IsReadable sql params old new why
-stops_at IsReadable sql params old new rows i row low is begins same (Failed e) (inl none) = inr (none, same)
-stops_at IsReadable sql params old new rows i row low is begins same Bad (inl none) = cc
-stops_at IsReadable sql params old new rows i row low is begins same TooMuch (inl none) = cc
-stops_at IsReadable sql params old new rows i row low is begins same (Failed e) (inr bad) = absurd (let no = bad.0 in cc)
-stops_at IsReadable sql params old new rows i row low is begins same Bad (inr bad) = (record { rows = rows; begins = begins; bad = (i, row, low, sym is, bad.1) }, same)
-stops_at IsReadable sql params old new rows i row low is begins same TooMuch (inr bad) = absurd (let no = bad.0 in cc)
+stops_at IsReadable sql params old new rows i row low is begins same why refused = stops_on IsReadable sql params old new rows begins same why (only_where why (λ bad. (i, row, low, sym is, bad)) refused)
 
 -- the same of an answer that was taken whole
-pub stops_in : (IsReadable : Row → Type 0) (sql : List ℕ) (params : Row) (old new : State) → OnlyAsks sql old → (rows : List Row) (i : ℕ) (row : Row) → i < length rows → row ≡ get_or rows i row
-    → Shown sql params old new rows → IsUnchanged old new → (why : ReadFault) → OnlyWhere (¬ IsReadable row) why → FailsToRead IsReadable sql params old new why
-stops_in IsReadable sql params old new asks rows i row low is shown same =
-    stops_at IsReadable sql params old new rows i row low is (shown_begins sql params old new rows (asks same.0.was_open) shown) same
+pub stops_in : (IsReadable : Row → Type 0) (sql : List ℕ) (params : Row) (old new : State) → OnlyAsks sql old → (rows : List Row) → Shown sql params old new rows → IsUnchanged old new
+    → (why : ReadFault) → OnlyWhere (Any (λ row. ¬ IsReadable row) rows) why → FailsToRead IsReadable sql params old new why
+stops_in IsReadable sql params old new asks rows shown same = stops_on IsReadable sql params old new rows (shown_begins sql params old new rows (asks same.0.was_open) shown) same
 
 -- a query that failed right after its text was compiled
 pub fails_asked : (sql text : List ℕ) (params : Row) (old mid new : State) (e : Error) → OnlyAsks sql old → (text ≡ sql) × IsUnchanged old mid → Survives old mid (λ _. ⊥) → FailsToQuery text params mid new e
@@ -168,4 +188,4 @@ pub fails_asked : (sql text : List ℕ) (params : Row) (old mid new : State) (e 
 fails_asked sql text params old mid new e asks made kept h =
     let plain = asks made.1.0.was_open in
     let fails = fails_before sql params old mid new made.1 plain e kept.counts kept.limit (rw made.0 at h) in
-    (fails_left sql params old new plain e fails, fails)
+    (fails_left sql params old new e fails, fails)

@@ -1,4 +1,4 @@
--- The parts of a SELECT over one table mean in any schema what they mean where the table stands alone.
+-- The parts of a SELECT, and what RETURNING shows, mean the same where the names that they may have find the same columns.
 use Rattle.std.proofs.Common.{◌≡◌, ℕ, Bool, true, List, [], ◌∷◌, ◌++◌, Option, Some, None, is_some, unwrap_or, slice_get, refl, sym, ap, ap₂, true≢false}
 use Rattle.std.specs.List.{list_all}
 use Rattle.std.proofs.Math.Path.{fun_ext}
@@ -10,9 +10,6 @@ use Rattle.sqlite_ast.specs.declared.Shown.{Shown, out-Shown}
 use Rattle.sqlite_ast.specs.declared.Sort.{Sort, out-Sort}
 use Rattle.sqlite_ast.specs.Layer.{Layer, ShownLayer}
 use Rattle.sqlite_sql.specs.Term.{Term}
-use Rattle.sqlite_schema.specs.Names.{column_named}
-use Rattle.sqlite_schema.specs.declared.schema.Schema.{Schema}
-use Rattle.sqlite_schema.specs.declared.schema.Table.{Table}
 use Rattle.sqlite_resolve.specs.declared.scope.Output.{Output}
 use Rattle.sqlite_resolve.specs.Lowering.{Lowering, ◌>>=◌, ◌<$>◌, pure, last}
 use Rattle.sqlite_resolve.specs.Scope.{Context, Name}
@@ -20,36 +17,22 @@ use Rattle.sqlite_resolve.specs.Terms.{conjuncts}
 use Rattle.sqlite_resolve.specs.Body.{heading, heading_at, is_column, shown, shown_at, outputs_from, outputs, tests, declared}
 use Rattle.sqlite_resolve.specs.Order.{key, peeled, alias_in, aliased_or, sort, sorts_from}
 use Rattle.sqlite_resolve.specs.Expr.{lower}
-use Rattle.one_table.specs.Simple.{one, depth, is_simple, is_simple_at, is_simple_or_absent, is_simple_output, is_simple_output_at, is_simple_sort, bound_at, reading}
-use Rattle.one_table.proofs.ExprLemmas.{found_here, found_there, lower_same}
+use Rattle.sqlite_resolve.specs.declared.scope.Bound.{Bound}
+use Rattle.one_table.specs.Simple.{Known, depth, is_simple, is_simple_at, is_simple_or_absent, is_simple_output, is_simple_output_at, is_simple_sort}
+use Rattle.one_table.proofs.ExprLemmas.{AreAlike, heading_same_at, lower_same}
 
-module _ (s : Schema) (at : ℕ) (t : Table) (listed : slice_get s.tables at ≡ Some t) (name : Name) (aliases : List Output) (may : Bool) where
-  abbrev here : Context
-  here = reading s at name aliases may
-
-  abbrev there : Context
-  there = reading (one t) 0 name aliases may
-
-  same : (e : Expr) → is_simple depth t e ≡ true → lower here e ≡ lower there e
-  same e h = lower_same s at t listed name aliases may 700 depth e h
+module _ (known : Known) (here there : Context) (alike : AreAlike known here there) where
+  same : (e : Expr) → is_simple depth known e ≡ true → lower here e ≡ lower there e
+  same e h = lower_same known here there alike 700 depth e h
 
   -- ---- the columns of the result
 
-  declared_same : (k : ℕ) → declared s at (Some k) ≡ declared (one t) 0 (Some k)
-  unfolding declared
-  declared_same k = rw listed
-
-  heading_is : (c text : Name) (o : Option ℕ) → column_named t c ≡ o → is_some o ≡ true → heading_at here text (Expr-F.Column None c) ≡ heading_at there text (Expr-F.Column None c)
-  heading_is c text None h some = absurd (true≢false (sym some))
-  heading_is c text (Some k) h some = rw (found_here s at t listed name aliases may c k h, found_there s at t listed name aliases may c k h) (ap (λ o. unwrap_or o text) (declared_same k))
-
-  heading_at_same : (n : ℕ) (text : Name) (l : Layer) → is_simple_at (is_simple n t) t l ≡ true → heading_at here text l ≡ heading_at there text l
+  heading_at_same : (n : ℕ) (text : Name) (l : Layer) → is_simple_at (is_simple n known) known l ≡ true → heading_at here text l ≡ heading_at there text l
   heading_at_same n text (Expr-F.Truth c value) h = absurd (true≢false (sym h))
-  heading_at_same n text (Expr-F.Column None c) h = heading_is c text (column_named t c) refl h
-  heading_at_same n text (Expr-F.Column (Some x) c) h = absurd (true≢false (sym h))
+  heading_at_same n text (Expr-F.Column table c) h = heading_same_at known here there alike table text c h
   heading_at_same n text _ h = refl
 
-  heading_same : (e : Expr) (text : Name) → is_simple depth t e ≡ true → heading here e text ≡ heading there e text
+  heading_same : (e : Expr) (text : Name) → is_simple depth known e ≡ true → heading here e text ≡ heading there e text
   unfolding heading
   heading_same e text h = heading_at_same 19 text (out-Expr e) h
 
@@ -58,43 +41,43 @@ module _ (s : Schema) (at : ℕ) (t : Table) (listed : slice_get s.tables at ≡
     x ← part
     pure (done ++ record { name = unwrap_or alias head; is_alias = is_some alias; is_column = is_column e; term = x; carried = (← last) } ∷ [])
 
-  output_at_same : (done : List Output) (l : ShownLayer) → is_simple_output_at t l ≡ true
-      → shown_at lower here (bound_at at name ∷ []) done l ≡ shown_at lower there (bound_at 0 name ∷ []) done l
+  output_at_same : (inside outside : List Bound) (done : List Output) (l : ShownLayer) → is_simple_output_at known l ≡ true
+      → shown_at lower here inside done l ≡ shown_at lower there outside done l
   unfolding one_more
-  output_at_same done (Shown-F.One e alias text) h = ap₂ (one_more done e alias) (heading_same e text h) (same e h)
-  output_at_same done _ h = absurd (true≢false (sym h))
+  output_at_same inside outside done (Shown-F.One e alias text) h = ap₂ (one_more done e alias) (heading_same e text h) (same e h)
+  output_at_same inside outside done _ h = absurd (true≢false (sym h))
 
-  output_same : (done : List Output) (x : Shown) → is_simple_output t x ≡ true
-      → shown lower here (bound_at at name ∷ []) done x ≡ shown lower there (bound_at 0 name ∷ []) done x
+  output_same : (inside outside : List Bound) (done : List Output) (x : Shown) → is_simple_output known x ≡ true
+      → shown lower here inside done x ≡ shown lower there outside done x
   unfolding shown
-  output_same done x h = output_at_same done (out-Shown x) h
+  output_same inside outside done x h = output_at_same inside outside done (out-Shown x) h
 
-  pub outputs_same : (done : List Output) (all : List Shown) → list_all (is_simple_output t) all ≡ true
-      → outputs_from lower here (bound_at at name ∷ []) done all ≡ outputs_from lower there (bound_at 0 name ∷ []) done all
-  outputs_same done [] h = refl
-  outputs_same done (x ∷ more) h =
-      let parts = and_parts _ _ h in ap₂ ◌>>=◌ (output_same done x parts.0) (fun_ext λ longer. outputs_same longer more parts.1)
+  pub outputs_same : (inside outside : List Bound) (done : List Output) (all : List Shown) → list_all (is_simple_output known) all ≡ true
+      → outputs_from lower here inside done all ≡ outputs_from lower there outside done all
+  outputs_same inside outside done [] h = refl
+  outputs_same inside outside done (x ∷ more) h =
+      let parts = and_parts _ _ h in ap₂ ◌>>=◌ (output_same inside outside done x parts.0) (fun_ext λ longer. outputs_same inside outside longer more parts.1)
 
   -- ---- WHERE and ORDER BY
 
-  pub tests_same : (done : List Term) (o : Option Expr) → is_simple_or_absent t o ≡ true → tests lower here done o ≡ tests lower there done o
+  pub tests_same : (done : List Term) (o : Option Expr) → is_simple_or_absent known o ≡ true → tests lower here done o ≡ tests lower there done o
   unfolding tests
   tests_same done None h = refl
   tests_same done (Some e) h = ap (λ part. (λ x. done ++ conjuncts x) <$> part) (same e h)
 
-  key_same : (outputs : List Output) (e : Expr) → is_simple depth t e ≡ true → key lower here outputs e ≡ key lower there outputs e
+  key_same : (outputs : List Output) (e : Expr) → is_simple depth known e ≡ true → key lower here outputs e ≡ key lower there outputs e
   unfolding key
-  key_same outputs e h = rw (same e h)
+  key_same outputs e h = rw (same e h, alike.aggregates)
 
-  aliased_same : (outputs : List Output) (e : Expr) (o : Option ℕ) → is_simple depth t e ≡ true → aliased_or lower here outputs e o ≡ aliased_or lower there outputs e o
+  aliased_same : (outputs : List Output) (e : Expr) (o : Option ℕ) → is_simple depth known e ≡ true → aliased_or lower here outputs e o ≡ aliased_or lower there outputs e o
   aliased_same outputs e None h = key_same outputs e h
   aliased_same outputs e (Some k) h = refl
 
-  sort_same : (outputs : List Output) (done : List (Term × Key)) (x : Sort) → is_simple_sort t x ≡ true → sort lower here outputs done x ≡ sort lower there outputs done x
+  sort_same : (outputs : List Output) (done : List (Term × Key)) (x : Sort) → is_simple_sort known x ≡ true → sort lower here outputs done x ≡ sort lower there outputs done x
   unfolding sort
   sort_same outputs done x h = rw (aliased_same outputs (peeled (out-Sort x).key) (alias_in outputs (peeled (out-Sort x).key)) h)
 
-  pub sorts_same : (outputs : List Output) (done : List (Term × Key)) (all : List Sort) → list_all (is_simple_sort t) all ≡ true
+  pub sorts_same : (outputs : List Output) (done : List (Term × Key)) (all : List Sort) → list_all (is_simple_sort known) all ≡ true
       → sorts_from lower here outputs done all ≡ sorts_from lower there outputs done all
   sorts_same outputs done [] h = refl
   sorts_same outputs done (x ∷ more) h =

@@ -1,17 +1,18 @@
 -- From what a statement inside a transaction does to a table to what it leaves.
-use Rattle.std.proofs.Common.{◌≡◌, ◌≢◌, OnOk, IfErr, IsErrAnd, arith, false, ◌⊎◌, ℕ, true, List, slice_get, IsTrue, None, Some, Result, Ok, Err, refl, sym, ap, subst, inl, inr, ◌∙◌}
+use Rattle.std.proofs.Common.{◌≡◌, ◌≢◌, OnOk, IfOk, IfErr, IsErrAnd, arith, false, ◌⊎◌, ℕ, true, List, slice_get, IsTrue, Option, None, Some, Result, Ok, Err, refl, sym, ap, subst, inl, inr, ◌∙◌}
 use Rattle.std.proofs.lemmas.Bool.{cases_Bool}
 use Rattle.std.specs.List.{AllByRecursion}
 use Rattle.sqlite_value.specs.Order.{Row}
 use Rattle.sqlite_schema.specs.declared.schema.Keys.TheVariants.{Enforced}
 use Rattle.sqlite_schema.specs.declared.schema.Table.{Table}
 use Rattle.sqlite_schema.specs.declared.command.Command.{Command}
+use Rattle.sqlite_schema.specs.declared.command.Returning.{Returning}
 use Rattle.sqlite_rules.specs.Edit.{Edit, edited, IsNoIndex, Applies}
 use Rattle.sqlite.specs.declared.error.Error.{Error}
 use Rattle.sqlite.specs.Effect.{Database}
 use Rattle.sqlite.specs.Listing.{understood}
 use Rattle.sqlite.specs.Rows.{Written, Task}
-use Rattle.sqlite.specs.Does.{Tally, AtPlace, OnRows, WritesRows}
+use Rattle.sqlite.specs.Does.{Tally, AtPlace, OnRows, Returns, WritesRows}
 use Rattle.sqlite.specs.State.{State, mode_of, HasCleanDisk, Shows, Writes, Runs, ExecutesInside, KeepsCommit, Survives}
 use Rattle.sqlite.proofs.Callers.{statement_of, runs_as}
 use Rattle.sqlite_trees.specs.declared.store.Store.{Ghosts}
@@ -36,23 +37,30 @@ same_value e = cc
 abbrev pub task_on : State → Row → Table → Task
 task_on s params t = record { limit = s.step_limit; keys = Enforced; schema = s.now.schema; table = t; params = params }
 
--- a change of rows by a statement that shows nothing, as the rows that it wrote and the database that they make
-pub record HasWritten (t : Table) (command : Command) (params : Row) (old new : State) : Type 0 where
+-- a change of rows by a statement, as the rows that it wrote, what it shows of them and the database that they make
+pub record HasWritten (t : Table) (returning : Option Returning) (command : Command) (params : Row) (shown : List Row) (old new : State) : Type 0 where
   pub written : Written
   pub wrote : WritesRows (task_on old params t) old.now.trees command (Ok written)
+  pub shows : Returns (task_on old params t) written returning (Ok shown)
   pub now_is : new.now ≡ record { schema = old.now.schema; trees = written.trees }
 
-pub has_written : (t : Table) (at : ℕ) (command : Command) (params : Row) (old new : State) (tally : Tally) → slice_get old.now.schema.tables at ≡ Some t
-    → AtPlace (λ table. OnRows (task_on old params table) (mode_of old) None command old.now.trees) (slice_get old.now.schema.tables at) (Ok (tally, new.now)) → HasWritten t command params old new
-has_written t at command params old new tally listed h =
-    let on = subst (λ o. AtPlace (λ table. OnRows (task_on old params table) (mode_of old) None command old.now.trees) o (Ok (tally, new.now))) listed h in
+pub has_written : (t : Table) (at : ℕ) (returning : Option Returning) (command : Command) (params : Row) (old new : State) (tally : Tally) → slice_get old.now.schema.tables at ≡ Some t
+    → AtPlace (λ table. OnRows (task_on old params table) (mode_of old) returning command old.now.trees) (slice_get old.now.schema.tables at) (Ok (tally, new.now)) → HasWritten t returning command params tally.shown old new
+has_written t at returning command params old new tally listed h =
+    let on = subst (λ o. AtPlace (λ table. OnRows (task_on old params table) (mode_of old) returning command old.now.trees) o (Ok (tally, new.now))) listed h in
     let done = went on in
-    let ended = went (went done.2).2 in
-    record { written = done.0; wrote = done.1; now_is = ap (λ (p : Tally × Database). p.1) (same_value ended.2) }
+    let shown = went (went done.2).2 in
+    record {
+      written = done.0;
+      wrote = done.1;
+      shows = subst (λ rows. Returns (task_on old params t) done.0 returning (Ok rows)) (sym (ap (λ (p : Tally × Database). p.0.shown) (same_value shown.2))) shown.1;
+      now_is = ap (λ (p : Tally × Database). p.1) (same_value shown.2);
+    }
 
 -- one step on a table that was carried out inside a transaction
-pub has_changed : (t : Table) (edit : Edit) (command : Command) (text : List ℕ) (params : Row) (count : ℕ) (old new : State) (h : HasWritten t command params old new) → edit.table ≡ t
-    → Applies old.now.schema Enforced old.now.trees edit h.written.trees → Shows old new new.now old.committed true → Writes old new None command text params count → HasChanged t (edited old.now.trees edit) old new
+pub has_changed : {returning : Option Returning} {shown : List Row} (t : Table) (edit : Edit) (command : Command) (text : List ℕ) (params : Row) (count : ℕ) (old new : State)
+    (h : HasWritten t returning command params shown old new) → edit.table ≡ t → Applies old.now.schema Enforced old.now.trees edit h.written.trees → Shows old new new.now old.committed true
+    → Writes old new returning command text params count → HasChanged t (edited old.now.trees edit) old new
 has_changed t edit command text params count old new h is applies inside w =
     let trees : h.written.trees ≡ new.now.trees = sym (ap (λ (d : Database). d.trees) h.now_is) in
     let a = subst (Applies old.now.schema Enforced old.now.trees edit) trees applies in
@@ -101,6 +109,15 @@ pub if_err : {A E : Type 0} {P Q : E → Type 0} (r : Result A E) → ((e : E) �
 if_err (Ok a) f p = tt
 if_err (Err e) f p = f e p
 
+pub if_ok : {A E : Type 0} {P Q : A → Type 0} (r : Result A E) → ((a : A) → P a → Q a) → IfOk r P → IfOk r Q
+if_ok (Ok a) f p = f a p
+if_ok (Err e) f p = tt
+
+-- an error that is given on as another
+pub told_as : {A E : Type 0} (P : E → Type 0) (r : Result A E) (f : E) → IsErrAnd r (λ x. x ≡ f) → P f → IfErr r P
+told_as P (Ok a) f is p = tt
+told_as P (Err e) f is p = subst P (sym is) p
+
 pub keeps_inside : (old new : State) → Shows old new new.now old.committed true → KeepsCommit old new
 keeps_inside old new h = record { was_open = λ _. h.was_open; committed = λ _. h.committed_is }
 
@@ -135,6 +152,11 @@ module _ {T U E F : Type 0} {old new : State} where
   -- where another value is answered
   pub transaction_on : {x : T} {y : U} → KeepsTransaction {T = T} {E = E} old new (Ok x) → KeepsTransaction {T = U} {E = F} old new (Ok y)
   transaction_on this = record { inside = this.inside; kept = this.kept; survives = this.survives }
+
+  -- where another value is made of it, or nothing for a reason
+  pub transaction_into : {x : T} (r : Result U F) → KeepsTransaction {T = T} {E = E} old new (Ok x) → KeepsTransaction old new r
+  transaction_into (Ok y) this = transaction_on this
+  transaction_into (Err f) this = record { inside = λ _ _. tt; kept = this.kept; survives = this.survives }
 
 -- where it fails
 module _ {U F : Type 0} {old new : State} where

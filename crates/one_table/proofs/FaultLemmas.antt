@@ -22,10 +22,10 @@ use Rattle.sqlite.specs.Effect.{Database, RefusesQuery, RefusesToRead}
 use Rattle.sqlite.specs.Listing.{understood, reads_listing, IsSourceOf}
 use Rattle.sqlite.specs.State.{State, IsUnchanged, IsNoStatement, IsNotRun, FailsToQuery}
 use Rattle.one_table.specs.Place.{Has}
-use Rattle.one_table.specs.Reading.{Means, select_as, is_typed, is_whole, is_whole_in, FailsPlainly}
+use Rattle.one_table.specs.Reading.{Means, MeansAs, select_as, is_typed, is_whole, is_whole_in, FailsPlainly}
 use Rattle.one_table.proofs.UnderstandLemmas.{typed_alike}
 
-module _ {s : Schema} {sql : List ℕ} {c : Command} (means : Means s sql c) where
+module _ {s : Schema} {sql : List ℕ} {c : Command} {shows : Option Returning} (means : MeansAs s sql c shows) where
   compiles : compiled s sql ≡ Ok means.compiled
   unfolding understood
   compiles = let read = means.unlisted in rw read at means.understands
@@ -84,7 +84,7 @@ module _ {s : Schema} {sql : List ℕ} (q : Query) (names : List Name) (means : 
   fails_plainly whole (inl (inr h)) = inl h
   fails_plainly whole (inr h) =
       let is = known means params old new has e h.0 h.1.is in
-      let bare : h.0.returning ≡ None = ap (λ (k : Compiled). k.returning) is ∙ means.silent in
+      let bare : h.0.returning ≡ None = ap (λ (k : Compiled). k.returning) is ∙ means.returning in
       let timeless : h.0.formats ≡ [] = ap (λ (k : Compiled). k.formats) is ∙ means.timeless in
       let it = rw (bare, timeless, append-nil params) at h.2 in
       let db : it.0 ≡ old.now = subst (λ b. IsSourceOf b old.now it.0) (ap (λ t. reads_listing t sql) has ∙ means.unlisted) it.1 in

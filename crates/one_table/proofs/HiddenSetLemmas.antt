@@ -59,7 +59,7 @@ module _ {X : Type 0} (stored : X → Row) where
   all_ints [] = tt
   all_ints (n ∷ ns) = (refl, all_ints ns)
 
-  ids_rise : (ns : List Numbered) → IsTable (map with_int ns) → IsKeyedBy id_of ns
+  pub ids_rise : (ns : List Numbered) → IsTable (map with_int ns) → IsKeyedBy id_of ns
   ids_rise ns up = ascending_weaker _ _ (λ a b h. lt_from_Less _ _ (sym (value_cmp-Int _ _) ∙ h)) ns (ascending_from_map _ with_int ns up)
 
   rows_rise : (ns : List Numbered) → IsKeyedBy id_of ns → IsTable (map with_int ns)

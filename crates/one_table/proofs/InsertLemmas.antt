@@ -1,5 +1,5 @@
 -- What an INSERT of one row does.
-use Rattle.std.proofs.Common.{◌≡◌, IsTrue, ℕ, ◌+◌, ◌/◌, ◌&&◌, if◌then◌else◌, MatchBool, Bool, true, false, List, [], ◌∷◌, length, append-nil, slice_get, Option, None, Some, Ok, refl, sym, ap, ◌∙◌, subst, arith}
+use Rattle.std.proofs.Common.{◌≡◌, IsTrue, ℕ, ◌+◌, ◌<◌, ◌/◌, ◌&&◌, if◌then◌else◌, MatchBool, Bool, true, false, List, [], ◌∷◌, length, append-nil, slice_get, Option, None, Some, Ok, refl, sym, ap, ◌∙◌, subst, arith}
 use Rattle.std.proofs.Math.Nat.{div_self}
 use Rattle.std.proofs.lemmas.Bool.{and_parts, not-true}
 use Rattle.std.proofs.lemmas.List.{take_all}
@@ -53,9 +53,15 @@ no_works schema keys tree news =
 
 -- ---- the parts of the statement
 
-by_false : (P Q : Type 0) (b c : Bool) → b ≡ false → MatchBool (if b then c else false) P Q → Q
+pub by_false : (P Q : Type 0) (b c : Bool) → b ≡ false → MatchBool (if b then c else false) P Q → Q
 by_false P Q true c is h = absurd cc
 by_false P Q false c is h = h
+
+-- as many terms as a row has are one row
+pub one_value_row : (params : Row) (width : ℕ) (terms : List Term) → length terms ≡ width → 0 < width → value_rows params width (length terms / width) terms ≡ eval_all terms (params ∷ []) ∷ []
+one_value_row params width terms whole some =
+    let once : length terms / width ≡ 1 = ap (λ n. n / width) whole ∙ div_self some in
+    rw once (ap (λ ts. eval_all ts (params ∷ []) ∷ []) (take_all width terms (omega (arith, whole))))
 
 module _ (task : Task) (terms : List Term) (db : Trees) where
   abbrev width : ℕ
@@ -65,16 +71,11 @@ module _ (task : Task) (terms : List Term) (db : Trees) where
   Puts rows next = Edited task.schema task.keys db (edit_of db task.table [] Chosen 0 rows) (Ok next)
 
   module _ (whole : length terms ≡ width) (uncounted : task.table.is_counted ≡ false) (unstamped : task.table.stamps.terms ≡ []) where
-    one_row : (params : Row) → value_rows params width (length terms / width) terms ≡ eval_all terms (params ∷ []) ∷ []
-    one_row params =
-        let once : length terms / width ≡ 1 = ap (λ n. n / width) whole ∙ div_self (omega arith) in
-        rw once (ap (λ ts. eval_all ts (params ∷ []) ∷ []) (take_all width terms (omega (arith, whole))))
-
     unstamped_is : stamped task.table task.params ≡ task.params
     unstamped_is = rw (unstamped, append-nil)
 
-    sourced : (rows : List Row) → Sourced task.limit (record { schema = task.schema; trees = db }) (stamped task.table task.params) (Values terms width) (Ok rows) → rows ≡ eval_all terms (task.params ∷ []) ∷ []
-    sourced rows h = h.1 ∙ ap (λ params. value_rows params width (length terms / width) terms) unstamped_is ∙ one_row task.params
+    pub sourced : (rows : List Row) → Sourced task.limit (record { schema = task.schema; trees = db }) (stamped task.table task.params) (Values terms width) (Ok rows) → rows ≡ eval_all terms (task.params ∷ []) ∷ []
+    sourced rows h = h.1 ∙ ap (λ params. value_rows params width (length terms / width) terms) unstamped_is ∙ one_value_row task.params width terms whole (omega arith)
 
     -- what is put in, where the statement gives trees
     pub puts_in : (w : Written) → Inserts task (Values terms width) db (Ok w) → Puts (eval_all terms (task.params ∷ []) ∷ []) w.trees
@@ -96,7 +97,7 @@ module _ (sql : List ℕ) (params : Row) (old new : State) (t : Table) (at : ℕ
   put_by : (text : List ℕ) (count : ℕ) → slice_get old.now.schema.tables at ≡ Some t → Shows old new new.now old.committed true → Writes old new None (insert_as at t terms) text params count
       → PutsRow t (new_row t terms params (old.now.trees t.tree)) old new
   put_by text count listed inside w =
-      let h = has_written t at (insert_as at t terms) params old new w.tally listed w.changed in
+      let h = has_written t at None (insert_as at t terms) params old new w.tally listed w.changed in
       let put = puts_in (task_on old params t) terms old.now.trees is.whole is.uncounted is.unstamped h.written h.wrote in
       let a = one_step old.now.schema Enforced old.now.trees h.written.trees edit (no_works old.now.schema Enforced t.tree edit.news) put in
       record {

@@ -68,22 +68,22 @@ module _ (s u : Schema) where
   inserted_same t base names es h = ap (λ (f : List ℕ → Checked NewRows). and_then (write.places t names) f) (fun_ext λ at. values_same t base at es h)
 
   -- only a row of terms is known, and what a query would be is not
-  source_same : (t : Table) (terms : List Term) (rows_are : NewRows) → source_of u (length t.columns + 1) rows_are ≡ Ok (source_of_row t terms) → source_of s (length t.columns + 1) rows_are ≡ Ok (source_of_row t terms)
+  pub source_same : (width : ℕ) (terms : List Term) (rows_are : NewRows) → source_of u width rows_are ≡ Ok (source.Values terms width) → source_of s width rows_are ≡ Ok (source.Values terms width)
   unfolding source_of queried
-  source_same t terms (new.Values found) h = h
-  source_same t terms (new.Query lets d) h = by_program (program u lets d) h
+  source_same width terms (new.Values found) h = h
+  source_same width terms (new.Query lets d) h = by_program (program u lets d) h
     where
-      by_program : (m : Checked Program) → and_then m (λ q. Ok (source.Query q)) ≡ Ok (source_of_row t terms) → queried s lets d ≡ Ok (source_of_row t terms)
+      by_program : (m : Checked Program) → and_then m (λ q. Ok (source.Query q)) ≡ Ok (source.Values terms width) → queried s lets d ≡ Ok (source.Values terms width)
       by_program (Ok q) h = absurd cc
       by_program (Err e) h = absurd cc
 
-  new_rows_same : (t : Table) (terms : List Term) (base : ℕ) (names : List Name) (es : List Expr) → list_all is_value es ≡ true
+  pub new_rows_same : (t : Table) (terms : List Term) (base : ℕ) (names : List Name) (es : List Expr) → list_all is_value es ≡ true
       → new_rows u t base names (rows.Values (es ∷ [])) ≡ Ok (source_of_row t terms) → new_rows s t base names (rows.Values (es ∷ [])) ≡ Ok (source_of_row t terms)
   unfolding new_rows
   new_rows_same t terms base names es simple h = rw (inserted_same t base names es simple) (by_rows (write.inserted u t base names (rows.Values (es ∷ []))) h)
     where
       by_rows : (m : Checked NewRows) → and_then m (source_of u (length t.columns + 1)) ≡ Ok (source_of_row t terms) → and_then m (source_of s (length t.columns + 1)) ≡ Ok (source_of_row t terms)
-      by_rows (Ok found) h = source_same t terms found h
+      by_rows (Ok found) h = source_same (length t.columns + 1) terms found h
       by_rows (Err e) h = absurd cc
 
 module _ (s : Schema) (at : ℕ) (t : Table) (has : Has s at t) (terms : List Term) where
@@ -125,7 +125,7 @@ module _ (s : Schema) (at : ℕ) (t : Table) (has : Has s at t) (terms : List Te
   by_parsed : (sql : List ℕ) (m : Checked Parsed) → first sql ≡ m → and_then m (insert_in t) ≡ Ok (source_of_row t terms) → Means s sql (insert_as at t terms)
   unfolding insert_in
   by_parsed sql (Err e) parsed h = absurd cc
-  by_parsed sql (Ok p) parsed h = understood_as s sql p (insert_as at t terms) parsed (by_insert p (insert_of p.statement) refl h)
+  by_parsed sql (Ok p) parsed h = understood_as s sql p (insert_as at t terms) None parsed (by_insert p (insert_of p.statement) refl h)
 
   -- An INSERT of one row into the table is that row, at the table's place.
   pub inserts : (sql : List ℕ) → IsInsert t terms sql → Means s sql (insert_as at t terms)

@@ -2,6 +2,7 @@ pub mod AnswerLemmas
 pub mod ReadsOnlyLemmas
 pub mod TakenLemmas
 pub mod ExprLemmas
+pub mod AlikeLemmas
 pub mod BodyLemmas
 pub mod SelectLemmas
 pub mod UnderstandLemmas
@@ -12,6 +13,12 @@ pub mod ChangeLemmas
 pub mod CastLemmas
 pub mod InsertLemmas
 mod InsertExample
+pub mod GivenLemmas
+pub mod UpsertTextLemmas
+mod OneRowLemmas
+pub mod UpsertLemmas
+mod UpsertExample
+pub mod MergeLemmas
 pub mod AppendLemmas
 pub mod UpdateLemmas
 pub mod ListedLemmas

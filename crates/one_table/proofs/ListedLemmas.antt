@@ -43,7 +43,7 @@ module _ {s : Schema} {sql : List ℕ} {c : Command} (means : Means s sql c) whe
 
   -- it neither writes nor reads the clock
   pub is_plain : IsPlain (understood s sql)
-  is_plain = subst IsPlain (sym means.understands) (means.silent, means.timeless)
+  is_plain = subst IsPlain (sym means.understands) (means.returning, means.timeless)
 
 -- the rows that were shown are an answer of the query
 pub answers : {s : Schema} {sql : List ℕ} (q : Query) (names : List Name) → Means s sql (select_as q names) → (params : Row) (old new : State) → old.now.schema ≡ s

@@ -1,11 +1,17 @@
 -- What a read leaves, from what is known of the read that it is made of.
-use Rattle.std.proofs.Common.{◌≡◌, false, Result, Ok, Err, IfOk, IfErr, IsErrAnd, List, ℕ, inl, subst, sym, arith}
+use Rattle.std.proofs.Common.{◌≡◌, ◌∙◌, ap, cond, false, Option, None, Some, Result, Ok, Err, IfOk, IfErr, IsErrAnd, List, ℕ, inl, inr, refl, subst, sym, arith}
 use Rattle.sqlite_value.specs.Order.{Row}
+use Rattle.sqlite_schema.specs.declared.command.Returning.{Returning}
+use Rattle.sqlite.specs.Clock.{timed}
+use Rattle.sqlite.specs.Given.{IsPlain}
 use Rattle.sqlite.specs.declared.error.Error.{Error}
-use Rattle.sqlite.specs.State.{CommitsShowing, FailsToQuery, HasCleanDisk, IsNotRun, IsUnchanged, Shown, State, Survives}
-use Rattle.one_table.specs.Answer.{OnlyAsks}
-use Rattle.one_table.specs.ReadsOnly.{ReadsOnly}
-use Rattle.one_table.proofs.AnswerLemmas.{HasAsked, asks_survives, has_asked, not_run_fails, not_run_left}
+use Rattle.sqlite.specs.State.{CommitsShowing, FailsToQuery, HasCleanDisk, IsNotRun, IsUnchanged, Shown, ShowsRows, State, Survives}
+use Rattle.sqlite.proofs.InsideLemmas.{unchanged_keeps}
+use Rattle.one_table.specs.Answer.{IsLeft, OnlyAsks}
+use Rattle.one_table.specs.InTransaction.{FailsToShow, IsUnderWay, KeepsTransaction, StaysInside}
+use Rattle.one_table.specs.ReadsOnly.{ReadsInside, ReadsOnly}
+use Rattle.one_table.proofs.AnswerLemmas.{HasAsked, asks_survives, fails_left, has_asked, not_run_fails, not_run_left, shown_open, shown_same}
+use Rattle.one_table.proofs.ChangeLemmas.{keeps_inside}
 
 module _ {K : State → Type 0} {old new : State} where
   -- one that succeeds, whatever is made of its value
@@ -34,6 +40,12 @@ module _ {K : State → Type 0} {old new : State} where
   stop_on f (Ok y) is this stops = absurd is
   stop_on {B = B} f (Err x) is this stops =
       record { same = λ _ _. tt; kept = λ clean known. inl (this.same clean known); mode = this.mode; faults = λ clean known. subst (B old new) (sym is) (stops clean known); survives = this.survives }
+
+  -- one that succeeds, of whose value another is made, or nothing for a reason
+  pub read_into : {T U E F : Type 0} {A : State → State → E → Type 0} {B : State → State → F → Type 0} {x : T} (r : Result U F)
+      → ReadsOnly K IsUnchanged A old new (Ok x) → (HasCleanDisk new → K old → IfErr r (B old new)) → ReadsOnly K IsUnchanged B old new r
+  read_into (Ok y) this stops = read_on this
+  read_into {B = B} (Err f) this stops = record { same = λ _ _. tt; kept = λ clean known. inl (this.same clean known); mode = this.mode; faults = stops; survives = this.survives }
 
   -- one of which is known what something else implies, and which fails for a reason that implies another
   pub read_where : {Same : State → State → Type 0} {T E : Type 0} {A B : State → State → E → Type 0} {L : State → Type 0} (r : Result T E) → (L old → K old) → ReadsOnly K Same A old new r
@@ -76,3 +88,52 @@ module _ (sql : List ℕ) (params : Row) (old new : State) where
       has clean asks =
           let it = made (omega (arith, second.clean)) in
           has_asked items sql text params old mid new r asks it.0 it.1 first (ok clean) (err clean)
+
+-- ---- inside a transaction
+
+module _ (sql : List ℕ) (params : Row) (old new : State) where
+  -- what shows rows goes on, be it a query or a write
+  pub shown_stays : (rows : List Row) → Shown sql params old new rows → IsUnderWay old → StaysInside old new
+  unfolding Shown
+  shown_stays rows h way = by_returning h.0.returning h.2
+    where
+      by_returning : (o : Option Returning) → ShowsRows old new sql h.0 (timed params h.0.formats h.1.now) rows o → StaysInside old new
+      by_returning None it = let same = it.3.0 in record { was_open = same.was_open; is_open = same.is_open; now_is = refl; committed_is = same.committed_is; mode = same.mode ∙ way }
+      by_returning (Some what) it =
+          let same = it.1.shown in
+          record { was_open = same.was_open; is_open = same.is_open; now_is = refl; committed_is = same.committed_is ∙ ap (λ b. cond b old.committed new.now) way; mode = same.mode ∙ way }
+
+  pub show_left : (e : Error) → FailsToShow sql params old new e → IsLeft old new
+  show_left e (inl h) = fails_left sql params old new e h
+  show_left e (inr late) = inl late.5
+
+  pub showing : {V : Type 0} (items : V → List Row) (r : Result V Error) → (HasCleanDisk new → IfOk r (λ v. Shown sql params old new (items v))) → (HasCleanDisk new → IfErr r (FailsToShow sql params old new))
+      → Survives old new (λ _. ⊥) → KeepsTransaction old new r
+  showing items (Ok v) ok err survives = record {
+    inside = λ clean way. shown_stays (items v) (ok clean) way;
+    kept = λ clean way. keeps_inside old new (shown_stays (items v) (ok clean) way);
+    survives = survives;
+  }
+  showing items (Err e) ok err survives = record { inside = λ clean way. tt; kept = λ clean way. unchanged_keeps old new (show_left e (err clean)); survives = survives }
+
+  module _ (asks : OnlyAsks sql old) where
+    -- a text that only asks runs where a transaction has ended, too
+    pub fails_inside : (e : Error) → FailsToShow sql params old new e → FailsToQuery sql params old new e
+    fails_inside e (inl h) = h
+    fails_inside e (inr late) = absurd (let none = (subst IsPlain late.1.is (asks late.5.0.was_open)).0 in let some = rw none at late.2 in cc)
+
+    pub asked_same : (rows : List Row) → Shown sql params old new rows → IsUnchanged old new
+    asked_same rows h = shown_same sql params old new (asks (shown_open sql params old new rows h)) rows h
+
+  -- a read that fails, whose error is told as another
+  pub inside_fails : {U F : Type 0} {B : State → State → F → Type 0} (e : Error) (f : F) (r : Result U F) → IsErrAnd r (λ x. x ≡ f) → (HasCleanDisk new → FailsToShow sql params old new e)
+      → (FailsToQuery sql params old new e → B old new f) → ReadsInside (OnlyAsks sql) B old new r
+  inside_fails e f (Ok y) is fails told = absurd is
+  inside_fails {B = B} e f (Err x) is fails told = record { same = λ _ _. tt; kept = λ clean asks. show_left e (fails clean); faults = λ clean asks. subst (B old new) (sym is) (told (fails_inside asks e (fails clean))) }
+
+  -- one that succeeds, of whose rows a value is made, or nothing for a reason
+  pub inside_into : {U F : Type 0} {B : State → State → F → Type 0} (rows : List Row) (r : Result U F) → (HasCleanDisk new → Shown sql params old new rows)
+      → (HasCleanDisk new → OnlyAsks sql old → IsUnchanged old new → IfErr r (B old new)) → ReadsInside (OnlyAsks sql) B old new r
+  inside_into rows (Ok y) shown stops = record { same = λ clean asks. asked_same asks rows (shown clean); kept = λ _ _. tt; faults = λ _ _. tt }
+  inside_into rows (Err f) shown stops =
+      record { same = λ _ _. tt; kept = λ clean asks. inl (asked_same asks rows (shown clean)); faults = λ clean asks. stops clean asks (asked_same asks rows (shown clean)) }

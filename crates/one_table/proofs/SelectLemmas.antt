@@ -30,14 +30,15 @@ use Rattle.sqlite_resolve.specs.Order.{keys, sorts}
 use Rattle.sqlite_resolve.specs.Expr.{lower}
 use Rattle.sqlite_resolve.specs.Select.{inside, having, parts, assembled, named}
 use Rattle.one_table.specs.Place.{Has}
-use Rattle.one_table.specs.Simple.{one, is_simple_or_absent, is_simple_output, is_simple_sort, names_it, is_source, is_from, is_simple_core, bound_at, reading}
+use Rattle.one_table.specs.Simple.{one, bare, is_simple_or_absent, is_simple_output, is_simple_sort, names_it, is_source, is_from, is_simple_core, bound_at, reading}
+use Rattle.one_table.proofs.AlikeLemmas.{alike}
 use Rattle.one_table.proofs.BodyLemmas.{outputs_same, tests_same, sorts_same}
 
-none_is : {A : Type 0} (o : Option A) → not (is_some o) ≡ true → o ≡ None
+pub none_is : {A : Type 0} (o : Option A) → not (is_some o) ≡ true → o ≡ None
 none_is None h = refl
 none_is (Some x) h = absurd (true≢false (sym h))
 
-false_is : (b : Bool) → not b ≡ true → b ≡ false
+pub false_is : (b : Bool) → not b ≡ true → b ≡ false
 false_is false h = refl
 false_is true h = absurd (true≢false (sym h))
 
@@ -133,8 +134,8 @@ pub record IsPlainCore (t : Table) (core : Core) : Type 0 where
   pub source : Source
   pub from_is : (out-Core core).from ≡ source ∷ []
   pub plain : IsPlainSource t source
-  pub shown : list_all (is_simple_output t) (out-Core core).shown ≡ true
-  pub filter : is_simple_or_absent t (out-Core core).filter ≡ true
+  pub shown : list_all (is_simple_output (bare t)) (out-Core core).shown ≡ true
+  pub filter : is_simple_or_absent (bare t) (out-Core core).filter ≡ true
   pub group_is : (out-Core core).group ≡ []
   pub having_is : (out-Core core).having ≡ None
 
@@ -146,10 +147,10 @@ from_source t (x ∷ y ∷ more) h = absurd (true≢false (sym h))
 pub plain_core : (t : Table) (core : Core) → is_simple_core t core ≡ true → IsPlainCore t core
 plain_core t core h =
     let y = out-Core core in
-    let d = and_parts (is_from t y.from && list_all (is_simple_output t) y.shown && is_simple_or_absent t y.filter && (length y.group == 0)) (not (is_some y.having)) h in
-    let c = and_parts (is_from t y.from && list_all (is_simple_output t) y.shown && is_simple_or_absent t y.filter) (length y.group == 0) d.0 in
-    let b = and_parts (is_from t y.from && list_all (is_simple_output t) y.shown) (is_simple_or_absent t y.filter) c.0 in
-    let a = and_parts (is_from t y.from) (list_all (is_simple_output t) y.shown) b.0 in
+    let d = and_parts (is_from t y.from && list_all (is_simple_output (bare t)) y.shown && is_simple_or_absent (bare t) y.filter && (length y.group == 0)) (not (is_some y.having)) h in
+    let c = and_parts (is_from t y.from && list_all (is_simple_output (bare t)) y.shown && is_simple_or_absent (bare t) y.filter) (length y.group == 0) d.0 in
+    let b = and_parts (is_from t y.from && list_all (is_simple_output (bare t)) y.shown) (is_simple_or_absent (bare t) y.filter) c.0 in
+    let a = and_parts (is_from t y.from) (list_all (is_simple_output (bare t)) y.shown) b.0 in
     let found = from_source t y.from a.0 in record {
       source = found.0;
       from_is = found.1;
@@ -160,7 +161,7 @@ plain_core t core h =
       having_is = none_is y.having d.1;
     }
 
-module _ (t : Table) (core : Core) (order : List Sort) (plain : IsPlainCore t core) (sorted : list_all (is_simple_sort t) order ≡ true) where
+module _ (t : Table) (core : Core) (order : List Sort) (plain : IsPlainCore t core) (sorted : list_all (is_simple_sort (bare t)) order ≡ true) where
   module _ (s : Schema) (at : ℕ) where
     abbrev columns : Lowering (List Output)
     columns = outputs lower (reading s at t.name [] true) (bound_at at t.name ∷ []) (out-Core core).shown
@@ -186,16 +187,16 @@ module _ (t : Table) (core : Core) (order : List Sort) (plain : IsPlainCore t co
           f ← filter j.filter
           pure (record j { filter = f })))
         (joins_same s at t has.listed plain.source plain.plain shown)
-        (fun_ext λ done. tests_same s at t has.listed t.name shown false done (out-Core core).filter plain.filter)
+        (fun_ext λ done. tests_same (bare t) _ _ (alike s at t has.listed t.name shown false) done (out-Core core).filter plain.filter)
 
     columns_same : columns s at ≡ columns (one t) 0
     unfolding outputs
-    columns_same = outputs_same s at t has.listed t.name [] true [] (out-Core core).shown plain.shown
+    columns_same = outputs_same (bare t) _ _ (alike s at t has.listed t.name [] true) (bound_at at t.name ∷ []) (bound_at 0 t.name ∷ []) [] (out-Core core).shown plain.shown
 
     ordered_same : (shown : List Output) (is_grouped : Bool) → ordered s at (record { tables = bound_at at t.name ∷ []; shown = shown }) is_grouped
         ≡ ordered (one t) 0 (record { tables = bound_at 0 t.name ∷ []; shown = shown }) is_grouped
     unfolding sorts
-    ordered_same shown is_grouped = sorts_same s at t has.listed t.name shown is_grouped shown [] order sorted
+    ordered_same shown is_grouped = sorts_same (bare t) _ _ (alike s at t has.listed t.name shown is_grouped) shown [] order sorted
 
     pub named_same : named s core order page ≡ named (one t) core order page
     unfolding named

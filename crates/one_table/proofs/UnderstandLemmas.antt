@@ -20,6 +20,7 @@ use Rattle.sqlite_schema.specs.Names.{same_name, table_named}
 use Rattle.sqlite_schema.specs.declared.schema.Schema.{Schema}
 use Rattle.sqlite_schema.specs.declared.schema.Table.{Table}
 use Rattle.sqlite_schema.specs.declared.command.Command.{Command}
+use Rattle.sqlite_schema.specs.declared.command.Returning.{Returning}
 use Rattle.sqlite_schema.specs.declared.command.Command.TheVariants.{Select as Read}
 use Rattle.sqlite_draft.specs.declared.query.Draft.{Draft}
 use Rattle.sqlite_draft.specs.Query.{query_of}
@@ -33,8 +34,8 @@ use Rattle.sqlite_resolve.specs.Program.{query_to, query, level, with, whole, al
 use Rattle.sqlite_resolve.specs.Compile.{first, read, returning, command, timed, meaning, planned, compiled, with_command}
 use Rattle.sqlite.specs.Listing.{understood, misses_table}
 use Rattle.one_table.specs.Place.{Has}
-use Rattle.one_table.specs.Simple.{one, is_count_at, is_count_or_absent, is_simple_select, is_simple_core, is_simple_sort}
-use Rattle.one_table.specs.Reading.{select_as, Means, IsSelect, select_of, is_typed, if_typed, select_meant, text_meant, meant}
+use Rattle.one_table.specs.Simple.{one, bare, is_count_at, is_count_or_absent, is_simple_select, is_simple_core, is_simple_sort}
+use Rattle.one_table.specs.Reading.{select_as, Means, MeansAs, IsSelect, select_of, is_typed, if_typed, select_meant, text_meant, meant}
 use Rattle.one_table.proofs.SelectLemmas.{IsPlainCore, plain_core, named_same, nil_is}
 
 -- ---- LIMIT and OFFSET
@@ -71,22 +72,24 @@ unfolding program
 program_is s at t has d from typed = rw (typed_alike s at t has (query_of d) from [], typed)
 
 -- a statement that was planned is what the text means
-pub understood_as : (s : Schema) (sql : List ℕ) (p : Parsed) (c : Command) → first sql ≡ Ok p → planned s p ≡ Ok ([], (c, None)) → Means s sql c
-unfolding compiled understood
-understood_as s sql p c parsed plan = record {
-  compiled = with_command p ([], (c, None));
-  understands = understands;
-  command = refl;
-  silent = refl;
-  timeless = refl;
-  unlisted = ap misses_table compiles;
-}
-  where
-    compiles : compiled s sql ≡ Ok (with_command p ([], (c, None)))
-    compiles = rw (parsed, plan)
+module _ (s : Schema) (sql : List ℕ) (p : Parsed) (plan : List Name × (Command × Option Returning)) (parsed : first sql ≡ Ok p) (planned_is : planned s p ≡ Ok plan) where
+  pub compiled_by : compiled s sql ≡ Ok (with_command p plan)
+  unfolding compiled
+  compiled_by = rw (parsed, planned_is)
 
-    understands : understood s sql ≡ Ok (with_command p ([], (c, None)))
-    understands = rw compiles
+  pub understood_by : understood s sql ≡ Ok (with_command p plan)
+  unfolding understood
+  understood_by = rw compiled_by
+
+abbrev pub understood_as : (s : Schema) (sql : List ℕ) (p : Parsed) (c : Command) (shows : Option Returning) → first sql ≡ Ok p → planned s p ≡ Ok ([], (c, shows)) → MeansAs s sql c shows
+understood_as s sql p c shows parsed plan = record {
+  compiled = with_command p ([], (c, shows));
+  understands = understood_by s sql p ([], (c, shows)) parsed plan;
+  command = refl;
+  returning = refl;
+  timeless = refl;
+  unlisted = ap misses_table (compiled_by s sql p ([], (c, shows)) parsed plan);
+}
 
 -- ---- a SELECT
 
@@ -95,16 +98,16 @@ record IsPlainSelect (t : Table) (x : Select) : Type 0 where
   core : IsPlainCore t (out-Select x).first
   with_is : (out-Select x).with ≡ []
   others_is : (out-Select x).others ≡ []
-  sorted : list_all (is_simple_sort t) (out-Select x).order ≡ true
+  sorted : list_all (is_simple_sort (bare t)) (out-Select x).order ≡ true
   limit : is_count_or_absent (out-Select x).limit ≡ true
   offset : is_count_or_absent (out-Select x).offset ≡ true
 
 plain_select : (t : Table) (x : Select) → is_simple_select t x ≡ true → IsPlainSelect t x
 plain_select t x h =
     let y = out-Select x in
-    let e = and_parts (is_simple_core t y.first && (length y.with == 0) && (length y.others == 0) && list_all (is_simple_sort t) y.order && is_count_or_absent y.limit) (is_count_or_absent y.offset) h in
-    let d = and_parts (is_simple_core t y.first && (length y.with == 0) && (length y.others == 0) && list_all (is_simple_sort t) y.order) (is_count_or_absent y.limit) e.0 in
-    let c = and_parts (is_simple_core t y.first && (length y.with == 0) && (length y.others == 0)) (list_all (is_simple_sort t) y.order) d.0 in
+    let e = and_parts (is_simple_core t y.first && (length y.with == 0) && (length y.others == 0) && list_all (is_simple_sort (bare t)) y.order && is_count_or_absent y.limit) (is_count_or_absent y.offset) h in
+    let d = and_parts (is_simple_core t y.first && (length y.with == 0) && (length y.others == 0) && list_all (is_simple_sort (bare t)) y.order) (is_count_or_absent y.limit) e.0 in
+    let c = and_parts (is_simple_core t y.first && (length y.with == 0) && (length y.others == 0)) (list_all (is_simple_sort (bare t)) y.order) d.0 in
     let b = and_parts (is_simple_core t y.first && (length y.with == 0)) (length y.others == 0) c.0 in
     let a = and_parts (is_simple_core t y.first) (length y.with == 0) b.0 in
     record { core = plain_core t y.first a.0; with_is = nil_is y.with a.1; others_is = nil_is y.others b.1; sorted = c.1; limit = d.1; offset = e.1 }
@@ -179,7 +182,7 @@ module _ (s : Schema) (at : ℕ) (t : Table) (has : Has s at t) where
     by_parsed : (sql : List ℕ) (m : Checked Parsed) → first sql ≡ m → and_then m (text_meant t) ≡ Ok (q, names) → Means s sql (select_as q names)
     unfolding text_meant
     by_parsed sql (Err e) parsed h = absurd cc
-    by_parsed sql (Ok p) parsed h = understood_as s sql p (select_as q names) parsed (by_select p (select_of p.statement) refl h)
+    by_parsed sql (Ok p) parsed h = understood_as s sql p (select_as q names) None parsed (by_select p (select_of p.statement) refl h)
 
   -- A SELECT over the table is the query that it is where the table stands alone.
   pub selects : (q : Query) (names : List Name) (sql : List ℕ) → IsSelect t q names sql → Means s sql (select_as q names)

@@ -4,7 +4,7 @@ use Rattle.std.specs.List.{AllByRecursion, list_all, flat_map, filter_map}
 use Rattle.std.proofs.Math.Path.{fun_ext}
 use Rattle.std.proofs.lemmas.Int.{ints}
 use Rattle.std.proofs.lemmas.Bool.{and_parts, or_cases, not-true}
-use Rattle.sqlite_value.specs.declared.value.Value.TheVariants.{Null}
+use Rattle.sqlite_value.specs.declared.value.Value.TheVariants.{Int, Null}
 use Rattle.sqlite_value.specs.declared.keys.Order.{Order}
 use Rattle.sqlite_value.specs.Order.{Row}
 use Rattle.sqlite_trees.specs.Tree.{Trees, rowid, put_row}
@@ -134,6 +134,14 @@ fold_over_map : {A B C : Type 0} (step : C → B → C) (g : A → B) (c : C) (x
 fold_over_map step g c [] = refl
 fold_over_map step g c (x ∷ xs) = fold_over_map step g (step c (g x)) xs
 
+-- rows that are taken out and put back changed are changed in their places
+module _ {X : Type 0} (key : X → ℤ) (stored : X → Row) (keyed : (x : X) → rowid (stored x) ≡ Int (key x)) (p : X → Bool) (f : X → X) (stays : (x : X) → key (f x) ≡ key x) where
+  pub replaced : (xs : List X) → IsKeyedBy key xs → put_all (without_all (map stored xs) (map key (filter p xs))) (map stored (map f (filter p xs))) ≡ map stored (update_where p f xs)
+  replaced xs up =
+      ap (λ l. put_all l (map stored (map f (filter p xs)))) (deletes-map key stored keyed (map key (filter p xs)) xs ∙ ap (map stored) (removes_delete key p xs up))
+      ∙ fold_over_map (λ rows r. put_row r rows) stored (map stored (delete_where p xs)) (map f (filter p xs)) ∙ puts-map key stored keyed (map f (filter p xs)) (delete_where p xs)
+      ∙ ap (map stored) (changed_in_place key p f stays xs up)
+
 module _ {X : Type 0} (t : Table) (tests terms : List Term) (params : Row) (key : X → ℤ) (stored : X → Row) (p : X → Bool) (f : X → X) (sets : Sets t tests terms params key stored p f) where
   abbrev show : X → Row
   show x = eval_all terms (params ∷ stored x ∷ [])
@@ -148,11 +156,8 @@ module _ {X : Type 0} (t : Table) (tests terms : List Term) (params : Row) (key 
       → edited db (edit_of db t (ids_of (map show (filter p xs))) Given 1 (map show (filter p xs))) ≡ map stored (update_where p f xs)
   set_rows db xs holds up =
       let ys = filter p xs in
-      let left : without_all (db t.tree) (ids_of (map show ys)) ≡ map stored (delete_where p xs) =
-      ap (λ ids. without_all (db t.tree) ids) (gone_are ys) ∙ ap (λ rows. without_all rows (map key ys)) holds ∙ deletes-map key stored sets.keyed (map key ys) xs ∙ ap (map stored) (removes_delete key p xs up) in
-      ap₂ put_all left (given_ids _ (map (λ s. cast_row t (drop 1 s)) (map show ys)) ∙ news_are ys)
-      ∙ fold_over_map (λ rows r. put_row r rows) stored (map stored (delete_where p xs)) (map f ys) ∙ puts-map key stored sets.keyed (map f ys) (delete_where p xs)
-      ∙ ap (map stored) (changed_in_place key p f sets.stays xs up)
+      let left : without_all (db t.tree) (ids_of (map show ys)) ≡ without_all (map stored xs) (map key ys) = ap (λ ids. without_all (db t.tree) ids) (gone_are ys) ∙ ap (λ rows. without_all rows (map key ys)) holds in
+      ap₂ put_all left (given_ids _ (map (λ s. cast_row t (drop 1 s)) (map show ys)) ∙ news_are ys) ∙ replaced key stored sets.keyed p f sets.stays xs up
 
   -- what is set is set in the values, where at most one of them passes
   pub sets_listed : (old new : State) (xs : List X) → SetsRows t (query_on t.tree tests terms [] no_limit) params old new → old.now.trees t.tree ≡ map stored xs → IsKeyedBy key xs → length (filter p xs) ≤ 1
@@ -169,7 +174,7 @@ module _ (sql : List ℕ) (params : Row) (old new : State) (t : Table) (at : ℕ
   set_by : (text : List ℕ) (count : ℕ) → slice_get old.now.schema.tables at ≡ Some t → is_left_alone old.now.schema t.tree ≡ true → Shows old new new.now old.committed true
       → Writes old new None (update_as at q) text params count → SetsRows t q params old new
   set_by text count listed alone inside w =
-      let h = has_written t at (update_as at q) params old new w.tally listed w.changed in
+      let h = has_written t at None (update_as at q) params old new w.tally listed w.changed in
       let given = went h.wrote in
       let put = went given.2 in
       let edit = edit_of old.now.trees t (ids_of given.0) Given 1 given.0 in

@@ -16,7 +16,7 @@ use Rattle.sqlite_resolve.specs.Lowering.{Checked, and_then, or_else}
 use Rattle.sqlite_resolve.specs.Scope.{Name}
 use Rattle.sqlite_resolve.specs.Write.{updated}
 use Rattle.sqlite_resolve.specs.Compile.{first}
-use Rattle.one_table.specs.Simple.{one, depth, is_simple, is_simple_or_absent}
+use Rattle.one_table.specs.Simple.{one, bare, depth, is_simple, is_simple_or_absent}
 use Rattle.one_table.specs.Reading.{is_typed}
 
 -- the table's name, what is set, and WHERE
@@ -31,8 +31,8 @@ update_of _ = None
 -- of this table, by simple expressions
 abbrev pub is_simple_update : Table → Assignments → Bool
 is_simple_update t u =
-    bytes_eq u.0 t.name && list_all (λ set. is_simple depth t set.1) u.1
-    && is_simple_or_absent t u.2
+    bytes_eq u.0 t.name && list_all (λ set. is_simple depth (bare t) set.1) u.1
+    && is_simple_or_absent (bare t) u.2
 
 abbrev pub draft_if_typed : Table → Draft → Checked Query
 draft_if_typed t d = if is_typed t (query_of d) [] then Ok (query_of d) else Err Mismatch

@@ -1,5 +1,5 @@
 -- What a statement inside a transaction leaves.
-use Rattle.std.specs.Prelude.{◌≡◌, ◌≢◌, ◌⊎◌, ℕ, true, false, List, [], None, Err, OnOk, Result, Some, IsTrue}
+use Rattle.std.specs.Prelude.{◌≡◌, ◌≢◌, ◌⊎◌, ℕ, true, false, List, [], None, Err, OnOk, Option, Result, Some, IsTrue}
 use Rattle.std.specs.List.{AllByRecursion}
 use Rattle.sqlite_value.specs.Order.{Row}
 use Rattle.sqlite_trees.specs.Tree.{put_row}
@@ -10,11 +10,12 @@ use Rattle.sqlite_rules.specs.Calls.{ids_of}
 use Rattle.sqlite_rules.specs.Edit.{edit_of, edited, is_taken, IsNoIndex}
 use Rattle.sqlite.specs.Does.{Does}
 use Rattle.sqlite.specs.Effect.{IsDatabase, SparesFrozen}
-use Rattle.sqlite.specs.State.{ExecutesInside, Fails, HasCleanDisk, IsUnchanged, KeepsCommit, Shows, State, Survives, mode_of}
+use Rattle.sqlite.specs.State.{ExecutesInside, Fails, FailsToQuery, HasCleanDisk, IsTooLate, IsUnchanged, KeepsCommit, Shows, State, Survives, mode_of}
 use Rattle.sqlite.specs.declared.error.Error.{Error}
 use Rattle.sqlite.specs.declared.error.Error.TheVariants.{SqliteFailure}
 use Rattle.sqlite.specs.declared.error.ErrorCode.TheVariants.{TransactionState}
 use Rattle.sqlite_schema.specs.declared.command.Command.{Command}
+use Rattle.sqlite_schema.specs.declared.command.Returning.{Returning}
 
 -- a transaction is under way: no failure has ended it
 abbrev pub IsUnderWay : State → Type 0
@@ -46,17 +47,28 @@ abbrev pub FailsToRun : List ℕ → Row → State → State → Error → Type 
 FailsToRun sql params old new e =
     HadEnded old new e ⊎ ExecutesInside 0 sql params old new (Err e)
 
+-- the same of a text that shows rows: a query runs where the transaction had ended, and a write
+-- does not
+abbrev pub FailsToShow : List ℕ → Row → State → State → Error → Type 0
+FailsToShow sql params old new e =
+    FailsToQuery sql params old new e ⊎ IsTooLate sql params old new e
+
 -- Why a write of the rows of a table fails: the transaction had ended. Or the rules of the tables
 -- refuse it, as where a key is taken, a row that it refers to is missing or a limit on steps is
 -- reached, and all stays as it was. Or there was no memory, the disk failed or had failed, or a row
 -- is too long to be stored: then the transaction is undone.
-abbrev pub FailsToWrite : Command → Row → State → State → Error → Type 0
-FailsToWrite command params old new e =
+-- With RETURNING the write shows rows.
+abbrev pub FailsToWriteAs : Option Returning → Command → Row → State → State → Error → Type 0
+FailsToWriteAs shows command params old new e =
     HadEnded old new e
-    ⊎ ((Does old.step_limit (mode_of old) params old.now [] None command (Err (Some e))
+    ⊎ ((Does old.step_limit (mode_of old) params old.now [] shows command (Err (Some e))
     × IsUnchanged old new)
     ⊎ Fails old new (IsTrue old.is_open
-    → Does old.step_limit (mode_of old) params old.now [] None command (Err None)) e)
+    → Does old.step_limit (mode_of old) params old.now [] shows command (Err None)) e)
+
+-- the same of one that shows nothing
+abbrev pub FailsToWrite : Command → Row → State → State → Error → Type 0
+FailsToWrite = FailsToWriteAs None
 
 -- The table has these rows. The schema and every other table are as they were, and so is what SQL
 -- here does not understand. It is a database, and nothing is committed.

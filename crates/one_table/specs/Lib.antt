@@ -8,6 +8,8 @@ pub mod Reading
 pub mod Changing
 pub mod Inserting
 pub mod InTransaction
+pub mod Upserting
+pub mod Merges
 pub mod Updating
 pub mod Committing
 pub mod Listed

@@ -1,10 +1,11 @@
 -- Tables whose rows have no number of their own: SQLite gives each row one, which no statement
 -- shows.
-use Rattle.std.specs.Prelude.{◌≡◌, ℕ, Bool, List, [], ◌∷◌, map, drop}
-use Rattle.std.specs.List.{list_all}
+use Rattle.std.specs.Prelude.{◌≡◌, ℕ, Bool, IsTrue, List, [], ◌∷◌, map, drop}
+use Rattle.std.specs.List.{AllByRecursion, list_all}
 use Rattle.sqlite_value.specs.declared.value.Value.{Value}
 use Rattle.sqlite_value.specs.Order.{Row}
-use Rattle.sqlite_trees.specs.Tree.{Trees}
+use Rattle.sqlite_trees.specs.Tree.{IsTable, Trees, rowid}
+use Rattle.sqlite_trees.specs.View.{is_int}
 use Rattle.sqlite_sql.specs.Term.{Term, eval_all, holds}
 
 -- the rows are these values, in this order, each after its hidden number
@@ -20,3 +21,8 @@ pub record IsHiddenListing {X : Type 0} (db : Trees) (tree : ℕ) (tests shown :
   pub passes : (number : Value) (x : X)
       → list_all (holds (params ∷ (number ∷ stored x) ∷ [])) tests ≡ p x
   pub shows : (number : Value) (x : X) → eval_all shown (params ∷ (number ∷ stored x) ∷ []) ≡ show x
+
+-- the numbers of the rows, which stand in front of their columns, are whole and rise
+pub record IsInOrder (rows : List Row) : Type 0 where
+  pub rises : IsTable rows
+  pub are_numbers : AllByRecursion (λ r. IsTrue (is_int (rowid r))) rows

@@ -9,6 +9,7 @@ use Rattle.sqlite_sql.specs.Query.{Query, end, inner}
 use Rattle.sqlite_schema.specs.declared.schema.Schema.{Schema}
 use Rattle.sqlite_schema.specs.declared.schema.Table.{Table}
 use Rattle.sqlite_schema.specs.declared.command.Command.{Command}
+use Rattle.sqlite_schema.specs.declared.command.Returning.{Returning}
 use Rattle.sqlite_schema.specs.declared.command.Command.TheVariants as command
 use Rattle.sqlite_draft.specs.Query.{query_of}
 use Rattle.sqlite_typing.specs.Types.{row_classes, accepts_after, is_count}
@@ -25,15 +26,20 @@ use Rattle.sqlite.specs.State.{State, Fails, IsUnchanged}
 use Rattle.sqlite.specs.Listing.{understood, reads_listing}
 use Rattle.one_table.specs.Simple.{one, is_simple_select}
 
--- the text is this command, which neither shows what it writes nor reads the time or the list of
+-- the text is this command, with this after RETURNING, and reads neither the time nor the list of
 -- tables
-pub record Means (s : Schema) (sql : List ℕ) (is : Command) : Type 0 where
+pub record MeansAs (s : Schema) (sql : List ℕ) (is : Command) (shows : Option Returning)
+    : Type 0 where
   pub compiled : Compiled
   pub understands : understood s sql ≡ Ok compiled
   pub command : compiled.command ≡ is
-  pub silent : compiled.returning ≡ None
+  pub returning : compiled.returning ≡ shows
   pub timeless : compiled.formats ≡ []
   pub unlisted : reads_listing s sql ≡ false
+
+-- the same of one that does not show what it writes
+abbrev pub Means : Schema → List ℕ → Command → Type 0
+Means s sql is = MeansAs s sql is None
 
 abbrev pub select_of : Statement → Option Select
 select_of (written.Select s) = Some s

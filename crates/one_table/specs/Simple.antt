@@ -23,39 +23,47 @@ use Rattle.sqlite_resolve.specs.Scope.{Context, Name}
 abbrev pub one : Table → Schema
 one t = record { tables = t ∷ []; indexes = []; views = [] }
 
--- NULL, an integer, a text, a parameter, a column of the table by its bare name, or an operator on
--- two of these
-abbrev pub is_simple_at : (Expr → Bool) → Table → Layer → Bool
-is_simple_at again t Expr-F.Null = true
-is_simple_at again t (Expr-F.Integer text) = true
-is_simple_at again t (Expr-F.Text text) = true
-is_simple_at again t (Expr-F.Parameter n) = true
-is_simple_at again t (Expr-F.Column None name) = is_some (column_named t name)
-is_simple_at again t (Expr-F.Binary op a b) = again a && again b
-is_simple_at again t _ = false
+-- which columns an expression may name, each with the table that is written before it, if one is
+abbrev pub Known : Type 0
+Known = Option Name → Name → Bool
+
+-- a column of the table by its bare name
+abbrev pub bare : Table → Known
+bare t None name = is_some (column_named t name)
+bare t (Some table) name = false
+
+-- NULL, an integer, a text, a parameter, a known column, or an operator on two of these
+abbrev pub is_simple_at : (Expr → Bool) → Known → Layer → Bool
+is_simple_at again known Expr-F.Null = true
+is_simple_at again known (Expr-F.Integer text) = true
+is_simple_at again known (Expr-F.Text text) = true
+is_simple_at again known (Expr-F.Parameter n) = true
+is_simple_at again known (Expr-F.Column table name) = known table name
+is_simple_at again known (Expr-F.Binary op a b) = again a && again b
+is_simple_at again known _ = false
 
 -- the same, nested less deep than the number
-abbrev pub is_simple : ℕ → Table → Expr → Bool
-is_simple zero t e = false
-is_simple (suc n) t e = is_simple_at (is_simple n t) t (out-Expr e)
+abbrev pub is_simple : ℕ → Known → Expr → Bool
+is_simple zero known e = false
+is_simple (suc n) known e = is_simple_at (is_simple n known) known (out-Expr e)
 
 -- expressions nest no deeper than this
 abbrev pub depth : ℕ
 depth = 20
 
-abbrev pub is_simple_or_absent : Table → Option Expr → Bool
-is_simple_or_absent t None = true
-is_simple_or_absent t (Some e) = is_simple depth t e
+abbrev pub is_simple_or_absent : Known → Option Expr → Bool
+is_simple_or_absent known None = true
+is_simple_or_absent known (Some e) = is_simple depth known e
 
-abbrev pub is_simple_output_at : Table → ShownLayer → Bool
-is_simple_output_at t (Shown-F.One e alias text) = is_simple depth t e
-is_simple_output_at t _ = false
+abbrev pub is_simple_output_at : Known → ShownLayer → Bool
+is_simple_output_at known (Shown-F.One e alias text) = is_simple depth known e
+is_simple_output_at known _ = false
 
-abbrev pub is_simple_output : Table → Shown → Bool
-is_simple_output t s = is_simple_output_at t (out-Shown s)
+abbrev pub is_simple_output : Known → Shown → Bool
+is_simple_output known s = is_simple_output_at known (out-Shown s)
 
-abbrev pub is_simple_sort : Table → Sort → Bool
-is_simple_sort t s = is_simple depth t (peeled (out-Sort s).key)
+abbrev pub is_simple_sort : Known → Sort → Bool
+is_simple_sort known s = is_simple depth known (peeled (out-Sort s).key)
 
 -- a number or a parameter, as after LIMIT
 abbrev pub is_count_at : Layer → Bool
@@ -87,15 +95,15 @@ is_from t (s ∷ more ∷ others) = false
 
 abbrev pub is_simple_core : Table → Core → Bool
 is_simple_core t core =
-    is_from t (out-Core core).from && list_all (is_simple_output t) (out-Core core).shown
-    && is_simple_or_absent t (out-Core core).filter
+    is_from t (out-Core core).from && list_all (is_simple_output (bare t)) (out-Core core).shown
+    && is_simple_or_absent (bare t) (out-Core core).filter
     && (length (out-Core core).group == 0) && not (is_some (out-Core core).having)
 
 -- columns of the one table, by WHERE, ORDER BY, LIMIT and OFFSET
 abbrev pub is_simple_select : Table → Select → Bool
 is_simple_select t s =
     is_simple_core t (out-Select s).first && (length (out-Select s).with == 0) &&
-    (length (out-Select s).others == 0) && list_all (is_simple_sort t) (out-Select s).order
+    (length (out-Select s).others == 0) && list_all (is_simple_sort (bare t)) (out-Select s).order
     && is_count_or_absent (out-Select s).limit && is_count_or_absent (out-Select s).offset
 
 abbrev pub bound_at : ℕ → Name → Bound

@@ -12,8 +12,9 @@ pub use gathering::Gather;
 pub use inserting::insert;
 pub use probing::test_open;
 pub use read_fault::ReadFault;
-pub use readers::{read_row, read_rows};
+pub use readers::{read_row, read_rows, read_rows_inside};
 pub use updating::update;
+pub use upserting::upsert;
 
 mod committing;
 mod compare;
@@ -28,4 +29,5 @@ mod read_fault;
 mod readers;
 pub mod recognise;
 mod updating;
+mod upserting;
 mod writing;

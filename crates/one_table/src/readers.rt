@@ -1,14 +1,18 @@
-ghost use Rattle.std.specs.Prelude.{IfOk};
+ghost use Rattle.std.specs.Prelude.{◌≡◌, Any, IfErr, IfOk};
+ghost use Rattle.std.specs.List.{AllZip};
 ghost use Rattle.sqlite.specs.Values.{bound};
 ghost use Rattle.sqlite.specs.State.{HasCleanDisk, IsUnchanged, FailsToQuery, Shown};
 ghost use Rattle.sqlite.specs.Held.{state};
 ghost use Rattle.one_table.specs.Answer.{OnlyAsks, GivesAll, GivesFirst, FailsToRead};
-ghost use Rattle.one_table.specs.ReadsOnly.{ReadsOnly};
+ghost use Rattle.one_table.specs.InTransaction.{KeepsTransaction};
+ghost use Rattle.one_table.specs.ReadFaults.{OnlyWhere};
+ghost use Rattle.one_table.specs.ReadsOnly.{ReadsInside, ReadsOnly};
 
 use crate::from_row::FromRow;
 use crate::read_fault::ReadFault;
+use crate::writing::show;
 use sqlite::types::ValueRef;
-use sqlite::{Alter, Connection, Error, Row};
+use sqlite::{Alter, Connection, Error, Row, Transaction};
 use std::alloc::Global;
 
 /// All rows of an answer. The text is compiled first, so that it runs only on a connection that
@@ -52,6 +56,18 @@ pub fn read_row<S: Alter, X: FromRow>(
     }
 }
 
+/// What each of the rows stands for.
+fn values<X: FromRow + Drop>(alloc: Global, rows: &[Row]) -> Result<Vec<X>, ReadFault>
+    ensures read { IfOk result (λ found. AllZip X.FromRow.reads_as rows.now found.items) }
+    ensures faults { IfErr result (OnlyWhere (Any (λ row. ¬ X.FromRow.is_readable row) rows.now)) }
+{
+    let mut found = Vec::new(alloc);
+    for row in rows {
+        found.push(X::from_row(row)?)?;
+    }
+    Ok(found)
+}
+
 /// What the rows of an answer stand for, in the order of the answer: for a text with a bound on
 /// its rows.
 pub fn read_rows<S: Alter, X: FromRow + Drop>(
@@ -69,9 +85,26 @@ pub fn read_rows<S: Alter, X: FromRow + Drop>(
         (state S.Store conn.old) (state S.Store conn.new) result }
 {
     let rows = answer(conn, sql, params)?;
-    let mut found = Vec::new(alloc);
-    for row in &rows {
-        found.push(X::from_row(row)?)?;
-    }
-    Ok(found)
+    values(alloc, &rows)
+}
+
+/// The same inside a transaction, as in one that reads page after page to bring a file up to date.
+pub fn read_rows_inside<S: Alter, X: FromRow + Drop>(
+    alloc: Global,
+    tx: &mut Transaction<'_, S>,
+    sql: &str,
+    params: &[ValueRef<'_>],
+) -> Result<Vec<X>, ReadFault>
+    ensures same_reference { tx.new.conn.ghost_name ≡ tx.old.conn.ghost_name }
+    ensures given { HasCleanDisk (state S.Store tx.new.conn.now)
+        → IfOk result (λ found. GivesAll X.FromRow.reads_as sql.now (bound params.now)
+        (state S.Store tx.old.conn.now) (state S.Store tx.new.conn.now) found.items) }
+    ensures reads { ReadsInside (OnlyAsks sql.now)
+        (FailsToRead X.FromRow.is_readable sql.now (bound params.now))
+        (state S.Store tx.old.conn.now) (state S.Store tx.new.conn.now) result }
+    ensures transaction { KeepsTransaction
+        (state S.Store tx.old.conn.now) (state S.Store tx.new.conn.now) result }
+{
+    let rows = show(tx, sql, params)?;
+    values(alloc, &rows)
 }

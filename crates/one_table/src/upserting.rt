@@ -1,0 +1,56 @@
+ghost use Rattle.std.specs.Prelude.{◌≡◌, ℕ, IsTrue, IfErr, IfOk, length, true};
+ghost use Rattle.sqlite.specs.Values.{bound};
+ghost use Rattle.sqlite.specs.State.{HasCleanDisk};
+ghost use Rattle.sqlite.specs.Held.{state};
+ghost use Rattle.sqlite_value.specs.Order.{Row as Stored};
+ghost use Rattle.sqlite.specs.Table.{Table};
+ghost use Rattle.one_table.specs.InTransaction.{IsUnderWay, KeepsTransaction};
+ghost use Rattle.one_table.specs.Merges.{FailsToUpsert, TakesUpserts, Upserts, shown_row};
+ghost use Rattle.one_table.specs.Reading.{is_whole};
+ghost use Rattle.one_table.specs.Upserting.{IsUpsert, Merging};
+
+use crate::from_row::FromRow;
+use crate::read_fault::ReadFault;
+use crate::writing::show;
+use sqlite::types::ValueRef;
+use sqlite::{Alter, Transaction};
+
+/// Puts one row into a table, or sets columns of the row that has its key, by a text with ON
+/// CONFLICT and RETURNING. The value is what the text shows of the row as it is afterwards.
+///
+/// # Errors
+/// Those of a write. Where a row was written of which the shown columns stand for nothing, or there
+/// is no memory for its value, the row stays until the caller drops the transaction.
+pub fn upsert<S: Alter, X: FromRow>(
+    tx: &mut Transaction<'_, S>,
+    sql: &str,
+    params: &[ValueRef<'_>],
+) -> Result<X, ReadFault>
+    ensures same_reference { tx.new.conn.ghost_name ≡ tx.old.conn.ghost_name }
+    ensures merged { HasCleanDisk (state S.Store tx.new.conn.now)
+        → IsUnderWay (state S.Store tx.old.conn.now)
+        → (t : Table) (at : ℕ) (m : Merging) → IsUpsert t m sql.now
+        → (IsTrue (state S.Store tx.old.conn.now).is_open
+        → TakesUpserts (state S.Store tx.old.conn.now).now at t)
+        → IfOk result (λ x. (row : Stored)
+        × X.FromRow.reads_as (shown_row t m (bound params.now) row) x
+        × Upserts t m (bound params.now)
+        (state S.Store tx.old.conn.now) (state S.Store tx.new.conn.now) row) }
+    ensures transaction { KeepsTransaction
+        (state S.Store tx.old.conn.now) (state S.Store tx.new.conn.now) result }
+    ensures refused { HasCleanDisk (state S.Store tx.new.conn.now)
+        → IsUnderWay (state S.Store tx.old.conn.now)
+        → (t : Table) (at : ℕ) (m : Merging) → IsUpsert t m sql.now
+        → is_whole sql.now (length (bound params.now)) ≡ true
+        → (IsTrue (state S.Store tx.old.conn.now).is_open
+        → TakesUpserts (state S.Store tx.old.conn.now).now at t)
+        → IfErr result (FailsToUpsert t m (bound params.now)
+        (state S.Store tx.old.conn.now) (state S.Store tx.new.conn.now) at
+        X.FromRow.is_readable) }
+{
+    let rows = show(tx, sql, params)?;
+    match rows.first() {
+        Some(row) => X::from_row(row),
+        None => Err(ReadFault::Row),
+    }
+}
