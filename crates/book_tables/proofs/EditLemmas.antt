@@ -1,23 +1,24 @@
 -- The rows after an edit are the members of the office after it.
 use Rattle.std.proofs.Common.{◌≡◌, ◌≢◌, ℕ, zero, suc, ◌+◌, ◌⊎◌, inl, inr, Bool, true, false, List, [], ◌∷◌, ◌++◌, Option, Some, None, IsSome, refl, sym, ◌∙◌, ap, subst, arith}
-use Rattle.std.specs.Prelude.{AllPairs, Contains, bytes_eq, if◌then◌else◌, map, option_map, slice_get}
-use Rattle.std.specs.List.{enumerate_from}
+use Rattle.std.specs.Prelude.{◌&&◌, ◌||◌, AllPairs, Contains, bytes_eq, if◌then◌else◌, map, option_map, slice_get}
+use Rattle.std.specs.List.{enumerate_from, list_all}
 use Rattle.std.proofs.lemmas.Bool.{false≢true}
 use Rattle.std.proofs.lemmas.List.Elements.{Contains-append_cases, Contains-append_left, Contains-append_right, Contains-push, Contains-push_cases}
 use Rattle.std.proofs.lemmas.Option.{same_Some}
 use Rattle.std.proofs.lemmas.Slice.Eq.{bytes_eq-Decides}
+use Rattle.sts_fields.specs.Base.{base_eq}
+use Rattle.sts_fields.specs.declared.base.Base.{Base}
 use Rattle.tariff.specs.declared.step.Step.{Step}
 use Rattle.vend_core.specs.Edits.{applied, with_row, with_rows, with_tariff}
 use Rattle.vend_core.specs.Office.{Office, empty_office}
-use Rattle.vend_core.specs.PlainRows.{row_with_tariff}
 use Rattle.vend_core.specs.declared.change.Edit.{Edit}
 use Rattle.vend_core.specs.declared.change.Edit.TheVariants as edits
 use Rattle.vend_core.specs.declared.meter.Meter.{Meter}
 use Rattle.vend_core.specs.declared.row.Row.{Row}
 use Rattle.vend_core.specs.declared.row.Row.TheVariants as kinds
-use Rattle.book_tables.specs.Edited.{AreNewRows, IsNew, IsNewRow, edited, no_rows, row_added, rows_added, shift_closed, step_rows}
+use Rattle.book_tables.specs.Edited.{AreNewRows, IsNew, IsNewRow, can_hold, can_hold_row, edited, no_rows, row_added, row_with_tariff, rows_added, shift_closed, step_rows}
 use Rattle.book_tables.specs.Rows.{Rows, StepRow}
-use Rattle.book_tables.specs.Stands.{AreApart, AreMembersOf, HasStep}
+use Rattle.book_tables.specs.Stands.{AreApart, AreMembersOf, HasStep, is_base_of}
 use Rattle.book_tables.proofs.ListLemmas.{contains_cases, contains_first, contains_further, contains_map, contains_none, map_source, no_pairs, pairs_append, pairs_cons, pairs_map, pairs_push}
 
 -- ---- the rows of a tariff's steps
@@ -161,6 +162,8 @@ module _ (rows : Rows) (o : Office) (are : AreMembersOf rows o) (name : List ℕ
     tariffs = λ q. (tariff_there q, tariff_back q);
     steps = λ r. (step_there r, step_back r);
     meters = are.meters;
+    bases = are.bases;
+    dated_steps = are.dated_steps;
     shifts = are.shifts;
     sales = are.sales;
     tariffs_once = pairs_push (λ a b. a ≢ b) rows.tariffs name are.tariffs_once (λ q there same.
@@ -174,6 +177,19 @@ module _ (rows : Rows) (o : Office) (are : AreMembersOf rows o) (name : List ℕ
   }
 
 -- ---- a meter
+
+-- a meter that is put where there was none has its own base alone
+base_put : (b : Bool) (q number : List ℕ) (m : Meter) (base : Base) (there : Option Meter) (had : Bool) → had ≡ is_base_of there base
+    → (q ≡ number → there ≡ None) → bytes_eq q number ≡ b → ((b && base_eq base m.base) || had) ≡ is_base_of (if b then Some m else there) base
+base_put true q number m base there had is free same =
+    let none = free ((bytes_eq-Decides q number).0 same) in
+    let had_not : had ≡ false = is ∙ ap (λ (found : Option Meter). is_base_of found base) none in
+    either_false (base_eq base m.base) had had_not
+  where
+    either_false : (a b : Bool) → b ≡ false → (a || b) ≡ a
+    either_false true b e = refl
+    either_false false b e = e
+base_put false q number m base there had is free same = is
 
 module _ (rows : Rows) (o : Office) (are : AreMembersOf rows o) (number : List ℕ) (m : Meter) (free : o.meters number ≡ None) where
   widened : Office
@@ -210,6 +226,8 @@ module _ (rows : Rows) (o : Office) (are : AreMembersOf rows o) (number : List �
     tariffs = are.tariffs;
     steps = are.steps;
     meters = λ q n. (meter_there q n, meter_back q n);
+    bases = λ q base. base_put (bytes_eq q number) q number m base (o.meters q) (o.bases q base) (are.bases q base) (λ same. ap o.meters same ∙ free) refl;
+    dated_steps = are.dated_steps;
     shifts = are.shifts;
     sales = are.sales;
     tariffs_once = are.tariffs_once;
@@ -235,6 +253,13 @@ set_source : (b : Bool) (name : List ℕ) (n : Meter) (there : Option Meter) →
 set_source true name n None e = cc
 set_source true name n (Some m) e = (m, refl)
 set_source false name n there e = (n, e)
+
+-- and so has one whose tariff is set
+base_kept : (b : Bool) (name : List ℕ) (base : Base) (there : Option Meter)
+    → is_base_of there base ≡ is_base_of (if b then option_map (with_tariff name) there else there) base
+base_kept true name base None = refl
+base_kept true name base (Some m) = refl
+base_kept false name base there = refl
 
 module _ (rows : Rows) (o : Office) (are : AreMembersOf rows o) (number name : List ℕ) where
   changed : Office
@@ -275,6 +300,8 @@ module _ (rows : Rows) (o : Office) (are : AreMembersOf rows o) (number name : L
     tariffs = are.tariffs;
     steps = are.steps;
     meters = λ q n. (set_there q n, set_back q n);
+    bases = λ q base. are.bases q base ∙ base_kept (bytes_eq q number) name base (o.meters q);
+    dated_steps = are.dated_steps;
     shifts = are.shifts;
     sales = are.sales;
     tariffs_once = are.tariffs_once;
@@ -285,44 +312,58 @@ module _ (rows : Rows) (o : Office) (are : AreMembersOf rows o) (number name : L
 
 -- ---- every edit
 
-row_members : (rows : Rows) (o : Office) (row : Row) → AreMembersOf rows o → IsNewRow row o → AreMembersOf (row_added row rows) (with_row row o)
-row_members rows o (kinds.Tariff name steps) are free = tariff_added rows o are name steps free
-row_members rows o (kinds.Meter number m) are free = meter_added rows o are number m free
+row_members : (rows : Rows) (o : Office) (row : Row) → AreMembersOf rows o → can_hold_row row ≡ true → IsNewRow row o → AreMembersOf (row_added row rows) (with_row row o)
+row_members rows o (kinds.Tariff name steps) are holds free = tariff_added rows o are name steps free
+row_members rows o (kinds.Steps name day steps) are holds free = absurd (false≢true holds)
+row_members rows o (kinds.Meter number m) are holds free = meter_added rows o are number m free
 
-rows_members : (new : List Row) (rows : Rows) (o : Office) → AreMembersOf rows o → AreNewRows new o → AreMembersOf (rows_added new rows) (with_rows new o)
-rows_members [] rows o are free = are
-rows_members (row ∷ new) rows o are free =
-    rows_members new (row_added row rows) (with_row row o) (row_members rows o row are free.0) free.1
+rows_members : (new : List Row) (rows : Rows) (o : Office) → AreMembersOf rows o → list_all can_hold_row new ≡ true → AreNewRows new o → AreMembersOf (rows_added new rows) (with_rows new o)
+rows_members [] rows o are hold free = are
+rows_members (row ∷ new) rows o are hold free =
+    let each = both (can_hold_row row) (list_all can_hold_row new) hold in
+    rows_members new (row_added row rows) (with_row row o) (row_members rows o row are each.0 free.0) each.1 free.1
+  where
+    both : (a b : Bool) → (a && b) ≡ true → (a ≡ true) × (b ≡ true)
+    both true b e = (refl, e)
+    both false b e = absurd (false≢true e)
 
-pub edited_members : (rows : Rows) (o : Office) (edit : Edit) → AreMembersOf rows o → IsNew edit o → AreMembersOf (edited edit rows) (applied edit o)
-edited_members rows o (edits.AddTariff name steps) are free = tariff_added rows o are name steps free
-edited_members rows o (edits.AddMeter number m) are free = meter_added rows o are number m free
-edited_members rows o (edits.AddRows new) are free = rows_members new rows o are free
-edited_members rows o (edits.SetTariff number name) are free = tariff_set rows o are number name
-edited_members rows o (edits.OpenShift s) are free = record {
+pub edited_members : (rows : Rows) (o : Office) (edit : Edit) → AreMembersOf rows o → can_hold edit ≡ true → IsNew edit o → AreMembersOf (edited edit rows) (applied edit o)
+edited_members rows o (edits.AddTariff name steps) are holds free = tariff_added rows o are name steps free
+edited_members rows o (edits.AddSteps name day steps) are holds free = absurd (false≢true holds)
+edited_members rows o (edits.AddMeter number m) are holds free = meter_added rows o are number m free
+edited_members rows o (edits.AddRows new) are holds free = rows_members new rows o are holds free
+edited_members rows o (edits.SetTariff number name) are holds free = tariff_set rows o are number name
+edited_members rows o (edits.MoveBase number base) are holds free = absurd (false≢true holds)
+edited_members rows o (edits.OpenShift s) are holds free = record {
   tariffs = are.tariffs;
   steps = are.steps;
   meters = are.meters;
+  bases = are.bases;
+  dated_steps = are.dated_steps;
   shifts = ap (λ xs. xs ++ s ∷ []) are.shifts;
   sales = are.sales;
   tariffs_once = are.tariffs_once;
   steps_once = are.steps_once;
   meters_once = are.meters_once;
 }
-edited_members rows o (edits.CloseShift number moment) are free = record {
+edited_members rows o (edits.CloseShift number moment) are holds free = record {
   tariffs = are.tariffs;
   steps = are.steps;
   meters = are.meters;
+  bases = are.bases;
+  dated_steps = are.dated_steps;
   shifts = ap (map (shift_closed number moment)) are.shifts;
   sales = are.sales;
   tariffs_once = are.tariffs_once;
   steps_once = are.steps_once;
   meters_once = are.meters_once;
 }
-edited_members rows o (edits.AddSale s) are free = record {
+edited_members rows o (edits.AddSale s) are holds free = record {
   tariffs = are.tariffs;
   steps = are.steps;
   meters = are.meters;
+  bases = are.bases;
+  dated_steps = are.dated_steps;
   shifts = are.shifts;
   sales = ap (λ xs. xs ++ s ∷ []) are.sales;
   tariffs_once = are.tariffs_once;
@@ -335,6 +376,8 @@ no_members = record {
   tariffs = λ name. (λ some. absurd (false≢true some), λ there. absurd (contains_none name there));
   steps = λ r. (λ has. absurd (none_some None has.0 refl has.1), λ there. absurd (contains_none r there));
   meters = λ number m. (λ e. absurd (none_some None m refl e), λ there. absurd (contains_none (number, m) there));
+  bases = λ number base. refl;
+  dated_steps = λ name day. refl;
   shifts = refl;
   sales = refl;
   tariffs_once = no_pairs (λ a b. a ≢ b);

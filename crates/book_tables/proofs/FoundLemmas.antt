@@ -1,13 +1,13 @@
 -- What is found in the rows is what the office has.
-use Rattle.std.proofs.Common.{eq-eqb, ◌≡◌, ◌≢◌, ℕ, ◌<◌, ◌≤◌, Bool, true, false, List, [], ◌∷◌, length, get_or, Option, Some, None, IsSome, refl, sym, ◌∙◌, ap, subst, arith}
-use Rattle.std.specs.Prelude.{◌&&◌, ◌==◌, AllPairs, bytes_eq, filter, find, is_none, is_some, map, option_and_then, option_map, slice_get}
-use Rattle.std.specs.Option.{option_to_list}
+use Rattle.std.proofs.Common.{eq-eqb, ◌≡◌, ◌≢◌, ℕ, zero, suc, ◌<◌, ◌≤◌, Bool, true, false, List, [], ◌∷◌, length, get_or, Option, Some, None, IsSome, refl, sym, ◌∙◌, ap, subst, arith}
+use Rattle.std.specs.Prelude.{◌&&◌, ◌==◌, AllPairs, bytes_eq, filter, find, is_none, is_some, map, option_and_then, option_map, slice_get, unwrap_or}
+use Rattle.std.specs.Option.{option_or, option_to_list}
 use Rattle.std.proofs.lemmas.Bool.{false≢true}
 use Rattle.std.proofs.lemmas.Bool.Decides.{nat_tests}
 use Rattle.std.proofs.lemmas.Option.{slice_get-get_or, slice_get_within}
 use Rattle.std.proofs.lemmas.Slice.Eq.{bytes_eq-Decides}
 use Rattle.tariff.specs.declared.step.Step.{Step}
-use Rattle.vend_core.specs.Lookup.{open_shift, sale_of_ref}
+use Rattle.vend_core.specs.Lookup.{latest, open_shift, sale_of_ref, steps_on}
 use Rattle.vend_core.specs.Office.{AreNumbered, IsBefore, IsOffice, NotBothOpen, Office}
 use Rattle.vend_core.specs.declared.meter.Meter.{Meter}
 use Rattle.vend_core.specs.declared.sale.Sale.{Sale}
@@ -208,3 +208,18 @@ found_ref o operator order_ref office =
     let in_b = parts (bytes_eq b.operator operator) (bytes_eq b.order_ref order_ref) q in
     before.order_ref (same_bytes a.operator operator in_a.0 ∙ sym (same_bytes b.operator operator in_b.0))
     (same_bytes a.order_ref order_ref in_a.1 ∙ sym (same_bytes b.order_ref order_ref in_b.1))) office.before)
+
+-- ---- steps of later days
+
+none_latest : (dated : ℕ → Option (List Step)) → ((day : ℕ) → dated day ≡ None) → (day : ℕ) → latest dated day ≡ None
+unfolding latest
+none_latest dated none zero = none zero
+none_latest dated none (suc day) =
+    let here = none (suc day) in
+    let before = none_latest dated none day in
+    ap (λ (found : Option (List Step)). option_or found (latest dated day)) here ∙ before
+
+pub first_steps : (rows : Rows) (o : Office) → AreMembersOf rows o → (name : List ℕ) (day : ℕ) → steps_on o name day ≡ unwrap_or (o.tariffs name) []
+first_steps rows o are name day =
+    let none = none_latest (o.dated_steps name) (are.dated_steps name) day in
+    ap (λ (found : Option (List Step)). unwrap_or (option_or found (o.tariffs name)) []) none

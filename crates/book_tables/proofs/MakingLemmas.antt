@@ -181,10 +181,13 @@ module _ (old mid new : State) (room : HasRoom old) (shows : StaysInside old mid
   pub makes_office : MakesOffice old new
   makes_office = record {
     inside = stays_then old mid new shows put.changed.inside;
-    empty = holds;
-    stands = stands_present new.now empty_office empty_is_office (no_rows, holds, no_members);
-    schema = put.changed.schema ∙ m.schema;
-    places = λ at t there. subst (λ (s : Schema). Has s at t) (sym put.changed.schema) (m.places at t there);
-    rows = rows_stay;
-    sound = put.changed.sound;
+    begins = record {
+      untaken = (room shows.was_open).1;
+      empty = holds;
+      stands = stands_present new.now empty_office empty_is_office (no_rows, holds, no_members);
+      schema = put.changed.schema ∙ m.schema;
+      places = λ at t there. subst (λ (s : Schema). Has s at t) (sym put.changed.schema) (m.places at t there);
+      rows = rows_stay;
+      sound = put.changed.sound;
+    };
   }

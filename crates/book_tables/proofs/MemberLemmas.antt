@@ -1,5 +1,5 @@
 -- The rows tell the office whose members they are.
-use Rattle.std.proofs.Common.{◌≡◌, ℕ, List, Option, Some, None, IsSome, refl, sym, ◌∙◌, subst, [], ◌∷◌, suc}
+use Rattle.std.proofs.Common.{◌≡◌, ℕ, List, Option, Some, None, IsSome, refl, sym, ◌∙◌, ap, subst, [], ◌∷◌, suc}
 use Rattle.std.proofs.Math.Path.{fun_ext}
 use Rattle.std.specs.Prelude.{slice_get}
 use Rattle.std.proofs.lemmas.Option.{same_Some}
@@ -7,7 +7,7 @@ use Rattle.tariff.specs.declared.step.Step.{Step}
 use Rattle.vend_core.specs.Office.{Office}
 use Rattle.vend_core.specs.declared.meter.Meter.{Meter}
 use Rattle.book_tables.specs.Rows.{Rows, StepRow}
-use Rattle.book_tables.specs.Stands.{AreMembersOf}
+use Rattle.book_tables.specs.Stands.{AreMembersOf, is_base_of}
 
 -- of each place the two lists have the same
 pub same_places : {X : Type 0} (xs ys : List X) → ((i : ℕ) (x : X) → slice_get xs i ≡ Some x → slice_get ys i ≡ Some x)
@@ -51,9 +51,14 @@ one_meter rows o p these those number None e (Some b) f =
 pub one_office : (rows : Rows) (o p : Office) → AreMembersOf rows o → AreMembersOf rows p → o ≡ p
 one_office rows o p these those =
     let tariffs : o.tariffs ≡ p.tariffs = fun_ext (λ name. one_tariff rows o p these those name (o.tariffs name) refl (p.tariffs name) refl) in
-    let meters : o.meters ≡ p.meters = fun_ext (λ number. one_meter rows o p these those number (o.meters number) refl (p.meters number) refl) in
-    let O : Office = record { tariffs = o.tariffs; meters = o.meters; shifts = o.shifts; sales = o.sales } in
-    let P : Office = record { tariffs = p.tariffs; meters = p.meters; shifts = p.shifts; sales = p.sales } in
+    let meter_of : (number : List ℕ) → o.meters number ≡ p.meters number = λ number. one_meter rows o p these those number (o.meters number) refl (p.meters number) refl in
+    let meters : o.meters ≡ p.meters = fun_ext meter_of in
+    let bases : o.bases ≡ p.bases = fun_ext (λ number. fun_ext (λ base.
+    these.bases number base ∙ ap (λ (found : Option Meter). is_base_of found base) (meter_of number) ∙ sym (those.bases number base))) in
+    let dated : o.dated_steps ≡ p.dated_steps = fun_ext (λ name. fun_ext (λ day.
+    these.dated_steps name day ∙ sym (those.dated_steps name day))) in
+    let O : Office = record { tariffs = o.tariffs; meters = o.meters; bases = o.bases; dated_steps = o.dated_steps; shifts = o.shifts; sales = o.sales } in
+    let P : Office = record { tariffs = p.tariffs; meters = p.meters; bases = p.bases; dated_steps = p.dated_steps; shifts = p.shifts; sales = p.sales } in
     let shifts = sym these.shifts ∙ those.shifts in
     let sales = sym these.sales ∙ those.sales in
     let same : O ≡ P = cc in

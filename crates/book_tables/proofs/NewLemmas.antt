@@ -1,17 +1,21 @@
 -- What a decision adds is not there yet.
 use Rattle.std.proofs.Common.{◌≡◌, ℕ, ◌+◌, Bool, true, false, List, [], ◌∷◌, length, Option, Some, None, refl, subst}
-use Rattle.std.specs.Prelude.{◌&&◌, ◌==◌, Result, Ok, Err, bytes_eq, if◌then◌else◌, is_some}
+use Rattle.std.specs.Prelude.{◌&&◌, ◌==◌, Result, Ok, Err, bytes_eq, if◌then◌else◌, is_some, nat_lt}
 use Rattle.std.specs.Option.{ok_or}
 use Rattle.std.proofs.lemmas.Option.{none-some, same_Some}
+use Rattle.sts_fields.specs.Base.{base_date, base_eq}
+use Rattle.sts_fields.specs.Day.{day_at}
+use Rattle.sts_fields.specs.declared.base.Base.{Base}
 use Rattle.sts_fields.specs.Tid.{fresh_after, minute_of}
 use Rattle.tariff.specs.Purchase.{purchase_of}
 use Rattle.tariff.specs.StepsEq.{steps_eq}
 use Rattle.tariff.specs.declared.step.Step.{Step}
-use Rattle.vend_core.specs.Decision.{◌>>=◌, MeterAccount, add_meter, add_rows, add_tariff, at_row, account_of, decision, decision_of, meter_eq, new_rows, next_number, open_a_shift, or_refusal, sell_once, set_tariff, unchanged}
+use Rattle.vend_core.specs.Decision.{◌>>=◌, MeterAccount, account_of, add_meter, add_rows, add_steps, add_tariff, at_row, changed, decision, decision_of, is_earlier, meter_eq, move_base, new_rows, next_number, open_a_shift, or_refusal, sell_once, set_tariff, unchanged}
 use Rattle.vend_core.specs.Edits.{office_after, with_row}
 use Rattle.vend_core.specs.Lookup.{open_shift, sale_numbered, sale_of_ref, shift_numbered}
 use Rattle.vend_core.specs.Office.{Office}
 use Rattle.vend_core.specs.declared.answer.Answer.{Answer}
+use Rattle.vend_core.specs.declared.answer.Answer.TheVariants as answers
 use Rattle.vend_core.specs.declared.change.Change.{Change}
 use Rattle.vend_core.specs.declared.change.Edit.{Edit}
 use Rattle.vend_core.specs.declared.change.Edit.TheVariants as edits
@@ -59,6 +63,11 @@ meter_is_new o number m (Some there) has e = either o (meter_eq there m) _ _ (no
 meter_is_new o number m None true e = one o (edits.AddMeter number m) e
 meter_is_new o number m None false e = tt
 
+steps_are_new : (o : Office) (name : List ℕ) (day : ℕ) (steps : List Step) (today : ℕ) (has : Bool) (there : Option (List Step)) → o.dated_steps name day ≡ there → AddsNew o (add_steps name day steps today has there)
+steps_are_new o name day steps today false there e = tt
+steps_are_new o name day steps today true (Some there) e = either o (steps_eq there steps) _ _ (nothing o) tt
+steps_are_new o name day steps today true None e = either o (nat_lt today day) _ _ (one o (edits.AddSteps name day steps) e) tt
+
 -- ---- the rows of an import
 
 abbrev AllNew : Office → Result (List Row) Refusal → Type 0
@@ -66,9 +75,9 @@ AllNew o (Ok new) = AreNewRows new o
 AllNew o (Err refusal) = Unit {0}
 
 -- a row is decided, and then the rest
-abbrev row_first : Office → ℕ → Row → List Row → Result Change Refusal → Result (List Row) Refusal
-row_first o number row rest decided =
-    at_row number decided >>= λ change. new_rows (office_after o (Ok change)) (number + 1) rest >>= λ new. Ok (if is_some change.edit then row ∷ new else new)
+abbrev row_first : Office → ℕ → ℕ → Row → List Row → Result Change Refusal → Result (List Row) Refusal
+row_first o today number row rest decided =
+    at_row number decided >>= λ change. new_rows (office_after o (Ok change)) today (number + 1) rest >>= λ new. Ok (if is_some change.edit then row ∷ new else new)
 
 with_row_first : (o : Office) (row : Row) (r : Result (List Row) Refusal) → IsNewRow row o → AllNew (with_row row o) r → AllNew o (r >>= λ new. Ok (row ∷ new))
 with_row_first o row (Ok new) first rest = (first, rest)
@@ -78,29 +87,43 @@ as_they_are : (o : Office) (r : Result (List Row) Refusal) → AllNew o r → Al
 as_they_are o (Ok new) rest = rest
 as_they_are o (Err refusal) rest = tt
 
-there_already : (o : Office) (number : ℕ) (row : Row) (rest : List Row) (b : Bool) (answer : Answer) → AllNew o (new_rows o (number + 1) rest) → AllNew o (row_first o number row rest (if b then unchanged answer else Err refusals.Differs))
-there_already o number row rest true answer all = as_they_are o (new_rows o (number + 1) rest) all
-there_already o number row rest false answer all = tt
+-- the rest of an import's rows are new, in whatever office they come
+abbrev RestIsNew : ℕ → ℕ → List Row → Type 0
+RestIsNew today number rest = (p : Office) → AllNew p (new_rows p today (number + 1) rest)
 
-tariff_first : (o : Office) (number : ℕ) (name : List ℕ) (steps : List Step) (rest : List Row) (there : Option (List Step)) → o.tariffs name ≡ there → ((p : Office) → AllNew p (new_rows p (number + 1) rest)) → AllNew o (row_first o number (kinds.Tariff name steps) rest (add_tariff name steps there))
-tariff_first o number name steps rest None e all =
-    let row = kinds.Tariff name steps in
-    with_row_first o row (new_rows (with_row row o) (number + 1) rest) e (all (with_row row o))
-tariff_first o number name steps rest (Some there) e all = there_already o number (kinds.Tariff name steps) rest (steps_eq there steps) _ (all o)
+there_already : (o : Office) (today number : ℕ) (row : Row) (rest : List Row) (b : Bool) (answer : Answer) → RestIsNew today number rest → AllNew o (row_first o today number row rest (if b then unchanged answer else Err refusals.Differs))
+there_already o today number row rest true answer all = as_they_are o (new_rows o today (number + 1) rest) (all o)
+there_already o today number row rest false answer all = tt
 
-meter_first : (o : Office) (number : ℕ) (of : List ℕ) (m : Meter) (rest : List Row) (there : Option Meter) (has : Bool) → o.meters of ≡ there → ((p : Office) → AllNew p (new_rows p (number + 1) rest)) → AllNew o (row_first o number (kinds.Meter of m) rest (add_meter of m there has))
-meter_first o number of m rest (Some there) has e all = there_already o number (kinds.Meter of m) rest (meter_eq there m) _ (all o)
-meter_first o number of m rest None true e all =
-    let row = kinds.Meter of m in
-    with_row_first o row (new_rows (with_row row o) (number + 1) rest) e (all (with_row row o))
-meter_first o number of m rest None false e all = tt
+new_first : (o : Office) (today number : ℕ) (row : Row) (rest : List Row) → IsNewRow row o → RestIsNew today number rest → AllNew o (new_rows (with_row row o) today (number + 1) rest >>= λ new. Ok (row ∷ new))
+new_first o today number row rest new all = with_row_first o row (new_rows (with_row row o) today (number + 1) rest) new (all (with_row row o))
 
-all_new : (rows : List Row) (o : Office) (number : ℕ) → AllNew o (new_rows o number rows)
-all_new [] o number = tt
-all_new (kinds.Tariff name steps ∷ rest) o number =
-    tariff_first o number name steps rest (o.tariffs name) refl (λ p. all_new rest p (number + 1))
-all_new (kinds.Meter of m ∷ rest) o number =
-    meter_first o number of m rest (o.meters of) (is_some (o.tariffs m.tariff)) refl (λ p. all_new rest p (number + 1))
+tariff_first : (o : Office) (today number : ℕ) (name : List ℕ) (steps : List Step) (rest : List Row) (there : Option (List Step)) → o.tariffs name ≡ there → RestIsNew today number rest → AllNew o (row_first o today number (kinds.Tariff name steps) rest (add_tariff name steps there))
+tariff_first o today number name steps rest None e all = new_first o today number (kinds.Tariff name steps) rest e all
+tariff_first o today number name steps rest (Some there) e all = there_already o today number (kinds.Tariff name steps) rest (steps_eq there steps) _ all
+
+steps_first : (o : Office) (today number : ℕ) (name : List ℕ) (day : ℕ) (steps : List Step) (rest : List Row) (has : Bool) (there : Option (List Step)) → o.dated_steps name day ≡ there → RestIsNew today number rest → AllNew o (row_first o today number (kinds.Steps name day steps) rest (add_steps name day steps today has there))
+steps_first o today number name day steps rest false there e all = tt
+steps_first o today number name day steps rest true (Some there) e all = there_already o today number (kinds.Steps name day steps) rest (steps_eq there steps) _ all
+steps_first o today number name day steps rest true None e all = by_day (nat_lt today day)
+  where
+    by_day : (later : Bool) → AllNew o (row_first o today number (kinds.Steps name day steps) rest (if later then changed (edits.AddSteps name day steps) answers.Done else Err refusals.DayPast))
+    by_day true = new_first o today number (kinds.Steps name day steps) rest e all
+    by_day false = tt
+
+meter_first : (o : Office) (today number : ℕ) (of : List ℕ) (m : Meter) (rest : List Row) (there : Option Meter) (has : Bool) → o.meters of ≡ there → RestIsNew today number rest → AllNew o (row_first o today number (kinds.Meter of m) rest (add_meter of m there has))
+meter_first o today number of m rest (Some there) has e all = there_already o today number (kinds.Meter of m) rest (meter_eq there m) _ all
+meter_first o today number of m rest None true e all = new_first o today number (kinds.Meter of m) rest e all
+meter_first o today number of m rest None false e all = tt
+
+all_new : (rows : List Row) (o : Office) (today number : ℕ) → AllNew o (new_rows o today number rows)
+all_new [] o today number = tt
+all_new (kinds.Tariff name steps ∷ rest) o today number =
+    tariff_first o today number name steps rest (o.tariffs name) refl (λ p. all_new rest p today (number + 1))
+all_new (kinds.Steps name day steps ∷ rest) o today number =
+    steps_first o today number name day steps rest (is_some (o.tariffs name)) (o.dated_steps name day) refl (λ p. all_new rest p today (number + 1))
+all_new (kinds.Meter of m ∷ rest) o today number =
+    meter_first o today number of m rest (o.meters of) (is_some (o.tariffs m.tariff)) refl (λ p. all_new rest p today (number + 1))
 
 import_is_new : (o : Office) (r : Result (List Row) Refusal) → AllNew o r → AddsNew o (r >>= add_rows)
 import_is_new o (Ok []) all = nothing o
@@ -113,6 +136,13 @@ set_is_new : (o : Office) (number name : List ℕ) (there : Option Meter) (has :
 set_is_new o number name None has = tt
 set_is_new o number name (Some m) false = tt
 set_is_new o number name (Some m) true = either o (bytes_eq m.tariff name) _ _ (nothing o) (one o (edits.SetTariff number name) tt)
+
+move_is_new : (o : Office) (number : List ℕ) (base : Base) (moment : ℕ) (there : Option Meter) → AddsNew o (move_base number base moment there)
+move_is_new o number base moment None = tt
+move_is_new o number base moment (Some m) =
+    either o (base_eq m.base base) _ _ (nothing o)
+    (either o (is_earlier base m.base) _ _ tt
+    (either o (nat_lt moment (base_date base)) _ _ tt (one o (edits.MoveBase number base) tt)))
 
 shift_is_new : (o : Office) (moment : ℕ) (operator : List ℕ) (there : Option Shift) (count : ℕ) → AddsNew o (open_a_shift moment operator there count)
 shift_is_new o moment operator (Some there) count = tt
@@ -132,8 +162,12 @@ sale_is_new forward o moment nibble order None shift meter count =
 request_is_new : (forward : ℕ → ℕ → ℕ) (o : Office) (moment nibble : ℕ) (request : Request) → AddsNew o (decision_of forward o moment nibble request)
 request_is_new forward o moment nibble (requests.AddTariff name steps) = tariff_is_new o name steps (o.tariffs name) refl
 request_is_new forward o moment nibble (requests.AddMeter number m) = meter_is_new o number m (o.meters number) (is_some (o.tariffs m.tariff)) refl
-request_is_new forward o moment nibble (requests.Import rows) = import_is_new o (new_rows o 1 rows) (all_new rows o 1)
+request_is_new forward o moment nibble (requests.AddSteps name day steps) =
+    steps_are_new o name day steps (day_at moment) (is_some (o.tariffs name)) (o.dated_steps name day) refl
+request_is_new forward o moment nibble (requests.Import rows) =
+    import_is_new o (new_rows o (day_at moment) 1 rows) (all_new rows o (day_at moment) 1)
 request_is_new forward o moment nibble (requests.SetTariff number name) = set_is_new o number name (o.meters number) (is_some (o.tariffs name))
+request_is_new forward o moment nibble (requests.MoveBase number base) = move_is_new o number base moment (o.meters number)
 request_is_new forward o moment nibble (requests.OpenShift operator) = shift_is_new o moment operator (open_shift o operator) (length o.shifts)
 request_is_new forward o moment nibble (requests.CloseShift operator) =
     next o (ok_or (open_shift o operator) refusals.NoShift) _ (λ s. one o (edits.CloseShift _ _) tt)

@@ -1,6 +1,6 @@
 -- The tables of an office that are made in a database, beside whatever other tables it has.
 use Rattle.std.specs.Prelude.{◌≡◌, ℕ, true, List, fold, IsTrue}
-use Rattle.sqlite.specs.Effect.{IsDatabase}
+use Rattle.sqlite.specs.Effect.{Database, IsDatabase}
 use Rattle.sqlite.specs.State.{Shows, State}
 use Rattle.sqlite.specs.Table.{Table}
 use Rattle.sqlite_catalog.specs.Change.{KeepsRows}
@@ -20,16 +20,20 @@ office_tables = kept_tables (upto present_format)
 abbrev pub HasRoom : State → Type 0
 HasRoom s = IsTrue s.is_open → IsDatabase s.now × IsUntaken s.now.schema
 
--- The office's tables are made, and no other table is changed.
-pub record MakesOffice (old new : State) : Type 0 where
-  -- the connection is in its transaction, and nothing is committed
-  pub inside : Shows old new new.now old.committed true
-  -- the tables hold the number of their format and nothing else: the empty office
-  pub empty : Holds new.now no_rows
-  pub stands : StandsFor new.now empty_office
+-- None of the names was taken. Now the office's tables are there, and hold nothing but the number of
+-- their format: the empty office. Whatever else was there stays.
+pub record BeginsOffice (old new : Database) : Type 0 where
+  pub untaken : IsUntaken old.schema
+  pub empty : Holds new no_rows
+  pub stands : StandsFor new empty_office
   -- nothing but the six tables is added to the schema
-  pub schema : new.now.schema ≡ fold made old.now.schema office_tables
+  pub schema : new.schema ≡ fold made old.schema office_tables
   -- each table that was there has its place, its definition and its rows
-  pub places : (at : ℕ) (t : Table) → Has old.now.schema at t → Has new.now.schema at t
-  pub rows : KeepsRows old.now.schema.tables old.now.trees new.now.trees
-  pub sound : IsDatabase new.now
+  pub places : (at : ℕ) (t : Table) → Has old.schema at t → Has new.schema at t
+  pub rows : KeepsRows old.schema.tables old.trees new.trees
+  pub sound : IsDatabase new
+
+-- The office begins inside a transaction: the connection is in it, and nothing is committed.
+pub record MakesOffice (old new : State) : Type 0 where
+  pub inside : Shows old new new.now old.committed true
+  pub begins : BeginsOffice old.now new.now

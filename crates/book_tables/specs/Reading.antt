@@ -1,8 +1,8 @@
 -- What a connection has of the office's tables, and why a read or a write of them fails.
-use Rattle.std.specs.Prelude.{◌≡◌, ◌⊎◌, ℕ, List, Result, IsTrue}
+use Rattle.std.specs.Prelude.{◌≡◌, ◌⊎◌, ℕ, List, Result, IfOk, IsTrue}
 use Rattle.sqlite.specs.Effect.{Database}
 use Rattle.sqlite.specs.Order.{Row}
-use Rattle.sqlite.specs.State.{IsUnchanged, State}
+use Rattle.sqlite.specs.State.{HasCleanDisk, IsUnchanged, State}
 use Rattle.sqlite.specs.declared.error.Error.TheVariants.{SqliteFailure}
 use Rattle.sqlite.specs.declared.error.ErrorCode.TheVariants.{OutOfMemory}
 use Rattle.sqlite_schema.specs.declared.command.Command.{Command}
@@ -46,6 +46,12 @@ HasTable k s = IsTrue s.is_open → IsKept s.now.schema k
 
 abbrev pub HasTableRows : Kept → State → Rows → Type 0
 HasTableRows k s rows = IsTrue s.is_open → TableHolds k s.now rows
+
+-- what is read says this of the rows of an office, where the table has them
+abbrev pub SaysOfTable : {T : Type 0} → Kept → (Rows → T → Type 0) → State → State
+    → Result T TableError → Type 0
+SaysOfTable k Says old new result =
+    HasCleanDisk new → (rows : Rows) → HasTableRows k old rows → AreOfOffice rows → IfOk result (Says rows)
 
 -- the table is only read, wherever it stands, and whatever other tables there are
 abbrev pub ReadsTable : {T : Type 0} → Kept → State → State → Result T TableError → Type 0

@@ -1,6 +1,7 @@
 -- The office's six tables, as their texts define them, each by the number of its tree.
-use Rattle.std.specs.Prelude.{ℕ, true, false, List, [], ◌∷◌, map, Option, Some, None, codes}
+use Rattle.std.specs.Prelude.{ℕ, Bool, true, false, List, [], ◌∷◌, map, Option, Some, None, codes}
 use Rattle.sqlite.specs.Collation.TheVariants.{Binary}
+use Rattle.sqlite.specs.Kind.{Kind}
 use Rattle.sqlite.specs.Kind.TheVariants.{Integer, Text}
 use Rattle.sqlite.specs.Table.{Table}
 use Rattle.sqlite_schema.specs.declared.schema.Action.TheVariants.{NoAction}
@@ -9,42 +10,26 @@ use Rattle.sqlite_schema.specs.declared.schema.Reference.{Reference}
 use Rattle.sqlite.specs.declared.types.Value.TheVariants.{Null}
 use Rattle.sqlite_value.specs.declared.keys.Order.{Order}
 
+-- a column of a kind of values, which may be NULL or not
+abbrev pub column_of : Kind → Bool → List ℕ → Column
+column_of kind not_null name = record {
+  name = name;
+  kind = kind;
+  is_strict = true;
+  not_null = not_null;
+  default = Null;
+  collation = Binary;
+}
+
 -- a column of whole numbers, one of texts, and one of whole numbers that may be NULL
 abbrev pub number_column : List ℕ → Column
-number_column name =
-    record {
-      name = name;
-      kind = Integer;
-      is_strict = true;
-      not_null = true;
-      default =
-          Null;
-      collation = Binary;
-    }
+number_column name = column_of Integer true name
 
 abbrev pub text_column : List ℕ → Column
-text_column name =
-    record {
-      name = name;
-      kind = Text;
-      is_strict = true;
-      not_null = true;
-      default =
-          Null;
-      collation = Binary;
-    }
+text_column name = column_of Text true name
 
 abbrev pub optional_column : List ℕ → Column
-optional_column name =
-    record {
-      name = name;
-      kind = Integer;
-      is_strict = true;
-      not_null = false;
-      default =
-          Null;
-      collation = Binary;
-    }
+optional_column name = column_of Integer false name
 
 -- the column that is the number of the row
 abbrev pub key_column : List ℕ → Column

@@ -1,21 +1,31 @@
 -- What a write inside a transaction makes of the rows, and what it leaves as it was.
-use Rattle.std.specs.Prelude.{◌≡◌, ◌≢◌, ℕ, ◌+◌, true, List, [], ◌∷◌, ◌++◌, codes, length, map, AllPairs}
+use Rattle.std.specs.Prelude.{◌≡◌, ◌≢◌, ℕ, ◌+◌, true, List, [], ◌∷◌, ◌++◌, codes, length, map, AllPairs, Result, IfErr, OnOk}
 use Rattle.std.specs.List.{AllByRecursion}
 use Rattle.sqlite.specs.Effect.{IsDatabase}
-use Rattle.sqlite.specs.State.{Shows, State}
-use Rattle.vend_core.specs.PlainRows.{row_with_tariff}
+use Rattle.sqlite.specs.State.{HasCleanDisk, Shows, State}
 use Rattle.tariff.specs.declared.step.Step.{Step}
 use Rattle.vend_core.specs.declared.change.Edit.TheVariants.{AddTariff}
 use Rattle.vend_core.specs.declared.meter.Meter.{Meter}
 use Rattle.sqlite_rules.specs.Edit.{IsNoIndex}
 use Rattle.sqlite_schema.specs.declared.schema.Schema.{Schema}
+use Rattle.one_table.specs.InTransaction.{KeepsTransaction}
 use Rattle.one_table.specs.Standing.{tree_in}
 use Rattle.vend_core.specs.Office.{AreNumbered}
 use Rattle.vend_core.specs.declared.sale.Sale.{Sale}
 use Rattle.vend_core.specs.declared.shift.Shift.{Shift}
-use Rattle.book_tables.specs.Edited.{edited, shift_closed}
+use Rattle.book_tables.specs.Edited.{edited, row_with_tariff, shift_closed}
 use Rattle.book_tables.specs.Holds.{Holds}
+use Rattle.book_tables.specs.Reading.{FailsToStore, HasTables}
 use Rattle.book_tables.specs.Rows.{Rows, StepRow}
+use Rattle.book_tables.specs.declared.error.TableError.{TableError}
+
+-- A write of the office's tables inside a transaction: what it makes of them, where they are there;
+-- what it leaves, like any statement; and why it fails.
+pub record WritesTables (Makes : State → State → Type 0) (old new : State)
+    (result : Result (Unit {0}) TableError) : Type 0 where
+  pub made : HasCleanDisk new → HasTables old → OnOk result (Makes old new)
+  pub transaction : KeepsTransaction old new result
+  pub refused : HasCleanDisk new → HasTables old → IfErr result (FailsToStore old new)
 
 -- the tree is of no table of these names
 abbrev pub IsOfNone : Schema → List (List ℕ) → ℕ → Type 0

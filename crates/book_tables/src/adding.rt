@@ -1,11 +1,11 @@
 //! The statements that add rows to the tables.
 
-ghost use Rattle.std.specs.Prelude.{◌≡◌, ◌≤◌, length, IfErr, OnOk};
+ghost use Rattle.std.specs.Prelude.{◌≡◌, ◌≤◌, length, OnOk};
 ghost use Rattle.sqlite.specs.State.{HasCleanDisk};
 ghost use Rattle.sqlite.specs.Held.{state};
 ghost use Rattle.one_table.specs.InTransaction.{KeepsTransaction};
-ghost use Rattle.book_tables.specs.Reading.{FailsToStore, HasTables};
-ghost use Rattle.book_tables.specs.Writing.{AddsMeter, AddsName, AddsSale, AddsShift, AddsStep, AddsTariff};
+ghost use Rattle.book_tables.specs.Reading.{HasTables};
+ghost use Rattle.book_tables.specs.Writing.{AddsMeter, AddsName, AddsSale, AddsShift, AddsStep, AddsTariff, WritesTables};
 
 use crate::error::TableError;
 use crate::storing::put;
@@ -23,16 +23,8 @@ use vend_core::{Meter, MeterNo, Sale, Shift, TariffName};
 /// had, a shift or a meter that is not there; want of memory, and the disk.
 pub fn add_sale<S: Alter>(tx: &mut Transaction<'_, S>, sale: &Sale) -> Result<(), TableError>
     ensures same_reference { tx.new.conn.ghost_name ≡ tx.old.conn.ghost_name }
-    ensures added { HasCleanDisk (state S.Store tx.new.conn.now)
-        → HasTables (state S.Store tx.old.conn.now)
-        → OnOk result (AddsSale sale.now
-        (state S.Store tx.old.conn.now) (state S.Store tx.new.conn.now)) }
-    ensures transaction { KeepsTransaction
+    ensures writes { WritesTables (AddsSale sale.now)
         (state S.Store tx.old.conn.now) (state S.Store tx.new.conn.now) result }
-    ensures refused { HasCleanDisk (state S.Store tx.new.conn.now)
-        → HasTables (state S.Store tx.old.conn.now)
-        → IfErr result (FailsToStore
-        (state S.Store tx.old.conn.now) (state S.Store tx.new.conn.now)) }
 {
     put(tx, NEW_SALE, &sale_values(sale))
 }
@@ -43,16 +35,8 @@ pub fn add_sale<S: Alter>(tx: &mut Transaction<'_, S>, sale: &Sale) -> Result<()
 /// What the database refuses: a number that is taken; want of memory, and the disk.
 pub fn add_shift<S: Alter>(tx: &mut Transaction<'_, S>, shift: &Shift) -> Result<(), TableError>
     ensures same_reference { tx.new.conn.ghost_name ≡ tx.old.conn.ghost_name }
-    ensures added { HasCleanDisk (state S.Store tx.new.conn.now)
-        → HasTables (state S.Store tx.old.conn.now)
-        → OnOk result (AddsShift shift.now
-        (state S.Store tx.old.conn.now) (state S.Store tx.new.conn.now)) }
-    ensures transaction { KeepsTransaction
+    ensures writes { WritesTables (AddsShift shift.now)
         (state S.Store tx.old.conn.now) (state S.Store tx.new.conn.now) result }
-    ensures refused { HasCleanDisk (state S.Store tx.new.conn.now)
-        → HasTables (state S.Store tx.old.conn.now)
-        → IfErr result (FailsToStore
-        (state S.Store tx.old.conn.now) (state S.Store tx.new.conn.now)) }
 {
     put(tx, NEW_SHIFT, &shift_values(shift))
 }
@@ -68,16 +52,8 @@ pub fn add_meter<S: Alter>(
     meter: &Meter,
 ) -> Result<(), TableError>
     ensures same_reference { tx.new.conn.ghost_name ≡ tx.old.conn.ghost_name }
-    ensures added { HasCleanDisk (state S.Store tx.new.conn.now)
-        → HasTables (state S.Store tx.old.conn.now)
-        → OnOk result (AddsMeter number.now meter.now
-        (state S.Store tx.old.conn.now) (state S.Store tx.new.conn.now)) }
-    ensures transaction { KeepsTransaction
+    ensures writes { WritesTables (AddsMeter number.now meter.now)
         (state S.Store tx.old.conn.now) (state S.Store tx.new.conn.now) result }
-    ensures refused { HasCleanDisk (state S.Store tx.new.conn.now)
-        → HasTables (state S.Store tx.old.conn.now)
-        → IfErr result (FailsToStore
-        (state S.Store tx.old.conn.now) (state S.Store tx.new.conn.now)) }
 {
     let secret = key_text(meter.key);
     put(tx, NEW_METER, &meter_values(number, meter, &secret))
@@ -89,16 +65,8 @@ pub fn add_meter<S: Alter>(
 /// What the database refuses: a name that is taken; want of memory, and the disk.
 pub fn add_name<S: Alter>(tx: &mut Transaction<'_, S>, name: &TariffName) -> Result<(), TableError>
     ensures same_reference { tx.new.conn.ghost_name ≡ tx.old.conn.ghost_name }
-    ensures added { HasCleanDisk (state S.Store tx.new.conn.now)
-        → HasTables (state S.Store tx.old.conn.now)
-        → OnOk result (AddsName name.now
-        (state S.Store tx.old.conn.now) (state S.Store tx.new.conn.now)) }
-    ensures transaction { KeepsTransaction
+    ensures writes { WritesTables (AddsName name.now)
         (state S.Store tx.old.conn.now) (state S.Store tx.new.conn.now) result }
-    ensures refused { HasCleanDisk (state S.Store tx.new.conn.now)
-        → HasTables (state S.Store tx.old.conn.now)
-        → IfErr result (FailsToStore
-        (state S.Store tx.old.conn.now) (state S.Store tx.new.conn.now)) }
 {
     put(tx, NEW_TARIFF, &tariff_values(name))
 }
@@ -115,16 +83,8 @@ pub fn add_step<S: Alter>(
     step: Step,
 ) -> Result<(), TableError>
     ensures same_reference { tx.new.conn.ghost_name ≡ tx.old.conn.ghost_name }
-    ensures added { HasCleanDisk (state S.Store tx.new.conn.now)
-        → HasTables (state S.Store tx.old.conn.now)
-        → OnOk result (AddsStep (record { tariff = name.now; place = place; step = step })
-        (state S.Store tx.old.conn.now) (state S.Store tx.new.conn.now)) }
-    ensures transaction { KeepsTransaction
+    ensures writes { WritesTables (AddsStep (record { tariff = name.now; place = place; step = step }))
         (state S.Store tx.old.conn.now) (state S.Store tx.new.conn.now) result }
-    ensures refused { HasCleanDisk (state S.Store tx.new.conn.now)
-        → HasTables (state S.Store tx.old.conn.now)
-        → IfErr result (FailsToStore
-        (state S.Store tx.old.conn.now) (state S.Store tx.new.conn.now)) }
 {
     put(tx, NEW_STEP, &step_values(name, place, step))
 }

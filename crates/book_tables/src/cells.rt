@@ -181,9 +181,7 @@ pub(crate) fn key_at(row: &Row, at: usize) -> Option<u64>
 pub(crate) fn digits_at(row: &Row, at: usize) -> Option<[u8; 20]>
     ensures { ReadsBack Text AreTwentyDigits (column row.now at) result }
 {
-    let Some(text) = text_at(row, at) else {
-        return None;
-    };
+    let text = text_at(row, at)?;
     if text.len() != 20 || !text.iter().all(|byte| byte.is_ascii_digit()) {
         return None;
     }

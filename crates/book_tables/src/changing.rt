@@ -1,11 +1,8 @@
 //! The statements that change rows of the tables.
 
-ghost use Rattle.std.specs.Prelude.{◌≡◌, IfErr, OnOk};
-ghost use Rattle.sqlite.specs.State.{HasCleanDisk};
+ghost use Rattle.std.specs.Prelude.{◌≡◌};
 ghost use Rattle.sqlite.specs.Held.{state};
-ghost use Rattle.one_table.specs.InTransaction.{KeepsTransaction};
-ghost use Rattle.book_tables.specs.Reading.{FailsToStore, HasTables};
-ghost use Rattle.book_tables.specs.Writing.{ClosesShift, SetsTariff};
+ghost use Rattle.book_tables.specs.Writing.{ClosesShift, SetsTariff, WritesTables};
 
 use crate::error::TableError;
 use crate::storing::set;
@@ -26,16 +23,8 @@ pub fn close_shift<S: Alter>(
     moment: Moment,
 ) -> Result<(), TableError>
     ensures same_reference { tx.new.conn.ghost_name ≡ tx.old.conn.ghost_name }
-    ensures changed { HasCleanDisk (state S.Store tx.new.conn.now)
-        → HasTables (state S.Store tx.old.conn.now)
-        → OnOk result (ClosesShift number moment
-        (state S.Store tx.old.conn.now) (state S.Store tx.new.conn.now)) }
-    ensures transaction { KeepsTransaction
+    ensures writes { WritesTables (ClosesShift number moment)
         (state S.Store tx.old.conn.now) (state S.Store tx.new.conn.now) result }
-    ensures refused { HasCleanDisk (state S.Store tx.new.conn.now)
-        → HasTables (state S.Store tx.old.conn.now)
-        → IfErr result (FailsToStore
-        (state S.Store tx.old.conn.now) (state S.Store tx.new.conn.now)) }
 {
     set(tx, SHIFT_CLOSED, &[whole(number), seconds(moment)])
 }
@@ -50,16 +39,8 @@ pub fn set_tariff<S: Alter>(
     name: &TariffName,
 ) -> Result<(), TableError>
     ensures same_reference { tx.new.conn.ghost_name ≡ tx.old.conn.ghost_name }
-    ensures changed { HasCleanDisk (state S.Store tx.new.conn.now)
-        → HasTables (state S.Store tx.old.conn.now)
-        → OnOk result (SetsTariff number.now name.now
-        (state S.Store tx.old.conn.now) (state S.Store tx.new.conn.now)) }
-    ensures transaction { KeepsTransaction
+    ensures writes { WritesTables (SetsTariff number.now name.now)
         (state S.Store tx.old.conn.now) (state S.Store tx.new.conn.now) result }
-    ensures refused { HasCleanDisk (state S.Store tx.new.conn.now)
-        → HasTables (state S.Store tx.old.conn.now)
-        → IfErr result (FailsToStore
-        (state S.Store tx.old.conn.now) (state S.Store tx.new.conn.now)) }
 {
     let values = [
         ValueRef::Text(number.as_bytes()),

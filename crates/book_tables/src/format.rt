@@ -24,10 +24,8 @@ fn format_of(row: &Row) -> Option<u32>
     if row.column_count() != 2 {
         return None;
     }
-    match cells::between_at(row, 0, 1, 1) {
-        Some(_) => cells::word_at(row, 1),
-        None => None,
-    }
+    cells::between_at(row, 0, 1, 1)?;
+    cells::word_at(row, 1)
 }
 
 // What a row of the table tells: a format, or none.

@@ -1,13 +1,13 @@
 //! What holds of the office's tables, whatever statement is run on them.
 
-ghost use Rattle.std.specs.Prelude.{◌≡◌, ◌⊎◌, ◌≤◌, ◌<◌, ◌&&◌, ◌==◌, ℕ, List, Option, None, Some, All, Ok, bytes_eq, filter, is_none, length, map, option_map, slice_get};
+ghost use Rattle.std.specs.Prelude.{◌≡◌, ◌⊎◌, ◌≤◌, ◌<◌, ◌&&◌, ◌==◌, ℕ, true, List, [], Option, None, Some, All, Ok, bytes_eq, filter, is_none, length, map, option_map, slice_get, unwrap_or};
 ghost use Rattle.std.specs.Option.{option_to_list};
 ghost use Rattle.sqlite.specs.Effect.{Database};
 ghost use Rattle.sqlite_resolve.specs.Compile.{table_defined_by};
 ghost use Rattle.tariff.specs.declared.step.Step.{Step};
 ghost use Rattle.vend_core.specs.Decision.{decision};
 ghost use Rattle.vend_core.specs.Edits.{applied};
-ghost use Rattle.vend_core.specs.Lookup.{open_shift, sale_numbered, sale_of_ref, shift_numbered};
+ghost use Rattle.vend_core.specs.Lookup.{open_shift, sale_numbered, sale_of_ref, shift_numbered, steps_on};
 ghost use Rattle.vend_core.specs.Office.{IsOffice, Office, empty_office};
 ghost use Rattle.vend_core.specs.declared.answer.Answer.{Answer};
 ghost use Rattle.vend_core.specs.declared.change.Edit.{Edit};
@@ -15,7 +15,7 @@ ghost use Rattle.vend_core.specs.declared.meter.Meter.{Meter};
 ghost use Rattle.vend_core.specs.declared.request.Stamped.{Stamped};
 ghost use Rattle.vend_core.specs.declared.sale.Sale.{Sale};
 ghost use Rattle.vend_core.specs.declared.shift.Shift.{Shift};
-ghost use Rattle.book_tables.specs.Edited.{IsNew, edited, no_rows};
+ghost use Rattle.book_tables.specs.Edited.{IsNew, can_hold, edited, no_rows};
 ghost use Rattle.book_tables.specs.Found.{meters_numbered, step_at, steps_at, tariffs_named};
 ghost use Rattle.book_tables.specs.Holds.{HoldsMembers, IsUntaken, StandsFor};
 ghost use Rattle.book_tables.specs.ReadBack.{ReadsBack};
@@ -78,10 +78,12 @@ pub fn stands_law()
 
 /// What the rows have of the office whose members they are, and how both change by an edit.
 pub fn members_law()
-    // An edit leaves them its members, where what it adds is new, as it is in each decision.
+    // An edit that the tables can hold leaves them its members, where what it adds is new, as it is in
+    // each decision.
     ensures empty { AreMembersOf no_rows empty_office }
     ensures edited { (rows : Rows) (o : Office) (edit : Edit)
-        → AreMembersOf rows o → IsNew edit o → AreMembersOf (edited edit rows) (applied edit o) }
+        → AreMembersOf rows o → can_hold edit ≡ true → IsNew edit o
+        → AreMembersOf (edited edit rows) (applied edit o) }
     ensures decided { (forward : ℕ → ℕ → ℕ) (o : Office) (at : Stamped) (edit : Edit) (answer : Answer)
         → decision forward o at ≡ Ok (record { edit = Some edit; answer = answer }) → IsNew edit o }
 
@@ -100,6 +102,10 @@ pub fn members_law()
         → o.tariffs name ≡ Some steps }
     ensures no_steps { (o : Office) (name : List ℕ)
         → IsOffice o → step_at o name 0 ≡ None → o.tariffs name ≡ None }
+
+    // On each day the steps of a tariff are its first ones.
+    ensures first_steps { (rows : Rows) (o : Office) (name : List ℕ) (day : ℕ)
+        → AreMembersOf rows o → steps_on o name day ≡ unwrap_or (o.tariffs name) [] }
 
     // At most one shift and one sale pass each test.
     ensures shift_numbered { (o : Office) (number : ℕ) → IsOffice o

@@ -1,11 +1,9 @@
 //! The statements on the table of meters.
 
-ghost use Rattle.std.specs.Prelude.{◌≡◌, bytes_eq, find, option_map, IfOk};
-ghost use Rattle.sqlite.specs.State.{HasCleanDisk};
+ghost use Rattle.std.specs.Prelude.{◌≡◌, bytes_eq, find, option_map};
 ghost use Rattle.sqlite.specs.Held.{state};
 ghost use Rattle.book_tables.specs.Kept.{meters_kept};
-ghost use Rattle.book_tables.specs.Reading.{AreOfOffice, HasTableRows, ReadsTable};
-ghost use Rattle.book_tables.specs.Rows.{Rows};
+ghost use Rattle.book_tables.specs.Reading.{ReadsTable, SaysOfTable};
 
 use crate::error::TableError;
 use crate::shown::first_record;
@@ -22,10 +20,9 @@ pub fn meter_numbered<S: Alter>(
     conn: &mut Connection<S>,
     number: &MeterNo,
 ) -> Result<Option<Meter>, TableError>
-    ensures given { HasCleanDisk (state S.Store conn.new)
-        → (rows : Rows) → HasTableRows meters_kept (state S.Store conn.old) rows → AreOfOffice rows
-        → IfOk result (λ found. found ≡ option_map (λ r. r.1)
-        (find (λ r. bytes_eq r.0 number.now) rows.meters)) }
+    ensures given { SaysOfTable meters_kept (λ rows found. found ≡ option_map (λ r. r.1)
+        (find (λ r. bytes_eq r.0 number.now) rows.meters))
+        (state S.Store conn.old) (state S.Store conn.new) result }
     ensures reads { ReadsTable meters_kept
         (state S.Store conn.old) (state S.Store conn.new) result }
 {

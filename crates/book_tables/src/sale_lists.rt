@@ -1,11 +1,9 @@
 //! The statements that list sales, by number.
 
-ghost use Rattle.std.specs.Prelude.{◌≡◌, ◌==◌, filter, nat_lt, take, IfOk};
-ghost use Rattle.sqlite.specs.State.{HasCleanDisk};
+ghost use Rattle.std.specs.Prelude.{◌≡◌, ◌==◌, filter, nat_lt, take};
 ghost use Rattle.sqlite.specs.Held.{state};
 ghost use Rattle.book_tables.specs.Kept.{sales_kept};
-ghost use Rattle.book_tables.specs.Reading.{AreOfOffice, HasTableRows, ReadsTable};
-ghost use Rattle.book_tables.specs.Rows.{Rows};
+ghost use Rattle.book_tables.specs.Reading.{ReadsTable, SaysOfTable};
 
 use crate::error::TableError;
 use crate::listed::all_records;
@@ -25,10 +23,9 @@ pub fn sales_after<S: Alter>(
     number: u32,
     limit: u32,
 ) -> Result<Vec<Sale>, TableError>
-    ensures given { HasCleanDisk (state S.Store conn.new)
-        → (rows : Rows) → HasTableRows sales_kept (state S.Store conn.old) rows → AreOfOffice rows
-        → IfOk result (λ found. found.items
-        ≡ take limit (filter (λ s. nat_lt number s.number) rows.sales)) }
+    ensures given { SaysOfTable sales_kept (λ rows found. found.items
+        ≡ take limit (filter (λ s. nat_lt number s.number) rows.sales))
+        (state S.Store conn.old) (state S.Store conn.new) result }
     ensures reads { ReadsTable sales_kept
         (state S.Store conn.old) (state S.Store conn.new) result }
 {
@@ -44,9 +41,8 @@ pub fn sales_of_shift<S: Alter>(
     conn: &mut Connection<S>,
     shift: u32,
 ) -> Result<Vec<Sale>, TableError>
-    ensures given { HasCleanDisk (state S.Store conn.new)
-        → (rows : Rows) → HasTableRows sales_kept (state S.Store conn.old) rows → AreOfOffice rows
-        → IfOk result (λ found. found.items ≡ filter (λ s. s.shift == shift) rows.sales) }
+    ensures given { SaysOfTable sales_kept (λ rows found. found.items ≡ filter (λ s. s.shift == shift) rows.sales)
+        (state S.Store conn.old) (state S.Store conn.new) result }
     ensures reads { ReadsTable sales_kept
         (state S.Store conn.old) (state S.Store conn.new) result }
 {

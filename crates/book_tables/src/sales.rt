@@ -1,12 +1,10 @@
 //! The statements on the table of sales.
 
-ghost use Rattle.std.specs.Prelude.{◌≡◌, ◌&&◌, ◌==◌, bytes_eq, find, length, option_map, unwrap_or, None, IfOk};
+ghost use Rattle.std.specs.Prelude.{◌≡◌, ◌&&◌, ◌==◌, bytes_eq, find, length, option_map, unwrap_or, None};
 ghost use Rattle.std.specs.List.{last_or};
-ghost use Rattle.sqlite.specs.State.{HasCleanDisk};
 ghost use Rattle.sqlite.specs.Held.{state};
 ghost use Rattle.book_tables.specs.Kept.{sales_kept};
-ghost use Rattle.book_tables.specs.Reading.{AreOfOffice, HasTableRows, ReadsTable};
-ghost use Rattle.book_tables.specs.Rows.{Rows};
+ghost use Rattle.book_tables.specs.Reading.{ReadsTable, SaysOfTable};
 
 use crate::error::TableError;
 use crate::shown::first_record;
@@ -23,9 +21,8 @@ pub fn sale_numbered<S: Alter>(
     conn: &mut Connection<S>,
     number: u32,
 ) -> Result<Option<Sale>, TableError>
-    ensures given { HasCleanDisk (state S.Store conn.new)
-        → (rows : Rows) → HasTableRows sales_kept (state S.Store conn.old) rows → AreOfOffice rows
-        → IfOk result (λ found. found ≡ find (λ s. s.number == number) rows.sales) }
+    ensures given { SaysOfTable sales_kept (λ rows found. found ≡ find (λ s. s.number == number) rows.sales)
+        (state S.Store conn.old) (state S.Store conn.new) result }
     ensures reads { ReadsTable sales_kept
         (state S.Store conn.old) (state S.Store conn.new) result }
 {
@@ -41,10 +38,9 @@ pub fn sale_of_ref<S: Alter>(
     operator: &Operator,
     order_ref: &Ref,
 ) -> Result<Option<Sale>, TableError>
-    ensures given { HasCleanDisk (state S.Store conn.new)
-        → (rows : Rows) → HasTableRows sales_kept (state S.Store conn.old) rows → AreOfOffice rows
-        → IfOk result (λ found. found ≡ find (λ s. bytes_eq s.operator operator.now
-        && bytes_eq s.order_ref order_ref.now) rows.sales) }
+    ensures given { SaysOfTable sales_kept (λ rows found. found ≡ find (λ s. bytes_eq s.operator operator.now
+        && bytes_eq s.order_ref order_ref.now) rows.sales)
+        (state S.Store conn.old) (state S.Store conn.new) result }
     ensures reads { ReadsTable sales_kept
         (state S.Store conn.old) (state S.Store conn.new) result }
 {
@@ -57,12 +53,10 @@ pub fn sale_of_ref<S: Alter>(
 /// # Errors
 /// What the database refuses, and a row that is no office's.
 pub fn last_sale_number<S: Alter>(conn: &mut Connection<S>) -> Result<Option<u32>, TableError>
-    ensures given { HasCleanDisk (state S.Store conn.new)
-        → (rows : Rows) → HasTableRows sales_kept (state S.Store conn.old) rows → AreOfOffice rows
-        → IfOk result (λ found. found ≡ option_map (λ s. s.number) (last_or None rows.sales)) }
-    ensures counted { HasCleanDisk (state S.Store conn.new)
-        → (rows : Rows) → HasTableRows sales_kept (state S.Store conn.old) rows → AreOfOffice rows
-        → IfOk result (λ found. unwrap_or found 0 ≡ length rows.sales) }
+    ensures given { SaysOfTable sales_kept (λ rows found. found ≡ option_map (λ s. s.number) (last_or None rows.sales))
+        (state S.Store conn.old) (state S.Store conn.new) result }
+    ensures counted { SaysOfTable sales_kept (λ rows found. unwrap_or found 0 ≡ length rows.sales)
+        (state S.Store conn.old) (state S.Store conn.new) result }
     ensures reads { ReadsTable sales_kept
         (state S.Store conn.old) (state S.Store conn.new) result }
 {

@@ -1,12 +1,10 @@
 //! The statements on the table of shifts.
 
-ghost use Rattle.std.specs.Prelude.{◌≡◌, ◌&&◌, ◌==◌, bytes_eq, find, is_none, length, option_map, unwrap_or, None, IfOk};
+ghost use Rattle.std.specs.Prelude.{◌≡◌, ◌&&◌, ◌==◌, bytes_eq, find, is_none, length, option_map, unwrap_or, None};
 ghost use Rattle.std.specs.List.{last_or};
-ghost use Rattle.sqlite.specs.State.{HasCleanDisk};
 ghost use Rattle.sqlite.specs.Held.{state};
 ghost use Rattle.book_tables.specs.Kept.{shifts_kept};
-ghost use Rattle.book_tables.specs.Reading.{AreOfOffice, HasTableRows, ReadsTable};
-ghost use Rattle.book_tables.specs.Rows.{Rows};
+ghost use Rattle.book_tables.specs.Reading.{ReadsTable, SaysOfTable};
 
 use crate::error::TableError;
 use crate::shown::first_record;
@@ -23,9 +21,8 @@ pub fn shift_numbered<S: Alter>(
     conn: &mut Connection<S>,
     number: u32,
 ) -> Result<Option<Shift>, TableError>
-    ensures given { HasCleanDisk (state S.Store conn.new)
-        → (rows : Rows) → HasTableRows shifts_kept (state S.Store conn.old) rows → AreOfOffice rows
-        → IfOk result (λ found. found ≡ find (λ s. s.number == number) rows.shifts) }
+    ensures given { SaysOfTable shifts_kept (λ rows found. found ≡ find (λ s. s.number == number) rows.shifts)
+        (state S.Store conn.old) (state S.Store conn.new) result }
     ensures reads { ReadsTable shifts_kept
         (state S.Store conn.old) (state S.Store conn.new) result }
 {
@@ -40,10 +37,9 @@ pub fn open_shift<S: Alter>(
     conn: &mut Connection<S>,
     operator: &Operator,
 ) -> Result<Option<Shift>, TableError>
-    ensures given { HasCleanDisk (state S.Store conn.new)
-        → (rows : Rows) → HasTableRows shifts_kept (state S.Store conn.old) rows → AreOfOffice rows
-        → IfOk result (λ found. found ≡ find (λ s. bytes_eq s.operator operator.now
-        && is_none s.closed) rows.shifts) }
+    ensures given { SaysOfTable shifts_kept (λ rows found. found ≡ find (λ s. bytes_eq s.operator operator.now
+        && is_none s.closed) rows.shifts)
+        (state S.Store conn.old) (state S.Store conn.new) result }
     ensures reads { ReadsTable shifts_kept
         (state S.Store conn.old) (state S.Store conn.new) result }
 {
@@ -56,12 +52,10 @@ pub fn open_shift<S: Alter>(
 /// # Errors
 /// What the database refuses, and a row that is no office's.
 pub fn last_shift_number<S: Alter>(conn: &mut Connection<S>) -> Result<Option<u32>, TableError>
-    ensures given { HasCleanDisk (state S.Store conn.new)
-        → (rows : Rows) → HasTableRows shifts_kept (state S.Store conn.old) rows → AreOfOffice rows
-        → IfOk result (λ found. found ≡ option_map (λ s. s.number) (last_or None rows.shifts)) }
-    ensures counted { HasCleanDisk (state S.Store conn.new)
-        → (rows : Rows) → HasTableRows shifts_kept (state S.Store conn.old) rows → AreOfOffice rows
-        → IfOk result (λ found. unwrap_or found 0 ≡ length rows.shifts) }
+    ensures given { SaysOfTable shifts_kept (λ rows found. found ≡ option_map (λ s. s.number) (last_or None rows.shifts))
+        (state S.Store conn.old) (state S.Store conn.new) result }
+    ensures counted { SaysOfTable shifts_kept (λ rows found. unwrap_or found 0 ≡ length rows.shifts)
+        (state S.Store conn.old) (state S.Store conn.new) result }
     ensures reads { ReadsTable shifts_kept
         (state S.Store conn.old) (state S.Store conn.new) result }
 {

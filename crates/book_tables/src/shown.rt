@@ -9,17 +9,11 @@ ghost use Rattle.one_table.specs.Answer.{GivesFirst, OnlyAsks};
 ghost use Rattle.one_table.specs.ReadsOnly.{ReadsOnly};
 ghost use Rattle.book_tables.specs.ReadBack.{ReadsBack};
 ghost use Rattle.book_tables.specs.Reading.{FailsToShow, IsShown, ShowsRecord};
-ghost use Rattle.book_tables.specs.Rows.{shown_meter, shown_number, shown_sale, shown_shift, shown_step, tariff_columns};
-ghost use Rattle.book_tables.specs.Values.{AreMeterValues, AreSaleValues, AreShiftValues, AreStepValues, IsNumber};
-ghost use Rattle.vend_core.specs.Names.{IsName};
 
 use crate::error::TableError;
-use crate::records;
 use one_table::{FromRow, ReadFault, read_row};
 use sqlite::types::ValueRef;
 use sqlite::{Alter, Connection, Row};
-use tariff::Step;
-use vend_core::{Meter, Sale, Shift, TariffName};
 
 /// A record that a row of an answer may show.
 pub(crate) trait Record: Sized {
@@ -70,66 +64,5 @@ pub(crate) fn first_record<S: Alter, T: Record>(
     match found {
         Some(Shown { record }) => Ok(Some(record)),
         None => Ok(None),
-    }
-}
-
-impl Record for Sale {
-    ghost shown = { shown_sale };
-
-    ghost keeps = { AreSaleValues };
-
-    fn of_row(row: &Row) -> Option<Sale> {
-        records::sale_of(row)
-    }
-}
-
-impl Record for Shift {
-    ghost shown = { shown_shift };
-
-    ghost keeps = { AreShiftValues };
-
-    fn of_row(row: &Row) -> Option<Shift> {
-        records::shift_of(row)
-    }
-}
-
-impl Record for Meter {
-    ghost shown = { shown_meter };
-
-    ghost keeps = { AreMeterValues };
-
-    fn of_row(row: &Row) -> Option<Meter> {
-        records::meter_of(row)
-    }
-}
-
-impl Record for Step {
-    ghost shown = { shown_step };
-
-    ghost keeps = { AreStepValues };
-
-    fn of_row(row: &Row) -> Option<Step> {
-        records::step_of(row)
-    }
-}
-
-impl Record for TariffName {
-    ghost shown = { tariff_columns };
-
-    ghost keeps = { IsName };
-
-    fn of_row(row: &Row) -> Option<TariffName> {
-        records::tariff_name_of(row)
-    }
-}
-
-// A number from 1 on.
-impl Record for u32 {
-    ghost shown = { shown_number };
-
-    ghost keeps = { IsNumber };
-
-    fn of_row(row: &Row) -> Option<u32> {
-        records::number_of(row)
     }
 }

@@ -1,19 +1,18 @@
 //! The statements on the sales to a meter, whose rows are taken one at a time: there may be more
 //! of them than there is memory.
 
-ghost use Rattle.std.specs.Prelude.{◌≡◌, ◌&&◌, ◌==◌, ◌+◌, ◌^◌, ◌<◌, ⊤, bytes_eq, filter, map, max, Some, sum_by, unwrap_or, IfOk};
-ghost use Rattle.sqlite.specs.State.{HasCleanDisk};
+ghost use Rattle.std.specs.Prelude.{◌≡◌, ◌&&◌, ◌==◌, ◌+◌, ◌^◌, ◌<◌, ⊤, bytes_eq, filter, map, max, Some, sum_by, unwrap_or};
 ghost use Rattle.sqlite.specs.Held.{state};
 ghost use Rattle.sts_fields.specs.Calendar.{month_at};
 ghost use Rattle.sts_fields.specs.Base.{base_eq};
 ghost use Rattle.vend_core.specs.Lookup.{greatest_of};
 ghost use Rattle.book_tables.specs.Kept.{sales_kept};
-ghost use Rattle.book_tables.specs.Reading.{AreOfOffice, HasTableRows, ReadsTable};
-ghost use Rattle.book_tables.specs.Rows.{Rows, shown_number};
-ghost use Rattle.book_tables.specs.Values.{IsSoldAmount, IsTid};
+ghost use Rattle.book_tables.specs.Reading.{ReadsTable, SaysOfTable};
+ghost use Rattle.book_tables.specs.Rows.{shown_number};
+ghost use Rattle.book_tables.specs.Values.{IsTid};
 
+use crate::cells;
 use crate::error::TableError;
-use crate::records;
 use crate::shown::{Record, Shown};
 use crate::texts::{TENTHS_SOLD, TIDS_SOLD};
 use crate::values::{base_values, month_values};
@@ -34,20 +33,11 @@ impl Record for Tid {
     ghost keeps = { λ tid. IsTid tid.number };
 
     fn of_row(row: &Row) -> Option<Tid> {
-        match records::tid_of(row) {
-            Some(number) => Some(Tid { number }),
-            None => None,
+        if row.column_count() != 1 {
+            return None;
         }
-    }
-}
-
-impl Record for Amount {
-    ghost shown = { shown_number };
-
-    ghost keeps = { IsSoldAmount };
-
-    fn of_row(row: &Row) -> Option<Amount> {
-        records::amount_of(row)
+        let number = cells::tid_at(row, 0)?;
+        Some(Tid { number })
     }
 }
 
@@ -80,10 +70,8 @@ impl Gather<Shown<Amount>> for Total {
     ghost has_room = { λ all x. all.tenths + x.record < 2 ^ 64 };
 
     fn gather(self, value: Shown<Amount>) -> Option<Total> {
-        match self.tenths.checked_add(u64::from(value.record.tenths())) {
-            Some(tenths) => Some(Total { tenths }),
-            None => None,
-        }
+        let tenths = self.tenths.checked_add(u64::from(value.record.tenths()))?;
+        Some(Total { tenths })
     }
 }
 
@@ -96,10 +84,9 @@ pub fn greatest_tid<S: Alter>(
     meter: &MeterNo,
     base: Base,
 ) -> Result<Option<u32>, TableError>
-    ensures given { HasCleanDisk (state S.Store conn.new)
-        → (rows : Rows) → HasTableRows sales_kept (state S.Store conn.old) rows → AreOfOffice rows
-        → IfOk result (λ greatest. greatest ≡ greatest_of (map (λ s. s.tid)
-        (filter (λ s. bytes_eq s.meter meter.now && base_eq s.base base) rows.sales))) }
+    ensures given { SaysOfTable sales_kept (λ rows greatest. greatest ≡ greatest_of (map (λ s. s.tid)
+        (filter (λ s. bytes_eq s.meter meter.now && base_eq s.base base) rows.sales)))
+        (state S.Store conn.old) (state S.Store conn.new) result }
     ensures reads { ReadsTable sales_kept
         (state S.Store conn.old) (state S.Store conn.new) result }
 {
@@ -118,10 +105,9 @@ pub fn tenths_in_month<S: Alter>(
     meter: &MeterNo,
     month: u32,
 ) -> Result<u64, TableError>
-    ensures given { HasCleanDisk (state S.Store conn.new)
-        → (rows : Rows) → HasTableRows sales_kept (state S.Store conn.old) rows → AreOfOffice rows
-        → IfOk result (λ tenths. tenths ≡ sum_by (λ s. s.tenths)
-        (filter (λ s. bytes_eq s.meter meter.now && (month_at s.moment == month)) rows.sales)) }
+    ensures given { SaysOfTable sales_kept (λ rows tenths. tenths ≡ sum_by (λ s. s.tenths)
+        (filter (λ s. bytes_eq s.meter meter.now && (month_at s.moment == month)) rows.sales))
+        (state S.Store conn.old) (state S.Store conn.new) result }
     ensures reads { ReadsTable sales_kept
         (state S.Store conn.old) (state S.Store conn.new) result }
 {

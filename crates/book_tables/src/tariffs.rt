@@ -6,7 +6,7 @@ ghost use Rattle.sqlite.specs.Held.{state};
 ghost use Rattle.tariff.specs.Steps.{IsSteps};
 ghost use Rattle.vend_core.specs.Office.{IsOffice, Office};
 ghost use Rattle.book_tables.specs.Kept.{steps_kept, tariffs_kept};
-ghost use Rattle.book_tables.specs.Reading.{AreOfOffice, HasTableRows, ReadsTable};
+ghost use Rattle.book_tables.specs.Reading.{HasTableRows, ReadsTable, SaysOfTable};
 ghost use Rattle.book_tables.specs.Rows.{Rows};
 ghost use Rattle.book_tables.specs.Stands.{AreMembersOf};
 
@@ -25,9 +25,8 @@ use vend_core::TariffName;
 /// # Errors
 /// What the database refuses, and a row that is no office's.
 pub fn has_tariff<S: Alter>(conn: &mut Connection<S>, name: &TariffName) -> Result<bool, TableError>
-    ensures given { HasCleanDisk (state S.Store conn.new)
-        → (rows : Rows) → HasTableRows tariffs_kept (state S.Store conn.old) rows → AreOfOffice rows
-        → IfOk result (λ there. IsTrue there ↔ Contains rows.tariffs name.now) }
+    ensures given { SaysOfTable tariffs_kept (λ rows there. IsTrue there ↔ Contains rows.tariffs name.now)
+        (state S.Store conn.old) (state S.Store conn.new) result }
     ensures reads { ReadsTable tariffs_kept
         (state S.Store conn.old) (state S.Store conn.new) result }
 {

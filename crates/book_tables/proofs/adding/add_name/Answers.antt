@@ -9,15 +9,14 @@ use Rattle.book_tables.proofs.HiddenWriteLemmas.{adds_name}
 use Rattle.book_tables.proofs.WriteTexts.{new_tariff_means, one_term, new_tariff_text, new_tariff_whole}
 use Rattle.book_tables.proofs.adding.add_name.Goals as goal
 
-pub returns-clause-added : goal.returns-clause-added
-returns-clause-added g c clean has =
+pub returns-clause-writes : goal.returns-clause-writes
+returns-clause-writes g c =
     let s = c.args.tx.now.conn.now.schema in
     let tree = tree_in s (codes "tariffs") in
-    on_ok c.put.result (adds_name (state g.S.Store c.args.tx.now.conn.now) (state g.S.Store c.put.new.tx.conn.now) c.args.name.now _ c.tariff_values.ensures)
-    (c.put.ensures.added clean (tariffs_table tree) (place_in s (codes "tariffs")) one_term (new_tariff_means tree) (λ runs. (has runs).tables.1.0.0.has))
-
-pub returns-clause-refused : goal.returns-clause-refused
-returns-clause-refused g c clean has =
-    let s = c.args.tx.now.conn.now.schema in
-    let tree = tree_in s (codes "tariffs") in
-    c.put.ensures.refused clean (tariffs_table tree) (place_in s (codes "tariffs")) one_term (new_tariff_means tree) (subst (λ ps. is_whole new_tariff_text (length ps) ≡ true) (sym c.tariff_values.ensures) new_tariff_whole) (λ runs. (has runs).tables.1.0.0.has)
+    record {
+      made = λ clean has.
+          on_ok c.put.result (adds_name (state g.S.Store c.args.tx.now.conn.now) (state g.S.Store c.put.new.tx.conn.now) c.args.name.now _ c.tariff_values.ensures)
+          (c.put.ensures.added clean (tariffs_table tree) (place_in s (codes "tariffs")) one_term (new_tariff_means tree) (λ runs. (has runs).tables.1.0.0.has));
+      transaction = c.put.ensures.transaction;
+      refused = λ clean has. c.put.ensures.refused clean (tariffs_table tree) (place_in s (codes "tariffs")) one_term (new_tariff_means tree) (subst (λ ps. is_whole new_tariff_text (length ps) ≡ true) (sym c.tariff_values.ensures) new_tariff_whole) (λ runs. (has runs).tables.1.0.0.has);
+    }

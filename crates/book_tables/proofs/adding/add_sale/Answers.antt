@@ -9,15 +9,14 @@ use Rattle.book_tables.proofs.WriteLemmas.{adds_sale}
 use Rattle.book_tables.proofs.WriteTexts.{new_sale_means, new_sale_terms, new_sale_text, new_sale_whole}
 use Rattle.book_tables.proofs.adding.add_sale.Goals as goal
 
-pub returns-clause-added : goal.returns-clause-added
-returns-clause-added g c clean has =
+pub returns-clause-writes : goal.returns-clause-writes
+returns-clause-writes g c =
     let s = c.args.tx.now.conn.now.schema in
     let tree = tree_in s (codes "sales") in
-    on_ok c.put.result (adds_sale (state g.S.Store c.args.tx.now.conn.now) (state g.S.Store c.put.new.tx.conn.now) c.args.sale.now _ c.sale_values.ensures)
-    (c.put.ensures.added clean (sales_table tree) (place_in s (codes "sales")) new_sale_terms (new_sale_means tree) (λ runs. (has runs).tables.1.1.1.1.1.0.0.has))
-
-pub returns-clause-refused : goal.returns-clause-refused
-returns-clause-refused g c clean has =
-    let s = c.args.tx.now.conn.now.schema in
-    let tree = tree_in s (codes "sales") in
-    c.put.ensures.refused clean (sales_table tree) (place_in s (codes "sales")) new_sale_terms (new_sale_means tree) (subst (λ ps. is_whole new_sale_text (length ps) ≡ true) (sym c.sale_values.ensures) new_sale_whole) (λ runs. (has runs).tables.1.1.1.1.1.0.0.has)
+    record {
+      made = λ clean has.
+          on_ok c.put.result (adds_sale (state g.S.Store c.args.tx.now.conn.now) (state g.S.Store c.put.new.tx.conn.now) c.args.sale.now _ c.sale_values.ensures)
+          (c.put.ensures.added clean (sales_table tree) (place_in s (codes "sales")) new_sale_terms (new_sale_means tree) (λ runs. (has runs).tables.1.1.1.1.1.0.0.has));
+      transaction = c.put.ensures.transaction;
+      refused = λ clean has. c.put.ensures.refused clean (sales_table tree) (place_in s (codes "sales")) new_sale_terms (new_sale_means tree) (subst (λ ps. is_whole new_sale_text (length ps) ≡ true) (sym c.sale_values.ensures) new_sale_whole) (λ runs. (has runs).tables.1.1.1.1.1.0.0.has);
+    }

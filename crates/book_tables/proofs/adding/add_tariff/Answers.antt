@@ -12,22 +12,22 @@ pub steps-init : goal.steps-init
 steps-init g c = record {
   same = search rules;
   place = search rules;
-  transaction = transaction_on c.in_ok-add_name.ensures.transaction;
-  added = λ clean has. adds_none c.args.name.now (state g.S.Store c.args.tx.now.conn.now) (state g.S.Store c.add_name.new.tx.conn.now) (c.in_ok-add_name.ensures.added clean has);
+  transaction = transaction_on c.in_ok-add_name.ensures.writes.transaction;
+  added = λ clean has. adds_none c.args.name.now (state g.S.Store c.args.tx.now.conn.now) (state g.S.Store c.add_name.new.tx.conn.now) (c.in_ok-add_name.ensures.writes.made clean has);
 }
 
 pub steps-preserved : goal.steps-preserved
 steps-preserved g c = record {
   same = search rules;
   place = search rules;
-  transaction = transaction_then (state g.S.Store c.args.tx.now.conn.now) (state g.S.Store c.steps.tx.conn.now) (state g.S.Store c.add_step.new.tx.conn.now) (Ok tt) c.steps.invariant.transaction (transaction_on c.in_ok-add_step.ensures.transaction);
+  transaction = transaction_then (state g.S.Store c.args.tx.now.conn.now) (state g.S.Store c.steps.tx.conn.now) (state g.S.Store c.add_step.new.tx.conn.now) (Ok tt) c.steps.invariant.transaction (transaction_on c.in_ok-add_step.ensures.writes.transaction);
   added = λ clean has.
       let old = state g.S.Store c.args.tx.now.conn.now in
       let mid = state g.S.Store c.steps.tx.conn.now in
       let new = state g.S.Store c.add_step.new.tx.conn.now in
-      let early : HasCleanDisk mid = omega (arith, c.add_step.ensures.transaction.survives.clean) in
+      let early : HasCleanDisk mid = omega (arith, c.add_step.ensures.writes.transaction.survives.clean) in
       let so_far = c.steps.invariant.added early has in
-      let last = c.in_ok-add_step.ensures.added clean (still_has c.args.name.now _ old mid so_far has) in
+      let last = c.in_ok-add_step.ensures.writes.made clean (still_has c.args.name.now _ old mid so_far has) in
       let step = get_or c.args.steps.now c.steps.step-index (record { ends = None; price = 0 }) in
       let count : length (take c.steps.step-index c.args.steps.now) ≡ c.steps.step-index = length-take-le c.steps.step-index c.args.steps.now (omega (arith, c.steps-test.true)) in
       subst (λ (l : List Step). AddsTariff c.args.name.now l old new) (sym (take_more c.args.steps.now c.steps.step-index (record { ends = None; price = 0 }) c.steps-test.true))
@@ -41,13 +41,13 @@ returns-clause-added g c clean has =
 
 pub returns-in_err-add_name-clause-transaction : goal.returns-in_err-add_name-clause-transaction
 returns-in_err-add_name-clause-transaction g c =
-    transaction_off _ c.from_residual.result c.from_residual.ensures.1 c.in_err-add_name.ensures.transaction.kept c.in_err-add_name.ensures.transaction.survives
+    transaction_off _ c.from_residual.result c.from_residual.ensures.1 c.in_err-add_name.ensures.writes.transaction.kept c.in_err-add_name.ensures.writes.transaction.survives
 
 pub returns-in_err-add_step-clause-transaction : goal.returns-in_err-add_step-clause-transaction
 returns-in_err-add_step-clause-transaction g c =
     let r = c.from_residual-in_err-add_step.result in
     transaction_then (state g.S.Store c.args.tx.now.conn.now) (state g.S.Store c.steps.tx.conn.now) (state g.S.Store c.add_step.new.tx.conn.now) r c.steps.invariant.transaction
-    (transaction_off _ r c.from_residual-in_err-add_step.ensures.1 c.in_err-add_step.ensures.transaction.kept c.in_err-add_step.ensures.transaction.survives)
+    (transaction_off _ r c.from_residual-in_err-add_step.ensures.1 c.in_err-add_step.ensures.writes.transaction.kept c.in_err-add_step.ensures.writes.transaction.survives)
 
 pub returns-clause-transaction : goal.returns-clause-transaction
 returns-clause-transaction g c = transaction_on c.steps.invariant.transaction

@@ -1,5 +1,5 @@
 use Rattle.book_tables.proofs.EditLemmas.{edited_members, no_members}
-use Rattle.book_tables.proofs.FoundLemmas.{all_steps, found_numbered, found_open, found_ref, found_tariff, meter_found, no_steps, step_found}
+use Rattle.book_tables.proofs.FoundLemmas.{all_steps, found_numbered, found_open, found_ref, found_tariff, first_steps, meter_found, no_steps, step_found}
 use Rattle.book_tables.proofs.NewLemmas.{decided_new}
 use Rattle.book_tables.proofs.laws.members_law.Goals as goal
 
@@ -26,6 +26,9 @@ returns-clause-all_steps c = all_steps
 
 pub returns-clause-no_steps : goal.returns-clause-no_steps
 returns-clause-no_steps c = no_steps
+
+pub returns-clause-first_steps : goal.returns-clause-first_steps
+returns-clause-first_steps c = λ rows o name day are. first_steps rows o are name day
 
 pub returns-clause-shift_numbered : goal.returns-clause-shift_numbered
 returns-clause-shift_numbered c = λ o number office. found_numbered (λ s. s.number) o.shifts number office.shift_numbers

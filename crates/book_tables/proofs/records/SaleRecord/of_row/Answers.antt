@@ -1,6 +1,6 @@
 use Rattle.std.proofs.Common.{sym, ◌∙◌, arith}
 use Rattle.book_tables.proofs.PartLemmas.{entry_in, order_in, token_in, shows_entry, shows_order, shows_sale, shows_token}
-use Rattle.book_tables.proofs.records.sale_of.Goals as goal
+use Rattle.book_tables.proofs.records.SaleRecord.of_row.Goals as goal
 
 pub returns-in_default : goal.returns-in_default
 returns-in_default c = λ s rule shown.
