@@ -10,7 +10,7 @@ use Rattle.vend_core.specs.Office.{IsOffice, Office}
 use Rattle.vend_core.specs.Store.{Meets}
 use Rattle.vend_core.specs.declared.change.Change.{Change}
 use Rattle.vend_core.specs.declared.change.Edit.{Edit}
-use Rattle.vend_core.specs.declared.change.Edit.TheVariants.{AddTariff, AddMeter, AddRows, SetTariff, OpenShift, CloseShift, AddSale}
+use Rattle.vend_core.specs.declared.change.Edit.TheVariants.{AddTariff, AddSteps, AddMeter, AddRows, SetTariff, MoveBase, OpenShift, CloseShift, AddSale}
 use Rattle.vend_core.specs.declared.refusal.Refusal.{Refusal}
 use Rattle.vend_core.specs.declared.request.Stamped.{Stamped}
 use Rattle.vend_core.specs.declared.row.Row.{Row}
@@ -26,6 +26,7 @@ use Rattle.books.proofs.StayLemmas.{still_held}
 rows_add_no_sale : (rows : List Row) (o : Office) → (with_rows rows o).sales ≡ o.sales
 rows_add_no_sale [] o = refl
 rows_add_no_sale (kinds.Tariff name steps ∷ rows) o = rows_add_no_sale rows (with_row (kinds.Tariff name steps) o)
+rows_add_no_sale (kinds.Steps name day steps ∷ rows) o = rows_add_no_sale rows (with_row (kinds.Steps name day steps) o)
 rows_add_no_sale (kinds.Meter number m ∷ rows) o = rows_add_no_sale rows (with_row (kinds.Meter number m) o)
 
 pub none_of : {X : Type 0} (x : Option X) → ((y : X) → x ≡ Some y → ⊥) → x ≡ None
@@ -34,9 +35,11 @@ none_of (Some y) never = absurd (never y refl)
 
 pub next_stays : (edit : Edit) (o : Office) → ((s : Sale) → edit ≡ AddSale s → ⊥) → (applied edit o).sales ≡ o.sales
 next_stays (AddTariff name steps) o none = refl
+next_stays (AddSteps name day steps) o none = refl
 next_stays (AddMeter number m) o none = refl
 next_stays (AddRows rows) o none = rows_add_no_sale rows o
 next_stays (SetTariff number name) o none = refl
+next_stays (MoveBase number base) o none = refl
 next_stays (OpenShift s) o none = refl
 next_stays (CloseShift number moment) o none = refl
 next_stays (AddSale s) o none = absurd (none s refl)

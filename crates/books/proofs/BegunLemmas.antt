@@ -12,8 +12,9 @@ use Rattle.book_tables.proofs.HoldsLemmas.{holds_or_empty}
 use Rattle.book_tables.specs.Holds.{HasOffice, HoldsMembers, IsUntaken, StandsFor}
 use Rattle.book_tables.specs.Format.{HasFormat}
 use Rattle.books.specs.Keeps.{RecoversTo, StoreStandsFor}
+use Rattle.book_tables.specs.Making.{BeginsOffice}
 use Rattle.book_tables.specs.Reading.{HasTables}
-use Rattle.books.specs.Opening.{BeginsOffice, EndsOpening, LeavesBegun, LeavesRefused, OpensAs, OpensAt, Refuses, ShowsNoOffice}
+use Rattle.books.specs.Opening.{EndsOpening, HasSoundDatabase, IsNextSale, LeavesBegun, LeavesRefused, LooksAt, OpensAs, OpensAt, Refuses, ShowsNoOffice}
 use Rattle.books.specs.Same.{IsSame}
 use Rattle.books.specs.declared.fault.OpenFault.{OpenFault}
 use Rattle.books.specs.declared.fault.OpenFault.TheVariants.{NotAnOffice, OldOffice, Store, Memory}
@@ -148,27 +149,26 @@ module _ (old new : State) where
       never (inr e) is_old = cc
 
   -- the office's tables were found
-  pub ends_found : (r : Result ℕ OpenFault) → HasTables old → (IsTrue old.is_open → old.now ≡ old.committed) → Survives old new (λ _. ⊥)
-      → (HasCleanDisk new → OnOk r (HasFormat old.now 1)) → (HasCleanDisk new → OnOk r (IsUnchanged old new)) → (HasCleanDisk new → OnErr r (IsLeft old new))
-      → (HasCleanDisk new → (o : Office) → StoreStandsFor old o → IfOk r (λ next. next ≡ length o.sales + 1)) → (HasCleanDisk new → IfErr r (ShowsNoOffice old)) → IfErr r (λ f. f ≢ OldOffice)
-      → EndsOpening old new r
-  ends_found (Ok next) has settled survives format same kept counted other never = record {
+  pub ends_found : (r : Result ℕ OpenFault) → HasTables old → HasSoundDatabase old → (IsTrue old.is_open → old.now ≡ old.committed)
+      → LooksAt (λ next. HasFormat old.now 1 × IsNextSale old next) old new r → EndsOpening old new r
+  ends_found (Ok next) has sound settled looks = record {
     opens = λ clean o at.
-        let it = same clean in (
+        let it = looks.same clean has in (
           record {
             office = at.office;
             members = λ _. subst (λ (db : Database). HoldsMembers db o) (sym it.0.now_is) (members_of old.now o (has it.0.was_open) (at.now it.0.was_open));
-            left = (stands_after old new o clean (same_unchanged old new it) survives at).left;
+            left = (stands_after old new o clean (same_unchanged old new it) (looks.survives has) at).left;
           },
-          counted clean o at,
+          (looks.finds clean has sound).1 o at,
         );
-    finds = λ clean. let it = same clean in record { was_open = it.0.was_open; is_open = it.0.is_open; now = inr (has it.0.was_open, format clean, it.0.now_is) };
+    finds = λ clean. let it = looks.same clean has in record { was_open = it.0.was_open; is_open = it.0.is_open; now = inr (has it.0.was_open, (looks.finds clean has sound).0, it.0.now_is) };
     refused = λ _. tt;
     never_old = tt;
-    survives = leaves_less old new survives;
+    survives = leaves_less old new (looks.survives has);
     risks = tt;
   }
-  ends_found (Err fault) has settled survives format same kept counted other never = refuses_nothing fault (λ clean. left_same old new settled (kept clean)) survives other never
+  ends_found (Err fault) has sound settled looks =
+      refuses_nothing fault (λ clean. left_same old new settled (looks.kept clean has)) (looks.survives has) (λ clean. looks.other clean has sound) looks.never_old
 
   -- the office has begun
   pub ends_begun : (r : Result ℕ OpenFault) → (HasCleanDisk old → IsTrue old.is_open)

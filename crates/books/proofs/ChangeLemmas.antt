@@ -17,7 +17,7 @@ use Rattle.vend_core.specs.declared.row.Row.{Row}
 use Rattle.vend_core.specs.declared.row.Row.TheVariants as kinds
 use Rattle.vend_core.specs.declared.sale.Sale.{Sale}
 use Rattle.vend_core.specs.declared.shift.Shift.{Shift}
-use Rattle.book_tables.specs.Edited.{IsNew, edited}
+use Rattle.book_tables.specs.Edited.{IsNew, can_hold, edited}
 use Rattle.book_tables.specs.Holds.{HasOffice, HoldsMembers, table_names}
 use Rattle.book_tables.specs.Reading.{HasTables}
 use Rattle.book_tables.specs.Rows.{Rows}
@@ -26,10 +26,10 @@ use Rattle.book_tables.specs.Writing.{AddsMeter, AddsSale, AddsShift, AddsTariff
 use Rattle.books.specs.Changing.{Makes, MakesEdit, MakesRows}
 use Rattle.books.specs.Others.{SameOthers}
 
--- the rows after an edit are the members of the office after it
+-- the rows after an edit that the tables can hold are the members of the office after it
 abbrev pub KeepsMembers : Type 0
 KeepsMembers =
-    (rows : Rows) (o : Office) (edit : Edit) → AreMembersOf rows o → IsNew edit o → AreMembersOf (edited edit rows) (applied edit o)
+    (rows : Rows) (o : Office) (edit : Edit) → AreMembersOf rows o → can_hold edit ≡ true → IsNew edit o → AreMembersOf (edited edit rows) (applied edit o)
 
 -- ---- other tables
 
@@ -79,7 +79,7 @@ module _ (law : KeepsMembers) (old new : State) where
         numbered = subst (λ (l : List Sale). AreNumbered (λ (s : Sale). s.number) l) (sym are.sales) office.sale_numbers;
         next_is = meets.number ∙ ap (λ (l : List Sale). length l + 1) (sym are.sales);
       } in
-      (edited (edits.AddSale s) held.0, adds.rows held.0 held.1 next, law held.0 o (edits.AddSale s) are tt))
+      (edited (edits.AddSale s) held.0, adds.rows held.0 held.1 next, law held.0 o (edits.AddSale s) are refl tt))
 
   pub makes_shift : (s : Shift) → AddsShift s old new → MakesEdit (edits.OpenShift s) old.now new.now
   makes_shift s adds =
@@ -89,14 +89,14 @@ module _ (law : KeepsMembers) (old new : State) where
         numbered = subst (λ (l : List Shift). AreNumbered (λ (s : Shift). s.number) l) (sym are.shifts) office.shift_numbers;
         next_is = meets.number ∙ ap (λ (l : List Shift). length l + 1) (sym are.shifts);
       } in
-      (edited (edits.OpenShift s) held.0, adds.rows held.0 held.1 next, law held.0 o (edits.OpenShift s) are tt))
+      (edited (edits.OpenShift s) held.0, adds.rows held.0 held.1 next, law held.0 o (edits.OpenShift s) are refl tt))
 
   pub makes_closing : (number moment : ℕ) → ClosesShift number moment old new → MakesEdit (edits.CloseShift number moment) old.now new.now
   makes_closing number moment closes =
       makes (edits.CloseShift number moment) (codes "shifts" ∷ []) old new (λ t tree none. (none.1.1.1.1.0, tt)) closes.only (λ o office meets held.
       let are = held.2 in
       let numbered = subst (λ (l : List Shift). AreNumbered (λ (s : Shift). s.number) l) (sym are.shifts) office.shift_numbers in
-      (edited (edits.CloseShift number moment) held.0, closes.rows held.0 held.1 numbered, law held.0 o (edits.CloseShift number moment) are tt))
+      (edited (edits.CloseShift number moment) held.0, closes.rows held.0 held.1 numbered, law held.0 o (edits.CloseShift number moment) are refl tt))
 
   -- ---- tariffs and meters
 
@@ -104,17 +104,17 @@ module _ (law : KeepsMembers) (old new : State) where
   makes_setting number name sets =
       makes (edits.SetTariff number name) (codes "meters" ∷ []) old new (λ t tree none. (none.1.1.1.0, tt)) sets.only (λ o office meets held.
       let are = held.2 in
-      (edited (edits.SetTariff number name) held.0, sets.rows held.0 held.1 are.meters_once, law held.0 o (edits.SetTariff number name) are tt))
+      (edited (edits.SetTariff number name) held.0, sets.rows held.0 held.1 are.meters_once, law held.0 o (edits.SetTariff number name) are refl tt))
 
   with_tariff_row : (name : List ℕ) (steps : List Step) → AddsTariff name steps old new → (o : Office) → MeetsRow (kinds.Tariff name steps) o → HoldsMembers old.now o
       → HoldsMembers new.now (with_row (kinds.Tariff name steps) o)
   with_tariff_row name steps adds o meets held =
-      (edited (edits.AddTariff name steps) held.0, adds.rows held.0 held.1, law held.0 o (edits.AddTariff name steps) held.2 meets.2)
+      (edited (edits.AddTariff name steps) held.0, adds.rows held.0 held.1, law held.0 o (edits.AddTariff name steps) held.2 refl meets.2)
 
   with_meter_row : (number : List ℕ) (m : Meter) → AddsMeter number m old new → (o : Office) → MeetsRow (kinds.Meter number m) o → HoldsMembers old.now o
       → HoldsMembers new.now (with_row (kinds.Meter number m) o)
   with_meter_row number m adds o meets held =
-      (edited (edits.AddMeter number m) held.0, adds.rows held.0 held.1, law held.0 o (edits.AddMeter number m) held.2 meets.1)
+      (edited (edits.AddMeter number m) held.0, adds.rows held.0 held.1, law held.0 o (edits.AddMeter number m) held.2 refl meets.free)
 
   pub makes_tariff : (name : List ℕ) (steps : List Step) → AddsTariff name steps old new → MakesEdit (edits.AddTariff name steps) old.now new.now
   makes_tariff name steps adds =

@@ -7,10 +7,11 @@ use Rattle.std.proofs.lemmas.List.Elements.{All-head, All-tail}
 use Rattle.sqlite.specs.Effect.{Database}
 use Rattle.sqlite.specs.State.{HasCleanDisk, IsUnchanged, State, Survives}
 use Rattle.sts_fields.specs.Calendar.{month_at}
+use Rattle.sts_fields.specs.Day.{day_at}
 use Rattle.tariff.specs.declared.step.Step.{Step}
 use Rattle.vend_core.specs.Decision.{MeterAccount, account_of, row_decision}
 use Rattle.vend_core.specs.Facts.{AreNewSaleFacts, AreRowsFacts, AreSaleFacts, row_facts}
-use Rattle.vend_core.specs.Lookup.{greatest_of, open_shift, prior, sale_of_ref, steps_for, used}
+use Rattle.vend_core.specs.Lookup.{greatest_of, open_shift, prior, sale_of_ref, steps_on, used}
 use Rattle.vend_core.specs.Office.{IsOffice, Office}
 use Rattle.vend_core.specs.declared.facts.Facts.{Facts}
 use Rattle.vend_core.specs.declared.meter.Meter.{Meter}
@@ -65,6 +66,22 @@ members_after o {old} {mid} {new} members before survives clean is_open =
     subst (λ (db : Database). HoldsMembers db o) (sym so_far.now_is) (members (sym so_far.is_open ∙ is_open))
 
 module _ {T : Type 0} {value : T} {o : Office} {old mid new : State} (office : IsOffice o) (members : HasMembers old o) (before : HasPassed old mid) (this : OnlyReads IsUnchanged mid new (Ok value)) (clean : HasCleanDisk new) where
+  -- the rows of the tables are the office's members
+  members_here : (rows : Rows) × AreMembersOf rows o
+  members_here =
+      let tables = tables_of old o members in
+      let so_far = earlier old mid new before this.survives tables clean in
+      let same = this.same clean (tables_after before tables) in
+      let held = members (sym so_far.is_open ∙ same.0.was_open) in
+      (held.0, held.2)
+
+  -- and no steps of a later day are
+  pub undated_told : (name : List ℕ) (day : ℕ) → None ≡ o.dated_steps name day
+  undated_told name day = sym (members_here.1.dated_steps name day)
+
+  pub first_steps_told : ((rows : Rows) (o : Office) (name : List ℕ) (day : ℕ) → AreMembersOf rows o → steps_on o name day ≡ unwrap_or (o.tariffs name) []) → (name : List ℕ) (day : ℕ) → steps_on o name day ≡ unwrap_or (o.tariffs name) []
+  first_steps_told law name day = law members_here.0 o name day members_here.1
+
   -- a read tells it of rows that are the office's
   told : {k : Kept} (in_office : IsInOffice k) (Says : Rows → Type 0) → ((rows : Rows) → HasTableRows k mid rows → AreOfOffice rows → Says rows) → (rows : Rows) × AreMembersOf rows o × Says rows
   told in_office Says given =
@@ -131,29 +148,30 @@ has_steps o office number there m found there_is here found_is gone =
 pub account_is : (o : Office) (number : List ℕ) (moment : ℕ) (there : Option Meter) (m : Meter) (found : Option (List Step)) (steps : List Step) (b : MeterAccount)
     → there ≡ o.meters number → there ≡ Some m → found ≡ o.tariffs m.tariff → found ≡ Some steps
     → b ≡ record { meter = m; steps = steps; last = greatest_of (used o number m.base); prior = prior o number (month_at moment) }
+    → steps_on o m.tariff (day_at moment) ≡ unwrap_or (o.tariffs m.tariff) []
     → Some b ≡ account_of o number moment
-account_is o number moment there m found steps b there_is here found_is known is =
-    let steps_are : steps ≡ steps_for o m = ap (λ (s : Option (List Step)). unwrap_or s []) (sym known ∙ found_is) in
+account_is o number moment there m found steps b there_is here found_is known is first =
+    let steps_are : steps ≡ steps_on o m.tariff (day_at moment) = ap (λ (s : Option (List Step)). unwrap_or s []) (sym known ∙ found_is) ∙ sym first in
     ap (λ (b : MeterAccount). let some : Option MeterAccount = Some b in some)
     (is ∙ ap (λ (s : List Step). let b : MeterAccount = record { meter = m; steps = s; last = greatest_of (used o number m.base); prior = prior o number (month_at moment) } in b) steps_are)
     ∙ ap (λ (there : Option Meter). option_map (account_with o number moment) there) (sym here ∙ there_is)
   where
     account_with : Office → List ℕ → ℕ → Meter → MeterAccount
-    account_with o number moment m = record { meter = m; steps = steps_for o m; last = greatest_of (used o number m.base); prior = prior o number (month_at moment) }
+    account_with o number moment m = record { meter = m; steps = steps_on o m.tariff (day_at moment); last = greatest_of (used o number m.base); prior = prior o number (month_at moment) }
 
 -- the facts of a sale under a new ref
-pub new_sale_is : {E : Type 0} (o : Office) (moment : ℕ) (order : Order) (first : Option Sale) (r : Result Facts E) → first ≡ sale_of_ref o order.operator order.order_ref → is_some first ≡ false
-    → IfOk r (λ f. IsNone f.first_sale) → IfOk r (AreNewSaleFacts o moment order) → IfOk r (AreSaleFacts o moment order)
-new_sale_is o moment order first (Err e) first_is gone none new = tt
-new_sale_is o moment order first (Ok f) first_is gone none new =
-    record { first_sale = sym (none_is f.first_sale none) ∙ none_is first gone ∙ first_is; new_sale = λ _. new }
+pub new_sale_is : {E : Type 0} (Known : Type 0) (o : Office) (moment : ℕ) (order : Order) (first : Option Sale) (r : Result Facts E) → first ≡ sale_of_ref o order.operator order.order_ref → is_some first ≡ false
+    → IfOk r (λ f. IsNone f.first_sale) → IfOk r (λ f. Known → AreNewSaleFacts o moment order f) → IfOk r (λ f. Known → AreSaleFacts o moment order f)
+new_sale_is Known o moment order first (Err e) first_is gone none new = tt
+new_sale_is Known o moment order first (Ok f) first_is gone none new =
+    λ known. record { first_sale = sym (none_is f.first_sale none) ∙ none_is first gone ∙ first_is; new_sale = λ _. new known }
 
 -- ---- the rows of an import
 
 -- one row more: the last one that is looked at, or with what is found for the others
-pub rows_more : (o : Office) (rows : List Row) (i : ℕ) (row : Row) (found more : List RowFacts) (f : RowFacts) → i < length rows → row ≡ get_or rows i row → f ≡ row_facts o row
-    → (row_decision o row ≡ Err Differs) ⊎ AreRowsFacts o (drop (i + 1) rows) more
-    → ((more : List RowFacts) → AreRowsFacts o (drop i rows) more → AreRowsFacts o rows (found ++ more)) → AreRowsFacts o rows (found ++ f ∷ [] ++ more)
-rows_more o rows i row found more f within read is rest so_far =
+pub rows_more : (o : Office) (today : ℕ) (rows : List Row) (i : ℕ) (row : Row) (found more : List RowFacts) (f : RowFacts) → i < length rows → row ≡ get_or rows i row → f ≡ row_facts o row
+    → (row_decision o today row ≡ Err Differs) ⊎ AreRowsFacts o today (drop (i + 1) rows) more
+    → ((more : List RowFacts) → AreRowsFacts o today (drop i rows) more → AreRowsFacts o today rows (found ++ more)) → AreRowsFacts o today rows (found ++ f ∷ [] ++ more)
+rows_more o today rows i row found more f within read is rest so_far =
     let next : drop i rows ≡ row ∷ drop (i + 1) rows = (let e = drop-cons rows i row in rw (add-one, e) (ap (λ (r : Row). r ∷ drop (suc i) rows) (sym read))) in
     rw append_assoc (so_far (f ∷ more) (rw next (is, rest)))

@@ -8,7 +8,7 @@ use Rattle.sqlite.proofs.StateLemmas.{survives_then}
 use Rattle.sqlite_trees.proofs.Doubt.{no_doubt}
 use Rattle.sqlite_schema.specs.Names.{table_named}
 use Rattle.one_table.specs.Standing.{place_in}
-use Rattle.sqlite.specs.Effect.{Database}
+use Rattle.sqlite.specs.Effect.{Database, IsDatabase}
 use Rattle.sqlite.specs.State.{HasCleanDisk, IsUnchanged, State, Survives}
 use Rattle.sqlite.specs.declared.error.Error.{Error}
 use Rattle.sqlite.proofs.Callers.{unchanged_then}
@@ -21,7 +21,7 @@ use Rattle.book_tables.specs.Reading.{FailsToRead, HasTables}
 use Rattle.book_tables.specs.declared.error.TableError.{TableError}
 use Rattle.book_tables.specs.declared.error.TableError.TheVariants as table
 use Rattle.books.specs.Keeps.{StoreStandsFor}
-use Rattle.books.specs.Opening.{ShowsNoOffice, fault_of_table}
+use Rattle.books.specs.Opening.{HasSoundDatabase, ShowsNoOffice, fault_of_table}
 use Rattle.books.specs.Same.{IsSame}
 use Rattle.books.specs.declared.fault.OpenFault.{OpenFault}
 use Rattle.books.specs.declared.fault.OpenFault.TheVariants.{NotAnOffice, OldOffice, Store, Memory}
@@ -77,10 +77,6 @@ has_format db found same is = (is 1 (omega arith)).0 (some_one found same)
     some_one None h = absurd (let e = h in cc)
     some_one (Some n) h = (let e : n ≡ 1 = grind (arith, nat_tests) in ap Some e)
 
-pub on_ok : {A E P : Type 0} (r : Result A E) → P → OnOk r P
-on_ok (Ok a) p = p
-on_ok (Err e) p = tt
-
 -- a fault that names the file is true of the store as it was before a look
 pub shown_before : (old mid : State) (fault : OpenFault) → ((o : Office) → StoreStandsFor old o → StoreStandsFor mid o) → ShowsNoOffice mid fault → ShowsNoOffice old fault
 shown_before old mid NotAnOffice after none = λ o at. none o (after o at)
@@ -94,6 +90,9 @@ tables_after old mid shut same has = λ is_open. elim (cases_Bool mid.is_clean) 
   | inl is ↦ (let it = same (no_doubt mid.is_clean is) in subst (λ (db : Database). HasOffice db.schema) (sym it.0.now_is) (has it.0.was_open))
   | inr dirty ↦ absurd (both_ways mid.is_open (shut dirty) is_open)
 ]
+
+pub sound_after : (old mid : State) → IsUnchanged old mid → HasSoundDatabase old → HasSoundDatabase mid
+sound_after old mid same sound = λ is_open. subst IsDatabase (sym same.0.now_is) (sound same.0.was_open)
 
 -- a look after a look that left all as it was
 module _ (old mid new : State) (same : HasCleanDisk mid → IsUnchanged old mid) (one : Survives old mid (λ _. ⊥)) (two : Survives mid new (λ _. ⊥)) where

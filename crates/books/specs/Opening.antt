@@ -1,40 +1,24 @@
 -- What the opening of an office makes of a database.
-use Rattle.std.specs.Prelude.{◌≡◌, ◌≢◌, ◌⊎◌, ℕ, ◌+◌, fold, length, Result, IfErr, IfOk, IsTrue, OnOk}
+use Rattle.std.specs.Prelude.{◌≡◌, ◌≢◌, ◌⊎◌, ℕ, ◌+◌, length, Result, IfErr, IfOk, IsTrue, OnErr, OnOk}
 use Rattle.sqlite.specs.Effect.{Database, IsDatabase}
-use Rattle.sqlite.specs.State.{HasCleanDisk, State, Survives}
+use Rattle.sqlite.specs.State.{HasCleanDisk, IsUnchanged, State, Survives}
 use Rattle.sqlite.specs.declared.error.Error.{Error}
 use Rattle.sqlite.specs.declared.error.Error.TheVariants.{SqliteFailure}
 use Rattle.sqlite.specs.declared.error.ErrorCode.TheVariants.{OutOfMemory}
-use Rattle.sqlite_catalog.specs.Change.{KeepsRows}
-use Rattle.sqlite_schema.specs.declared.schema.Table.{Table}
 use Rattle.sqlite_trees.specs.Tree.{Trees}
+use Rattle.one_table.specs.Answer.{IsLeft}
 use Rattle.one_table.specs.Committing.{LeavesMade}
-use Rattle.one_table.specs.Making.{made}
-use Rattle.one_table.specs.Place.{Has}
-use Rattle.vend_core.specs.Office.{Office, empty_office}
-use Rattle.book_tables.specs.Edited.{no_rows}
+use Rattle.vend_core.specs.Office.{Office}
 use Rattle.book_tables.specs.Format.{HasFormat}
-use Rattle.book_tables.specs.Holds.{HasOffice, Holds, IsUntaken, StandsFor}
-use Rattle.book_tables.specs.Making.{office_tables}
+use Rattle.book_tables.specs.Holds.{HasOffice, IsUntaken}
+use Rattle.book_tables.specs.Making.{BeginsOffice}
+use Rattle.book_tables.specs.Reading.{HasTables}
 use Rattle.book_tables.specs.declared.error.TableError.{TableError}
 use Rattle.book_tables.specs.declared.error.TableError.TheVariants as table
 use Rattle.books.specs.Keeps.{Stores, StoreStandsFor}
 use Rattle.books.specs.Same.{IsSame}
 use Rattle.books.specs.declared.fault.OpenFault.{OpenFault}
 use Rattle.books.specs.declared.fault.OpenFault.TheVariants.{NotAnOffice, OldOffice, Store, Memory}
-
--- None of the names was taken. Now the office's tables are there, and hold nothing but the number of
--- their format. Whatever else was there stays.
-pub record BeginsOffice (old new : Database) : Type 0 where
-  pub untaken : IsUntaken old.schema
-  pub empty : Holds new no_rows
-  pub stands : StandsFor new empty_office
-  -- nothing but the six tables is added to the schema
-  pub schema : new.schema ≡ fold made old.schema office_tables
-  -- each table that was there has its place, its definition and its rows
-  pub places : (at : ℕ) (t : Table) → Has old.schema at t → Has new.schema at t
-  pub rows : KeepsRows old.schema.tables old.trees new.trees
-  pub sound : IsDatabase new
 
 -- the office may be begun in a sound database where none of the names is taken
 abbrev pub Begins : Database → Database → Type 0
@@ -46,6 +30,10 @@ pub record OpensAs (old new : State) : Type 0 where
   pub is_open : IsTrue new.is_open
   pub now : BeginsOffice old.now new.now
       ⊎ (HasOffice old.now.schema × HasFormat old.now 1 × (new.now ≡ old.now))
+
+-- while the connection is open, it has a sound database
+abbrev pub HasSoundDatabase : State → Type 0
+HasSoundDatabase s = IsTrue s.is_open → IsDatabase s.now
 
 -- what an error of the database is answered as
 abbrev pub fault_of : Error → OpenFault
@@ -63,6 +51,21 @@ ShowsNoOffice s NotAnOffice = (o : Office) → ¬ StoreStandsFor s o
 ShowsNoOffice s OldOffice = ⊥
 ShowsNoOffice s Store = Unit {0}
 ShowsNoOffice s Memory = Unit {0}
+
+-- of the office that the store stands for, this is the number of the next sale
+abbrev pub IsNextSale : State → ℕ → Type 0
+IsNextSale s next = (o : Office) → StoreStandsFor s o → next ≡ length o.sales + 1
+
+-- The office's tables were only looked at, where they are there: this holds of what was found, and a
+-- fault that names the file is true of it.
+pub record LooksAt {T : Type 0} (Says : T → Type 0) (old new : State) (result : Result T OpenFault) :
+    Type 0 where
+  pub finds : HasCleanDisk new → HasTables old → HasSoundDatabase old → IfOk result Says
+  pub same : HasCleanDisk new → HasTables old → OnOk result (IsUnchanged old new)
+  pub kept : HasCleanDisk new → HasTables old → OnErr result (IsLeft old new)
+  pub other : HasCleanDisk new → HasTables old → HasSoundDatabase old → IfErr result (ShowsNoOffice old)
+  pub never_old : IfErr result (λ fault. fault ≢ OldOffice)
+  pub survives : HasTables old → Survives old new (λ _. ⊥)
 
 -- The office that the store stood for is held now, and this is the number of its next sale.
 abbrev pub OpensAt : State → State → ℕ → Type 0

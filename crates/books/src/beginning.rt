@@ -3,8 +3,8 @@
 ghost use Rattle.std.specs.Prelude.{◌≡◌, ◌⊎◌, false, IsTrue, IfErr, IfOk, OnErr};
 ghost use Rattle.sqlite.specs.State.{HasCleanDisk, Survives};
 ghost use Rattle.sqlite.specs.Held.{state};
-ghost use Rattle.book_tables.specs.Making.{HasRoom};
-ghost use Rattle.books.specs.Opening.{Begins, BeginsOffice, LeavesBegun, LeavesRefused};
+ghost use Rattle.book_tables.specs.Making.{BeginsOffice, HasRoom};
+ghost use Rattle.books.specs.Opening.{Begins, LeavesBegun, LeavesRefused};
 ghost use Rattle.books.specs.Same.{IsSame};
 
 use crate::fault::OpenFault;

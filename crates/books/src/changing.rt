@@ -8,6 +8,7 @@ use book_tables::{TableError, members_law};
 use one_table::Change;
 use rows::add_rows;
 use sqlite::{Alter, Transaction};
+use std::alloc::AllocError;
 use vend_core::Edit;
 
 mod rows;
@@ -27,6 +28,8 @@ impl<S: Alter> Change<S> for Editing<'_> {
         members_law();
         match self.edit {
             Edit::AddTariff(name, steps) => add_tariff(tx, name, steps.as_slice()),
+            // The tables have no place for these: as without memory, nothing is done.
+            Edit::AddSteps(..) | Edit::MoveBase(..) => Err(TableError::from(AllocError)),
             Edit::AddMeter(number, meter) => add_meter(tx, number, meter),
             Edit::AddRows(rows) => add_rows(tx, rows.as_slice()),
             Edit::SetTariff(number, name) => set_tariff(tx, number, name),

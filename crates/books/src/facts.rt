@@ -1,12 +1,10 @@
 //! What the tests of a request look at, read from the tables.
 
-ghost use Rattle.std.specs.Prelude.{◌≡◌, IfOk, length};
-ghost use Rattle.sqlite.specs.State.{HasCleanDisk};
+ghost use Rattle.std.specs.Prelude.{◌≡◌, length};
 ghost use Rattle.sqlite.specs.Held.{state};
 ghost use Rattle.vend_core.specs.Facts.{AreFacts};
-ghost use Rattle.vend_core.specs.Office.{IsOffice, Office};
 ghost use Rattle.book_tables.specs.Reading.{OnlyReads};
-ghost use Rattle.books.specs.Members.{HasMembers};
+ghost use Rattle.books.specs.Members.{SaysOfOffice};
 ghost use Rattle.books.specs.Same.{IsSame};
 
 use book_tables::TableError;
@@ -31,17 +29,18 @@ pub(crate) fn facts_of<S: Alter>(
     at: &Stamped,
     sale_count: u64,
 ) -> Result<Facts, TableError>
-    ensures facts { HasCleanDisk (state S.Store conn.new)
-        → (o : Office) → IsOffice o → HasMembers (state S.Store conn.old) o
-        → sale_count ≡ length o.sales → IfOk result (AreFacts o at.now) }
+    ensures facts { SaysOfOffice (λ o f. sale_count ≡ length o.sales → AreFacts o at.now f)
+        (state S.Store conn.old) (state S.Store conn.new) result }
     ensures reads { OnlyReads IsSame
         (state S.Store conn.old) (state S.Store conn.new) result }
 {
     match &at.request {
         Request::AddTariff(name, _) => meters::tariff_facts(alloc, conn, name),
+        Request::AddSteps(name, ..) => meters::dated_facts(conn, name),
         Request::AddMeter(number, meter) => meters::meter_facts(conn, number, meter),
         Request::Import(rows) => imports::import_facts(alloc, conn, rows),
         Request::SetTariff(number, name) => meters::setting_facts(conn, number, name),
+        Request::MoveBase(number, _) => meters::moving_facts(conn, number),
         Request::OpenShift(operator) => shifts::opening_facts(conn, operator),
         Request::CloseShift(operator) => shifts::closing_facts(conn, operator),
         Request::Sell(order) => { sales::sale_facts(alloc, conn, at.moment, order, sale_count) },

@@ -3,7 +3,7 @@ ghost use Rattle.sqlite.specs.Held.{Held, state};
 ghost use Rattle.sqlite.specs.State.{IsLive, Opens};
 ghost use Rattle.sqlite_trees.specs.Tree.{Trees};
 ghost use Rattle.sts_token.specs.Meter.{Accepts, credit_of};
-ghost use Rattle.vend_core.specs.Imports.{AsksNoSetTariff, ImportsNothing};
+ghost use Rattle.vend_core.specs.Imports.{AsksNoMeterChange, ImportsNothing};
 ghost use Rattle.vend_core.specs.Life.{Answered, AreLives, Exchange, IsHanded, Life, present};
 ghost use Rattle.vend_core.specs.NewSale.{fields_of};
 ghost use Rattle.vend_core.specs.Office.{Office};
@@ -110,7 +110,7 @@ pub fn headline_law<S: Alter, T: BlockTransform>()
         → (earlier ++ life ∷ later) ≡ with_last lives last
         → life.exchanges ≡ before ++ e ∷ between
         → e.request.request ≡ Request.Import rows → e.reply ≡ Ok (Answer.Imported new)
-        → All AsksNoSetTariff between → All (λ l. All AsksNoSetTariff l.exchanges) later
+        → All AsksNoMeterChange between → All (λ l. All AsksNoMeterChange l.exchanges) later
         → again.request ≡ Request.Import rows
         → ImportsNothing (T.forwards books.transform) (present last) again }
 {

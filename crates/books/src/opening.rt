@@ -1,15 +1,11 @@
 //! What an opening does with the connection that it is given.
 
-ghost use Rattle.std.specs.Prelude.{◌≡◌, ◌≢◌, ◌+◌, ◌⊎◌, false, length, Err, IsTrue, IfOk, IfErr, OnOk, OnErr};
-ghost use Rattle.sqlite.specs.Effect.{IsDatabase};
+ghost use Rattle.std.specs.Prelude.{◌≡◌, ◌≢◌, ◌⊎◌, false, Err, IsTrue, IfErr, OnOk, OnErr};
 ghost use Rattle.sqlite.specs.State.{HasCleanDisk, IsUnchanged, Survives};
 ghost use Rattle.sqlite.specs.Held.{state};
-ghost use Rattle.vend_core.specs.Office.{Office};
 ghost use Rattle.one_table.specs.Answer.{IsLeft};
 ghost use Rattle.book_tables.specs.Format.{HasFormat};
-ghost use Rattle.book_tables.specs.Reading.{HasTables};
-ghost use Rattle.books.specs.Keeps.{StoreStandsFor};
-ghost use Rattle.books.specs.Opening.{EndsOpening, ShowsNoOffice, fault_of, fault_of_table};
+ghost use Rattle.books.specs.Opening.{EndsOpening, IsNextSale, LooksAt, fault_of, fault_of_table};
 
 use crate::beginning::first_of_office;
 use crate::fault::OpenFault;
@@ -65,24 +61,9 @@ fn test_open<S: Alter>(conn: &mut Connection<S>) -> Result<(), OpenFault>
 }
 
 fn test_format<S: Alter>(alloc: Global, conn: &mut Connection<S>) -> Result<(), OpenFault>
-    ensures format { HasCleanDisk (state S.Store conn.new)
-        → HasTables (state S.Store conn.old)
-        → (IsTrue (state S.Store conn.old).is_open → IsDatabase (state S.Store conn.old).now)
-        → OnOk result (HasFormat (state S.Store conn.old).now 1) }
-    ensures same { HasCleanDisk (state S.Store conn.new)
-        → HasTables (state S.Store conn.old)
-        → OnOk result (IsUnchanged (state S.Store conn.old) (state S.Store conn.new)) }
-    ensures kept { HasCleanDisk (state S.Store conn.new)
-        → HasTables (state S.Store conn.old)
-        → OnErr result (IsLeft (state S.Store conn.old) (state S.Store conn.new)) }
+    ensures looks { LooksAt (λ _. HasFormat (state S.Store conn.old).now 1)
+        (state S.Store conn.old) (state S.Store conn.new) result }
     ensures mode { conn.old.in_transaction ≡ false → conn.new.in_transaction ≡ false }
-    ensures other { HasCleanDisk (state S.Store conn.new)
-        → HasTables (state S.Store conn.old)
-        → (IsTrue (state S.Store conn.old).is_open → IsDatabase (state S.Store conn.old).now)
-        → IfErr result (ShowsNoOffice (state S.Store conn.old)) }
-    ensures never_old { IfErr result (λ fault. fault ≢ OpenFault.OldOffice) }
-    ensures survives { HasTables (state S.Store conn.old)
-        → Survives (state S.Store conn.old) (state S.Store conn.new) (λ _. ⊥) }
 {
     let format = match format_number(alloc, conn) {
         Ok(format) => format,
@@ -97,23 +78,9 @@ fn test_format<S: Alter>(alloc: Global, conn: &mut Connection<S>) -> Result<(), 
 
 // The number of the next sale, by the one that was made last.
 fn next_by_sales<S: Alter>(conn: &mut Connection<S>) -> Result<u64, OpenFault>
-    ensures next { HasCleanDisk (state S.Store conn.new)
-        → HasTables (state S.Store conn.old)
-        → (o : Office) → StoreStandsFor (state S.Store conn.old) o
-        → IfOk result (λ next. next ≡ length o.sales + 1) }
-    ensures same { HasCleanDisk (state S.Store conn.new)
-        → HasTables (state S.Store conn.old)
-        → OnOk result (IsUnchanged (state S.Store conn.old) (state S.Store conn.new)) }
-    ensures kept { HasCleanDisk (state S.Store conn.new)
-        → HasTables (state S.Store conn.old)
-        → OnErr result (IsLeft (state S.Store conn.old) (state S.Store conn.new)) }
+    ensures looks { LooksAt (IsNextSale (state S.Store conn.old))
+        (state S.Store conn.old) (state S.Store conn.new) result }
     ensures mode { conn.old.in_transaction ≡ false → conn.new.in_transaction ≡ false }
-    ensures other { HasCleanDisk (state S.Store conn.new)
-        → HasTables (state S.Store conn.old)
-        → IfErr result (ShowsNoOffice (state S.Store conn.old)) }
-    ensures never_old { IfErr result (λ fault. fault ≢ OpenFault.OldOffice) }
-    ensures survives { HasTables (state S.Store conn.old)
-        → Survives (state S.Store conn.old) (state S.Store conn.new) (λ _. ⊥) }
 {
     match last_sale_number(conn) {
         Ok(last) => Ok(u64::from(last.unwrap_or(0)) + 1),
@@ -122,28 +89,10 @@ fn next_by_sales<S: Alter>(conn: &mut Connection<S>) -> Result<u64, OpenFault>
 }
 
 fn next_of_office<S: Alter>(alloc: Global, conn: &mut Connection<S>) -> Result<u64, OpenFault>
-    ensures next { HasCleanDisk (state S.Store conn.new)
-        → HasTables (state S.Store conn.old)
-        → (o : Office) → StoreStandsFor (state S.Store conn.old) o
-        → IfOk result (λ next. next ≡ length o.sales + 1) }
-    ensures format { HasCleanDisk (state S.Store conn.new)
-        → HasTables (state S.Store conn.old)
-        → (IsTrue (state S.Store conn.old).is_open → IsDatabase (state S.Store conn.old).now)
-        → OnOk result (HasFormat (state S.Store conn.old).now 1) }
-    ensures same { HasCleanDisk (state S.Store conn.new)
-        → HasTables (state S.Store conn.old)
-        → OnOk result (IsUnchanged (state S.Store conn.old) (state S.Store conn.new)) }
-    ensures kept { HasCleanDisk (state S.Store conn.new)
-        → HasTables (state S.Store conn.old)
-        → OnErr result (IsLeft (state S.Store conn.old) (state S.Store conn.new)) }
+    ensures looks { LooksAt (λ next.
+        HasFormat (state S.Store conn.old).now 1 × IsNextSale (state S.Store conn.old) next)
+        (state S.Store conn.old) (state S.Store conn.new) result }
     ensures mode { conn.old.in_transaction ≡ false → conn.new.in_transaction ≡ false }
-    ensures other { HasCleanDisk (state S.Store conn.new)
-        → HasTables (state S.Store conn.old)
-        → (IsTrue (state S.Store conn.old).is_open → IsDatabase (state S.Store conn.old).now)
-        → IfErr result (ShowsNoOffice (state S.Store conn.old)) }
-    ensures never_old { IfErr result (λ fault. fault ≢ OpenFault.OldOffice) }
-    ensures survives { HasTables (state S.Store conn.old)
-        → Survives (state S.Store conn.old) (state S.Store conn.new) (λ _. ⊥) }
 {
     test_format(alloc, conn)?;
     next_by_sales(conn)

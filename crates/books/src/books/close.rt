@@ -28,13 +28,7 @@ impl<S: Alter, T: BlockTransform + Drop> Books<S, T> {
             → HasCleanDisk (state S.Store result) → self.stopped ≡ false
             → StoreStandsFor (state S.Store result) (present life) }
     {
-        let Books {
-            alloc: _,
-            conn,
-            transform: _,
-            next_number: _,
-            stopped: _,
-        } = self;
+        let Books { conn, .. } = self;
         conn
     }
 }

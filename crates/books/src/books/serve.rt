@@ -1,12 +1,8 @@
 //! The requests, one at a time.
 
-ghost use Rattle.std.specs.Prelude.{◌≡◌, ◌⊎◌, ◌↔◌, Err, IfErr, false, true};
-ghost use Rattle.sqlite.specs.State.{HasCleanDisk};
-ghost use Rattle.vend_core.specs.Life.{Life};
-ghost use Rattle.vend_core.specs.LifeLaws.{extended_by};
-ghost use Rattle.books.specs.Keeps.{HaveTables, Represents, seen};
-ghost use Rattle.books.specs.Others.{LeavesOthers};
-ghost use Rattle.books.specs.Serving.{FailsToServe};
+ghost use Rattle.std.specs.Prelude.{◌≡◌, true};
+ghost use Rattle.books.specs.Asking.{Replies};
+ghost use Rattle.books.specs.Keeps.{seen};
 
 use super::Books;
 use super::failing::has_failed;
@@ -21,23 +17,8 @@ impl<S: Alter, T: BlockTransform> Books<S, T> {
     /// office as it was. After `Store` the request is in doubt, and every request is answered
     /// `Stopped` until the office is opened again.
     pub fn serve(&mut self, at: &Stamped) -> Reply
-        ensures keeps { (life : Life) → Represents life (seen S.Store T.forwards self.old)
-            → Represents (extended_by life at.now result) (seen S.Store T.forwards self.new) }
-        ensures tables { HaveTables (seen S.Store T.forwards self.old)
-            → HaveTables (seen S.Store T.forwards self.new) }
-        ensures others { HasCleanDisk (seen S.Store T.forwards self.new).state
-            → HaveTables (seen S.Store T.forwards self.old)
-            → LeavesOthers (seen S.Store T.forwards self.old).state
-            (seen S.Store T.forwards self.new).state }
-        ensures clean { HasCleanDisk (seen S.Store T.forwards self.new).state
-            → HasCleanDisk (seen S.Store T.forwards self.old).state }
-        ensures stopped { (result ≡ Err Refusal.Stopped) ↔ (self.old.stopped ≡ true) }
-        ensures stops { (self.new.stopped ≡ true)
-            ↔ ((result ≡ Err Refusal.Store) ⊎ (result ≡ Err Refusal.Stopped)) }
-        ensures failures { HasCleanDisk (seen S.Store T.forwards self.new).state
-            → HaveTables (seen S.Store T.forwards self.old) → self.old.stopped ≡ false
-            → IfErr result (FailsToServe at.now (seen S.Store T.forwards self.old)
-            (seen S.Store T.forwards self.new)) }
+        ensures replies { Replies at.now result
+            (seen S.Store T.forwards self.old) (seen S.Store T.forwards self.new) }
         ensures idle { self.old.stopped ≡ true → self.new ≡ self.old }
     {
         life_law();

@@ -1,14 +1,13 @@
 //! What a sale looks at of its meter.
 
-ghost use Rattle.std.specs.Prelude.{◌≡◌, ◌<◌, IfOk};
-ghost use Rattle.sqlite.specs.State.{HasCleanDisk, IsUnchanged};
+ghost use Rattle.std.specs.Prelude.{◌≡◌, ◌<◌};
+ghost use Rattle.sqlite.specs.State.{IsUnchanged};
 ghost use Rattle.sqlite.specs.Held.{state};
 ghost use Rattle.sts_fields.specs.Calendar.{month_at};
 ghost use Rattle.vend_core.specs.Decision.{account_of};
 ghost use Rattle.vend_core.specs.Lookup.{greatest_of, prior, used};
-ghost use Rattle.vend_core.specs.Office.{IsOffice, Office};
 ghost use Rattle.book_tables.specs.Reading.{OnlyReads};
-ghost use Rattle.books.specs.Members.{HasMembers};
+ghost use Rattle.books.specs.Members.{SaysOfOffice};
 
 use book_tables::{TableError, members_law, meters, sold, tariffs};
 use sqlite::{Alter, Connection};
@@ -24,9 +23,8 @@ pub(crate) fn account_numbered<S: Alter>(
     number: &MeterNo,
     moment: Moment,
 ) -> Result<Option<MeterAccount>, TableError>
-    ensures facts { HasCleanDisk (state S.Store conn.new)
-        → (o : Office) → IsOffice o → HasMembers (state S.Store conn.old) o
-        → IfOk result (λ found. found ≡ account_of o number.now moment) }
+    ensures facts { SaysOfOffice (λ o found. found ≡ account_of o number.now moment)
+        (state S.Store conn.old) (state S.Store conn.new) result }
     ensures reads { OnlyReads IsUnchanged
         (state S.Store conn.old) (state S.Store conn.new) result }
 {
@@ -52,14 +50,13 @@ fn account_at<S: Alter>(
     meter: Meter,
     steps: Steps,
 ) -> Result<MeterAccount, TableError>
-    ensures facts { HasCleanDisk (state S.Store conn.new)
-        → (o : Office) → IsOffice o → HasMembers (state S.Store conn.old) o
-        → IfOk result (λ b. b ≡ record {
-          meter = meter;
-          steps = steps;
-          last = greatest_of (used o number.now meter.base);
-          prior = prior o number.now (month_at moment);
-        }) }
+    ensures facts { SaysOfOffice (λ o b. b ≡ record {
+      meter = meter;
+      steps = steps;
+      last = greatest_of (used o number.now meter.base);
+      prior = prior o number.now (month_at moment);
+    })
+        (state S.Store conn.old) (state S.Store conn.new) result }
     ensures reads { OnlyReads IsUnchanged
         (state S.Store conn.old) (state S.Store conn.new) result }
 {

@@ -1,20 +1,21 @@
 //! What an import looks at.
 
-ghost use Rattle.std.specs.Prelude.{◌≡◌, false, true, Err, IfOk, List, Some};
-ghost use Rattle.sqlite.specs.State.{HasCleanDisk, IsUnchanged};
+ghost use Rattle.std.specs.Prelude.{◌≡◌, ℕ, false, true, Err, List, Some};
+ghost use Rattle.sqlite.specs.State.{IsUnchanged};
 ghost use Rattle.sqlite.specs.Held.{state};
+ghost use Rattle.tariff.specs.declared.step.Step.{Step};
 ghost use Rattle.vend_core.specs.Decision.{row_decision};
 ghost use Rattle.vend_core.specs.Facts.{AreRowsFacts, row_facts};
-ghost use Rattle.vend_core.specs.Office.{IsOffice, Office};
+ghost use Rattle.vend_core.specs.Office.{Office};
 ghost use Rattle.vend_core.specs.declared.row_facts.RowFacts.{RowFacts};
 ghost use Rattle.book_tables.specs.Reading.{OnlyReads};
-ghost use Rattle.books.specs.Members.{HasMembers};
+ghost use Rattle.books.specs.Members.{SaysOfOffice};
 ghost use Rattle.books.specs.Same.{IsSame};
 
 use book_tables::{TableError, members_law, meters, tariffs};
 use sqlite::{Alter, Connection};
 use std::alloc::{AllocError, Global};
-use vend_core::{Facts, ImportFacts, Meter, MeterNo, Refusal, Row, RowFacts, Rows};
+use vend_core::{Facts, ImportFacts, Meter, MeterNo, Refusal, Row, RowFacts, Rows, TariffName};
 
 /// What an import looks at: what is under the names of its rows, up to the first row that differs
 /// from it.
@@ -23,10 +24,9 @@ pub(crate) fn import_facts<S: Alter>(
     conn: &mut Connection<S>,
     rows: &Rows,
 ) -> Result<Facts, TableError>
-    ensures facts { HasCleanDisk (state S.Store conn.new)
-        → (o : Office) → IsOffice o → HasMembers (state S.Store conn.old) o
-        → IfOk result (λ f. (fs : List RowFacts) × (f.rows ≡ Some fs)
-        × AreRowsFacts o rows.now fs) }
+    ensures facts { SaysOfOffice (λ o f. (today : ℕ) → (fs : List RowFacts) × (f.rows ≡ Some fs)
+        × AreRowsFacts o today rows.now fs)
+        (state S.Store conn.old) (state S.Store conn.new) result }
     ensures reads { OnlyReads IsSame
         (state S.Store conn.old) (state S.Store conn.new) result }
 {
@@ -42,9 +42,8 @@ fn found_of<S: Alter>(
     conn: &mut Connection<S>,
     rows: &[Row],
 ) -> Result<Vec<RowFacts>, TableError>
-    ensures facts { HasCleanDisk (state S.Store conn.new)
-        → (o : Office) → IsOffice o → HasMembers (state S.Store conn.old) o
-        → IfOk result (λ found. AreRowsFacts o rows.now found.items) }
+    ensures facts { SaysOfOffice (λ o found. (today : ℕ) → AreRowsFacts o today rows.now found.items)
+        (state S.Store conn.old) (state S.Store conn.new) result }
     ensures reads { OnlyReads IsSame
         (state S.Store conn.old) (state S.Store conn.new) result }
 {
@@ -65,9 +64,8 @@ fn row_facts<S: Alter>(
     conn: &mut Connection<S>,
     row: &Row,
 ) -> Result<RowFacts, TableError>
-    ensures facts { HasCleanDisk (state S.Store conn.new)
-        → (o : Office) → IsOffice o → HasMembers (state S.Store conn.old) o
-        → IfOk result (λ found. found ≡ row_facts o row.now) }
+    ensures facts { SaysOfOffice (λ o found. found ≡ row_facts o row.now)
+        (state S.Store conn.old) (state S.Store conn.new) result }
     ensures reads { OnlyReads IsUnchanged
         (state S.Store conn.old) (state S.Store conn.new) result }
 {
@@ -76,8 +74,24 @@ fn row_facts<S: Alter>(
             let steps = tariffs::steps_of(alloc, conn, name)?;
             Ok(RowFacts::Tariff(steps))
         }
+        Row::Steps(name, ..) => steps_row_facts(conn, name),
         Row::Meter(number, meter) => meter_row_facts(conn, number, meter),
     }
+}
+
+// Whether there is the tariff. The tables have no steps of a later day.
+fn steps_row_facts<S: Alter>(
+    conn: &mut Connection<S>,
+    name: &TariffName,
+) -> Result<RowFacts, TableError>
+    ensures facts { SaysOfOffice (λ o found. (day : ℕ) (steps : List Step)
+        → found ≡ row_facts o (Row.Steps name.now day steps))
+        (state S.Store conn.old) (state S.Store conn.new) result }
+    ensures reads { OnlyReads IsUnchanged
+        (state S.Store conn.old) (state S.Store conn.new) result }
+{
+    let has_tariff = tariffs::has_tariff(conn, name)?;
+    Ok(RowFacts::Steps(has_tariff, None))
 }
 
 fn meter_row_facts<S: Alter>(
@@ -85,9 +99,8 @@ fn meter_row_facts<S: Alter>(
     number: &MeterNo,
     meter: &Meter,
 ) -> Result<RowFacts, TableError>
-    ensures facts { HasCleanDisk (state S.Store conn.new)
-        → (o : Office) → IsOffice o → HasMembers (state S.Store conn.old) o
-        → IfOk result (λ found. found ≡ row_facts o (Row.Meter number.now meter.now)) }
+    ensures facts { SaysOfOffice (λ o found. found ≡ row_facts o (Row.Meter number.now meter.now))
+        (state S.Store conn.old) (state S.Store conn.new) result }
     ensures reads { OnlyReads IsUnchanged
         (state S.Store conn.old) (state S.Store conn.new) result }
 {
@@ -102,11 +115,12 @@ fn meter_row_facts<S: Alter>(
 
 // Whether something else is there under the row's name.
 fn differs(row: &Row, found: &RowFacts) -> bool
-    ensures { (o : Office) → found.now ≡ row_facts o row.now
-        → result ≡ true → row_decision o row.now ≡ Err Refusal.Differs }
+    ensures { (o : Office) (today : ℕ) → found.now ≡ row_facts o row.now
+        → result ≡ true → row_decision o today row.now ≡ Err Refusal.Differs }
 {
     match (row, found) {
         (Row::Tariff(_, steps), RowFacts::Tariff(Some(there))) => there != steps,
+        (Row::Steps(_, _, steps), RowFacts::Steps(true, Some(there))) => there != steps,
         (Row::Meter(_, meter), RowFacts::Meter(there)) => there != meter,
         _ => false,
     }

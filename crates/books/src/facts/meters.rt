@@ -1,12 +1,11 @@
 //! What requests on tariffs and meters look at.
 
-ghost use Rattle.std.specs.Prelude.{◌≡◌, IfOk};
-ghost use Rattle.sqlite.specs.State.{HasCleanDisk, IsUnchanged};
+ghost use Rattle.std.specs.Prelude.{◌≡◌, ℕ};
+ghost use Rattle.sqlite.specs.State.{IsUnchanged};
 ghost use Rattle.sqlite.specs.Held.{state};
-ghost use Rattle.vend_core.specs.Facts.{AreMeterFacts, AreSettingFacts};
-ghost use Rattle.vend_core.specs.Office.{IsOffice, Office};
+ghost use Rattle.vend_core.specs.Facts.{AreDatedFacts, AreMeterFacts, AreSettingFacts};
 ghost use Rattle.book_tables.specs.Reading.{OnlyReads};
-ghost use Rattle.books.specs.Members.{HasMembers};
+ghost use Rattle.books.specs.Members.{SaysOfOffice};
 
 use book_tables::{TableError, members_law, meters, tariffs};
 use sqlite::{Alter, Connection};
@@ -19,9 +18,8 @@ pub(crate) fn tariff_facts<S: Alter>(
     conn: &mut Connection<S>,
     name: &TariffName,
 ) -> Result<Facts, TableError>
-    ensures facts { HasCleanDisk (state S.Store conn.new)
-        → (o : Office) → IsOffice o → HasMembers (state S.Store conn.old) o
-        → IfOk result (λ f. f.tariff ≡ o.tariffs name.now) }
+    ensures facts { SaysOfOffice (λ o f. f.tariff ≡ o.tariffs name.now)
+        (state S.Store conn.old) (state S.Store conn.new) result }
     ensures reads { OnlyReads IsUnchanged
         (state S.Store conn.old) (state S.Store conn.new) result }
 {
@@ -32,15 +30,49 @@ pub(crate) fn tariff_facts<S: Alter>(
     })
 }
 
+/// What AddSteps looks at: whether there is its tariff. The tables have no steps of a later day.
+pub(crate) fn dated_facts<S: Alter>(
+    conn: &mut Connection<S>,
+    name: &TariffName,
+) -> Result<Facts, TableError>
+    ensures facts { SaysOfOffice (λ o f. (day : ℕ) → AreDatedFacts o name.now day f)
+        (state S.Store conn.old) (state S.Store conn.new) result }
+    ensures reads { OnlyReads IsUnchanged
+        (state S.Store conn.old) (state S.Store conn.new) result }
+{
+    let has_tariff = tariffs::has_tariff(conn, name)?;
+    Ok(Facts {
+        has_tariff,
+        ..Facts::none()
+    })
+}
+
+/// What MoveBase looks at: the meter of its number.
+pub(crate) fn moving_facts<S: Alter>(
+    conn: &mut Connection<S>,
+    number: &MeterNo,
+) -> Result<Facts, TableError>
+    ensures facts { SaysOfOffice (λ o f. f.meter ≡ o.meters number.now)
+        (state S.Store conn.old) (state S.Store conn.new) result }
+    ensures reads { OnlyReads IsUnchanged
+        (state S.Store conn.old) (state S.Store conn.new) result }
+{
+    members_law();
+    let there = meters::meter_numbered(conn, number)?;
+    Ok(Facts {
+        meter: there,
+        ..Facts::none()
+    })
+}
+
 /// What AddMeter looks at: the tariff only where there is no meter of the number.
 pub(crate) fn meter_facts<S: Alter>(
     conn: &mut Connection<S>,
     number: &MeterNo,
     meter: &Meter,
 ) -> Result<Facts, TableError>
-    ensures facts { HasCleanDisk (state S.Store conn.new)
-        → (o : Office) → IsOffice o → HasMembers (state S.Store conn.old) o
-        → IfOk result (AreMeterFacts o number.now meter.now) }
+    ensures facts { SaysOfOffice (λ o. AreMeterFacts o number.now meter.now)
+        (state S.Store conn.old) (state S.Store conn.new) result }
     ensures reads { OnlyReads IsUnchanged
         (state S.Store conn.old) (state S.Store conn.new) result }
 {
@@ -66,9 +98,8 @@ pub(crate) fn setting_facts<S: Alter>(
     number: &MeterNo,
     name: &TariffName,
 ) -> Result<Facts, TableError>
-    ensures facts { HasCleanDisk (state S.Store conn.new)
-        → (o : Office) → IsOffice o → HasMembers (state S.Store conn.old) o
-        → IfOk result (AreSettingFacts o number.now name.now) }
+    ensures facts { SaysOfOffice (λ o. AreSettingFacts o number.now name.now)
+        (state S.Store conn.old) (state S.Store conn.new) result }
     ensures reads { OnlyReads IsUnchanged
         (state S.Store conn.old) (state S.Store conn.new) result }
 {

@@ -1,13 +1,12 @@
 //! What requests on sales look at.
 
 ghost use Rattle.std.specs.Prelude.{◌≡◌, IfOk, IsNone, length};
-ghost use Rattle.sqlite.specs.State.{HasCleanDisk, IsUnchanged};
+ghost use Rattle.sqlite.specs.State.{IsUnchanged};
 ghost use Rattle.sqlite.specs.Held.{state};
 ghost use Rattle.vend_core.specs.Facts.{AreNewSaleFacts, AreSaleFacts};
 ghost use Rattle.vend_core.specs.Lookup.{sale_numbered};
-ghost use Rattle.vend_core.specs.Office.{IsOffice, Office};
 ghost use Rattle.book_tables.specs.Reading.{OnlyReads};
-ghost use Rattle.books.specs.Members.{HasMembers};
+ghost use Rattle.books.specs.Members.{SaysOfOffice};
 
 use crate::facts::accounts::account_numbered;
 use book_tables::{TableError, sales, shifts};
@@ -24,9 +23,8 @@ pub(crate) fn sale_facts<S: Alter>(
     order: &Order,
     sale_count: u64,
 ) -> Result<Facts, TableError>
-    ensures facts { HasCleanDisk (state S.Store conn.new)
-        → (o : Office) → IsOffice o → HasMembers (state S.Store conn.old) o
-        → sale_count ≡ length o.sales → IfOk result (AreSaleFacts o moment order.now) }
+    ensures facts { SaysOfOffice (λ o f. sale_count ≡ length o.sales → AreSaleFacts o moment order.now f)
+        (state S.Store conn.old) (state S.Store conn.new) result }
     ensures reads { OnlyReads IsUnchanged
         (state S.Store conn.old) (state S.Store conn.new) result }
 {
@@ -49,9 +47,8 @@ fn new_sale_facts<S: Alter>(
     sale_count: u64,
 ) -> Result<Facts, TableError>
     ensures none { IfOk result (λ f. IsNone f.first_sale) }
-    ensures facts { HasCleanDisk (state S.Store conn.new)
-        → (o : Office) → IsOffice o → HasMembers (state S.Store conn.old) o
-        → sale_count ≡ length o.sales → IfOk result (AreNewSaleFacts o moment order.now) }
+    ensures facts { SaysOfOffice (λ o f. sale_count ≡ length o.sales → AreNewSaleFacts o moment order.now f)
+        (state S.Store conn.old) (state S.Store conn.new) result }
     ensures reads { OnlyReads IsUnchanged
         (state S.Store conn.old) (state S.Store conn.new) result }
 {
@@ -73,9 +70,8 @@ pub(crate) fn reprint_facts<S: Alter>(
     conn: &mut Connection<S>,
     number: u32,
 ) -> Result<Facts, TableError>
-    ensures facts { HasCleanDisk (state S.Store conn.new)
-        → (o : Office) → IsOffice o → HasMembers (state S.Store conn.old) o
-        → IfOk result (λ f. f.sale ≡ sale_numbered o number) }
+    ensures facts { SaysOfOffice (λ o f. f.sale ≡ sale_numbered o number)
+        (state S.Store conn.old) (state S.Store conn.new) result }
     ensures reads { OnlyReads IsUnchanged
         (state S.Store conn.old) (state S.Store conn.new) result }
 {

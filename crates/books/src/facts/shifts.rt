@@ -1,13 +1,12 @@
 //! What requests on shifts look at.
 
-ghost use Rattle.std.specs.Prelude.{◌≡◌, IfOk};
-ghost use Rattle.sqlite.specs.State.{HasCleanDisk, IsUnchanged};
+ghost use Rattle.std.specs.Prelude.{◌≡◌};
+ghost use Rattle.sqlite.specs.State.{IsUnchanged};
 ghost use Rattle.sqlite.specs.Held.{state};
 ghost use Rattle.vend_core.specs.Facts.{AreOpeningFacts, report_of};
 ghost use Rattle.vend_core.specs.Lookup.{open_shift};
-ghost use Rattle.vend_core.specs.Office.{IsOffice, Office};
 ghost use Rattle.book_tables.specs.Reading.{OnlyReads};
-ghost use Rattle.books.specs.Members.{HasMembers};
+ghost use Rattle.books.specs.Members.{SaysOfOffice};
 
 use book_tables::{TableError, sale_lists, shifts};
 use sqlite::{Alter, Connection};
@@ -19,9 +18,8 @@ pub(crate) fn opening_facts<S: Alter>(
     conn: &mut Connection<S>,
     operator: &Operator,
 ) -> Result<Facts, TableError>
-    ensures facts { HasCleanDisk (state S.Store conn.new)
-        → (o : Office) → IsOffice o → HasMembers (state S.Store conn.old) o
-        → IfOk result (AreOpeningFacts o operator.now) }
+    ensures facts { SaysOfOffice (λ o. AreOpeningFacts o operator.now)
+        (state S.Store conn.old) (state S.Store conn.new) result }
     ensures reads { OnlyReads IsUnchanged
         (state S.Store conn.old) (state S.Store conn.new) result }
 {
@@ -45,9 +43,8 @@ pub(crate) fn closing_facts<S: Alter>(
     conn: &mut Connection<S>,
     operator: &Operator,
 ) -> Result<Facts, TableError>
-    ensures facts { HasCleanDisk (state S.Store conn.new)
-        → (o : Office) → IsOffice o → HasMembers (state S.Store conn.old) o
-        → IfOk result (λ f. f.open_shift ≡ open_shift o operator.now) }
+    ensures facts { SaysOfOffice (λ o f. f.open_shift ≡ open_shift o operator.now)
+        (state S.Store conn.old) (state S.Store conn.new) result }
     ensures reads { OnlyReads IsUnchanged
         (state S.Store conn.old) (state S.Store conn.new) result }
 {
@@ -64,9 +61,8 @@ pub(crate) fn report_facts<S: Alter>(
     conn: &mut Connection<S>,
     number: u32,
 ) -> Result<Facts, TableError>
-    ensures facts { HasCleanDisk (state S.Store conn.new)
-        → (o : Office) → IsOffice o → HasMembers (state S.Store conn.old) o
-        → IfOk result (λ f. f.report ≡ report_of o number) }
+    ensures facts { SaysOfOffice (λ o f. f.report ≡ report_of o number)
+        (state S.Store conn.old) (state S.Store conn.new) result }
     ensures reads { OnlyReads IsUnchanged
         (state S.Store conn.old) (state S.Store conn.new) result }
 {

@@ -24,3 +24,9 @@ returns-in-Reprint-clause-reads g c = same_on c.reprint_facts.ensures.reads
 
 pub returns-in-ShiftReport-clause-reads : goal.returns-in-ShiftReport-clause-reads
 returns-in-ShiftReport-clause-reads g c = same_on c.report_facts.ensures.reads
+
+pub returns-in-AddSteps-clause-reads : goal.returns-in-AddSteps-clause-reads
+returns-in-AddSteps-clause-reads g c = same_on c.dated_facts.ensures.reads
+
+pub returns-in-MoveBase-clause-reads : goal.returns-in-MoveBase-clause-reads
+returns-in-MoveBase-clause-reads g c = same_on c.moving_facts.ensures.reads

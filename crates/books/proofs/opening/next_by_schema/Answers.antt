@@ -1,9 +1,9 @@
 use Rattle.std.proofs.Common.{rules, sym, subst, ◌∙◌, IsTrue}
-use Rattle.sqlite.specs.Effect.{IsDatabase}
 use Rattle.sqlite.specs.Held.{state}
 use Rattle.book_tables.specs.Holds.{HasOffice, IsUntaken}
 use Rattle.book_tables.specs.Making.{HasRoom}
 use Rattle.book_tables.specs.Reading.{HasTables}
+use Rattle.books.specs.Opening.{HasSoundDatabase}
 use Rattle.books.proofs.BegunLemmas.{ends_begun, ends_found, no_office, refuses_nothing, same_none, survives_none}
 use Rattle.books.proofs.opening.next_by_schema.Goals as goal
 
@@ -12,11 +12,9 @@ returns-in-Ok-Office-clause-ends g c opens =
     let old = state g.S.Store c.args.conn.now in
     let new = state g.S.Store c.next_of_office.new.conn in
     let has : HasTables old = λ _. subst HasOffice c.schema.ensures.value (c.in-Ok-Office.ensures.office.0 c.in-Ok-Office.field-0-is) in
-    let told = c.next_of_office.ensures in
-    let sound : IsTrue old.is_open → IsDatabase old.now = λ k. (c.schema.ensures.live k).0 in
+    let sound : HasSoundDatabase old = λ k. (c.schema.ensures.live k).0 in
     let outside : IsTrue c.is_autocommit-outside.result = search rules in
-    ends_found old new c.next_of_office.result has (c.is_autocommit-outside.ensures.settled outside) (told.survives has) (λ clean. told.format clean has sound) (λ clean. told.same clean has)
-    (λ clean. told.kept clean has) (λ clean. told.next clean has) (λ clean. told.other clean has sound) told.never_old
+    ends_found old new c.next_of_office.result has sound (c.is_autocommit-outside.ensures.settled outside) c.next_of_office.ensures.looks
 
 pub returns-in-Ok-Nothing-clause-ends : goal.returns-in-Ok-Nothing-clause-ends
 returns-in-Ok-Nothing-clause-ends g c opens =

@@ -1,38 +1,45 @@
+use Rattle.std.proofs.lemmas.Result.{IfOk-weaker}
 use Rattle.sqlite.specs.Held.{state}
+use Rattle.book_tables.specs.Format.{HasFormat}
 use Rattle.book_tables.specs.Reading.{HasTables}
 use Rattle.sqlite.specs.State.{HasCleanDisk, IsUnchanged, Survives}
-use Rattle.books.proofs.OpeningLemmas.{clean_between, left_both, on_ok, shown_both, stands_between, survives_both, tables_after, unchanged_both}
+use Rattle.books.specs.Opening.{IsNextSale}
+use Rattle.books.proofs.OpeningLemmas.{clean_between, left_both, shown_both, sound_after, stands_between, survives_both, tables_after, unchanged_both}
 use Rattle.books.proofs.opening.next_of_office.Given as given
 use Rattle.books.proofs.opening.next_of_office.Goals.{After-next_by_sales}
 use Rattle.books.proofs.opening.next_of_office.Goals as goal
 
 module _ (g : given.Over) (c : After-next_by_sales g) (tables : HasTables (state g.S.Store c.args.conn.now)) where
   same : HasCleanDisk (state g.S.Store c.test_format.new.conn) → IsUnchanged (state g.S.Store c.args.conn.now) (state g.S.Store c.test_format.new.conn)
-  same clean = c.in_ok-test_format.ensures.same clean tables
+  same clean = c.in_ok-test_format.ensures.looks.same clean tables
 
   has : HasTables (state g.S.Store c.test_format.new.conn)
   has = tables_after (state g.S.Store c.args.conn.now) (state g.S.Store c.test_format.new.conn) (g.met.S.Store.shut_if_dirty c.test_format.new.conn.store) same tables
 
   one : Survives (state g.S.Store c.args.conn.now) (state g.S.Store c.test_format.new.conn) (λ _. ⊥)
-  one = c.test_format.ensures.survives tables
+  one = c.test_format.ensures.looks.survives tables
 
   two : Survives (state g.S.Store c.test_format.new.conn) (state g.S.Store c.next_by_sales.new.conn) (λ _. ⊥)
-  two = c.next_by_sales.ensures.survives has
+  two = c.next_by_sales.ensures.looks.survives has
 
-pub returns-clause-format : goal.returns-clause-format
-returns-clause-format g c = λ clean tables sound. on_ok c.next_by_sales.result (c.in_ok-test_format.ensures.format (clean_between _ _ _ (same g c tables) (one g c tables) (two g c tables) clean) tables sound)
-
-pub returns-clause-next : goal.returns-clause-next
-returns-clause-next g c = λ clean tables o at. c.next_by_sales.ensures.next clean (has g c tables) o (stands_between _ _ _ (same g c tables) (one g c tables) (two g c tables) o clean at)
-
-pub returns-clause-same : goal.returns-clause-same
-returns-clause-same g c = λ clean tables. unchanged_both _ _ _ (same g c tables) (one g c tables) (two g c tables) c.next_by_sales.result clean (c.next_by_sales.ensures.same clean (has g c tables))
-
-pub returns-clause-kept : goal.returns-clause-kept
-returns-clause-kept g c = λ clean tables. left_both _ _ _ (same g c tables) (one g c tables) (two g c tables) c.next_by_sales.result clean (c.next_by_sales.ensures.kept clean (has g c tables))
-
-pub returns-clause-other : goal.returns-clause-other
-returns-clause-other g c = λ clean tables sound. shown_both _ _ _ (same g c tables) (one g c tables) (two g c tables) c.next_by_sales.result clean (c.next_by_sales.ensures.other clean (has g c tables))
-
-pub returns-clause-survives : goal.returns-clause-survives
-returns-clause-survives g c = λ tables. survives_both _ _ _ (same g c tables) (one g c tables) (two g c tables)
+pub returns-clause-looks : goal.returns-clause-looks
+returns-clause-looks g c =
+    let first = c.in_ok-test_format.ensures.looks in
+    let then = c.next_by_sales.ensures.looks in
+    let r = c.next_by_sales.result in
+    let old = state g.S.Store c.args.conn.now in
+    let mid = state g.S.Store c.test_format.new.conn in
+    record {
+      finds = λ clean tables sound.
+          let early = clean_between _ _ _ (same g c tables) (one g c tables) (two g c tables) clean in
+          IfOk-weaker r (IsNextSale mid) (λ next. HasFormat old.now 1 × IsNextSale old next)
+          (λ next is. (first.finds early tables sound, λ o at. is o (stands_between _ _ _ (same g c tables) (one g c tables) (two g c tables) o clean at)))
+          (then.finds clean (has g c tables) (sound_after old mid (same g c tables early) sound));
+      same = λ clean tables. unchanged_both _ _ _ (same g c tables) (one g c tables) (two g c tables) r clean (then.same clean (has g c tables));
+      kept = λ clean tables. left_both _ _ _ (same g c tables) (one g c tables) (two g c tables) r clean (then.kept clean (has g c tables));
+      other = λ clean tables sound.
+          let early = clean_between _ _ _ (same g c tables) (one g c tables) (two g c tables) clean in
+          shown_both _ _ _ (same g c tables) (one g c tables) (two g c tables) r clean (then.other clean (has g c tables) (sound_after old mid (same g c tables early) sound));
+      never_old = then.never_old;
+      survives = λ tables. survives_both _ _ _ (same g c tables) (one g c tables) (two g c tables);
+    }

@@ -25,19 +25,11 @@ loop-at-preserved g c =
     let at = c.at-item.result in
     let more : take (c.loop-at.at-index + 1) c.args.ats.now ≡ ats ++ at ∷ [] = take_more c.args.ats.now c.loop-at.at-index at (omega arith) ∙ ap (λ x. ats ++ x ∷ []) (sym c.at-item.is) in record {
       served = rw (more, c.push_reserved.ensures.items)
-          (served_more old mid new ats replies at c.serve-reply.result so_far.served (λ life. c.life_law.ensures.along_one life ats replies at c.serve-reply.result) c.serve-reply.ensures.keeps c.serve-reply.ensures.tables c.serve-reply.ensures.others
-          c.serve-reply.ensures.clean c.serve-reply.ensures.stopped c.serve-reply.ensures.stops);
+          (served_more old mid new ats replies at c.serve-reply.result so_far.served (λ life. c.life_law.ensures.along_one life ats replies at c.serve-reply.result) c.serve-reply.ensures.replies.keeps c.serve-reply.ensures.replies.tables c.serve-reply.ensures.replies.others
+          c.serve-reply.ensures.replies.clean c.serve-reply.ensures.replies.stopped c.serve-reply.ensures.replies.stops);
       each = rw (more, c.push_reserved.ensures.items)
           (served_on (seen g.S.Store g.T.BlockTransform.forwards) c.args.self.now c.loop-at.self c.serve-reply.new.self ats replies at c.serve-reply.result so_far.each
-          (record {
-            keeps = c.serve-reply.ensures.keeps;
-            tables = c.serve-reply.ensures.tables;
-            others = c.serve-reply.ensures.others;
-            clean = c.serve-reply.ensures.clean;
-            failures = c.serve-reply.ensures.failures;
-            stopped = c.serve-reply.ensures.stopped;
-            stops = c.serve-reply.ensures.stops;
-          }));
+          c.serve-reply.ensures.replies);
       room = omega (arith, so_far.room, c.push_reserved.ensures.capacity);
       filled = omega (arith, so_far.filled, c.push_reserved.ensures.len);
       idle = λ stopped. let still : c.loop-at.self.stopped ≡ true = rw (so_far.idle stopped) stopped in c.serve-reply.ensures.idle still ∙ so_far.idle stopped;

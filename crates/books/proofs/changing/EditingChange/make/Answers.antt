@@ -22,7 +22,7 @@ returns-in-AddMeter-clause-made g c clean way =
     let new = state g.S.Store c.add_meter.new.tx.conn.now in
     let number = c.in-AddMeter.number in
     let meter = c.in-AddMeter.meter in
-    made_by c.add_meter.result c.args.self.now.edit.now (edits.AddMeter number meter) old new c.in-AddMeter.is (c.add_meter.ensures.added clean)
+    made_by c.add_meter.result c.args.self.now.edit.now (edits.AddMeter number meter) old new c.in-AddMeter.is (c.add_meter.ensures.writes.made clean)
     (λ adds. makes_meter c.members_law.ensures.edited old new number meter adds)
 
 pub returns-in-AddRows-clause-made : goal.returns-in-AddRows-clause-made
@@ -39,7 +39,7 @@ returns-in-SetTariff-clause-made g c clean way =
     let new = state g.S.Store c.set_tariff.new.tx.conn.now in
     let number = c.in-SetTariff.number in
     let name = c.in-SetTariff.name in
-    made_by c.set_tariff.result c.args.self.now.edit.now (edits.SetTariff number name) old new c.in-SetTariff.is (c.set_tariff.ensures.changed clean)
+    made_by c.set_tariff.result c.args.self.now.edit.now (edits.SetTariff number name) old new c.in-SetTariff.is (c.set_tariff.ensures.writes.made clean)
     (λ sets. makes_setting c.members_law.ensures.edited old new number name sets)
 
 pub returns-in-OpenShift-clause-made : goal.returns-in-OpenShift-clause-made
@@ -47,7 +47,7 @@ returns-in-OpenShift-clause-made g c clean way =
     let old = state g.S.Store c.args.tx.now.conn.now in
     let new = state g.S.Store c.add_shift.new.tx.conn.now in
     let shift = c.in-OpenShift.shift in
-    made_by c.add_shift.result c.args.self.now.edit.now (edits.OpenShift shift) old new c.in-OpenShift.is (c.add_shift.ensures.added clean)
+    made_by c.add_shift.result c.args.self.now.edit.now (edits.OpenShift shift) old new c.in-OpenShift.is (c.add_shift.ensures.writes.made clean)
     (λ adds. makes_shift c.members_law.ensures.edited old new shift adds)
 
 pub returns-in-CloseShift-clause-made : goal.returns-in-CloseShift-clause-made
@@ -56,7 +56,7 @@ returns-in-CloseShift-clause-made g c clean way =
     let new = state g.S.Store c.close_shift.new.tx.conn.now in
     let number = c.in-CloseShift.number in
     let moment = c.in-CloseShift.moment in
-    made_by c.close_shift.result c.args.self.now.edit.now (edits.CloseShift number moment) old new c.in-CloseShift.is (c.close_shift.ensures.changed clean)
+    made_by c.close_shift.result c.args.self.now.edit.now (edits.CloseShift number moment) old new c.in-CloseShift.is (c.close_shift.ensures.writes.made clean)
     (λ closes. makes_closing c.members_law.ensures.edited old new number moment closes)
 
 pub returns-in-AddSale-clause-made : goal.returns-in-AddSale-clause-made
@@ -64,5 +64,5 @@ returns-in-AddSale-clause-made g c clean way =
     let old = state g.S.Store c.args.tx.now.conn.now in
     let new = state g.S.Store c.add_sale.new.tx.conn.now in
     let sale = c.in-AddSale.sale in
-    made_by c.add_sale.result c.args.self.now.edit.now (edits.AddSale sale) old new c.in-AddSale.is (c.add_sale.ensures.added clean)
+    made_by c.add_sale.result c.args.self.now.edit.now (edits.AddSale sale) old new c.in-AddSale.is (c.add_sale.ensures.writes.made clean)
     (λ adds. makes_sale c.members_law.ensures.edited old new sale adds)

@@ -12,4 +12,4 @@ pub returns-in-Meter-clause-added : goal.returns-in-Meter-clause-added
 returns-in-Meter-clause-added g c clean has =
     let old = state g.S.Store c.args.tx.now.conn.now in
     let new = state g.S.Store c.add_meter.new.tx.conn.now in
-    on_ok c.add_meter.result (λ adds. makes_meter_row c.members_law.ensures.edited old new c.args.row.now c.in-Meter.number c.in-Meter.meter c.in-Meter.is adds) (c.add_meter.ensures.added clean has)
+    on_ok c.add_meter.result (λ adds. makes_meter_row c.members_law.ensures.edited old new c.args.row.now c.in-Meter.number c.in-Meter.meter c.in-Meter.is adds) (c.add_meter.ensures.writes.made clean has)

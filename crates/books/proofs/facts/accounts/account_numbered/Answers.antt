@@ -1,8 +1,9 @@
 use Rattle.one_table.proofs.ReadsOnlyLemmas.{fail_on, read_on}
 use Rattle.std.proofs.Common.{rules, sym, ◌∙◌}
 use Rattle.sqlite.specs.Held.{state}
+use Rattle.sts_fields.specs.Day.{day_at}
 use Rattle.book_tables.specs.declared.error.TableError.TheVariants.{RowOfNoOffice}
-use Rattle.books.proofs.FactsLemmas.{account_is, has_steps, members_after, meter_told, of_no_office, steps_told, was_clean}
+use Rattle.books.proofs.FactsLemmas.{account_is, first_steps_told, has_steps, members_after, meter_told, of_no_office, steps_told, was_clean}
 use Rattle.books.proofs.PassedLemmas.{passed, passed_after, passed_none, read_after, stops_on}
 use Rattle.book_tables.proofs.OfficeTableLemmas.{meters_in, steps_in, read_in_office}
 use Rattle.books.proofs.facts.accounts.account_numbered.Goals as goal
@@ -57,7 +58,8 @@ returns-clause-facts g c clean o office members =
     let meter_is = meter_told office members none read_1 was_1 c.members_law.ensures.meter c.args.number.now c.in_ok-there.there (c.in_ok-there.ensures.given was_1) in
     let steps_are = steps_told office members first read_2 was_2 c.in-Some.meter.tariff c.in_ok-found.found (c.in_ok-found.ensures.given was_2) in
     let sold = c.in_ok-account.ensures.facts clean o office (members_after o members second c.in_ok-account.ensures.reads.survives clean) in
-    account_is o c.args.number.now c.args.moment c.in_ok-there.there c.in-Some.meter c.in_ok-found.found c.in-Some-found.steps c.in_ok-account.account meter_is c.in-Some.is steps_are c.in-Some-found.is sold
+    let first_steps = first_steps_told office members first read_2 was_2 c.members_law.ensures.first_steps c.in-Some.meter.tariff (day_at c.args.moment) in
+    account_is o c.args.number.now c.args.moment c.in_ok-there.there c.in-Some.meter c.in_ok-found.found c.in-Some-found.steps c.in_ok-account.account meter_is c.in-Some.is steps_are c.in-Some-found.is sold first_steps
 
 pub returns-clause-reads : goal.returns-clause-reads
 returns-clause-reads g c =

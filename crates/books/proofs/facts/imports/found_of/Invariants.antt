@@ -1,4 +1,4 @@
-use Rattle.std.proofs.Common.{◌++◌, List, drop}
+use Rattle.std.proofs.Common.{ℕ, ◌++◌, List, drop}
 use Rattle.sqlite.specs.Held.{state}
 use Rattle.sqlite.specs.State.{HasCleanDisk}
 use Rattle.vend_core.specs.Facts.{AreRowsFacts}
@@ -14,5 +14,5 @@ abbrev pub invariant-loop-row : goal.invariant-loop-row
 invariant-loop-row g l = record {
   passed : HasPassed (state g.S.Store l.fn.conn) (state g.S.Store l.conn);
   found : HasCleanDisk (state g.S.Store l.conn) → (o : Office) → IsOffice o → HasMembers (state g.S.Store l.fn.conn) o
-      → (more : List RowFacts) → AreRowsFacts o (drop l.row-index l.rows) more → AreRowsFacts o l.rows (l.found.items ++ more);
+      → (today : ℕ) (more : List RowFacts) → AreRowsFacts o today (drop l.row-index l.rows) more → AreRowsFacts o today l.rows (l.found.items ++ more);
 }
