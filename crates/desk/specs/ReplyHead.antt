@@ -13,7 +13,7 @@ use Rattle.desk.specs.MessageFault.{message_fault_status}
 use Rattle.vend_core.specs.declared.answer.Answer.{Answer}
 use Rattle.vend_core.specs.declared.answer.Answer.TheVariants.{Done, Imported, Opened, Closed, Sold, Reprinted, Report}
 use Rattle.vend_core.specs.declared.refusal.Refusal.{Refusal}
-use Rattle.vend_core.specs.declared.refusal.Refusal.TheVariants.{RefReused, NoShift, ShiftOpen, NoMeter, NoTariff, Differs, BeforeBase, IdentifiersSpent, IdentifierAhead, TooLittle, OfficeFull, NoSale, NoSuchShift, ImportRow, Memory, Store, Stopped}
+use Rattle.vend_core.specs.declared.refusal.Refusal.TheVariants.{RefReused, NoShift, ShiftOpen, NoMeter, NoTariff, Differs, BeforeBase, IdentifiersSpent, IdentifierAhead, TooLittle, OfficeFull, NoSale, NoSuchShift, ImportRow, Memory, Store, Stopped, NotLater, DayPast}
 
 -- 404 for what is not there, 422 for what cannot be done as it was asked, 503 where the office is
 -- unable to answer, and 409 for what it forbids as it stands
@@ -35,6 +35,8 @@ refusal_status (ImportRow row cause) = 422
 refusal_status Memory = 503
 refusal_status Store = 503
 refusal_status Stopped = 503
+refusal_status NotLater = 409
+refusal_status DayPast = 409
 
 -- the method that is allowed, where another one than the route's was used
 abbrev pub allowed_by : DeskFault → Option Method

@@ -190,5 +190,6 @@ fn cause_name(cause: RowCause) -> &'static [u8]
         RowCause::TooManyRows => b"TooManyRows",
         RowCause::Differs => b"Differs",
         RowCause::NoTariff => b"NoTariff",
+        RowCause::DayPast => b"DayPast",
     }
 }
