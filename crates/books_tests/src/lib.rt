@@ -20,5 +20,3 @@ mod pages;
 mod paths;
 #[cfg(test)]
 mod stops;
-#[cfg(test)]
-mod worked;

@@ -1,7 +1,10 @@
 //! Lists of requests with the replies that the rules ask for: worked by hand, and drawn.
 
-use crate::drawn::{seed_3, seed_5, seed_7};
-use crate::worked;
+use crate::drawn::{
+    lives_1_to_6, lives_7_to_15, lives_16_to_19, lives_20_to_26, lives_27_to_34, lives_35_to_40,
+    seed_3, seed_5, seed_7,
+};
+use office_lines::lists::worked;
 use office_testing::listed::ask_texts;
 use std::test::Fail;
 
@@ -24,6 +27,37 @@ fn other_drawn_requests(rt: HostRuntime) -> Result<(), Fail> {
 #[test]
 fn further_drawn_requests(rt: HostRuntime) -> Result<(), Fail> {
     ask_texts(&rt, "drawn_7.db", &seed_7::texts())
+}
+
+// Forty lives, also cut so.
+#[test]
+fn first_lives(rt: HostRuntime) -> Result<(), Fail> {
+    ask_texts(&rt, "lives_1_to_6.db", &lives_1_to_6::texts())
+}
+
+#[test]
+fn second_lives(rt: HostRuntime) -> Result<(), Fail> {
+    ask_texts(&rt, "lives_7_to_15.db", &lives_7_to_15::texts())
+}
+
+#[test]
+fn third_lives(rt: HostRuntime) -> Result<(), Fail> {
+    ask_texts(&rt, "lives_16_to_19.db", &lives_16_to_19::texts())
+}
+
+#[test]
+fn fourth_lives(rt: HostRuntime) -> Result<(), Fail> {
+    ask_texts(&rt, "lives_20_to_26.db", &lives_20_to_26::texts())
+}
+
+#[test]
+fn fifth_lives(rt: HostRuntime) -> Result<(), Fail> {
+    ask_texts(&rt, "lives_27_to_34.db", &lives_27_to_34::texts())
+}
+
+#[test]
+fn last_lives(rt: HostRuntime) -> Result<(), Fail> {
+    ask_texts(&rt, "lives_35_to_40.db", &lives_35_to_40::texts())
 }
 
 // How each answer begins, and each refusal that an office of a few sales can give.

@@ -3,10 +3,9 @@
 use std::test::Fail;
 use sts_fields::{Amount, Base, DayFault, LAST_TID, Memory, Moment, TidFault, minute, next_tid};
 
-#[test]
-fn amounts_and_codes(rt: HostRuntime) -> Result<(), Fail> {
-    // The ends of the four ranges, with their codes.
-    let carried = [
+// The ends of the four ranges, with their codes.
+fn ends_and_codes() -> [(u32, u16); 8] {
+    [
         (0, 0),
         (16_383, 16_383),
         (16_384, 16_384),
@@ -15,8 +14,12 @@ fn amounts_and_codes(rt: HostRuntime) -> Result<(), Fail> {
         (1_818_524, 49_151),
         (1_818_624, 49_152),
         (18_201_624, 65_535),
-    ];
-    for (tenths, code) in carried {
+    ]
+}
+
+#[test]
+fn amounts_and_codes(rt: HostRuntime) -> Result<(), Fail> {
+    for (tenths, code) in ends_and_codes() {
         let amount = Amount::of_tenths(tenths).ok_or("representable")?;
         assert_eq!(rt; amount.tenths(), tenths);
         assert_eq!(rt; amount.code(), code, "at {tenths}");
@@ -29,9 +32,9 @@ fn amounts_and_codes(rt: HostRuntime) -> Result<(), Fail> {
     Ok(())
 }
 
-#[test]
-fn floors(rt: HostRuntime) {
-    let rounded = [
+// Tenths, each with the greatest amount that is not above them.
+fn tenths_and_floors() -> [(u32, u32); 7] {
+    [
         (16_383, 16_383),
         (16_385, 16_384),
         (180_220, 180_214),
@@ -39,8 +42,13 @@ fn floors(rt: HostRuntime) {
         (1_818_623, 1_818_524),
         (18_201_623, 18_200_624),
         (18_201_624, 18_201_624),
-    ];
-    for (tenths, floor) in rounded {
+    ]
+}
+
+#[test]
+fn floors(rt: HostRuntime) {
+    for (tenths, floor) in tenths_and_floors() {
+        assert!(rt; tenths <= Amount::MAX_TENTHS, "{tenths}");
         assert_eq!(rt; Amount::floor(tenths).tenths(), floor, "at {tenths}");
     }
 }
@@ -60,9 +68,9 @@ fn bases_and_moments(rt: HostRuntime) -> Result<(), Fail> {
     Ok(())
 }
 
-#[test]
-fn minutes(rt: HostRuntime) -> Result<(), Fail> {
-    let cases = [
+// Bases and moments, each with its minute.
+fn moments_and_minutes() -> [(Base, i64, Result<u32, TidFault>); 8] {
+    [
         (Base::Y2014, 1_388_534_400, Ok(0)),
         (Base::Y2014, 1_388_534_459, Ok(0)),
         (Base::Y2014, 1_388_534_460, Ok(1)),
@@ -71,17 +79,21 @@ fn minutes(rt: HostRuntime) -> Result<(), Fail> {
         (Base::Y1993, 1_732_479_359, Ok(16_777_215)),
         (Base::Y1993, 1_732_479_360, Err(TidFault::PastEnd)),
         (Base::Y2035, 1_732_479_359, Err(TidFault::BeforeBase)),
-    ];
-    for (base, seconds, minutes) in cases {
+    ]
+}
+
+#[test]
+fn minutes(rt: HostRuntime) -> Result<(), Fail> {
+    for (base, seconds, minutes) in moments_and_minutes() {
         let moment = Moment::of_secs(seconds).ok_or("a moment")?;
         assert_eq!(rt; minute(base, moment), minutes, "at {seconds}");
     }
     Ok(())
 }
 
-#[test]
-fn fresh_identifiers(rt: HostRuntime) {
-    let cases = [
+// Minutes and last identifiers, each with the next one.
+fn minutes_and_identifiers() -> [(u32, Option<u32>, Result<u32, TidFault>); 11] {
+    [
         // A first sale is not sold 0 or the reserved minute 1.
         (0, None, Ok(2)),
         (0, Some(2), Ok(3)),
@@ -101,8 +113,12 @@ fn fresh_identifiers(rt: HostRuntime) {
         (3_373_202, Some(3_374_641), Ok(3_374_642)),
         // Where nothing is left, that comes before the lead.
         (0, Some(16_777_215), Err(TidFault::IdentifiersSpent)),
-    ];
-    for (now, last, tid) in cases {
+    ]
+}
+
+#[test]
+fn fresh_identifiers(rt: HostRuntime) {
+    for (now, last, tid) in minutes_and_identifiers() {
         assert!(rt; now <= LAST_TID);
         if let Some(sold) = last {
             assert!(rt; sold <= LAST_TID);
@@ -111,9 +127,9 @@ fn fresh_identifiers(rt: HostRuntime) {
     }
 }
 
-#[test]
-fn faults(rt: HostRuntime) -> Result<(), Fail> {
-    let faults = [
+// Each fault with its number, its name and its sentence.
+fn named_faults() -> [(TidFault, (u8, &'static str), &'static str); 4] {
+    [
         (
             TidFault::BeforeBase,
             (1, "BeforeBase"),
@@ -134,8 +150,12 @@ fn faults(rt: HostRuntime) -> Result<(), Fail> {
             (4, "IdentifierAhead"),
             "the next identifier is more than a day ahead",
         ),
-    ];
-    for (fault, called, sentence) in faults {
+    ]
+}
+
+#[test]
+fn faults(rt: HostRuntime) -> Result<(), Fail> {
+    for (fault, called, sentence) in named_faults() {
         assert_eq!(rt; (fault.number(), fault.name()), called);
         assert_eq!(rt; fault.to_string(rt.alloc())?.as_str(), sentence);
     }

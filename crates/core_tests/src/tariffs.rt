@@ -17,10 +17,10 @@ fn bought(
     Ok(bought.map(|b| (b.tenths.tenths(), b.price, b.change)))
 }
 
-#[test]
-fn buys(rt: HostRuntime) -> Result<(), Fail> {
+// Steps, tenths before, cents, and the tenths, the price and the change.
+fn purchases() -> [(&'static [u8], u32, u64, Option<(u32, u32, u32)>); 7] {
     let two = b"500:100;:200".as_slice();
-    let rows = [
+    [
         (b":100".as_slice(), 0, 163_880, Some((16_384, 163_840, 40))),
         (b":1".as_slice(), 0, 1, Some((10, 1, 0))),
         (two, 490, 200, Some((15, 200, 0))),
@@ -33,8 +33,12 @@ fn buys(rt: HostRuntime) -> Result<(), Fail> {
             100_000_000,
             Some((18_201_624, 1_820_163, 98_179_837)),
         ),
-    ];
-    for (text, prior, cents, want) in rows {
+    ]
+}
+
+#[test]
+fn buys(rt: HostRuntime) -> Result<(), Fail> {
+    for (text, prior, cents, want) in purchases() {
         assert_eq!(rt; bought(rt.alloc(), text, prior, cents)?, want);
     }
     Ok(())
@@ -58,9 +62,9 @@ fn fault(alloc: Global, text: &[u8]) -> Option<StepsFault> {
     }
 }
 
-#[test]
-fn faults_of_texts(rt: HostRuntime) {
-    let rows = [
+// Texts, each with its fault.
+fn texts_and_faults() -> [(&'static [u8], Option<StepsFault>); 14] {
+    [
         (b"500:100;:200".as_slice(), None),
         (b"1:1;2:1;3:1;4:1;5:1;6:1;7:1;:1".as_slice(), None),
         (
@@ -82,15 +86,19 @@ fn faults_of_texts(rt: HostRuntime) {
             Some(StepsFault::TooMany),
         ),
         (b"0:0;x:0".as_slice(), Some(StepsFault::BadText)),
-    ];
-    for (text, want) in rows {
+    ]
+}
+
+#[test]
+fn faults_of_texts(rt: HostRuntime) {
+    for (text, want) in texts_and_faults() {
         assert_eq!(rt; fault(rt.alloc(), text), want);
     }
 }
 
-#[test]
-fn texts_of_no_steps(rt: HostRuntime) {
-    let texts = [
+// Texts that are not those of steps.
+fn no_steps() -> [&'static [u8]; 14] {
+    [
         b"".as_slice(),
         b":".as_slice(),
         b"1".as_slice(),
@@ -105,8 +113,12 @@ fn texts_of_no_steps(rt: HostRuntime) {
         b":4294967296".as_slice(),
         b"4294967296:1;:1".as_slice(),
         b"\xff:1".as_slice(),
-    ];
-    for text in texts {
+    ]
+}
+
+#[test]
+fn texts_of_no_steps(rt: HostRuntime) {
+    for text in no_steps() {
         assert_eq!(rt; fault(rt.alloc(), text), Some(StepsFault::BadText));
     }
 }
@@ -165,9 +177,9 @@ fn eight_steps(rt: HostRuntime) -> Result<(), Fail> {
     Ok(())
 }
 
-#[test]
-fn faults(rt: HostRuntime) -> Result<(), Fail> {
-    let faults = [
+// Each fault with its number, its name and its sentence.
+fn named_faults() -> [(StepsFault, (u8, &'static str), &'static str); 7] {
+    [
         (StepsFault::NoStep, (1, "NoStep"), "there is no step"),
         (
             StepsFault::TooMany,
@@ -195,8 +207,12 @@ fn faults(rt: HostRuntime) -> Result<(), Fail> {
             (7, "BadText"),
             "the text is not that of steps",
         ),
-    ];
-    for (fault, called, sentence) in faults {
+    ]
+}
+
+#[test]
+fn faults(rt: HostRuntime) -> Result<(), Fail> {
+    for (fault, called, sentence) in named_faults() {
         assert_eq!(rt; (fault.number(), fault.name()), called);
         assert_eq!(rt; fault.to_string(rt.alloc())?.as_str(), sentence);
     }

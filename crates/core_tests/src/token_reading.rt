@@ -27,9 +27,9 @@ fn reads_tokens(rt: HostRuntime) {
     }
 }
 
-#[test]
-fn refuses_other_texts(rt: HostRuntime) {
-    let refused: [(&[u8], TokenFault); 13] = [
+// Texts that are no tokens, each with its fault.
+fn refused() -> [(&'static [u8], TokenFault); 13] {
+    [
         (b"", TokenFault::NotTwentyDigits),
         (b"0007205760262798169", TokenFault::NotTwentyDigits),
         (b"000720576026279816900", TokenFault::NotTwentyDigits),
@@ -43,8 +43,12 @@ fn refuses_other_texts(rt: HostRuntime) {
         (b"00000000000134217728", TokenFault::WrongClass),
         (b"00072057602627981691", TokenFault::BadCheck),
         (b"01152921513196884089", TokenFault::WrongSubclass),
-    ];
-    for (text, fault) in refused {
+    ]
+}
+
+#[test]
+fn refuses_other_texts(rt: HostRuntime) {
+    for (text, fault) in refused() {
         assert_eq!(rt; read(&Plain, 0, text), Err(fault), "{text:?}");
     }
     // The greatest number of 66 bits has the class bits set.
@@ -73,9 +77,9 @@ fn demo_transforms(rt: HostRuntime) -> Result<(), Fail> {
     Ok(())
 }
 
-#[test]
-fn faults(rt: HostRuntime) -> Result<(), Fail> {
-    let faults = [
+// Each fault with its number, its name and its sentence.
+fn named_faults() -> [(TokenFault, (u8, &'static str), &'static str); 5] {
+    [
         (
             TokenFault::NotTwentyDigits,
             (1, "NotTwentyDigits"),
@@ -101,8 +105,12 @@ fn faults(rt: HostRuntime) -> Result<(), Fail> {
             (5, "WrongSubclass"),
             "the token is of another subclass than 0",
         ),
-    ];
-    for (fault, called, sentence) in faults {
+    ]
+}
+
+#[test]
+fn faults(rt: HostRuntime) -> Result<(), Fail> {
+    for (fault, called, sentence) in named_faults() {
         assert_eq!(rt; (fault.number(), fault.name()), called);
         assert_eq!(rt; fault.to_string(rt.alloc())?.as_str(), sentence);
     }

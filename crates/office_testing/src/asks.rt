@@ -1,7 +1,7 @@
 //! A list of requests that is fixed: each kind is granted, and each refusal comes that an office of
 //! a few sales can give. Only `OfficeFull` is left out, which takes a thousand million of them.
 
-use crate::values::{
+use office_lines::values::{
     FIRST_DAY, LAST_SECOND, import, meter, meter_no, operator, order, tariff_name,
 };
 use std::alloc::Global;

@@ -1,9 +1,9 @@
 //! The office in its tables beside the office over plain lists, which has to answer the same.
 
-use crate::values::{
+use books::Books;
+use office_lines::values::{
     FIRST_DAY, METER, OTHER_METER, meter, meter_no, operator, stamped, tariff_name,
 };
-use books::Books;
 use sqlite::{Alter, MemStore};
 use std::alloc::Global;
 use std::test::Fail;

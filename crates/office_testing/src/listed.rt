@@ -3,11 +3,11 @@
 
 use crate::both::{Both, agree, is_same, serve};
 use crate::in_file::{Life, live, live_and_stop, remove};
-use crate::lines::{request_of, told};
-use crate::values::stamped;
 use books::Books;
+use office_lines::differences::Differences;
+use office_lines::lines::{stamped_of, told};
 use sqlite::{Alter, Connection, MemStore};
-use std::alloc::{AllocError, Global};
+use std::alloc::Global;
 use std::test::Fail;
 use sts_token::{BlockTransform, Demo, Plain};
 use vend_core::{Lists, Reply};
@@ -17,8 +17,7 @@ use vend_core::{Lists, Reply};
 struct Staying {
     lists: Lists<Plain>,
     memory: Connection<MemStore>,
-    /// A line for each reply that was another one.
-    differences: String,
+    differences: Differences,
 }
 
 /// Asks the requests of these texts, and fails with each reply that is not the one that stands behind
@@ -29,16 +28,13 @@ pub fn ask_texts(host: &HostRuntime, path: &str, texts: &[&str]) -> Result<(), F
     let mut staying = Staying {
         lists: Lists::new(alloc, Plain),
         memory: Connection::open_in_memory(alloc)?,
-        differences: String::new(alloc),
+        differences: Differences::new(alloc),
     };
     for text in texts {
         staying = ask_text(host, path, staying, text)?;
     }
     remove(alloc, host, path)?;
-    if staying.differences.is_empty() {
-        return Ok(());
-    }
-    Err(Fail::new(format_args!("{}", staying.differences)))
+    staying.differences.end()
 }
 
 // Each second life ends as a program that stops.
@@ -110,11 +106,14 @@ struct Listed<'a, T> {
     alloc: Global,
     memory: Books<MemStore, T>,
     asked: &'a str,
-    differences: String,
+    differences: Differences,
 }
 
-impl<T: BlockTransform + Drop> Life<T, (Connection<MemStore>, String)> for Listed<'_, T> {
-    fn live<S: Alter>(self, both: &mut Both<S, T>) -> Result<(Connection<MemStore>, String), Fail> {
+impl<T: BlockTransform + Drop> Life<T, (Connection<MemStore>, Differences)> for Listed<'_, T> {
+    fn live<S: Alter>(
+        self,
+        both: &mut Both<S, T>,
+    ) -> Result<(Connection<MemStore>, Differences), Fail> {
         let Listed {
             alloc,
             mut memory,
@@ -125,7 +124,7 @@ impl<T: BlockTransform + Drop> Life<T, (Connection<MemStore>, String)> for Liste
         let mut last = format!(in alloc; "opened {count}")?;
         for line in asked.lines() {
             match line.strip_prefix("  ") {
-                Some(wanted) => compare(alloc, &last, wanted, &mut differences)?,
+                Some(wanted) => differences.compare(alloc, wanted, last.as_str())?,
                 None => last = answer(alloc, both, &mut memory, line, &mut differences)?,
             }
         }
@@ -140,12 +139,9 @@ fn answer<S: Alter, T: BlockTransform>(
     both: &mut Both<S, T>,
     memory: &mut Books<MemStore, T>,
     line: &str,
-    differences: &mut String,
+    differences: &mut Differences,
 ) -> Result<String, Fail> {
-    let (seconds, request) = request_of(alloc, line)?;
-    // That of the next sale's number.
-    let nibble = (both.lists.sales().len() % 16) as u8;
-    let at = stamped(seconds, nibble.saturating_add(1), request)?;
+    let at = stamped_of(alloc, both.lists.sales().len(), line)?;
     let reply = both.lists.serve(&at);
     let in_memory = serve(memory, &at);
     compare_books(alloc, "in memory", &in_memory, &reply, differences)?;
@@ -159,33 +155,11 @@ fn compare_books(
     place: &str,
     reply: &Reply,
     wanted: &Reply,
-    differences: &mut String,
+    differences: &mut Differences,
 ) -> Result<(), Fail> {
     if is_same(reply, wanted) {
         return Ok(());
     }
     let text = told(alloc, reply)?;
-    Ok(note(alloc, place, text.as_str(), differences)?)
-}
-
-fn compare(
-    alloc: Global,
-    reply: &String,
-    wanted: &str,
-    differences: &mut String,
-) -> Result<(), AllocError> {
-    if reply.as_str() == wanted {
-        return Ok(());
-    }
-    note(alloc, wanted, reply.as_str(), differences)
-}
-
-fn note(
-    alloc: Global,
-    wanted: &str,
-    given: &str,
-    differences: &mut String,
-) -> Result<(), AllocError> {
-    let line = format!(in alloc; "{wanted}: {given}\n")?;
-    differences.push_str(line.as_str())
+    Ok(differences.note(alloc, place, text.as_str())?)
 }

@@ -2,10 +2,9 @@
 use std::test::Fail;
 use vend_core::{Refusal, RowCause};
 
-#[test]
-fn numbers_names_and_sentences(rt: HostRuntime) -> Result<(), Fail> {
-    let alloc = rt.alloc();
-    let rows = [
+// Each refusal with its number, its name and its sentence.
+fn named_refusals() -> [(Refusal, u8, &'static str, &'static str); 19] {
+    [
         (
             Refusal::RefReused,
             1,
@@ -73,8 +72,25 @@ fn numbers_names_and_sentences(rt: HostRuntime) -> Result<(), Fail> {
         (Refusal::Memory, 15, "Memory", "out of memory"),
         (Refusal::Store, 16, "Store", "the store failed"),
         (Refusal::Stopped, 17, "Stopped", "the office has stopped"),
-    ];
-    for (refusal, number, name, sentence) in rows {
+        (
+            Refusal::NotLater,
+            18,
+            "NotLater",
+            "the meter has a later base date",
+        ),
+        (
+            Refusal::DayPast,
+            19,
+            "DayPast",
+            "the day of the steps has begun",
+        ),
+    ]
+}
+
+#[test]
+fn numbers_names_and_sentences(rt: HostRuntime) -> Result<(), Fail> {
+    let alloc = rt.alloc();
+    for (refusal, number, name, sentence) in named_refusals() {
         let printed = format!(in alloc; "{refusal}")?;
         assert_eq!(rt; refusal.number(), number);
         assert_eq!(rt; refusal.name(), name);
@@ -83,18 +99,23 @@ fn numbers_names_and_sentences(rt: HostRuntime) -> Result<(), Fail> {
     Ok(())
 }
 
-#[test]
-fn causes(rt: HostRuntime) -> Result<(), Fail> {
-    let alloc = rt.alloc();
-    let rows = [
+// Each cause of a row with its text.
+fn named_causes() -> [(RowCause, &'static str); 7] {
+    [
         (RowCause::Header, "Header"),
         (RowCause::Columns, "Columns"),
         (RowCause::Field(4), "Field 4"),
         (RowCause::TooManyRows, "TooManyRows"),
         (RowCause::Differs, "Differs"),
         (RowCause::NoTariff, "NoTariff"),
-    ];
-    for (cause, text) in rows {
+        (RowCause::DayPast, "DayPast"),
+    ]
+}
+
+#[test]
+fn causes(rt: HostRuntime) -> Result<(), Fail> {
+    let alloc = rt.alloc();
+    for (cause, text) in named_causes() {
         let printed = format!(in alloc; "{cause}")?;
         assert_eq!(rt; printed.as_str(), text);
     }

@@ -60,7 +60,7 @@ fn tariffs(rt: HostRuntime) -> Result<(), Fail> {
     assert_eq!(rt; second.as_bytes(), b"block".as_slice());
     assert_eq!(rt; block.as_slice().len(), 2);
     for (file, row, cause) in [
-        (b"name,steps,from\n".as_slice(), 0, RowCause::Header),
+        (b"name,steps,until\n".as_slice(), 0, RowCause::Header),
         (b"Name,steps\n".as_slice(), 0, RowCause::Header),
         (b"name,steps\nflat;:100\n".as_slice(), 1, RowCause::Columns),
         (

@@ -1,28 +1,36 @@
 //! Requests and replies as lines of text. `tools/oracle` says what a line is, and answers such lines
 //! from the rules alone.
 
-use crate::values::{import, meter_no, operator, order_of, tariff_name};
+use crate::values::{import, meter_no, operator, order_of, stamped, tariff_name};
 use std::alloc::Global;
 use std::test::Fail;
-use sts_fields::Base;
+use sts_fields::{Base, Day};
 use sts_token::read_key;
 use tariff::Steps;
-use vend_core::{Answer, Meter, Refusal, Reply, Request, Row, Sale, Sales, Shift};
+use vend_core::{Answer, Meter, Refusal, Reply, Request, Row, Sale, Sales, Shift, Stamped};
 
-/// The moment of a line, in Unix seconds, and its request.
-pub fn request_of(alloc: Global, line: &str) -> Result<(i64, Request), Fail> {
+/// The request of a line, with its moment. The nibble is that of the next number after so many
+/// sales.
+pub fn stamped_of(alloc: Global, sale_count: usize, line: &str) -> Result<Stamped, Fail> {
     let (moment, asked) = line.split_once(' ').ok_or("no moment")?;
     let (word, values) = asked.split_once(' ').unwrap_or((asked, ""));
     let seconds: u32 = moment.parse()?;
-    Ok((i64::from(seconds), request(alloc, word, values)?))
+    let nibble = (sale_count % 16) as u8;
+    stamped(
+        i64::from(seconds),
+        nibble.saturating_add(1),
+        request(alloc, word, values)?,
+    )
 }
 
 fn request(alloc: Global, word: &str, text: &str) -> Result<Request, Fail> {
     let [one, two, three, four, _] = values(text, ' ');
     match word {
         "add-tariff" => Ok(Request::AddTariff(name(one)?, steps(alloc, two)?)),
+        "add-steps" => { Ok(Request::AddSteps(name(one)?, day(two)?, steps(alloc, three)?)) }
         "add-meter" => Ok(Request::AddMeter(number(one)?, meter(two, three, four)?)),
         "set-tariff" => Ok(Request::SetTariff(number(one)?, name(two)?)),
+        "move-base" => Ok(Request::MoveBase(number(one)?, base(two)?)),
         "open-shift" => Ok(Request::OpenShift(operator(one.as_bytes())?)),
         "close-shift" => Ok(Request::CloseShift(operator(one.as_bytes())?)),
         "sell" => order_of(
@@ -44,6 +52,7 @@ fn rows(alloc: Global, text: &str) -> Result<Request, Fail> {
         let [kind, one, two, three, four] = values(row, ',');
         rows.push(match kind {
             "t" => Row::Tariff(name(one)?, steps(alloc, two)?),
+            "s" => Row::Steps(name(one)?, day(two)?, steps(alloc, three)?),
             "m" => Row::Meter(number(one)?, meter(two, three, four)?),
             _ => return Err(Fail::new(format_args!("no row: {row}"))),
         })?;
@@ -74,9 +83,17 @@ fn steps(alloc: Global, text: &str) -> Result<Steps, Fail> {
     Ok(Steps::of_text(alloc, text.as_bytes())?)
 }
 
-fn meter(base: &str, tariff: &str, key: &str) -> Result<Meter, Fail> {
+fn day(text: &str) -> Result<Day, Fail> {
+    Ok(Day::of_text(text.as_bytes())?)
+}
+
+fn base(year: &str) -> Result<Base, Fail> {
+    Ok(Base::of_year(year.parse()?).ok_or("no base date")?)
+}
+
+fn meter(year: &str, tariff: &str, key: &str) -> Result<Meter, Fail> {
     Ok(Meter {
-        base: Base::of_year(base.parse()?).ok_or("no base date")?,
+        base: base(year)?,
         tariff: name(tariff)?,
         key: read_key(key.as_bytes()).ok_or("no key")?,
     })
