@@ -30,7 +30,8 @@ row_with_tariff number name row =
 abbrev pub shift_closed : ℕ → ℕ → Shift → Shift
 shift_closed number moment s = if s.number == number then closed_at moment s else s
 
--- the rows with a tariff and its steps, or with a meter, at the end; steps of a later day have no rows
+-- the rows with a tariff and its steps, or with a meter, at the end; steps of a later day have no
+-- rows
 abbrev pub row_added : Row → Rows → Rows
 row_added (kinds.Tariff name steps) rows =
     record rows { tariffs = rows.tariffs ++ name ∷ []; steps = rows.steps ++ step_rows name steps }
@@ -42,8 +43,8 @@ abbrev pub rows_added : List Row → Rows → Rows
 rows_added [] rows = rows
 rows_added (row ∷ new) rows = rows_added new (row_added row rows)
 
--- whether the tables have a place for what an edit adds to an office, or for a row of an import: not
--- for steps of a later day, nor for a base beside the present one
+-- whether the tables have a place for what an edit adds to an office, or for a row of an import:
+-- not for steps of a later day, nor for a base beside the present one
 abbrev pub can_hold_row : Row → Bool
 can_hold_row (kinds.Tariff name steps) = true
 can_hold_row (kinds.Steps name day steps) = false
@@ -60,8 +61,8 @@ can_hold (OpenShift s) = true
 can_hold (CloseShift number moment) = true
 can_hold (AddSale s) = true
 
--- the rows after an edit that the tables can hold: new ones stand at the end, and a meter or a shift
--- that is changed stays in its place
+-- the rows after an edit that the tables can hold: new ones stand at the end, and a meter or a
+-- shift that is changed stays in its place
 abbrev pub edited : Edit → Rows → Rows
 edited (AddTariff name steps) rows = row_added (kinds.Tariff name steps) rows
 edited (AddSteps name day steps) rows = rows
@@ -75,7 +76,8 @@ edited (CloseShift number moment) rows =
     record rows { shifts = map (shift_closed number moment) rows.shifts }
 edited (AddSale s) rows = record rows { sales = rows.sales ++ s ∷ [] }
 
--- the office has no tariff of the row's name, no steps of its name and day, or no meter of its number
+-- the office has no tariff of the row's name, no steps of its name and day, or no meter of its
+-- number
 abbrev pub IsNewRow : Row → Office → Type 0
 IsNewRow (kinds.Tariff name steps) o = o.tariffs name ≡ None
 IsNewRow (kinds.Steps name day steps) o = o.dated_steps name day ≡ None

@@ -101,8 +101,8 @@ pub fn headline_law<S: Alter, T: BlockTransform>()
         → All (Contains sales) came
         → credit_of (reads_by m) (tokens_of came) ≤ sum_by (λ s. s.tenths) sales }
 
-    // An import that was granted in one of the lives, and comes again with no SetTariff in between,
-    // changes nothing.
+    // An import that was granted in one of the lives, and comes again with no SetTariff and no
+    // MoveBase in between, changes nothing.
     ensures imported_again { (lives earlier later : List Life) (life last : Life)
         (books : Books S T S.Store) (before between : List Exchange) (e : Exchange)
         (rows : List Row) (new : ℕ) (again : Stamped)
