@@ -1,7 +1,7 @@
 -- How the parts of a line stand one behind the other.
-use Rattle.std.proofs.Common.{◌≡◌, ◌∙◌, ℕ, ◌+◌, ◌*◌, ◌<◌, [], ◌∷◌, List, ◌++◌, length, map, slice_range, Result, Ok, ap, sym, refl, append_assoc, arith, lit<}
+use Rattle.std.proofs.Common.{◌≡◌, ◌∙◌, ℕ, zero, suc, ◌+◌, ◌*◌, ◌<◌, ◌≤◌, [], ◌∷◌, List, ◌++◌, length, map, take, replicate, slice_range, ap, sym, refl, append_assoc, arith, lit<}
 use Rattle.std.proofs.lemmas.List.FromFn.{length-map-range_with_len, map-range_with_len_more}
-use Rattle.std.proofs.Padding.{padded_integral_right, padded_integral_zeros, styled_decimal_is}
+use Rattle.std.proofs.Padding.{padded_integral_right, styled_decimal_is}
 use Rattle.std.specs.Fmt.{decimal, format_spec, styled_decimal}
 use Rattle.std.specs.List.{join_with_byte, range_with_len}
 use Rattle.papers.specs.Report.{sale_line}
@@ -15,13 +15,6 @@ pub line-parts : (old word value : List ℕ) → (((old ++ word) ++ 32 ∷ []) +
 unfolding line
 line-parts old word value = simp append_assoc
 
--- what `{:0n}` writes
-pub styled-zeros : (places n : ℕ) → styled_decimal (format_spec 32 0 4 places 18446744073709551615) n ≡ digits_at_least places n
-unfolding digits_at_least
-styled-zeros places n =
-    let s = format_spec 32 0 4 places 18446744073709551615 in
-    styled_decimal_is s n ∙ padded_integral_zeros s (decimal n) refl refl
-
 -- what `{:>n}` writes
 pub styled-right : (places n : ℕ) → styled_decimal (format_spec 32 3 0 places 18446744073709551615) n ≡ right places (decimal n)
 unfolding right
@@ -29,11 +22,20 @@ styled-right places n =
     let s = format_spec 32 3 0 places 18446744073709551615 in
     styled_decimal_is s n ∙ padded_integral_right s (decimal n) refl refl (λ e. cc) (λ e. cc) (lit< tt)
 
--- a date and a time of day, in one text
-pub time-parts : (moment : ℕ) (c : Civil) (date clock : List ℕ) → c ≡ civil_at moment → date ≡ date_text c → clock ≡ clock_text c
-    → date ++ 84 ∷ (clock ++ 90 ∷ []) ≡ time_text moment
+-- so many zeros
+pub zeros-front : (n : ℕ) → n ≤ 4 → take n (48 ∷ 48 ∷ 48 ∷ 48 ∷ []) ≡ replicate n 48
+zeros-front zero few = refl
+zeros-front (suc zero) few = refl
+zeros-front (suc (suc zero)) few = refl
+zeros-front (suc (suc (suc zero))) few = refl
+zeros-front (suc (suc (suc (suc zero)))) few = refl
+zeros-front (suc (suc (suc (suc (suc n))))) few = absurd (omega arith)
+
+-- a date and a time of day, part behind part
+pub time-parts : (moment : ℕ) (c : Civil) → c ≡ civil_at moment
+    → ((((((((((([] ++ digits_at_least 4 c.year) ++ 45 ∷ []) ++ digits_at_least 2 c.month) ++ 45 ∷ []) ++ digits_at_least 2 c.day) ++ 84 ∷ []) ++ digits_at_least 2 c.hour) ++ 58 ∷ []) ++ digits_at_least 2 c.minute) ++ 58 ∷ []) ++ digits_at_least 2 c.second) ++ 90 ∷ [] ≡ time_text moment
 unfolding time_text
-time-parts moment c date clock shown d t = rw (d, t, shown) (simp append_assoc)
+time-parts moment c shown = rw shown (simp append_assoc)
 
 -- the line of a sale is its number with a space, its meter, and its amounts with a space before each and a line feed
 pub sale_line-parts : (old number amounts : List ℕ) (s : Sale) → number ≡ right 10 (decimal s.number) ++ 32 ∷ []
@@ -41,10 +43,6 @@ pub sale_line-parts : (old number amounts : List ℕ) (s : Sale) → number ≡ 
     → ((old ++ number) ++ s.meter) ++ amounts ≡ old ++ sale_line s
 unfolding sale_line
 sale_line-parts old number amounts s n a = rw (n, a) (simp append_assoc)
-
--- a result has one value
-pub same-value : {T E : Type 0} (r : Result T E) (x y : T) → r ≡ Ok x → r ≡ Ok y → x ≡ y
-same-value r x y p q = cc
 
 -- one more piece behind others
 join-more : (c : ℕ) (pieces : List (List ℕ)) (piece : List ℕ) → 0 < length pieces

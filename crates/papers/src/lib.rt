@@ -9,7 +9,7 @@ pub use file_kind::FileKind;
 pub use imports::{read_meters, read_tariffs};
 pub use laws::{export_law, import_law};
 pub use output::write_whole;
-pub use receipts::{receipt, receipt_text};
+pub use receipts::{RECEIPT_ROOM, receipt, receipt_in_place, receipt_text};
 pub use reports::{report_law, shift_report, shift_text};
 pub use row_fault::RowFault;
 
@@ -25,4 +25,5 @@ mod read_row;
 mod receipts;
 mod record;
 mod reports;
+mod room;
 mod row_fault;

@@ -1,8 +1,7 @@
 ghost use Rattle.std.specs.Prelude.{◌≡◌, ◌++◌, IfOk, OnOk, decimal, string_bytes};
-ghost use Rattle.papers.specs.Text.{change_of, line, time_text};
+ghost use Rattle.papers.specs.Text.{change_of, line};
 
 use std::alloc::{AllocError, Global};
-use sts_fields::{Moment, civil};
 use vend_core::Sale;
 
 // Adds a line to a text: a word, a space and its value.
@@ -33,16 +32,6 @@ pub(crate) fn decimal(alloc: Global, number: u128) -> Result<String, AllocError>
     ensures { IfOk result (λ text. string_bytes text ≡ decimal number) }
 {
     format!(in alloc; "{number}")
-}
-
-// The date and the time of day at a moment, in UTC.
-pub(crate) fn time_text(alloc: Global, moment: Moment) -> Result<String, AllocError>
-    ensures { IfOk result (λ text. string_bytes text ≡ time_text moment) }
-{
-    let shown = civil(moment).map_err(|_| AllocError)?;
-    let date = format!(in alloc; "{:04}-{:02}-{:02}", shown.year, shown.month, shown.day)?;
-    let time = format!(in alloc; "{:02}:{:02}:{:02}", shown.hour, shown.minute, shown.second)?;
-    format!(in alloc; "{date}T{time}Z")
 }
 
 // What a customer gets back of the tender; a price is at most its tender, so nothing is cut off.

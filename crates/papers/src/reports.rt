@@ -2,12 +2,13 @@ ghost use Rattle.std.specs.Prelude.{◌≡◌, ◌+◌, ◌++◌, ◌∷◌, ℕ
 ghost use Rattle.vend_core.specs.declared.sale.Sale.{Sale};
 ghost use Rattle.vend_core.specs.declared.shift.Shift.{Shift};
 ghost use Rattle.papers.specs.Output.{IsWritten};
-ghost use Rattle.papers.specs.Report.{closed_text, report_of, sale_line, shift_head, tenths_of, totals_text};
+ghost use Rattle.papers.specs.Report.{report_of, sale_line, shift_head, tenths_of, totals_text};
 ghost use Rattle.vend_core.specs.Cash.{cash_of};
 
 use crate::fault::TextFault;
-use crate::lines::{change, put_line, put_number, time_text};
+use crate::lines::{change, put_line, put_number};
 use crate::output::write_whole;
+use crate::room::{closed_text, time_text};
 use std::alloc::{AllocError, Global};
 use std::io::Write;
 use vend_core::{Moment, Sale, Shift};
@@ -58,23 +59,11 @@ pub fn report_law()
 fn put_shift(alloc: Global, text: &mut Vec<u8>, shift: &Shift) -> Result<(), AllocError>
     ensures { OnOk result (text.new.items ≡ text.old.items ++ shift_head shift.now) }
 {
-    let opened = time_text(alloc, shift.opened)?;
-    let closed = closed_text(alloc, shift.closed)?;
     let mut name = format!(in alloc; "{} ", shift.number)?.into_bytes();
     name.extend_from_slice(shift.operator.as_bytes())?;
     put_line(text, "SHIFT", &name)?;
-    put_line(text, "OPENED", opened.as_bytes())?;
-    put_line(text, "CLOSED", closed.as_bytes())
-}
-
-// When a shift was closed, or a hyphen while it is open.
-fn closed_text(alloc: Global, closed: Option<Moment>) -> Result<String, AllocError>
-    ensures { IfOk result (λ text. string_bytes text ≡ closed_text closed) }
-{
-    match closed {
-        Some(moment) => time_text(alloc, moment),
-        None => String::from_str(alloc, "-"),
-    }
+    put_line(text, "OPENED", &time_text(shift.opened))?;
+    put_line(text, "CLOSED", &closed_text(shift.closed))
 }
 
 // Adds the line of a sale.

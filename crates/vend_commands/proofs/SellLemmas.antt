@@ -27,7 +27,7 @@ use Rattle.vend_core.specs.declared.request.Request.TheVariants.{Sell}
 use Rattle.vend_core.specs.declared.request.Stamped.{Stamped}
 use Rattle.vend_core.specs.declared.sale.Sale.{Sale}
 use Rattle.vend_core.specs.declared.shift.Shift.{Shift}
-use Rattle.vend_commands.specs.Selling.{EndsSold}
+use Rattle.vend_commands.specs.Selling.{EndsSold, TellsSale}
 use Rattle.vend_commands.specs.Served.{TellsReply, answer_text}
 use Rattle.vend_commands.specs.Tasks.{IsSold}
 use Rattle.vend_commands.specs.Told.{IsTold, Outputs}
@@ -35,6 +35,7 @@ use Rattle.vend_commands.specs.Visited.{seen_in}
 use Rattle.vend_commands.specs.Visited.IsVisited.{unopened, visited}
 use Rattle.vend_commands.specs.Ways.{forward_of}
 use Rattle.command_line.specs.declared.commands.sell.SellWords.{SellWords}
+use Rattle.vend_commands.specs.declared.end.End.{End}
 use Rattle.vend_commands.specs.declared.end.End.TheVariants as how
 
 -- ---- an order that is granted gives a sale
@@ -97,6 +98,11 @@ is_answered (Ok answer) o (inl (inl (put, told, is))) = (answer, refl, put)
 is_answered (Ok answer) o (inl (inr (cut, kept, is))) = absurd (cc)
 is_answered (Ok answer) o (inr (paper, told)) = absurd (not_refused o _ _ told)
 is_answered (Err refusal) o told = absurd (not_refused o _ _ told)
+
+-- a receipt takes no memory
+pub sale_told : (sale : Sale) (o : Outputs) (end : End) → TellsReply (Ok (Sold sale)) o end → TellsSale sale o end
+sale_told sale o end (inl told) = told
+sale_told sale o end (inr (none, told)) = absurd none
 
 pub ends_sold : {S : Type 0} (store : Ghosts S) (answers_stand : (forward : BlockFunction) (o : Office) (at : Stamped) → All (Contains (step forward o at).sales) (sales_of (reply forward o at))) (image : Image) (words : SellWords) (moment : ℕ) (office : Office) (o : Outputs) → StandsIn image office → IsSold store image words moment o how.Done → EndsSold store words moment office o
 ends_sold store answers_stand image words moment office o stands (unopened fault new told) = absurd (not_refused o _ _ told)

@@ -1,5 +1,5 @@
 -- What `sell` has done where it ends as done, by the rules of the office that the files stand for.
-use Rattle.std.specs.Prelude.{◌≡◌, ℕ, ◌+◌, ◌%◌, length, Contains, Ok}
+use Rattle.std.specs.Prelude.{◌≡◌, ℕ, ◌+◌, ◌%◌, [], length, Contains, Ok}
 use Rattle.std.specs.Io.KnownBytes.{Appends}
 use Rattle.books.specs.Keeps.{RecoversTo, Seen}
 use Rattle.papers.specs.Receipt.{receipt_of}
@@ -14,10 +14,12 @@ use Rattle.vend_core.specs.declared.request.Order.{Order}
 use Rattle.vend_core.specs.declared.request.Request.TheVariants.{Sell}
 use Rattle.vend_core.specs.declared.request.Stamped.{Stamped}
 use Rattle.vend_core.specs.declared.sale.Sale.{Sale}
-use Rattle.vend_commands.specs.Told.{Outputs}
+use Rattle.vend_commands.specs.Told.{IsTold, Outputs}
 use Rattle.vend_commands.specs.Visited.{seen_in}
 use Rattle.vend_commands.specs.Ways.{forward_of}
 use Rattle.command_line.specs.declared.commands.sell.SellWords.{SellWords}
+use Rattle.vend_commands.specs.declared.end.End.{End}
+use Rattle.vend_commands.specs.declared.end.End.TheVariants.{Done}
 use Rattle.vend_commands.specs.declared.file_books.FileBooks.{FileBooks}
 
 -- the order at this moment, with the nibble of the office's next sale
@@ -38,6 +40,10 @@ pub record HasSold (forward : BlockFunction) (office : Office) (order : Order) (
   pub stands : Contains (step forward office at).sales sale
   pub left : (trees : Trees) → books.state.may_leave trees
       → RecoversTo trees (step forward office at)
+
+-- of a sale that books replied nothing is told but its receipt: so what is told else came before it stood
+abbrev pub TellsSale : Sale → Outputs → End → Type 0
+TellsSale sale o end = IsTold o (receipt_of sale) [] Done end
 
 -- so with the books as the command left them, as long as the disk returned what was written
 abbrev pub EndsSold : {S : Type 0} → Ghosts S → SellWords → (moment : ℕ) → Office → Outputs → Type 0

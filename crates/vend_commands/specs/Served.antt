@@ -25,21 +25,21 @@ answer_text (Sold sale) = receipt_of sale
 answer_text (Reprinted sale) = receipt_of sale
 answer_text (Report shift sales) = report_of shift sales
 
--- an answer whose text is a paper, which is made whole before it is printed
-abbrev pub IsPaper : core.Answer → Type 0
-IsPaper Done = ⊥
-IsPaper (Imported count) = ⊥
-IsPaper (Opened number) = ⊥
-IsPaper (Closed number) = ⊥
-IsPaper (Sold sale) = ⊤
-IsPaper (Reprinted sale) = ⊤
-IsPaper (Report shift sales) = ⊤
+-- an answer whose text is made whole in memory before it is printed: a report, which changes nothing
+abbrev pub TakesRoom : core.Answer → Type 0
+TakesRoom Done = ⊥
+TakesRoom (Imported count) = ⊥
+TakesRoom (Opened number) = ⊥
+TakesRoom (Closed number) = ⊥
+TakesRoom (Sold sale) = ⊥
+TakesRoom (Reprinted sale) = ⊥
+TakesRoom (Report shift sales) = ⊤
 
--- the text of the answer is told; or there is no room to make a paper, and that is told
+-- the text of the answer is told; or there is no room to make a report, and that is told
 abbrev pub TellsAnswer : core.Answer → Outputs → End → Type 0
 TellsAnswer answer o end =
     IsTold o (answer_text answer) [] how.Done end
-    ⊎ (IsPaper answer × IsTold o [] (refusal_line Memory) how.Refused end)
+    ⊎ (TakesRoom answer × IsTold o [] (refusal_line Memory) how.Refused end)
 
 -- the text of this reply is told, and nothing else
 abbrev pub TellsReply : Result core.Answer Refusal → Outputs → End → Type 0

@@ -3,14 +3,14 @@
 ghost use Rattle.std.specs.Prelude.{◌≡◌, Err};
 ghost use Rattle.books.specs.Keeps.{seen};
 ghost use Rattle.papers.specs.Output.{IsWritten};
-ghost use Rattle.vend_commands.specs.Served.{IsPaper, IsServedAndTold, TellsAnswer, answer_text};
+ghost use Rattle.vend_commands.specs.Served.{IsServedAndTold, TakesRoom, TellsAnswer, answer_text};
 ghost use Rattle.vend_commands.specs.Told.{outputs};
 
 use crate::end::End;
 use crate::printed::{write_added, write_shift};
 use crate::told::tell_refusal;
 use books::Books;
-use papers::{TextFault, receipt_text, shift_text};
+use papers::{TextFault, receipt_in_place, shift_text, write_whole};
 use sqlite::Alter;
 use std::alloc::Global;
 use std::io::Write;
@@ -19,8 +19,8 @@ use vend_core::{Answer, Moment, Refusal, Request};
 
 /// Asks books for an answer at a moment, and prints it, or tells why it is refused.
 ///
-/// What is printed stands in the office: the books answer after their commit. Where there is no
-/// room for a paper, that is told, and the same request asks for it again.
+/// What is printed stands in the office: the books answer after their commit. A receipt takes no
+/// memory, so after a sale nothing else is told. Where there is no room for a report, that is told.
 pub(crate) fn ask<S: Alter, T: BlockTransform, O: Write, E: Write>(
     alloc: Global,
     books: &mut Books<S, T>,
@@ -61,15 +61,15 @@ fn tell_answer<O: Write, E: Write>(alloc: Global, answer: &Answer, out: &mut O, 
 fn write_answer<O: Write>(alloc: Global, answer: &Answer, out: &mut O) -> Result<(), TextFault>
     ensures written { IsWritten (O.contents out.old) (O.contents out.new)
         (answer_text answer.now) result }
-    ensures memory { result ≡ Err TextFault.Memory → IsPaper answer.now }
+    ensures memory { result ≡ Err TextFault.Memory → TakesRoom answer.now }
 {
     match answer {
         Answer::Done => Ok(()),
         Answer::Imported(count) => write_added(*count, out),
         Answer::Opened(number) => write_shift(*number, out),
         Answer::Closed(number) => write_shift(*number, out),
-        Answer::Sold(sale) => receipt_text(alloc, sale, out),
-        Answer::Reprinted(sale) => receipt_text(alloc, sale, out),
+        Answer::Sold(sale) => write_whole(&receipt_in_place(sale), out),
+        Answer::Reprinted(sale) => write_whole(&receipt_in_place(sale), out),
         Answer::Report(shift, sales) => shift_text(alloc, shift, sales.as_slice(), out),
     }
 }

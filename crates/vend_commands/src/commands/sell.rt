@@ -1,9 +1,12 @@
-ghost use Rattle.std.specs.Prelude.{ℕ};
+ghost use Rattle.std.specs.Prelude.{ℕ, Ok};
 ghost use Rattle.books.specs.Path.{StandsIn};
 ghost use Rattle.sqlite_wal.specs.Files.{image_at};
 ghost use Rattle.sqlite_wal.specs.Recovery.{Image};
 ghost use Rattle.vend_core.specs.Office.{Office};
-ghost use Rattle.vend_commands.specs.Selling.{EndsSold};
+ghost use Rattle.vend_core.specs.declared.answer.Answer.TheVariants.{Sold};
+ghost use Rattle.vend_core.specs.declared.sale.Sale.{Sale};
+ghost use Rattle.vend_commands.specs.Selling.{EndsSold, TellsSale};
+ghost use Rattle.vend_commands.specs.Served.{TellsReply};
 ghost use Rattle.vend_commands.specs.Tasks.{IsSold};
 ghost use Rattle.vend_commands.specs.Told.{Outputs, outputs};
 
@@ -36,11 +39,14 @@ pub(crate) fn run<B: Start, O: Write, E: Write>(
 
 /// What `sell` has done where it ends as done: where the files stood for an office, it printed the
 /// receipt of the sale that the office's rules give for the order, and the sale stands in all that a
-/// crash may leave of them.
+/// crash may leave of them. Of a sale nothing is told but the receipt: what is told of want of memory
+/// came before any sale stood.
 pub fn sell_law<S: Alter>()
-    ensures { (image : Image) (words : SellWords) (moment : ℕ) (office : Office) (o : Outputs)
+    ensures done { (image : Image) (words : SellWords) (moment : ℕ) (office : Office) (o : Outputs)
         → StandsIn image office → IsSold S.Store image words moment o End.Done
         → EndsSold S.Store words moment office o }
+    ensures told { (sale : Sale) (o : Outputs) (end : End)
+        → TellsReply (Ok (Sold sale)) o end → TellsSale sale o end }
 {
     office_law();
 }

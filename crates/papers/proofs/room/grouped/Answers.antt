@@ -1,7 +1,7 @@
 use Rattle.std.proofs.Common.{◌≡◌, arith}
 use Rattle.papers.specs.Text.{grouped}
 use Rattle.papers.proofs.TextLemmas.{groups-more}
-use Rattle.papers.proofs.receipts.grouped.Goals as goal
+use Rattle.papers.proofs.room.grouped.Goals as goal
 
 pub loop-group-preserved : goal.loop-group-preserved
 loop-group-preserved c =
@@ -12,4 +12,4 @@ pub returns : goal.returns
 unfolding grouped
 returns c =
     let five : c.loop-group.group ≡ 5 = omega arith in
-    rw five at c.loop-group.invariant
+    rw five at c.loop-group.invariant.0
