@@ -41,8 +41,8 @@ pub fn sales_csv<W: Write>(
     write_whole(&text, out)
 }
 
-// The export, whole.
-fn export(alloc: Global, sales: &[Sale], header: bool) -> Result<Vec<u8>, AllocError>
+/// The export of some sales, behind the header where it is asked for, or want of memory.
+pub fn export(alloc: Global, sales: &[Sale], header: bool) -> Result<Vec<u8>, AllocError>
     ensures { IfOk result (λ text. text.items ≡ export_of header sales.now) }
 {
     let mut writer = WriterBuilder::new().from_writer(Vec::new(alloc));

@@ -3,7 +3,7 @@
 //! `docs/TEXTS.md` has each text and file with an example, and `specs/` has them as definitions.
 #![tactic(auto)]
 
-pub use exports::sales_csv;
+pub use exports::{export, sales_csv};
 pub use fault::TextFault;
 pub use file_kind::FileKind;
 pub use imports::{read_meters, read_tariffs};
