@@ -1,11 +1,11 @@
 -- How the parts of a line stand one behind the other.
-use Rattle.std.proofs.Common.{◌≡◌, ◌∙◌, ℕ, zero, suc, ◌+◌, ◌*◌, ◌<◌, ◌≤◌, [], ◌∷◌, List, ◌++◌, length, map, take, replicate, slice_range, ap, sym, refl, append_assoc, arith, lit<}
+use Rattle.std.proofs.Common.{◌≡◌, ◌∙◌, ℕ, zero, suc, ◌+◌, ◌-◌, ◌*◌, ◌/◌, ◌%◌, ◌<◌, ◌≤◌, [], ◌∷◌, List, ◌++◌, length, map, take, replicate, slice_range, Result, Ok, ap, sym, refl, append_assoc, arith, lit<}
 use Rattle.std.proofs.lemmas.List.FromFn.{length-map-range_with_len, map-range_with_len_more}
 use Rattle.std.proofs.Padding.{padded_integral_right, styled_decimal_is}
 use Rattle.std.specs.Fmt.{decimal, format_spec, styled_decimal}
 use Rattle.std.specs.List.{join_with_byte, range_with_len}
 use Rattle.papers.specs.Report.{sale_line}
-use Rattle.papers.specs.Text.{change_of, clock_text, date_text, digits_at_least, groups, line, right, time_text}
+use Rattle.papers.specs.Text.{change_of, clock_text, date_text, digits_at_least, groups, kwh_text, line, right, time_text}
 use Rattle.sts_fields.specs.Calendar.{civil_at}
 use Rattle.sts_fields.specs.declared.calendar.date_time.Civil.{Civil}
 use Rattle.vend_core.specs.declared.sale.Sale.{Sale}
@@ -23,13 +23,25 @@ styled-right places n =
     styled_decimal_is s n ∙ padded_integral_right s (decimal n) refl refl (λ e. cc) (λ e. cc) (lit< tt)
 
 -- so many zeros
-pub zeros-front : (n : ℕ) → n ≤ 4 → take n (48 ∷ 48 ∷ 48 ∷ 48 ∷ []) ≡ replicate n 48
+pub zeros-front : (n : ℕ) → n ≤ 4 → take {A = ℕ} n (48 ∷ 48 ∷ 48 ∷ 48 ∷ []) ≡ replicate n 48
 zeros-front zero few = refl
 zeros-front (suc zero) few = refl
 zeros-front (suc (suc zero)) few = refl
 zeros-front (suc (suc (suc zero))) few = refl
 zeros-front (suc (suc (suc (suc zero)))) few = refl
 zeros-front (suc (suc (suc (suc (suc n))))) few = absurd (omega arith)
+
+-- a number behind the zeros that it lacks
+pub digits-parts : (old zeros : List ℕ) (places n count : ℕ) → places ≤ 4 → count ≡ places - length (decimal n) → zeros ≡ take {A = ℕ} count (48 ∷ 48 ∷ 48 ∷ 48 ∷ []) → (old ++ zeros) ++ decimal n ≡ old ++ digits_at_least places n
+unfolding digits_at_least
+digits-parts old zeros places n count few is are =
+    let front : zeros ≡ replicate (places - length (decimal n)) 48 = are ∙ zeros-front count (omega (arith, is)) ∙ ap (λ k. replicate k 48) is in
+    ap (λ z. (old ++ z) ++ decimal n) front ∙ append_assoc old (replicate (places - length (decimal n)) 48) (decimal n)
+
+-- an energy, part behind part
+pub kwh-parts : (tenths : ℕ) → (([] ++ decimal (tenths / 10)) ++ 46 ∷ []) ++ decimal (tenths % 10) ≡ kwh_text tenths
+unfolding kwh_text
+kwh-parts tenths = append_assoc (decimal (tenths / 10)) (46 ∷ []) (decimal (tenths % 10))
 
 -- a date and a time of day, part behind part
 pub time-parts : (moment : ℕ) (c : Civil) → c ≡ civil_at moment
@@ -43,6 +55,10 @@ pub sale_line-parts : (old number amounts : List ℕ) (s : Sale) → number ≡ 
     → ((old ++ number) ++ s.meter) ++ amounts ≡ old ++ sale_line s
 unfolding sale_line
 sale_line-parts old number amounts s n a = rw (n, a) (simp append_assoc)
+
+-- a result has one value
+pub same-value : {T E : Type 0} (r : Result T E) (x y : T) → r ≡ Ok x → r ≡ Ok y → x ≡ y
+same-value r x y p q = cc
 
 -- one more piece behind others
 join-more : (c : ℕ) (pieces : List (List ℕ)) (piece : List ℕ) → 0 < length pieces

@@ -1,7 +1,8 @@
-use Rattle.std.proofs.Common.{rules}
-use Rattle.papers.specs.Text.{kwh_text}
+use Rattle.std.proofs.Common.{arith}
+use Rattle.papers.proofs.TextLemmas.{kwh-parts}
 use Rattle.papers.proofs.room.kwh_text.Goals as goal
 
 pub returns : goal.returns
-unfolding kwh_text
-returns c = search rules
+returns c =
+    let parts = kwh-parts c.args.tenths in
+    grind arith

@@ -3,4 +3,4 @@ use Rattle.papers.proofs.TextLemmas.{line-parts}
 use Rattle.papers.proofs.room.put_entry.Goals as goal
 
 pub returns-clause-items : goal.returns-clause-items
-returns-clause-items c = grind (arith, line-parts)
+returns-clause-items g c = grind (arith, line-parts)
