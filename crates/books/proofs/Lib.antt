@@ -1,6 +1,7 @@
 mod AlongLemmas
 mod AttemptLemmas
-mod BroughtLemmas
+mod BeginningLemmas
+mod BegunLemmas
 mod ChangeLemmas
 mod CommitLemmas
 mod FactsLemmas

@@ -11,4 +11,3 @@ pub mod Path
 pub mod Same
 pub mod Serving
 pub mod Stopping
-pub mod Totals

@@ -16,8 +16,7 @@ mod accounts;
 mod imports;
 mod meters;
 mod sales;
-pub(crate) mod shifts;
-mod steps;
+mod shifts;
 
 /// What the tests of a request look at, as far as they do and no further. The count of sales is the
 /// caller's.
@@ -37,7 +36,7 @@ pub(crate) fn facts_of<S: Alter>(
 {
     match &at.request {
         Request::AddTariff(name, _) => meters::tariff_facts(alloc, conn, name),
-        Request::AddSteps(name, day, _) => steps::dated_facts(alloc, conn, name, *day),
+        Request::AddSteps(name, ..) => meters::dated_facts(conn, name),
         Request::AddMeter(number, meter) => meters::meter_facts(conn, number, meter),
         Request::Import(rows) => imports::import_facts(alloc, conn, rows),
         Request::SetTariff(number, name) => meters::setting_facts(conn, number, name),

@@ -8,6 +8,8 @@ use thiserror::Error;
 pub enum OpenFault {
     #[error("the file has tables that are not an office's")]
     NotAnOffice,
+    #[error("the file has an office of an older format")]
+    OldOffice,
     #[error("the store failed")]
     Store,
     #[error("out of memory")]
@@ -21,6 +23,7 @@ impl OpenFault {
     {
         match self {
             OpenFault::NotAnOffice => 1,
+            OpenFault::OldOffice => 2,
             OpenFault::Store => 3,
             OpenFault::Memory => 4,
         }
@@ -32,6 +35,7 @@ impl OpenFault {
     {
         match self {
             OpenFault::NotAnOffice => "NotAnOffice",
+            OpenFault::OldOffice => "OldOffice",
             OpenFault::Store => "Store",
             OpenFault::Memory => "Memory",
         }

@@ -5,13 +5,12 @@
 //! and a life that the contracts speak of.
 #![tactic(auto)]
 
-pub use book_tables::Totals;
 pub use books::Books;
 pub use fault::OpenFault;
 pub use headline::headline_law;
 pub use reopening::opening_law;
 
-mod bringing;
+mod beginning;
 mod books;
 mod changing;
 mod facts;

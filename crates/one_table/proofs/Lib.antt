@@ -17,13 +17,8 @@ pub mod GivenLemmas
 pub mod UpsertTextLemmas
 mod OneRowLemmas
 pub mod UpsertLemmas
-pub mod TouchLemmas
-pub mod MergeLemmas
-pub mod NumberedLemmas
-pub mod HiddenMergeLemmas
-pub mod SumLemmas
-pub mod SameKeyLemmas
 mod UpsertExample
+pub mod MergeLemmas
 pub mod AppendLemmas
 pub mod UpdateLemmas
 pub mod ListedLemmas
