@@ -45,7 +45,7 @@ def ask_until_known(desk, method, target, body=None):
     """The body of the good reply, by as many tries as it takes.
 
     A message may come twice where the same one again changes nothing: a sale with its ref, a
-    tariff, a meter, an import, and all that is asked by GET.
+    tariff or its dated steps, a meter or its base date, an import, and all that is asked by GET.
     """
     for pause in [*PAUSES, None]:
         try:
@@ -61,6 +61,17 @@ def ask_until_known(desk, method, target, body=None):
         if pause is not None:
             time.sleep(pause)
     raise Unknown(why)
+
+
+def add_steps(desk, tariff, day, steps):
+    """Gives a tariff further steps, such as "500:110;:220", from a later day such as 2099-01-01 on."""
+    body = json.dumps({"from": day, "steps": steps})
+    ask_until_known(desk, "POST", f"/tariffs/{tariff}/steps", body)
+
+
+def move_base(desk, meter, year):
+    """Has a meter's next identifiers count from a later base date: 2014 or 2035."""
+    ask_until_known(desk, "POST", f"/meters/{meter}/base", json.dumps({"base": year}))
 
 
 def lose_the_reply(desk, method, target, body):

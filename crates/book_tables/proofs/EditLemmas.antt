@@ -1,72 +1,94 @@
 -- The rows after an edit are the members of the office after it.
-use Rattle.std.proofs.Common.{◌≡◌, ◌≢◌, ℕ, zero, suc, ◌+◌, ◌⊎◌, inl, inr, Bool, true, false, List, [], ◌∷◌, ◌++◌, Option, Some, None, IsSome, refl, sym, ◌∙◌, ap, subst, arith}
-use Rattle.std.specs.Prelude.{◌&&◌, ◌||◌, AllPairs, Contains, bytes_eq, if◌then◌else◌, map, option_map, slice_get}
-use Rattle.std.specs.List.{enumerate_from, list_all}
-use Rattle.std.proofs.lemmas.Bool.{false≢true}
+use Rattle.std.proofs.Common.{◌≡◌, ◌≢◌, ◌↔◌, ℕ, zero, suc, ◌+◌, ◌⊎◌, inl, inr, Bool, true, false, List, [], ◌∷◌, ◌++◌, Option, Some, None, IsSome, refl, sym, ◌∙◌, ap, subst, arith, true≢false}
+use Rattle.std.specs.Prelude.{◌&&◌, ◌||◌, ◌==◌, AllPairs, Contains, bytes_eq, if◌then◌else◌, map, pos, option_map, slice_get}
+use Rattle.std.specs.List.{enumerate_from}
+use Rattle.std.proofs.lemmas.Bool.{eq-eqb, false≢true}
+use Rattle.std.proofs.lemmas.Bool.Decides.{nat_tests}
 use Rattle.std.proofs.lemmas.List.Elements.{Contains-append_cases, Contains-append_left, Contains-append_right, Contains-push, Contains-push_cases}
 use Rattle.std.proofs.lemmas.Option.{same_Some}
 use Rattle.std.proofs.lemmas.Slice.Eq.{bytes_eq-Decides}
-use Rattle.sts_fields.specs.Base.{base_eq}
+use Rattle.sts_fields.specs.Base.{base_eq, year_of}
 use Rattle.sts_fields.specs.declared.base.Base.{Base}
+use Rattle.sts_fields.specs.declared.base.Base.TheVariants.{Y1993, Y2014, Y2035}
 use Rattle.tariff.specs.declared.step.Step.{Step}
-use Rattle.vend_core.specs.Edits.{applied, with_row, with_rows, with_tariff}
+use Rattle.sqlite_keyed.specs.Keyed.{IsKeyedBy}
+use Rattle.vend_core.specs.Lookup.{greatest_of}
+use Rattle.vend_core.specs.Edits.{applied, one_base_more, set_meter, with_base, with_row, with_rows, with_tariff}
 use Rattle.vend_core.specs.Office.{Office, empty_office}
+use Rattle.vend_core.specs.Store.{MeetRows, Meets, MeetsMove, MeetsRow}
 use Rattle.vend_core.specs.declared.change.Edit.{Edit}
 use Rattle.vend_core.specs.declared.change.Edit.TheVariants as edits
 use Rattle.vend_core.specs.declared.meter.Meter.{Meter}
 use Rattle.vend_core.specs.declared.row.Row.{Row}
 use Rattle.vend_core.specs.declared.row.Row.TheVariants as kinds
-use Rattle.book_tables.specs.Edited.{AreNewRows, IsNew, IsNewRow, can_hold, can_hold_row, edited, no_rows, row_added, row_with_tariff, rows_added, shift_closed, step_rows}
-use Rattle.book_tables.specs.Rows.{Rows, StepRow}
-use Rattle.book_tables.specs.Stands.{AreApart, AreMembersOf, HasStep, is_base_of}
-use Rattle.book_tables.proofs.ListLemmas.{contains_cases, contains_first, contains_further, contains_map, contains_none, map_source, no_pairs, pairs_append, pairs_cons, pairs_map, pairs_push}
+use Rattle.vend_core.specs.declared.sale.Sale.{Sale}
+use Rattle.book_tables.specs.Edited.{dated_rows, edited, is_sale, no_rows, row_added, row_with_base, row_with_tariff, rows_added, shift_closed, step_rows}
+use Rattle.book_tables.specs.Rows.{DatedStepRow, Rows, StepRow}
+use Rattle.book_tables.specs.Stands.{AreApart, AreDatedApart, AreMembersOf, AreRowsOf, AreTotalsOf, HasDatedStep, HasStep, sales_in_month, sales_in_shift, sales_under, tenths_of, totals_of}
+use Rattle.book_tables.specs.declared.totals.Totals.{Totals}
+use Rattle.book_tables.specs.Writing.{with_totals_of}
+use Rattle.book_tables.proofs.ListLemmas.{contains_cases, contains_first, contains_further, contains_map, contains_none, map_source, no_pairs, pairs_append, pairs_cons, pairs_map, pairs_push, pairs_weaker}
 
--- ---- the rows of a tariff's steps
+-- ---- the same totals, beside other rows
 
-abbrev step_row : List ℕ → (ℕ × Step) → StepRow
-step_row name s = record { tariff = name; place = s.0; step = s.1 }
+pub same_totals : (sales : List Sale) (a b : Rows) → a.last_ids ≡ b.last_ids → a.month_tenths ≡ b.month_tenths → a.shift_totals ≡ b.shift_totals → AreTotalsOf sales a → AreTotalsOf sales b
+same_totals sales a b ids months shifts t = record {
+  last_ids = subst (λ (l : List ((List ℕ × Base) × ℕ)). AreRowsOf l (λ key. greatest_of (map (λ s. s.tid) (sales_under sales key)))) ids t.last_ids;
+  month_tenths = subst (λ (l : List ((List ℕ × ℕ) × ℕ)). AreRowsOf l (λ key. tenths_of (sales_in_month sales key))) months t.month_tenths;
+  shift_totals = subst (λ (l : List (ℕ × Totals)). AreRowsOf l (λ shift. totals_of (sales_in_shift sales shift))) shifts t.shift_totals;
+  by_shift = subst (λ (l : List (ℕ × Totals)). IsKeyedBy (λ (r : ℕ × Totals). pos r.0) l) shifts t.by_shift;
+}
 
-abbrev rows_from : List ℕ → ℕ → List Step → List StepRow
-rows_from name at steps = map (step_row name) (enumerate_from at steps)
+-- ---- the rows of steps by their places
 
--- a row of them is of this name, and has the step at its place
-record IsStepAt (name : List ℕ) (at : ℕ) (steps : List Step) (r : StepRow) : Type 0 where
-  of : r.tariff ≡ name
-  further : ℕ
-  place : r.place ≡ at + further
-  step : slice_get steps further ≡ Some r.step
+module _ {R : Type 0} (make : ℕ → Step → R) where
+  abbrev rows_from : ℕ → List Step → List R
+  rows_from at steps = map (λ s. make s.0 s.1) (enumerate_from at steps)
 
-step_in : (name : List ℕ) (at : ℕ) (steps : List Step) (r : StepRow) → Contains (rows_from name at steps) r → IsStepAt name at steps r
-step_in name at [] r there = absurd (contains_none r there)
-step_in name at (s ∷ steps) r there =
-    elim (contains_cases (step_row name (at, s)) r (rows_from name (at + 1) steps) there) [
-      | inl is ↦ record {
-        of = ap (λ (r : StepRow). r.tariff) (sym is);
-        further = 0;
-        place = let e : r.place ≡ at = ap (λ (r : StepRow). r.place) (sym is) in omega (arith, e);
-        step = ap (λ (r : StepRow). let o : Option Step = Some r.step in o) is;
-      }
-      | inr further ↦ let rest = step_in name (at + 1) steps r further in
-          record { of = rest.of; further = suc rest.further; place = omega (arith, rest.place); step = rest.step }
-    ]
+  -- a row of them has the step at its place
+  record IsMade (at : ℕ) (steps : List Step) (r : R) : Type 0 where
+    further : ℕ
+    step : Step
+    is : r ≡ make (at + further) step
+    there : slice_get steps further ≡ Some step
 
-step_among : (name : List ℕ) (at : ℕ) (steps : List Step) (k : ℕ) (s : Step) → slice_get steps k ≡ Some s → Contains (rows_from name at steps) (step_row name (at + k, s))
-step_among name at [] k s e = cc
-step_among name at (t ∷ steps) zero s e =
-    let here : at ≡ at + 0 = omega arith in
-    let same = same_Some t s e in
-    let is : step_row name (at, t) ≡ step_row name (at + 0, s) = cc in
-    subst (Contains (rows_from name at (t ∷ steps))) is (contains_first (step_row name (at, t)) (rows_from name (at + 1) steps))
-step_among name at (t ∷ steps) (suc k) s e =
-    let place : at + 1 + k ≡ at + suc k = omega arith in
-    let further = contains_further (step_row name (at, t)) (step_row name (at + 1 + k, s)) (rows_from name (at + 1) steps) (step_among name (at + 1) steps k s e) in
-    subst (λ (n : ℕ). Contains (rows_from name at (t ∷ steps)) (step_row name (n, s))) place further
+  made_in : (at : ℕ) (steps : List Step) (r : R) → Contains (rows_from at steps) r → IsMade at steps r
+  made_in at [] r there = absurd (contains_none r there)
+  made_in at (s ∷ steps) r there =
+      elim (contains_cases (make at s) r (rows_from (at + 1) steps) there) [
+        | inl is ↦ let here : at ≡ at + 0 = omega arith in record { further = 0; step = s; is = sym is ∙ ap (λ n. make n s) here; there = refl }
+        | inr further ↦
+            let rest = made_in (at + 1) steps r further in
+            let place : at + 1 + rest.further ≡ at + suc rest.further = omega arith in
+            record { further = suc rest.further; step = rest.step; is = rest.is ∙ ap (λ n. make n rest.step) place; there = rest.there }
+      ]
 
-steps_apart : (name : List ℕ) (at : ℕ) (steps : List Step) → AllPairs AreApart (rows_from name at steps)
-steps_apart name at [] = no_pairs AreApart
-steps_apart name at (s ∷ steps) =
-    pairs_cons AreApart (step_row name (at, s)) (rows_from name (at + 1) steps) (steps_apart name (at + 1) steps)
-    (λ r there _ same. let is = step_in name (at + 1) steps r there in omega (arith, is.place, same))
+  made_among : (at : ℕ) (steps : List Step) (k : ℕ) (s : Step) → slice_get steps k ≡ Some s → Contains (rows_from at steps) (make (at + k) s)
+  made_among at [] k s e = cc
+  made_among at (t ∷ steps) zero s e =
+      let here : at ≡ at + 0 = omega arith in
+      let same = same_Some t s e in
+      subst (Contains (rows_from at (t ∷ steps))) (ap (λ n. make n t) here ∙ ap (make (at + 0)) same) (contains_first (make at t) (rows_from (at + 1) steps))
+  made_among at (t ∷ steps) (suc k) s e =
+      let place : at + 1 + k ≡ at + suc k = omega arith in
+      subst (λ (n : ℕ). Contains (rows_from at (t ∷ steps)) (make n s)) place
+      (contains_further (make at t) (make (at + 1 + k) s) (rows_from (at + 1) steps) (made_among (at + 1) steps k s e))
+
+  module _ (place : R → ℕ) (placed : (n : ℕ) (s : Step) → place (make n s) ≡ n) where
+    made_at : (at : ℕ) (steps : List Step) (r : R) (m : IsMade at steps r) → place r ≡ at + m.further
+    made_at at steps r m = ap place m.is ∙ placed (at + m.further) m.step
+
+    made_apart : (at : ℕ) (steps : List Step) → AllPairs (λ a b. place a ≢ place b) (rows_from at steps)
+    made_apart at [] = no_pairs (λ a b. place a ≢ place b)
+    made_apart at (s ∷ steps) =
+        pairs_cons (λ a b. place a ≢ place b) (make at s) (rows_from (at + 1) steps) (made_apart (at + 1) steps)
+        (λ r there same. let m = made_in (at + 1) steps r there in omega (arith, made_at (at + 1) steps r m, placed at s, same))
+
+abbrev step_row : List ℕ → ℕ → Step → StepRow
+step_row name place step = record { tariff = name; place = place; step = step }
+
+abbrev dated_row : List ℕ → ℕ → ℕ → Step → DatedStepRow
+dated_row name day place step = record { tariff = name; day = day; place = place; step = step }
 
 -- ---- what stands under a name where one was put
 
@@ -128,19 +150,25 @@ module _ (rows : Rows) (o : Office) (are : AreMembersOf rows o) (name : List ℕ
       elim (put_cases (bytes_eq r.tariff name) r.tariff name steps has.0 (o.tariffs r.tariff) refl has.1) [
         | inl here ↦
             let at : slice_get steps r.place ≡ Some r.step = subst (λ (xs : List Step). slice_get xs r.place ≡ Some r.step) (sym here.1) has.2 in
-            let in_new = step_among name 0 steps r.place r.step at in
-            let is : step_row name (0 + r.place, r.step) ≡ r = same_row name r (sym here.0) in
-            Contains-append_right rows.steps (step_rows name steps) r (subst (Contains (step_rows name steps)) is in_new)
+            let in_new = made_among (step_row name) 0 steps r.place r.step at in
+            Contains-append_right rows.steps (step_rows name steps) r (subst (Contains (step_rows name steps)) (same_row r (sym here.0)) in_new)
         | inr old ↦ Contains-append_left rows.steps (step_rows name steps) r ((are.steps r).0 (has.0, old, has.2))
       ]
     where
-      same_row : (name : List ℕ) (r : StepRow) → name ≡ r.tariff → step_row name (0 + r.place, r.step) ≡ r
-      same_row name r e =
+      same_row : (r : StepRow) → name ≡ r.tariff → step_row name (0 + r.place) r.step ≡ r
+      same_row r e =
           let place : 0 + r.place ≡ r.place = omega arith in
           let A : StepRow = record { tariff = name; place = 0 + r.place; step = r.step } in
           let B : StepRow = record { tariff = r.tariff; place = r.place; step = r.step } in
           let same : A ≡ B = cc in
           same
+
+  new_step : (r : StepRow) → Contains (step_rows name steps) r → (r.tariff ≡ name) × (slice_get steps r.place ≡ Some r.step)
+  new_step r new =
+      let m = made_in (step_row name) 0 steps r new in
+      let at : m.further ≡ r.place = omega (arith, made_at (step_row name) (λ (r : StepRow). r.place) (λ n s. refl) 0 steps r m) in
+      let step : m.step ≡ r.step = sym (ap (λ (r : StepRow). r.step) m.is) in
+      (ap (λ (r : StepRow). r.tariff) m.is, subst (λ (k : ℕ). slice_get steps k ≡ Some r.step) at (m.there ∙ ap (λ (s : Step). let v : Option Step = Some s in v) step))
 
   step_back : (r : StepRow) → Contains (rows.steps ++ step_rows name steps) r → HasStep grown r
   unfolding grown
@@ -150,10 +178,7 @@ module _ (rows : Rows) (o : Office) (are : AreMembersOf rows o) (name : List ℕ
             let has = (are.steps r).1 old in
             let kept = put_elsewhere (bytes_eq r.tariff name) r.tariff name steps (o.tariffs r.tariff) refl (not_free o.tariffs r.tariff name has.0 free has.1) in
             (has.0, kept ∙ has.1, has.2)
-        | inr new ↦
-            let is = step_in name 0 steps r new in
-            let at : r.place ≡ is.further = omega (arith, is.place) in
-            (steps, put_here (bytes_eq r.tariff name) r.tariff name steps (o.tariffs r.tariff) refl is.of, subst (λ (k : ℕ). slice_get steps k ≡ Some r.step) (sym at) is.step)
+        | inr new ↦ let is = new_step r new in (steps, put_here (bytes_eq r.tariff name) r.tariff name steps (o.tariffs r.tariff) refl is.0, is.1)
       ]
 
   pub tariff_added : AreMembersOf (edited (edits.AddTariff name steps) rows) (applied (edits.AddTariff name steps) o)
@@ -166,32 +191,181 @@ module _ (rows : Rows) (o : Office) (are : AreMembersOf rows o) (name : List ℕ
     dated_steps = are.dated_steps;
     shifts = are.shifts;
     sales = are.sales;
+    totals = same_totals o.sales rows _ refl refl refl are.totals;
     tariffs_once = pairs_push (λ a b. a ≢ b) rows.tariffs name are.tariffs_once (λ q there same.
         let found = some_of (o.tariffs q) ((are.tariffs q).1 there) in
         not_free o.tariffs q name found.0 free found.1 same);
-    steps_once = pairs_append AreApart rows.steps (step_rows name steps) are.steps_once (steps_apart name 0 steps) (λ a b old new same.
+    steps_once = pairs_append AreApart rows.steps (step_rows name steps) are.steps_once
+        (pairs_weaker (λ a b. a.place ≢ b.place) AreApart (step_rows name steps) (λ a b apart _. apart) (made_apart (step_row name) (λ (r : StepRow). r.place) (λ n s. refl) 0 steps)) (λ a b old new same.
         let has = (are.steps a).1 old in
-        let is = step_in name 0 steps b new in
-        absurd (not_free o.tariffs a.tariff name has.0 free has.1 (same ∙ is.of)));
+        absurd (not_free o.tariffs a.tariff name has.0 free has.1 (same ∙ (new_step b new).0)));
     meters_once = are.meters_once;
+    bases_once = are.bases_once;
+    dated_once = are.dated_once;
   }
+
+-- ---- steps from a first day on
+
+both_are : (x y : Bool) → (x && y) ≡ true → (x ≡ true) × (y ≡ true)
+both_are true y e = (refl, e)
+both_are false y e = absurd (false≢true e)
+
+both_so : (x y : Bool) → x ≡ true → y ≡ true → (x && y) ≡ true
+both_so x y p q = ap (λ b. b && y) p ∙ q
+
+module _ (rows : Rows) (o : Office) (are : AreMembersOf rows o) (name : List ℕ) (day : ℕ) (steps : List Step) (free : o.dated_steps name day ≡ None) where
+  dated : Office
+  dated = applied (edits.AddSteps name day steps) o
+
+  is_it : List ℕ → ℕ → Bool
+  is_it q d = bytes_eq q name && (d == day)
+
+  names_it : (q : List ℕ) (d : ℕ) → is_it q d ≡ true → (q ≡ name) × (d ≡ day)
+  unfolding is_it
+  names_it q d is = let both = both_are (bytes_eq q name) (d == day) is in ((bytes_eq-Decides q name).0 both.0, let e = both.1 in grind (arith, nat_tests))
+
+  it_is : (q : List ℕ) (d : ℕ) → q ≡ name → d ≡ day → is_it q d ≡ true
+  unfolding is_it
+  it_is q d e f = both_so (bytes_eq q name) (d == day) ((bytes_eq-Decides q name).1 e) (eq-eqb d day f)
+
+  -- what the office has under a name and a day is what was put there, or what it had
+  had_or_put : (q : List ℕ) (d : ℕ) (xs : List Step) → dated.dated_steps q d ≡ Some xs → ((q ≡ name) × (d ≡ day) × (steps ≡ xs)) ⊎ (o.dated_steps q d ≡ Some xs)
+  unfolding dated is_it
+  had_or_put q d xs e = by_test (is_it q d) refl e
+    where
+      by_test : (b : Bool) → is_it q d ≡ b → (if b then Some steps else o.dated_steps q d) ≡ Some xs → ((q ≡ name) × (d ≡ day) × (steps ≡ xs)) ⊎ (o.dated_steps q d ≡ Some xs)
+      by_test true is e = let n = names_it q d is in inl (n.0, n.1, same_Some steps xs e)
+      by_test false is e = inr e
+
+  put_there : (q : List ℕ) (d : ℕ) → q ≡ name → d ≡ day → dated.dated_steps q d ≡ Some steps
+  unfolding dated is_it
+  put_there q d e f = by_test (is_it q d) (it_is q d e f)
+    where
+      by_test : (b : Bool) → b ≡ true → (if b then Some steps else o.dated_steps q d) ≡ Some steps
+      by_test true is = refl
+      by_test false is = absurd (false≢true is)
+
+  had_still : (q : List ℕ) (d : ℕ) (xs : List Step) → o.dated_steps q d ≡ Some xs → dated.dated_steps q d ≡ Some xs
+  unfolding dated is_it
+  had_still q d xs e = by_test (is_it q d) refl
+    where
+      by_test : (b : Bool) → is_it q d ≡ b → (if b then Some steps else o.dated_steps q d) ≡ Some xs
+      by_test true is = let n = names_it q d is in absurd (none_some (o.dated_steps name day) xs free (sym (ap (λ (k : List ℕ × ℕ). o.dated_steps k.0 k.1) (pair n.0 n.1)) ∙ e))
+        where
+          pair : q ≡ name → d ≡ day → ◌≡◌ {A = List ℕ × ℕ} (q, d) (name, day)
+          pair e f = cc
+      by_test false is = e
+
+  dated_new : (r : DatedStepRow) → Contains (dated_rows name day steps) r → (r.tariff ≡ name) × (r.day ≡ day) × (slice_get steps r.place ≡ Some r.step)
+  dated_new r new =
+      let m = made_in (dated_row name day) 0 steps r new in
+      let at : m.further ≡ r.place = omega (arith, made_at (dated_row name day) (λ (r : DatedStepRow). r.place) (λ n s. refl) 0 steps r m) in
+      let step : m.step ≡ r.step = sym (ap (λ (r : DatedStepRow). r.step) m.is) in (
+        ap (λ (r : DatedStepRow). r.tariff) m.is,
+        ap (λ (r : DatedStepRow). r.day) m.is,
+        subst (λ (k : ℕ). slice_get steps k ≡ Some r.step) at (m.there ∙ ap (λ (s : Step). let v : Option Step = Some s in v) step),
+      )
+
+  dated_there : (r : DatedStepRow) → HasDatedStep dated r → Contains (rows.dated_steps ++ dated_rows name day steps) r
+  dated_there r has =
+      elim (had_or_put r.tariff r.day has.0 has.1) [
+        | inl here ↦
+            let at : slice_get steps r.place ≡ Some r.step = subst (λ (xs : List Step). slice_get xs r.place ≡ Some r.step) (sym here.2) has.2 in
+            Contains-append_right rows.dated_steps (dated_rows name day steps) r (subst (Contains (dated_rows name day steps)) (same_row r (sym here.0) (sym here.1)) (made_among (dated_row name day) 0 steps r.place r.step at))
+        | inr old ↦ Contains-append_left rows.dated_steps (dated_rows name day steps) r ((are.dated_steps r).0 (has.0, old, has.2))
+      ]
+    where
+      same_row : (r : DatedStepRow) → name ≡ r.tariff → day ≡ r.day → dated_row name day (0 + r.place) r.step ≡ r
+      same_row r e f =
+          let place : 0 + r.place ≡ r.place = omega arith in
+          let A : DatedStepRow = record { tariff = name; day = day; place = 0 + r.place; step = r.step } in
+          let B : DatedStepRow = record { tariff = r.tariff; day = r.day; place = r.place; step = r.step } in
+          let same : A ≡ B = cc in
+          same
+
+  dated_back : (r : DatedStepRow) → Contains (rows.dated_steps ++ dated_rows name day steps) r → HasDatedStep dated r
+  dated_back r there =
+      elim (Contains-append_cases rows.dated_steps (dated_rows name day steps) r there) [
+        | inl old ↦ let has = (are.dated_steps r).1 old in (has.0, had_still r.tariff r.day has.0 has.1, has.2)
+        | inr new ↦ let is = dated_new r new in (steps, put_there r.tariff r.day is.0 is.1, is.2)
+      ]
+
+  pub steps_added : AreMembersOf (edited (edits.AddSteps name day steps) rows) (applied (edits.AddSteps name day steps) o)
+  unfolding dated
+  steps_added = record {
+    tariffs = are.tariffs;
+    steps = are.steps;
+    meters = are.meters;
+    bases = are.bases;
+    dated_steps = λ r. (dated_there r, dated_back r);
+    shifts = are.shifts;
+    sales = are.sales;
+    totals = same_totals o.sales rows _ refl refl refl are.totals;
+    tariffs_once = are.tariffs_once;
+    steps_once = are.steps_once;
+    meters_once = are.meters_once;
+    bases_once = are.bases_once;
+    dated_once = pairs_append AreDatedApart rows.dated_steps (dated_rows name day steps) are.dated_once
+        (pairs_weaker (λ a b. a.place ≢ b.place) AreDatedApart (dated_rows name day steps) (λ a b apart _ _. apart) (made_apart (dated_row name day) (λ (r : DatedStepRow). r.place) (λ n s. refl) 0 steps)) (λ a b old new same on.
+        let has = (are.dated_steps a).1 old in
+        let is = dated_new b new in
+        let here : ◌≡◌ {A = List ℕ × ℕ} (a.tariff, a.day) (name, day) = let e = same ∙ is.0 in let f = on ∙ is.1 in cc in
+        absurd (none_some (o.dated_steps name day) has.0 free (sym (ap (λ (k : List ℕ × ℕ). o.dated_steps k.0 k.1) here) ∙ has.1)));
+  }
+
+-- ---- a base more
+
+same_year : (a b : Base) → base_eq a b ≡ true → a ≡ b
+same_year Y1993 Y1993 e = refl
+same_year Y2014 Y2014 e = refl
+same_year Y2035 Y2035 e = refl
+same_year a b e = absurd (false≢true e)
+
+itself : (base : Base) → base_eq base base ≡ true
+itself Y1993 = refl
+itself Y2014 = refl
+itself Y2035 = refl
+
+either_is : (x y : Bool) → (x || y) ≡ true → (x ≡ true) ⊎ (y ≡ true)
+either_is true y e = inl refl
+either_is false y e = inr e
+
+either_so : (x y : Bool) → (x ≡ true) ⊎ (y ≡ true) → (x || y) ≡ true
+either_so true y e = refl
+either_so false y (inl e) = absurd (false≢true e)
+either_so false y (inr e) = e
+
+module _ (rows : Rows) (o : Office) (are : AreMembersOf rows o) (number : List ℕ) (base : Base) (free : o.bases number base ≡ false) where
+  abbrev more : List ℕ → Base → Bool
+  more = one_base_more number base o.bases
+
+  base_there : (q : List ℕ) (b : Base) → more q b ≡ true → Contains (rows.bases ++ (number, base) ∷ []) (q, b)
+  base_there q b e = elim (either_is (bytes_eq q number && base_eq b base) (o.bases q b) e) [
+    | inl new ↦
+        let both = both_are (bytes_eq q number) (base_eq b base) new in
+        let q_is = sym ((bytes_eq-Decides q number).0 both.0) in
+        let b_is = sym (same_year b base both.1) in
+        let is : (number, base) ≡ (q, b) = cc in
+        subst (Contains (rows.bases ++ (number, base) ∷ [])) is (Contains-push rows.bases (number, base))
+    | inr old ↦ Contains-append_left rows.bases ((number, base) ∷ []) (q, b) ((are.bases q b).0 old)
+  ]
+
+  base_back : (q : List ℕ) (b : Base) → Contains (rows.bases ++ (number, base) ∷ []) (q, b) → more q b ≡ true
+  base_back q b there = either_so (bytes_eq q number && base_eq b base) (o.bases q b) (elim (Contains-push_cases rows.bases (number, base) (q, b) there) [
+    | inl old ↦ inr ((are.bases q b).1 old)
+    | inr new ↦
+        let q_is : q ≡ number = sym (ap (λ (r : List ℕ × Base). r.0) new) in
+        let b_is : base ≡ b = ap (λ (r : List ℕ × Base). r.1) new in
+        inl (both_so (bytes_eq q number) (base_eq b base) ((bytes_eq-Decides q number).1 q_is) (subst (λ b. base_eq b base ≡ true) b_is (itself base)))
+  ])
+
+  bases_apart : AllPairs (λ a b. a ≢ b) (rows.bases ++ (number, base) ∷ [])
+  bases_apart = pairs_push (λ a b. a ≢ b) rows.bases (number, base) are.bases_once (λ a there same.
+      false≢true (sym free ∙ (are.bases number base).1 (subst (Contains rows.bases) same there)))
 
 -- ---- a meter
 
--- a meter that is put where there was none has its own base alone
-base_put : (b : Bool) (q number : List ℕ) (m : Meter) (base : Base) (there : Option Meter) (had : Bool) → had ≡ is_base_of there base
-    → (q ≡ number → there ≡ None) → bytes_eq q number ≡ b → ((b && base_eq base m.base) || had) ≡ is_base_of (if b then Some m else there) base
-base_put true q number m base there had is free same =
-    let none = free ((bytes_eq-Decides q number).0 same) in
-    let had_not : had ≡ false = is ∙ ap (λ (found : Option Meter). is_base_of found base) none in
-    either_false (base_eq base m.base) had had_not
-  where
-    either_false : (a b : Bool) → b ≡ false → (a || b) ≡ a
-    either_false true b e = refl
-    either_false false b e = e
-base_put false q number m base there had is free same = is
-
-module _ (rows : Rows) (o : Office) (are : AreMembersOf rows o) (number : List ℕ) (m : Meter) (free : o.meters number ≡ None) where
+module _ (rows : Rows) (o : Office) (are : AreMembersOf rows o) (number : List ℕ) (m : Meter) (free : o.meters number ≡ None) (no_base : o.bases number m.base ≡ false) where
   widened : Office
   widened = applied (edits.AddMeter number m) o
 
@@ -226,139 +400,106 @@ module _ (rows : Rows) (o : Office) (are : AreMembersOf rows o) (number : List �
     tariffs = are.tariffs;
     steps = are.steps;
     meters = λ q n. (meter_there q n, meter_back q n);
-    bases = λ q base. base_put (bytes_eq q number) q number m base (o.meters q) (o.bases q base) (are.bases q base) (λ same. ap o.meters same ∙ free) refl;
+    bases = λ q b. (base_there rows o are number m.base no_base q b, base_back rows o are number m.base no_base q b);
     dated_steps = are.dated_steps;
     shifts = are.shifts;
     sales = are.sales;
+    totals = same_totals o.sales rows _ refl refl refl are.totals;
     tariffs_once = are.tariffs_once;
     steps_once = are.steps_once;
     meters_once = pairs_push (λ a b. a.0 ≢ b.0) rows.meters (number, m) are.meters_once (λ a there same.
         not_free o.meters a.0 number a.1 free ((are.meters a.0 a.1).1 there) same);
+    bases_once = bases_apart rows o are number m.base no_base;
+    dated_once = are.dated_once;
   }
 
--- ---- a meter's tariff
+-- ---- a meter's tariff, or its present base
 
-abbrev set_row : Bool → List ℕ → (List ℕ × Meter) → (List ℕ × Meter)
-set_row b name r = if b then (r.0, with_tariff name r.1) else r
+abbrev set_row : Bool → (Meter → Meter) → (List ℕ × Meter) → (List ℕ × Meter)
+set_row b f r = if b then (r.0, f r.1) else r
 
-set_number : (b : Bool) (name : List ℕ) (r : List ℕ × Meter) → (set_row b name r).0 ≡ r.0
-set_number true name r = refl
-set_number false name r = refl
+set_number : (b : Bool) (f : Meter → Meter) (r : List ℕ × Meter) → (set_row b f r).0 ≡ r.0
+set_number true f r = refl
+set_number false f r = refl
 
-set_meter : (b : Bool) (q name : List ℕ) (m : Meter) (there : Option Meter) → there ≡ Some m → (if b then option_map (with_tariff name) there else there) ≡ Some (set_row b name (q, m)).1
-set_meter true q name m there e = ap (option_map (with_tariff name)) e
-set_meter false q name m there e = e
+set_of : (b : Bool) (q : List ℕ) (f : Meter → Meter) (m : Meter) (there : Option Meter) → there ≡ Some m → (if b then option_map f there else there) ≡ Some (set_row b f (q, m)).1
+set_of true q f m there e = ap (option_map f) e
+set_of false q f m there e = e
 
-set_source : (b : Bool) (name : List ℕ) (n : Meter) (there : Option Meter) → (if b then option_map (with_tariff name) there else there) ≡ Some n → (m : Meter) × (there ≡ Some m)
-set_source true name n None e = cc
-set_source true name n (Some m) e = (m, refl)
-set_source false name n there e = (n, e)
+set_source : (b : Bool) (f : Meter → Meter) (n : Meter) (there : Option Meter) → (if b then option_map f there else there) ≡ Some n → (m : Meter) × (there ≡ Some m)
+set_source true f n None e = cc
+set_source true f n (Some m) e = (m, refl)
+set_source false f n there e = (n, e)
 
--- and so has one whose tariff is set
-base_kept : (b : Bool) (name : List ℕ) (base : Base) (there : Option Meter)
-    → is_base_of there base ≡ is_base_of (if b then option_map (with_tariff name) there else there) base
-base_kept true name base None = refl
-base_kept true name base (Some m) = refl
-base_kept false name base there = refl
+module _ (rows : Rows) (o : Office) (are : AreMembersOf rows o) (number : List ℕ) (f : Meter → Meter) where
+  abbrev set : List ℕ × Meter → List ℕ × Meter
+  set r = set_row (bytes_eq r.0 number) f r
 
-module _ (rows : Rows) (o : Office) (are : AreMembersOf rows o) (number name : List ℕ) where
-  changed : Office
-  changed = applied (edits.SetTariff number name) o
+  set_is : (q : List ℕ) (m : Meter) → o.meters q ≡ Some m → set_meter number f o.meters q ≡ Some (set (q, m)).1
+  set_is q m e = set_of (bytes_eq q number) q f m (o.meters q) e
 
-  set : List ℕ × Meter → List ℕ × Meter
-  set = row_with_tariff number name
-
-  set_is : (q : List ℕ) (m : Meter) → o.meters q ≡ Some m → changed.meters q ≡ Some (set (q, m)).1
-  unfolding changed set
-  set_is q m e = set_meter (bytes_eq q number) q name m (o.meters q) e
-
-  set_there : (q : List ℕ) (n : Meter) → changed.meters q ≡ Some n → Contains (map set rows.meters) (q, n)
-  unfolding changed set
+  set_there : (q : List ℕ) (n : Meter) → set_meter number f o.meters q ≡ Some n → Contains (map set rows.meters) (q, n)
   set_there q n e =
-      let old = set_source (bytes_eq q number) name n (o.meters q) e in
+      let old = set_source (bytes_eq q number) f n (o.meters q) e in
       let there = contains_map set rows.meters (q, old.0) ((are.meters q old.0).0 old.1) in
-      let number_is = set_number (bytes_eq q number) name (q, old.0) in
+      let number_is = set_number (bytes_eq q number) f (q, old.0) in
       let meter_is : (set (q, old.0)).1 ≡ n = same_Some (set (q, old.0)).1 n (sym (set_is q old.0 old.1) ∙ e) in
       subst (Contains (map set rows.meters)) (same_pair (set (q, old.0)) q n number_is meter_is) there
     where
       same_pair : (x : List ℕ × Meter) (q : List ℕ) (n : Meter) → x.0 ≡ q → x.1 ≡ n → x ≡ (q, n)
       same_pair x q n e f = let pair : (x.0, x.1) ≡ (q, n) = cc in pair
 
-  set_back : (q : List ℕ) (n : Meter) → Contains (map set rows.meters) (q, n) → changed.meters q ≡ Some n
-  unfolding changed set
+  set_back : (q : List ℕ) (n : Meter) → Contains (map set rows.meters) (q, n) → set_meter number f o.meters q ≡ Some n
   set_back q n there =
       let old = map_source set rows.meters (q, n) there in
       let m = old.0.1 in
-      let q_is : old.0.0 ≡ q = sym (set_number (bytes_eq old.0.0 number) name old.0) ∙ ap (λ (x : List ℕ × Meter). x.0) old.2 in
+      let q_is : old.0.0 ≡ q = sym (set_number (bytes_eq old.0.0 number) f old.0) ∙ ap (λ (x : List ℕ × Meter). x.0) old.2 in
       let stood : o.meters old.0.0 ≡ Some m = (are.meters old.0.0 m).1 old.1 in
       let n_is : (set old.0).1 ≡ n = ap (λ (x : List ℕ × Meter). x.1) old.2 in
-      sym (ap changed.meters q_is) ∙ set_is old.0.0 m stood ∙ ap (λ (n : Meter). let v : Option Meter = Some n in v) n_is
+      sym (ap (set_meter number f o.meters) q_is) ∙ set_is old.0.0 m stood ∙ ap (λ (n : Meter). let v : Option Meter = Some n in v) n_is
 
-  pub tariff_set : AreMembersOf (edited (edits.SetTariff number name) rows) (applied (edits.SetTariff number name) o)
-  unfolding changed set
-  tariff_set = record {
-    tariffs = are.tariffs;
-    steps = are.steps;
-    meters = λ q n. (set_there q n, set_back q n);
-    bases = λ q base. are.bases q base ∙ base_kept (bytes_eq q number) name base (o.meters q);
-    dated_steps = are.dated_steps;
-    shifts = are.shifts;
-    sales = are.sales;
-    tariffs_once = are.tariffs_once;
-    steps_once = are.steps_once;
-    meters_once = pairs_map (λ a b. a.0 ≢ b.0) set rows.meters (λ a b apart same.
-        apart (sym (set_number (bytes_eq a.0 number) name a) ∙ same ∙ set_number (bytes_eq b.0 number) name b)) are.meters_once;
-  }
+  set_once : AllPairs (λ a b. a.0 ≢ b.0) (map set rows.meters)
+  set_once = pairs_map (λ a b. a.0 ≢ b.0) set rows.meters (λ a b apart same.
+      apart (sym (set_number (bytes_eq a.0 number) f a) ∙ same ∙ set_number (bytes_eq b.0 number) f b)) are.meters_once
 
--- ---- every edit
-
-row_members : (rows : Rows) (o : Office) (row : Row) → AreMembersOf rows o → can_hold_row row ≡ true → IsNewRow row o → AreMembersOf (row_added row rows) (with_row row o)
-row_members rows o (kinds.Tariff name steps) are holds free = tariff_added rows o are name steps free
-row_members rows o (kinds.Steps name day steps) are holds free = absurd (false≢true holds)
-row_members rows o (kinds.Meter number m) are holds free = meter_added rows o are number m free
-
-rows_members : (new : List Row) (rows : Rows) (o : Office) → AreMembersOf rows o → list_all can_hold_row new ≡ true → AreNewRows new o → AreMembersOf (rows_added new rows) (with_rows new o)
-rows_members [] rows o are hold free = are
-rows_members (row ∷ new) rows o are hold free =
-    let each = both (can_hold_row row) (list_all can_hold_row new) hold in
-    rows_members new (row_added row rows) (with_row row o) (row_members rows o row are each.0 free.0) each.1 free.1
-  where
-    both : (a b : Bool) → (a && b) ≡ true → (a ≡ true) × (b ≡ true)
-    both true b e = (refl, e)
-    both false b e = absurd (false≢true e)
-
-pub edited_members : (rows : Rows) (o : Office) (edit : Edit) → AreMembersOf rows o → can_hold edit ≡ true → IsNew edit o → AreMembersOf (edited edit rows) (applied edit o)
-edited_members rows o (edits.AddTariff name steps) are holds free = tariff_added rows o are name steps free
-edited_members rows o (edits.AddSteps name day steps) are holds free = absurd (false≢true holds)
-edited_members rows o (edits.AddMeter number m) are holds free = meter_added rows o are number m free
-edited_members rows o (edits.AddRows new) are holds free = rows_members new rows o are holds free
-edited_members rows o (edits.SetTariff number name) are holds free = tariff_set rows o are number name
-edited_members rows o (edits.MoveBase number base) are holds free = absurd (false≢true holds)
-edited_members rows o (edits.OpenShift s) are holds free = record {
+pub tariff_set : (rows : Rows) (o : Office) (are : AreMembersOf rows o) (number name : List ℕ) → AreMembersOf (edited (edits.SetTariff number name) rows) (applied (edits.SetTariff number name) o)
+tariff_set rows o are number name = record {
   tariffs = are.tariffs;
   steps = are.steps;
-  meters = are.meters;
+  meters = λ q n. (set_there rows o are number (with_tariff name) q n, set_back rows o are number (with_tariff name) q n);
   bases = are.bases;
   dated_steps = are.dated_steps;
-  shifts = ap (λ xs. xs ++ s ∷ []) are.shifts;
+  shifts = are.shifts;
   sales = are.sales;
+  totals = same_totals o.sales rows _ refl refl refl are.totals;
   tariffs_once = are.tariffs_once;
   steps_once = are.steps_once;
-  meters_once = are.meters_once;
+  meters_once = set_once rows o are number (with_tariff name);
+  bases_once = are.bases_once;
+  dated_once = are.dated_once;
 }
-edited_members rows o (edits.CloseShift number moment) are holds free = record {
+
+pub base_moved : (rows : Rows) (o : Office) (are : AreMembersOf rows o) (number : List ℕ) (base : Base) → o.bases number base ≡ false → AreMembersOf (edited (edits.MoveBase number base) rows) (applied (edits.MoveBase number base) o)
+base_moved rows o are number base free = record {
   tariffs = are.tariffs;
   steps = are.steps;
-  meters = are.meters;
-  bases = are.bases;
+  meters = λ q n. (set_there rows o are number (with_base base) q n, set_back rows o are number (with_base base) q n);
+  bases = λ q b. (base_there rows o are number base free q b, base_back rows o are number base free q b);
   dated_steps = are.dated_steps;
-  shifts = ap (map (shift_closed number moment)) are.shifts;
+  shifts = are.shifts;
   sales = are.sales;
+  totals = same_totals o.sales rows _ refl refl refl are.totals;
   tariffs_once = are.tariffs_once;
   steps_once = are.steps_once;
-  meters_once = are.meters_once;
+  meters_once = set_once rows o are number (with_base base);
+  bases_once = bases_apart rows o are number base free;
+  dated_once = are.dated_once;
 }
-edited_members rows o (edits.AddSale s) are holds free = record {
+
+-- ---- a sale, with its totals
+
+pub sold_members : (rows totals : Rows) (o : Office) (s : Sale) → AreMembersOf rows o → AreTotalsOf (o.sales ++ s ∷ []) totals → AreMembersOf (with_totals_of totals (edited (edits.AddSale s) rows)) (applied (edits.AddSale s) o)
+sold_members rows totals o s are sums = record {
   tariffs = are.tariffs;
   steps = are.steps;
   meters = are.meters;
@@ -366,21 +507,83 @@ edited_members rows o (edits.AddSale s) are holds free = record {
   dated_steps = are.dated_steps;
   shifts = are.shifts;
   sales = ap (λ xs. xs ++ s ∷ []) are.sales;
+  totals = same_totals (o.sales ++ s ∷ []) totals _ refl refl refl sums;
   tariffs_once = are.tariffs_once;
   steps_once = are.steps_once;
   meters_once = are.meters_once;
+  bases_once = are.bases_once;
+  dated_once = are.dated_once;
 }
+
+-- ---- every edit
+
+row_members : (rows : Rows) (o : Office) (row : Row) → AreMembersOf rows o → MeetsRow row o → AreMembersOf (row_added row rows) (with_row row o)
+row_members rows o (kinds.Tariff name steps) are meets = tariff_added rows o are name steps meets.2
+row_members rows o (kinds.Steps name day steps) are meets = steps_added rows o are name day steps meets.free
+row_members rows o (kinds.Meter number m) are meets = meter_added rows o are number m meets.free (meets.no_base m.base)
+
+rows_members : (new : List Row) (rows : Rows) (o : Office) → AreMembersOf rows o → MeetRows new o → AreMembersOf (rows_added new rows) (with_rows new o)
+rows_members [] rows o are meet = are
+rows_members (row ∷ new) rows o are meet = rows_members new (row_added row rows) (with_row row o) (row_members rows o row are meet.0) meet.1
+
+pub edited_members : (rows : Rows) (o : Office) (edit : Edit) → AreMembersOf rows o → Meets edit o → is_sale edit ≡ false → AreMembersOf (edited edit rows) (applied edit o)
+edited_members rows o (edits.AddTariff name steps) are meets no_sale = row_members rows o (kinds.Tariff name steps) are meets
+edited_members rows o (edits.AddSteps name day steps) are meets no_sale = row_members rows o (kinds.Steps name day steps) are meets
+edited_members rows o (edits.AddMeter number m) are meets no_sale = row_members rows o (kinds.Meter number m) are meets
+edited_members rows o (edits.AddRows new) are meets no_sale = rows_members new rows o are meets.1
+edited_members rows o (edits.SetTariff number name) are meets no_sale = tariff_set rows o are number name
+edited_members rows o (edits.MoveBase number base) are meets no_sale = base_moved rows o are number base meets.no_base
+edited_members rows o (edits.OpenShift s) are meets no_sale = record {
+  tariffs = are.tariffs;
+  steps = are.steps;
+  meters = are.meters;
+  bases = are.bases;
+  dated_steps = are.dated_steps;
+  shifts = ap (λ xs. xs ++ s ∷ []) are.shifts;
+  sales = are.sales;
+  totals = same_totals o.sales rows _ refl refl refl are.totals;
+  tariffs_once = are.tariffs_once;
+  steps_once = are.steps_once;
+  meters_once = are.meters_once;
+  bases_once = are.bases_once;
+  dated_once = are.dated_once;
+}
+edited_members rows o (edits.CloseShift number moment) are meets no_sale = record {
+  tariffs = are.tariffs;
+  steps = are.steps;
+  meters = are.meters;
+  bases = are.bases;
+  dated_steps = are.dated_steps;
+  shifts = ap (map (shift_closed number moment)) are.shifts;
+  sales = are.sales;
+  totals = same_totals o.sales rows _ refl refl refl are.totals;
+  tariffs_once = are.tariffs_once;
+  steps_once = are.steps_once;
+  meters_once = are.meters_once;
+  bases_once = are.bases_once;
+  dated_once = are.dated_once;
+}
+edited_members rows o (edits.AddSale s) are meets no_sale = absurd (true≢false no_sale)
+
+none_of : {K V : Type 0} → AreRowsOf {K = K} {V = V} [] (λ _. None)
+none_of = record { members = λ key value. (λ e. absurd (none_some None value refl e), λ there. absurd (contains_none (key, value) there)); once = no_pairs (λ a b. a.0 ≢ b.0) }
+
+pub no_totals : (rows : Rows) → rows.last_ids ≡ [] → rows.month_tenths ≡ [] → rows.shift_totals ≡ [] → AreTotalsOf [] rows
+no_totals rows ids months shifts = same_totals [] no_rows rows (sym ids) (sym months) (sym shifts) (record { last_ids = none_of; month_tenths = none_of; shift_totals = none_of; by_shift = tt })
 
 pub no_members : AreMembersOf no_rows empty_office
 no_members = record {
   tariffs = λ name. (λ some. absurd (false≢true some), λ there. absurd (contains_none name there));
   steps = λ r. (λ has. absurd (none_some None has.0 refl has.1), λ there. absurd (contains_none r there));
   meters = λ number m. (λ e. absurd (none_some None m refl e), λ there. absurd (contains_none (number, m) there));
-  bases = λ number base. refl;
-  dated_steps = λ name day. refl;
+  bases = λ number base. (λ e. absurd (false≢true e), λ there. absurd (contains_none (number, base) there));
+  dated_steps = λ r. (λ has. absurd (none_some None has.0 refl has.1), λ there. absurd (contains_none r there));
   shifts = refl;
   sales = refl;
+  totals = no_totals no_rows refl refl refl;
   tariffs_once = no_pairs (λ a b. a ≢ b);
   steps_once = no_pairs AreApart;
   meters_once = no_pairs (λ a b. a.0 ≢ b.0);
+  bases_once = no_pairs (λ a b. a ≢ b);
+  dated_once = no_pairs AreDatedApart;
 }

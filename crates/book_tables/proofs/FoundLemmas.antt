@@ -7,16 +7,15 @@ use Rattle.std.proofs.lemmas.Bool.Decides.{nat_tests}
 use Rattle.std.proofs.lemmas.Option.{slice_get-get_or, slice_get_within}
 use Rattle.std.proofs.lemmas.Slice.Eq.{bytes_eq-Decides}
 use Rattle.tariff.specs.declared.step.Step.{Step}
-use Rattle.vend_core.specs.Lookup.{latest, open_shift, sale_of_ref, steps_on}
+use Rattle.vend_core.specs.Lookup.{open_shift, sale_of_ref}
 use Rattle.vend_core.specs.Office.{AreNumbered, IsBefore, IsOffice, NotBothOpen, Office}
 use Rattle.vend_core.specs.declared.meter.Meter.{Meter}
 use Rattle.vend_core.specs.declared.sale.Sale.{Sale}
 use Rattle.vend_core.specs.declared.shift.Shift.{Shift}
-use Rattle.book_tables.specs.Found.{meters_numbered, step_at, steps_at, tariffs_named}
-use Rattle.book_tables.specs.Rows.{Rows, StepRow}
-use Rattle.book_tables.specs.Stands.{AreApart, AreMembersOf, HasStep}
+use Rattle.book_tables.specs.Found.{meters_numbered, tariffs_named}
+use Rattle.book_tables.specs.Rows.{Rows}
+use Rattle.book_tables.specs.Stands.{AreMembersOf}
 use Rattle.book_tables.proofs.ListLemmas.{NotBothPass, first_is_all, none_pass, one_passes, pairs_weaker}
-use Rattle.book_tables.proofs.MemberLemmas.{same_places}
 
 same_bytes : (a b : List ℕ) → bytes_eq a b ≡ true → a ≡ b
 same_bytes a b is = (bytes_eq-Decides a b).0 is
@@ -84,94 +83,12 @@ module _ (rows : Rows) (o : Office) (are : AreMembersOf rows o) (name : List ℕ
   unfolding has_name
   found_tariff = tariff_cases (o.tariffs name) refl
 
--- ---- steps
-
-step_has : (o : Office) (name : List ℕ) (place : ℕ) (s : Step) (there : Option (List Step)) → o.tariffs name ≡ there → option_and_then (λ steps. slice_get steps place) there ≡ Some s → HasStep o (record { tariff = name; place = place; step = s })
-step_has o name place s None e at = cc
-step_has o name place s (Some steps) e at = (steps, e, at)
-
-has_step : (o : Office) (r : StepRow) → HasStep o r → step_at o r.tariff r.place ≡ Some r.step
-has_step o r has = ap (option_and_then (λ (steps : List Step). slice_get steps r.place)) has.1 ∙ has.2
-
-module _ (rows : Rows) (o : Office) (are : AreMembersOf rows o) (name : List ℕ) (place : ℕ) where
-  is_there : StepRow → Bool
-  is_there r = bytes_eq r.tariff name && (r.place == place)
-
-  name_of : (r : StepRow) → is_there r ≡ true → r.tariff ≡ name
-  unfolding is_there
-  name_of r passes = same_bytes r.tariff name (parts (bytes_eq r.tariff name) (r.place == place) passes).0
-
-  place_of : (r : StepRow) → is_there r ≡ true → r.place ≡ place
-  unfolding is_there
-  place_of r passes = let is = (parts (bytes_eq r.tariff name) (r.place == place) passes).1 in grind (arith, nat_tests)
-
-  step_cases : (there : Option Step) → step_at o name place ≡ there → filter is_there rows.steps ≡ option_to_list (option_map (λ s. record { tariff = name; place = place; step = s }) there)
-  unfolding is_there
-  step_cases None e =
-      none_pass is_there rows.steps (λ r there. fails (is_there r) (λ passes.
-      let name_is = name_of r passes in
-      let place_is = place_of r passes in
-      let has = has_step o r ((are.steps r).1 there) in
-      let moved : step_at o r.tariff r.place ≡ step_at o name place = cc in
-      none_some (step_at o name place) r.step e (sym moved ∙ has)))
-  step_cases (Some s) e =
-      let r : StepRow = record { tariff = name; place = place; step = s } in
-      one_passes is_there rows.steps r
-      (pairs_weaker AreApart (NotBothPass is_there) rows.steps (λ a b apart p q. apart (name_of a p ∙ sym (name_of b q)) (place_of a p ∙ sym (place_of b q))) are.steps_once)
-      ((are.steps r).0 (step_has o name place s (o.tariffs name) refl e))
-      (both (bytes_eq name name) (place == place) (is_same name name refl) (eq-eqb place place refl))
-
-  pub found_step : steps_at rows name place ≡ option_to_list (option_map (λ s. record { tariff = name; place = place; step = s }) (step_at o name place))
-  unfolding is_there
-  found_step = step_cases (step_at o name place) refl
-
 second_of : {A B : Type 0} (a : A) (o : Option B) → map (λ (r : A × B). r.1) (option_to_list (option_map (λ b. (a, b)) o)) ≡ option_to_list o
 second_of a None = refl
 second_of a (Some b) = refl
 
 pub meter_found : (rows : Rows) (o : Office) (number : List ℕ) → AreMembersOf rows o → map (λ r. r.1) (meters_numbered rows number) ≡ option_to_list (o.meters number)
 meter_found rows o number are = ap (map (λ (r : List ℕ × Meter). r.1)) (found_meter rows o are number) ∙ second_of number (o.meters number)
-
-step_of : (name : List ℕ) (place : ℕ) (o : Option Step) → map (λ (r : StepRow). r.step) (option_to_list (option_map (λ s. record { tariff = name; place = place; step = s }) o)) ≡ option_to_list o
-step_of name place None = refl
-step_of name place (Some s) = refl
-
-pub step_found : (rows : Rows) (o : Office) (name : List ℕ) (place : ℕ) → AreMembersOf rows o → map (λ r. r.step) (steps_at rows name place) ≡ option_to_list (step_at o name place)
-step_found rows o name place are = ap (map (λ (r : StepRow). r.step)) (found_step rows o are name place) ∙ step_of name place (step_at o name place)
-
-pub no_steps : (o : Office) (name : List ℕ) → IsOffice o → step_at o name 0 ≡ None → o.tariffs name ≡ None
-no_steps o name office none = by_cases (o.tariffs name) refl
-  where
-    no_first : (steps : List Step) → 1 ≤ length steps → slice_get steps 0 ≡ None → ⊥
-    no_first [] some none = omega arith
-    no_first (s ∷ steps) some none = cc
-
-    by_cases : (there : Option (List Step)) → o.tariffs name ≡ there → there ≡ None
-    by_cases None e = refl
-    by_cases (Some steps) e =
-        absurd (no_first steps (office.tariffs name steps e).priced.count.0 (sym (ap (option_and_then (λ (xs : List Step). slice_get xs 0)) e) ∙ none))
-
--- the steps that are found at the places, one after another, are the tariff's
-pub all_steps : (o : Office) (name : List ℕ) (steps : List Step) → IsOffice o → 1 ≤ length steps → length steps ≤ 8 → ((place : ℕ) → place < 8 → step_at o name place ≡ slice_get steps place) → o.tariffs name ≡ Some steps
-all_steps o name steps office some few same = by_cases (o.tariffs name) refl
-  where
-    past : (steps : List Step) → 1 ≤ length steps → slice_get steps 0 ≡ None → ⊥
-    past [] some none = omega arith
-    past (s ∷ steps) some none = cc
-
-    by_cases : (there : Option (List Step)) → o.tariffs name ≡ there → there ≡ Some steps
-    by_cases None e =
-        let none : step_at o name 0 ≡ None = ap (option_and_then (λ (xs : List Step). slice_get xs 0)) e in
-        let first : slice_get steps 0 ≡ None = sym (same 0 (omega arith)) ∙ none in
-        absurd (past steps some first)
-    by_cases (Some xs) e =
-        let count : length xs ≤ 8 = (office.tariffs name xs e).priced.count.1 in
-        let at : (place : ℕ) → place < 8 → slice_get xs place ≡ slice_get steps place =
-        λ place below. sym (ap (option_and_then (λ (xs : List Step). slice_get xs place)) e) ∙ same place below in
-        let is = same_places xs steps
-        (λ place s there. sym (at place (omega (arith, slice_get_within xs place s there))) ∙ there)
-        (λ place s there. at place (omega (arith, slice_get_within steps place s there)) ∙ there) in
-        ap (λ (xs : List Step). let v : Option (List Step) = Some xs in v) is
 
 -- ---- shifts and sales
 
@@ -208,18 +125,3 @@ found_ref o operator order_ref office =
     let in_b = parts (bytes_eq b.operator operator) (bytes_eq b.order_ref order_ref) q in
     before.order_ref (same_bytes a.operator operator in_a.0 ∙ sym (same_bytes b.operator operator in_b.0))
     (same_bytes a.order_ref order_ref in_a.1 ∙ sym (same_bytes b.order_ref order_ref in_b.1))) office.before)
-
--- ---- steps of later days
-
-none_latest : (dated : ℕ → Option (List Step)) → ((day : ℕ) → dated day ≡ None) → (day : ℕ) → latest dated day ≡ None
-unfolding latest
-none_latest dated none zero = none zero
-none_latest dated none (suc day) =
-    let here = none (suc day) in
-    let before = none_latest dated none day in
-    ap (λ (found : Option (List Step)). option_or found (latest dated day)) here ∙ before
-
-pub first_steps : (rows : Rows) (o : Office) → AreMembersOf rows o → (name : List ℕ) (day : ℕ) → steps_on o name day ≡ unwrap_or (o.tariffs name) []
-first_steps rows o are name day =
-    let none = none_latest (o.dated_steps name) (are.dated_steps name) day in
-    ap (λ (found : Option (List Step)). unwrap_or (option_or found (o.tariffs name)) []) none

@@ -14,6 +14,7 @@ use Rattle.sqlite_schema.specs.declared.schema.Table.{Table}
 use Rattle.sqlite_typed.proofs.TestLemmas.{last_term}
 use Rattle.one_table.specs.InTransaction.{PutsRow, SetsRows}
 use Rattle.one_table.specs.Inserting.{new_row, source_row}
+use Rattle.one_table.specs.Numbered.{IsInOrder}
 use Rattle.one_table.specs.Standing.{tree_in}
 use Rattle.one_table.specs.Updating.{SetsHidden}
 use Rattle.one_table.proofs.AppendLemmas.{stands_last}
@@ -24,10 +25,9 @@ use Rattle.sts_fields.specs.Base.{year_of}
 use Rattle.vend_core.specs.Fold.{with_tariff}
 use Rattle.vend_core.specs.declared.meter.Meter.{Meter}
 use Rattle.book_tables.specs.Edited.{row_with_tariff}
-use Rattle.book_tables.specs.Holds.{IsInOrder}
-use Rattle.book_tables.specs.Rows.{StepRow, meter_columns, step_columns, tariff_columns}
+use Rattle.book_tables.specs.Rows.{StepRow, meter_columns, present_format, step_columns, tariff_columns}
 use Rattle.book_tables.specs.Tables.{meters_table, tariff_steps_table, tariffs_table}
-use Rattle.book_tables.specs.Writing.{AddsMeter, AddsName, AddsStep, SetsTariff}
+use Rattle.book_tables.specs.Writing.{AddsMeterRow, AddsName, AddsStep, SetsTariff}
 use Rattle.book_tables.proofs.KeptLemmas.{meters_changed, steps_changed, tariffs_changed}
 use Rattle.book_tables.proofs.ListLemmas.{NotBothPass, first_is_all, pairs_weaker}
 use Rattle.book_tables.proofs.WriteLemmas.{cast_optional, changes_only, few, only_one}
@@ -61,7 +61,7 @@ module _ (old new : State) where
   meter_source : (number : List ℕ) (m : Meter) → source_row meters four_terms (meter_columns (number, m)) ≡ Null ∷ meter_columns (number, m)
   meter_source number m = rw (cast_no_int, cast_int (pos (year_of m.base))) refl
 
-  pub adds_meter : (number : List ℕ) (m : Meter) (params : Row) → params ≡ meter_columns (number, m) → PutsRow meters (new_row meters four_terms params (old.now.trees meters.tree)) old new → AddsMeter number m old new
+  pub adds_meter : (number : List ℕ) (m : Meter) (params : Row) → params ≡ meter_columns (number, m) → PutsRow meters (new_row meters four_terms params (old.now.trees meters.tree)) old new → AddsMeterRow number m old new
   adds_meter number m params bound put =
       let h = subst (λ (p : Row). PutsRow meters (new_row meters four_terms p (old.now.trees meters.tree)) old new) bound put in
       let only = only_one (codes "meters") meters _ old new refl h.changed in
@@ -70,7 +70,7 @@ module _ (old new : State) where
         only = only;
         rows = λ rows held.
             let it = stands_after meter_columns meters four_terms (meter_columns (number, m)) (number, m) (meter_source number m) old new h rows.meters held.are.1.1.1.0.0 held.are.1.1.1.0.1 in
-            meters_changed old.now new.now rows held (rows.meters ++ (number, m) ∷ []) kept it.0 it.1;
+            meters_changed present_format old.now new.now rows held (rows.meters ++ (number, m) ∷ []) kept it.0 it.1;
       }
 
   -- ---- the name of a tariff
@@ -90,7 +90,7 @@ module _ (old new : State) where
         only = only;
         rows = λ rows held.
             let it = stands_after tariff_columns tariffs one_term (tariff_columns name) name (name_source name) old new h rows.tariffs held.are.1.0.0 held.are.1.0.1 in
-            tariffs_changed old.now new.now rows held (rows.tariffs ++ name ∷ []) kept it.0 it.1;
+            tariffs_changed present_format old.now new.now rows held (rows.tariffs ++ name ∷ []) kept it.0 it.1;
       }
 
   -- ---- a step
@@ -110,12 +110,12 @@ module _ (old new : State) where
         only = only;
         rows = λ rows held.
             let it = stands_after step_columns steps four_terms (step_columns r) r (step_source r) old new h rows.steps held.are.1.1.0.0 held.are.1.1.0.1 in
-            steps_changed old.now new.now rows held (rows.steps ++ r ∷ []) kept it.0 it.1;
+            steps_changed present_format old.now new.now rows held (rows.steps ++ r ∷ []) kept it.0 it.1;
       }
 
   -- ---- the tariff of a meter
 
-  abbrev is_that : List ℕ → (List ℕ × Meter) → Bool
+  abbrev pub is_that : List ℕ → (List ℕ × Meter) → Bool
   is_that number r = bytes_eq r.0 number
 
   abbrev renamed : List ℕ → (List ℕ × Meter) → (List ℕ × Meter)
@@ -128,7 +128,7 @@ module _ (old new : State) where
     becomes = λ n r. rw (cast_int n, cast_int (pos (year_of r.1.base))) refl;
   }
 
-  one_at_most : (number : List ℕ) (xs : List (List ℕ × Meter)) → AllPairs (λ a b. a.0 ≢ b.0) xs → length (filter (is_that number) xs) ≤ 1
+  pub one_at_most : (number : List ℕ) (xs : List (List ℕ × Meter)) → AllPairs (λ a b. a.0 ≢ b.0) xs → length (filter (is_that number) xs) ≤ 1
   one_at_most number xs apart =
       let once = pairs_weaker (λ a b. a.0 ≢ b.0) (NotBothPass (is_that number)) xs (λ a b differ p q. differ ((bytes_eq-Decides a.0 number).0 p ∙ sym ((bytes_eq-Decides b.0 number).0 q))) apart in
       subst (λ (l : List (List ℕ × Meter)). length l ≤ 1) (sym (first_is_all (is_that number) xs once)) (few (find (is_that number) xs))
@@ -144,6 +144,6 @@ module _ (old new : State) where
             let set = sets_hidden meter_columns (is_that number) (renamed name) meters is_that_meter tariff_set_terms (Text number ∷ Text name ∷ []) (setting number name) (λ r none. cc)
             old new rows.meters h held.are.1.1.1.0.0 order.rises order.are_numbers (one_at_most number rows.meters apart) in
             let in_order : IsInOrder set.rows = record { rises = set.rises; are_numbers = set.are_numbers } in
-            meters_changed old.now new.now rows held (map (row_with_tariff number name) rows.meters) (changes_only (codes "meters") old new only)
+            meters_changed present_format old.now new.now rows held (map (row_with_tariff number name) rows.meters) (changes_only (codes "meters") old new only)
             (ap (map (drop 1)) set.changed.rows_are ∙ set.holds) (subst IsInOrder (sym set.changed.rows_are) in_order);
       }

@@ -1,24 +1,26 @@
 -- A database stands for at most one office.
-use Rattle.std.proofs.Common.{◌≡◌, ◌≤◌, ◌⊎◌, ℕ, zero, suc, arith, inl, inr, Bool, true, false, List, [], ◌∷◌, map, refl, sym, ◌∙◌, ap, subst}
+use Rattle.std.proofs.Common.{◌≡◌, ◌≤◌, ◌<◌, ◌⊎◌, ◌+◌, ℕ, zero, suc, arith, inl, inr, Bool, true, false, List, [], ◌∷◌, filter, map, nat_le, refl, sym, ◌∙◌, ap, subst, cond}
 use Rattle.std.specs.Prelude.{◌&&◌, ◌||◌, Contains, codes, is_some, not}
-use Rattle.std.specs.List.{list_all}
-use Rattle.std.proofs.lemmas.Bool.{false≢true}
+use Rattle.std.specs.List.{AllByRecursion, list_all}
+use Rattle.std.proofs.lemmas.Bool.{cases_lt, false≢true, le-leb, lt-leb}
 use Rattle.sqlite.specs.Effect.{Database}
 use Rattle.sqlite_catalog.specs.Change.{is_used}
+use Rattle.sqlite_rules.specs.Lists.{Has as Member}
 use Rattle.sqlite_schema.specs.Names.{table_named}
 use Rattle.sqlite_schema.specs.declared.schema.Schema.{Schema}
 use Rattle.vend_core.specs.Office.{IsOffice, Office, empty_office}
 use Rattle.vend_core.proofs.OfficeLemmas.{empty_is_office}
 use Rattle.vend_core.specs.declared.meter.Meter.{Meter}
-use Rattle.book_tables.specs.Holds.{HasOffice, HasOfficeOf, Holds, HoldsMembers, HoldsMembersOf, IsUntaken, StandsFor}
+use Rattle.book_tables.specs.Holds.{HasOfficeOf, HoldsMembers, HoldsMembersOf, HoldsOf, HoldsRows, IsKept, IsUntaken, StandsFor}
 use Rattle.book_tables.specs.Edited.{no_rows}
-use Rattle.book_tables.specs.Rows.{Rows, present_format, meter_columns, sale_row, shift_row, step_columns, tariff_columns}
+use Rattle.book_tables.specs.Kept.{Kept, about_kept, bases_kept, dated_steps_kept, kept, kept_names, last_ids_kept, later, meters_kept, sales_kept, shifts_kept, steps_kept, tariffs_kept, upto}
+use Rattle.book_tables.specs.Rows.{Rows, base_columns, dated_columns, meter_columns, present_format, sale_row, shift_row, step_columns, tariff_columns}
 use Rattle.book_tables.specs.Stands.{AreMembersOf}
 use Rattle.book_tables.specs.Values.{IsKey}
 use Rattle.book_tables.proofs.EditLemmas.{no_members}
 use Rattle.book_tables.proofs.ListLemmas.{contains_first, contains_further}
-use Rattle.book_tables.proofs.MemberLemmas.{one_office}
-use Rattle.book_tables.proofs.RowLemmas.{one_list, one_meter, one_sale, one_shift, one_step, one_tariff}
+use Rattle.book_tables.proofs.MemberLemmas.{SameMembers, one_office}
+use Rattle.book_tables.proofs.RowLemmas.{one_base_row, one_dated, one_list, one_meter, one_sale, one_shift, one_step, one_tariff}
 
 -- meters whose keys have 64 bits are told by what is stored of them
 one_meters : (xs ys : List (List ℕ × Meter)) → ((m : List ℕ × Meter) → Contains xs m → IsKey m.1.key) → ((m : List ℕ × Meter) → Contains ys m → IsKey m.1.key) → map meter_columns xs ≡ map meter_columns ys → xs ≡ ys
@@ -35,69 +37,168 @@ one_meters (x ∷ xs) (y ∷ ys) small_x small_y e =
 small_keys : (rows : Rows) (o : Office) → IsOffice o → AreMembersOf rows o → (m : List ℕ × Meter) → Contains rows.meters m → IsKey m.1.key
 small_keys rows o office are m there = (office.meters m.0 m.1 ((are.meters m.0 m.1).1 there)).key
 
-one_rows : (db : Database) (a b : Rows) (o p : Office) → IsOffice o → IsOffice p → Holds db a → Holds db b → AreMembersOf a o → AreMembersOf b p → a ≡ b
-one_rows db a b o p is_o is_p in_a in_b are_a are_b =
-    let tariffs = one_list tariff_columns one_tariff a.tariffs b.tariffs (sym in_a.are.1.0.0 ∙ in_b.are.1.0.0) in
-    let steps = one_list step_columns one_step a.steps b.steps (sym in_a.are.1.1.0.0 ∙ in_b.are.1.1.0.0) in
-    let meters = one_meters a.meters b.meters (small_keys a o is_o are_a) (small_keys b p is_p are_b) (sym in_a.are.1.1.1.0.0 ∙ in_b.are.1.1.1.0.0) in
-    let shifts = one_list shift_row one_shift a.shifts b.shifts (sym in_a.are.1.1.1.1.0 ∙ in_b.are.1.1.1.1.0) in
-    let sales = one_list sale_row one_sale a.sales b.sales (sym in_a.are.1.1.1.1.1.0 ∙ in_b.are.1.1.1.1.1.0) in
-    let A : Rows = record { tariffs = a.tariffs; steps = a.steps; meters = a.meters; shifts = a.shifts; sales = a.sales } in
-    let B : Rows = record { tariffs = b.tariffs; steps = b.steps; meters = b.meters; shifts = b.shifts; sales = b.sales } in
-    let same : A ≡ B = cc in
-    same
-
 first_true : (x y : Bool) → (x && y) ≡ true → x ≡ true
 first_true true y e = refl
 first_true false y e = absurd (false≢true e)
+
+second_true : (x y : Bool) → (x && y) ≡ true → y ≡ true
+second_true true y e = e
+second_true false y e = absurd (false≢true e)
 
 first_is_enough : (x y z : Bool) → x ≡ true → (x || y || z) ≡ true
 first_is_enough true y z e = refl
 first_is_enough false y z e = absurd (false≢true e)
 
--- a database with the office's tables has their names
-pub not_untaken : (s : Schema) → HasOffice s → IsUntaken s → ⊥
-not_untaken s has untaken =
-    let rest = list_all (λ name. not (is_used s name)) (codes "tariffs" ∷ codes "tariff_steps" ∷ codes "meters" ∷ codes "shifts" ∷ codes "sales" ∷ []) in
-    let free : not (is_used s (codes "about")) ≡ true = first_true (not (is_used s (codes "about"))) rest untaken.free in
-    let named : is_some (table_named s (codes "about")) ≡ true = ap is_some has.tables.0.0.has.named in
-    let used : is_used s (codes "about") ≡ true = first_is_enough _ _ _ named in
-    false≢true (sym (ap not used) ∙ free)
+-- ---- the tables of a format, by the list of all
 
-held_once : (db : Database) (o p : Office) → IsOffice o → IsOffice p → HoldsMembers db o → HoldsMembers db p → o ≡ p
-held_once db o p is_o is_p (a, in_a, are_a) (b, in_b, are_b) =
-    one_office a o p are_a (subst (λ (rows : Rows). AreMembersOf rows p) (sym (one_rows db a b o p is_o is_p in_a in_b are_a are_b)) are_b)
+-- what holds of the tables of a format holds of each that came up to it
+of_first : (P : Kept → Type 0) (n : ℕ) (k j : Kept) (ks : List Kept) (b : Bool) → nat_le j.since n ≡ b → AllByRecursion P (cond b (j ∷ filter (λ k. nat_le k.since n) ks) (filter (λ k. nat_le k.since n) ks)) → Member (j ∷ ks) k → nat_le k.since n ≡ true
+    → (Member ks k → AllByRecursion P (filter (λ k. nat_le k.since n) ks) → P k) → P k
+of_first P n k j ks true is all (inl same) came rest = subst P (sym same) all.0
+of_first P n k j ks true is all (inr later) came rest = rest later all.1
+of_first P n k j ks false is all (inl same) came rest = absurd (false≢true (sym is ∙ ap (λ (k : Kept). nat_le k.since n) (sym same) ∙ came))
+of_first P n k j ks false is all (inr later) came rest = rest later all
+
+pub of_upto : (P : Kept → Type 0) (n : ℕ) (k : Kept) (ks : List Kept) → Member ks k → nat_le k.since n ≡ true → AllByRecursion P (filter (λ k. nat_le k.since n) ks) → P k
+of_upto P n k [] there came all = absurd there
+of_upto P n k (j ∷ ks) there came all = of_first P n k j ks (nat_le j.since n) refl all there came (λ later rest. of_upto P n k ks later came rest)
+
+-- and the name of each that came later is free
+abbrev AreFree : Schema → List Kept → Type 0
+AreFree s ks = list_all (λ name. not (is_used s name)) (kept_names ks) ≡ true
+
+free_first : (s : Schema) (n : ℕ) (k j : Kept) (ks : List Kept) (b : Bool) → nat_le j.since n ≡ b → AreFree s (cond (not b) (j ∷ filter (λ k. not (nat_le k.since n)) ks) (filter (λ k. not (nat_le k.since n)) ks)) → Member (j ∷ ks) k → nat_le k.since n ≡ false
+    → (Member ks k → AreFree s (filter (λ k. not (nat_le k.since n)) ks) → not (is_used s k.table.name) ≡ true) → not (is_used s k.table.name) ≡ true
+free_first s n k j ks true is free (inl same) later rest = absurd (false≢true (sym later ∙ ap (λ (k : Kept). nat_le k.since n) same ∙ is))
+free_first s n k j ks true is free (inr there) later rest = rest there free
+free_first s n k j ks false is free (inl same) later rest = ap (λ (k : Kept). not (is_used s k.table.name)) same ∙ first_true _ _ free
+free_first s n k j ks false is free (inr there) later rest = rest there (second_true _ _ free)
+
+pub free_later : (s : Schema) (n : ℕ) (k : Kept) (ks : List Kept) → Member ks k → nat_le k.since n ≡ false → AreFree s (filter (λ k. not (nat_le k.since n)) ks) → not (is_used s k.table.name) ≡ true
+free_later s n k [] there later free = absurd there
+free_later s n k (j ∷ ks) there later free = free_first s n k j ks (nat_le j.since n) refl free there later (λ there rest. free_later s n k ks there later rest)
+
+-- the places of some tables in the list of all
+
+at_tariffs : Member kept tariffs_kept
+at_tariffs = inr (inl refl)
+
+at_steps : Member kept steps_kept
+at_steps = inr (inr (inl refl))
+
+at_meters : Member kept meters_kept
+at_meters = inr (inr (inr (inl refl)))
+
+at_shifts : Member kept shifts_kept
+at_shifts = inr (inr (inr (inr (inl refl))))
+
+at_sales : Member kept sales_kept
+at_sales = inr (inr (inr (inr (inr (inl refl)))))
+
+at_last_ids : Member kept last_ids_kept
+at_last_ids = inr (inr (inr (inr (inr (inr (inl refl))))))
+
+at_bases : Member kept bases_kept
+at_bases = inr (inr (inr (inr (inr (inr (inr (inr (inr (inl refl)))))))))
+
+at_dated : Member kept dated_steps_kept
+at_dated = inr (inr (inr (inr (inr (inr (inr (inr (inr (inr (inl refl))))))))))
+
+-- the rows of two holdings of one format are the same, but for the totals of the first
+module _ (n : ℕ) (some : 1 ≤ n) (db : Database) (a b : Rows) (o p : Office) (is_o : IsOffice o) (is_p : IsOffice p) (in_a : HoldsOf n n db a) (in_b : HoldsOf n n db b) (are_a : AreMembersOf a o) (are_b : AreMembersOf b p) where
+  rows_of : (k : Kept) (rows : Rows) → HoldsOf n n db rows → Member kept k → nat_le k.since n ≡ true → HoldsRows db n rows k
+  rows_of k rows held there came = of_upto (λ k. HoldsRows db n rows k) n k kept there came held.are
+
+  meters_are : a.meters ≡ b.meters
+  meters_are =
+      one_meters a.meters b.meters (small_keys a o is_o are_a) (small_keys b p is_p are_b)
+      (sym (rows_of meters_kept a in_a at_meters (le-leb 1 n some)).0 ∙ (rows_of meters_kept b in_b at_meters (le-leb 1 n some)).0)
+
+  bases_are : a.bases ≡ b.bases
+  bases_are = elim (cases_lt n 3) [
+    | inl before ↦ in_a.of_format.bases before ∙ ap (map (λ (r : List ℕ × Meter). (r.0, r.1.base))) meters_are ∙ sym (in_b.of_format.bases before)
+    | inr since ↦ one_list base_columns one_base_row a.bases b.bases (sym (rows_of bases_kept a in_a at_bases (le-leb 3 n since)).0 ∙ (rows_of bases_kept b in_b at_bases (le-leb 3 n since)).0)
+  ]
+
+  dated_are : a.dated_steps ≡ b.dated_steps
+  dated_are = elim (cases_lt n 4) [
+    | inl before ↦ in_a.of_format.dated_steps before ∙ sym (in_b.of_format.dated_steps before)
+    | inr since ↦ one_list dated_columns one_dated a.dated_steps b.dated_steps (sym (rows_of dated_steps_kept a in_a at_dated (le-leb 4 n since)).0 ∙ (rows_of dated_steps_kept b in_b at_dated (le-leb 4 n since)).0)
+  ]
+
+  same_members : SameMembers a b
+  same_members = record {
+    tariffs = one_list tariff_columns one_tariff a.tariffs b.tariffs (sym (rows_of tariffs_kept a in_a at_tariffs (le-leb 1 n some)).0 ∙ (rows_of tariffs_kept b in_b at_tariffs (le-leb 1 n some)).0);
+    steps = one_list step_columns one_step a.steps b.steps (sym (rows_of steps_kept a in_a at_steps (le-leb 1 n some)).0 ∙ (rows_of steps_kept b in_b at_steps (le-leb 1 n some)).0);
+    meters = meters_are;
+    shifts = one_list shift_row one_shift a.shifts b.shifts (sym (rows_of shifts_kept a in_a at_shifts (le-leb 1 n some)) ∙ rows_of shifts_kept b in_b at_shifts (le-leb 1 n some));
+    sales = one_list sale_row one_sale a.sales b.sales (sym (rows_of sales_kept a in_a at_sales (le-leb 1 n some)) ∙ rows_of sales_kept b in_b at_sales (le-leb 1 n some));
+    bases = bases_are;
+    dated_steps = dated_are;
+  }
+
+  pub held_once : o ≡ p
+  held_once = one_office a b same_members o p are_a are_b is_o is_p
 
 -- ---- the formats
 
-by_format : (n : ℕ) → n ≤ present_format → (n ≡ 0) ⊎ (n ≡ present_format)
-by_format zero known = inl refl
-by_format (suc zero) known = inr refl
-by_format (suc (suc n)) known = absurd (omega (arith, known))
+-- a table that stands has taken its name
+not_free : (s : Schema) (k : Kept) → IsKept s k → not (is_used s k.table.name) ≡ true → ⊥
+not_free s k stands free =
+    let named : is_some (table_named s k.table.name) ≡ true = ap is_some stands.0.has.named in
+    let used : is_used s k.table.name ≡ true = first_is_enough _ _ _ named in
+    false≢true (sym (ap not used) ∙ free)
 
--- it has the tables of the present format, or nothing
-pub holds_or_empty : (db : Database) (o : Office) → StandsFor db o → HoldsMembers db o ⊎ (IsUntaken db.schema × (o ≡ empty_office))
-holds_or_empty db o stands = elim (by_format stands.format stands.known) [
-  | inl none ↦ inr (subst (λ n. HasOfficeOf n db.schema) none stands.held.1.has, stands.empty none)
-  | inr now ↦ inl (subst (λ n. HoldsMembersOf n db o) now stands.held)
+-- each format brings a table, so a database has the tables of one of them
+module _ (s : Schema) (m n : ℕ) (in_m : HasOfficeOf m s) (in_n : HasOfficeOf n s) where
+  differ_by : (k : Kept) → Member kept k → m < k.since → k.since ≤ n → ⊥
+  differ_by k there later came =
+      not_free s k (of_upto (IsKept s) n k kept there (le-leb k.since n came) in_n.tables)
+      (free_later s m k kept there (lt-leb k.since m later) in_m.free)
+
+  not_below : n ≤ present_format → m < n → ⊥
+  not_below known below = elim (cases_lt m 1) [
+    | inl none ↦ differ_by tariffs_kept at_tariffs none (omega (arith, below))
+    | inr one ↦ elim (cases_lt m 2) [
+      | inl first ↦ differ_by last_ids_kept at_last_ids first (omega (arith, one, below))
+      | inr two ↦ elim (cases_lt m 3) [
+        | inl second ↦ differ_by bases_kept at_bases second (omega (arith, two, below))
+        | inr three ↦ differ_by dated_steps_kept at_dated (omega (arith, three, below, known)) (omega (arith, three, below))
+      ]
+    ]
+  ]
+
+pub one_format : (s : Schema) (m n : ℕ) → m ≤ present_format → n ≤ present_format → HasOfficeOf m s → HasOfficeOf n s → m ≡ n
+one_format s m n known_m known_n in_m in_n = elim (cases_lt m n) [
+  | inl below ↦ absurd (not_below s m n in_m in_n known_n below)
+  | inr least ↦ elim (cases_lt n m) [
+    | inl below ↦ absurd (not_below s n m in_n in_m known_m below)
+    | inr most ↦ omega (arith, least, most)
+  ]
 ]
+
+-- what the database holds is told by the format that it has
+pub held_as : (db : Database) (o : Office) (n : ℕ) → StandsFor db o → n ≤ present_format → HasOfficeOf n db.schema → HoldsMembersOf n db o × (n ≡ 0 → o ≡ empty_office)
+held_as db o n stands known has =
+    let same = one_format db.schema stands.format n stands.known known stands.held.1.has has in
+    (subst (λ n. HoldsMembersOf n db o) same stands.held, λ none. stands.empty (same ∙ none))
 
 pub stands_present : (db : Database) (o : Office) → IsOffice o → HoldsMembers db o → StandsFor db o
 stands_present db o office held = record { office = office; format = present_format; known = omega arith; held = held; empty = λ none. absurd (omega (arith, none)) }
 
 pub untaken_stands : (db : Database) → IsUntaken db.schema → StandsFor db empty_office
-untaken_stands db untaken =
-    record { office = empty_is_office; format = 0; known = omega arith; held = (no_rows, record { has = untaken; are = tt }, no_members); empty = λ none. refl }
+untaken_stands db untaken = record {
+  office = empty_is_office;
+  format = 0;
+  known = omega arith;
+  held = (no_rows, record { has = untaken; are = tt; of_format = record { bases = λ _. refl; dated_steps = λ _. refl } }, no_members);
+  empty = λ none. refl;
+}
 
 pub stands_once : (db : Database) (o p : Office) → StandsFor db o → StandsFor db p → o ≡ p
 stands_once db o p these those =
-    elim (holds_or_empty db o these) [
-      | inl a ↦ elim (holds_or_empty db p those) [
-        | inl b ↦ held_once db o p these.office those.office a b
-        | inr b ↦ absurd (not_untaken db.schema a.1.has b.0)
-      ]
-      | inr a ↦ elim (holds_or_empty db p those) [
-        | inl b ↦ absurd (not_untaken db.schema b.1.has a.0)
-        | inr b ↦ a.1 ∙ sym b.1
-      ]
+    let held = held_as db p these.format those these.known these.held.1.has in
+    elim (cases_lt 0 these.format) [
+      | inl some ↦ held_once these.format some db these.held.0 held.0.0 o p these.office those.office these.held.1 held.0.1 these.held.2 held.0.2
+      | inr none ↦ let is : these.format ≡ 0 = omega (arith, none) in these.empty is ∙ sym (held.1 is)
     ]

@@ -1,5 +1,5 @@
 -- Where the rows of one of the office's tables change, the others stay: what the database then holds.
-use Rattle.std.proofs.Common.{◌≡◌, ◌≢◌, ℕ, zero, suc, List, [], ◌∷◌, drop, map, Some, inl, inr, refl, sym, ◌∙◌, ap, subst}
+use Rattle.std.proofs.Common.{◌≡◌, ◌≢◌, ℕ, zero, suc, List, [], ◌∷◌, drop, map, Some, inl, inr, refl, sym, ◌∙◌, ap, subst, arith}
 use Rattle.std.specs.Prelude.{◌==◌, ◌⊎◌, bytes_eq, codes, false, find, slice_get}
 use Rattle.std.specs.List.{AllByRecursion}
 use Rattle.std.proofs.lemmas.Bool.{false≢true}
@@ -9,14 +9,17 @@ use Rattle.sqlite.specs.Effect.{Database}
 use Rattle.sqlite.specs.Order.{Row}
 use Rattle.sqlite_schema.specs.declared.schema.Schema.{Schema}
 use Rattle.sqlite_schema.specs.declared.schema.Table.{Table}
+use Rattle.one_table.specs.Numbered.{IsInOrder}
 use Rattle.one_table.specs.Standing.{Stands, tree_in}
+use Rattle.sts_fields.specs.declared.base.Base.{Base}
 use Rattle.vend_core.specs.declared.meter.Meter.{Meter}
 use Rattle.vend_core.specs.declared.sale.Sale.{Sale}
 use Rattle.vend_core.specs.declared.shift.Shift.{Shift}
-use Rattle.book_tables.specs.Holds.{AreStoredRows, HasOfficeOf, Holds, HoldsOf, HoldsRows, IsInOrder, IsKept, rows_in}
-use Rattle.book_tables.specs.Kept.{Kept, meters_kept, sales_kept, shifts_kept, steps_kept, tariffs_kept, upto}
-use Rattle.book_tables.specs.Rows.{Rows, StepRow, present_format, meter_columns, sale_row, shift_row, step_columns, tariff_columns}
-use Rattle.book_tables.proofs.OfficeTableLemmas.{meters_in, sales_in, shifts_in, steps_in, tariffs_in}
+use Rattle.book_tables.specs.Holds.{AreStoredRows, HasOffice, HoldsOf, HoldsRows, IsKept, rows_in}
+use Rattle.book_tables.specs.Kept.{Kept, about_kept, bases_kept, dated_steps_kept, last_ids_kept, meters_kept, month_tenths_kept, sales_kept, shift_totals_kept, shifts_kept, steps_kept, tariffs_kept, upto}
+use Rattle.book_tables.specs.Rows.{DatedStepRow, Rows, StepRow, about_rows, base_columns, dated_columns, last_id_columns, meter_columns, month_columns, present_format, sale_row, shift_row, step_columns, tariff_columns, totals_row}
+use Rattle.book_tables.specs.declared.totals.Totals.{Totals}
+use Rattle.book_tables.proofs.OfficeTableLemmas.{about_in, bases_in, dated_steps_in, last_ids_in, meters_in, month_tenths_in, sales_in, shift_totals_in, shifts_in, steps_in, tariffs_in}
 
 -- only the rows of the table of this name may differ
 pub record ChangesOnly (name : List ℕ) (a b : Database) : Type 0 where
@@ -52,22 +55,26 @@ rows_kept a b t changed only in_t in_changed apart =
 
 -- what becomes of a table where the table of this name is changed: it is another, of which the same
 -- is stored, or it holds the new rows
-abbrev pub Becomes : Database → ℕ → Rows → Rows → List ℕ → Kept → Type 0
-Becomes b told rows new name k = ((k.table.name ≢ name) × (k.stored told new ≡ k.stored told rows)) ⊎ HoldsRows b told new k
+abbrev pub Becomes : Database → ℕ → ℕ → Rows → Rows → List ℕ → Kept → Type 0
+Becomes b before told rows new name k = ((k.table.name ≢ name) × (k.stored told new ≡ k.stored before rows)) ⊎ HoldsRows b told new k
 
-module _ (told : ℕ) (a b : Database) (rows new : Rows) (k : Kept) (there : IsKept a.schema k) (only : ChangesOnly k.table.name a b) where
-  held_still : (j : Kept) → IsKept a.schema j → HoldsRows a told rows j → Becomes b told rows new k.table.name j → HoldsRows b told new j
+module _ (before told : ℕ) (a b : Database) (rows new : Rows) (k : Kept) (there : IsKept a.schema k) (only : ChangesOnly k.table.name a b) where
+  held_still : (j : Kept) → IsKept a.schema j → HoldsRows a before rows j → Becomes b before told rows new k.table.name j → HoldsRows b told new j
   held_still j stands holds (inr now) = now
   held_still j stands holds (inl (apart, same)) =
       let kept = rows_kept a b j.table k.table only stands.0 there.0 apart in
-      subst (λ stored. AreStoredRows j.is_numbered (rows_in b j.table.name) stored) (sym same) (subst (λ found. AreStoredRows j.is_numbered found (j.stored told rows)) (sym kept) holds)
+      subst (λ stored. AreStoredRows j.is_numbered (rows_in b j.table.name) stored) (sym same) (subst (λ found. AreStoredRows j.is_numbered found (j.stored before rows)) (sym kept) holds)
 
-  all_still : (ks : List Kept) → AllByRecursion (IsKept a.schema) ks → AllByRecursion (HoldsRows a told rows) ks → AllByRecursion (Becomes b told rows new k.table.name) ks → AllByRecursion (HoldsRows b told new) ks
+  all_still : (ks : List Kept) → AllByRecursion (IsKept a.schema) ks → AllByRecursion (HoldsRows a before rows) ks → AllByRecursion (Becomes b before told rows new k.table.name) ks → AllByRecursion (HoldsRows b told new) ks
   all_still [] stand hold become = tt
   all_still (j ∷ ks) stand hold become = (held_still j stand.0 hold.0 become.0, all_still ks stand.1 hold.1 become.1)
 
-  pub changed : (n : ℕ) → HoldsOf n told a rows → AllByRecursion (Becomes b told rows new k.table.name) (upto n) → HoldsOf n told b new
-  changed n held become = record { has = subst (HasOfficeOf n) (sym only.schema) held.has; are = all_still (upto n) held.has.tables held.are become }
+  pub changed : HoldsOf present_format before a rows → AllByRecursion (Becomes b before told rows new k.table.name) (upto present_format) → HoldsOf present_format told b new
+  changed held become = record {
+    has = subst HasOffice (sym only.schema) held.has;
+    are = all_still (upto present_format) held.has.tables held.are become;
+    of_format = record { bases = λ older. absurd (omega (arith, older)); dated_steps = λ older. absurd (omega (arith, older)) };
+  }
 
 -- ---- the tables of the present format
 
@@ -78,62 +85,48 @@ own_rows a b name same = ap (λ (s : Schema). b.trees (tree_in s name)) same
 own_hidden : (a b : Database) (name : List ℕ) (stored : List Row) → b.schema ≡ a.schema → map (drop 1) (b.trees (tree_in a.schema name)) ≡ stored → IsInOrder (b.trees (tree_in a.schema name)) → AreStoredRows false (rows_in b name) stored
 own_hidden a b name stored same are order = (ap (map (drop 1)) (own_rows a b name same) ∙ are, subst IsInOrder (sym (own_rows a b name same)) order)
 
-module _ (a b : Database) (rows : Rows) (in_a : Holds a rows) where
-  pub sales_changed : (sales : List Sale) → ChangesOnly (codes "sales") a b → b.trees (tree_in a.schema (codes "sales")) ≡ map sale_row sales → Holds b (record rows { sales = sales })
-  sales_changed sales only are =
-      changed present_format a b rows (record rows { sales = sales }) sales_kept (sales_in.there a.schema in_a.has) only present_format in_a (
-        inl (names_differ _ _ refl, refl),
-        (
-          inl (names_differ _ _ refl, refl),
-          (inl (names_differ _ _ refl, refl), (inl (names_differ _ _ refl, refl), (inl (names_differ _ _ refl, refl), (inr (own_rows a b (codes "sales") only.schema ∙ are), tt)))),
-        ),
-      )
+module _ (told : ℕ) (a b : Database) (rows : Rows) (in_a : HoldsOf present_format told a rows) where
+  pub tariffs_changed : (new : List (List ℕ)) → ChangesOnly (codes "tariffs") a b → map (drop 1) (b.trees (tree_in a.schema (codes "tariffs"))) ≡ map tariff_columns new → IsInOrder (b.trees (tree_in a.schema (codes "tariffs"))) → HoldsOf present_format told b (record rows { tariffs = new })
+  tariffs_changed new only are order =
+      changed told told a b rows (record rows { tariffs = new }) tariffs_kept (tariffs_in.there a.schema in_a.has) only in_a (inl (names_differ _ _ refl, refl), (inr (own_hidden a b (codes "tariffs") (map tariff_columns new) only.schema are order), (inl (names_differ _ _ refl, refl), (inl (names_differ _ _ refl, refl), (inl (names_differ _ _ refl, refl), (inl (names_differ _ _ refl, refl), (inl (names_differ _ _ refl, refl), (inl (names_differ _ _ refl, refl), (inl (names_differ _ _ refl, refl), (inl (names_differ _ _ refl, refl), (inl (names_differ _ _ refl, refl), tt)))))))))))
 
-  pub shifts_changed : (shifts : List Shift) → ChangesOnly (codes "shifts") a b → b.trees (tree_in a.schema (codes "shifts")) ≡ map shift_row shifts → Holds b (record rows { shifts = shifts })
-  shifts_changed shifts only are =
-      changed present_format a b rows (record rows { shifts = shifts }) shifts_kept (shifts_in.there a.schema in_a.has) only present_format in_a (
-        inl (names_differ _ _ refl, refl),
-        (
-          inl (names_differ _ _ refl, refl),
-          (inl (names_differ _ _ refl, refl), (inl (names_differ _ _ refl, refl), (inr (own_rows a b (codes "shifts") only.schema ∙ are), (inl (names_differ _ _ refl, refl), tt)))),
-        ),
-      )
+  pub steps_changed : (new : List StepRow) → ChangesOnly (codes "tariff_steps") a b → map (drop 1) (b.trees (tree_in a.schema (codes "tariff_steps"))) ≡ map step_columns new → IsInOrder (b.trees (tree_in a.schema (codes "tariff_steps"))) → HoldsOf present_format told b (record rows { steps = new })
+  steps_changed new only are order =
+      changed told told a b rows (record rows { steps = new }) steps_kept (steps_in.there a.schema in_a.has) only in_a (inl (names_differ _ _ refl, refl), (inl (names_differ _ _ refl, refl), (inr (own_hidden a b (codes "tariff_steps") (map step_columns new) only.schema are order), (inl (names_differ _ _ refl, refl), (inl (names_differ _ _ refl, refl), (inl (names_differ _ _ refl, refl), (inl (names_differ _ _ refl, refl), (inl (names_differ _ _ refl, refl), (inl (names_differ _ _ refl, refl), (inl (names_differ _ _ refl, refl), (inl (names_differ _ _ refl, refl), tt)))))))))))
 
-  pub meters_changed : (meters : List (List ℕ × Meter)) → ChangesOnly (codes "meters") a b → map (drop 1) (b.trees (tree_in a.schema (codes "meters"))) ≡ map meter_columns meters → IsInOrder (b.trees (tree_in a.schema (codes "meters")))
-      → Holds b (record rows { meters = meters })
-  meters_changed meters only are order =
-      changed present_format a b rows (record rows { meters = meters }) meters_kept (meters_in.there a.schema in_a.has) only present_format in_a (
-        inl (names_differ _ _ refl, refl),
-        (
-          inl (names_differ _ _ refl, refl),
-          (
-            inl (names_differ _ _ refl, refl),
-            (inr (own_hidden a b (codes "meters") (map meter_columns meters) only.schema are order), (inl (names_differ _ _ refl, refl), (inl (names_differ _ _ refl, refl), tt))),
-          ),
-        ),
-      )
+  pub meters_changed : (new : List (List ℕ × Meter)) → ChangesOnly (codes "meters") a b → map (drop 1) (b.trees (tree_in a.schema (codes "meters"))) ≡ map meter_columns new → IsInOrder (b.trees (tree_in a.schema (codes "meters"))) → HoldsOf present_format told b (record rows { meters = new })
+  meters_changed new only are order =
+      changed told told a b rows (record rows { meters = new }) meters_kept (meters_in.there a.schema in_a.has) only in_a (inl (names_differ _ _ refl, refl), (inl (names_differ _ _ refl, refl), (inl (names_differ _ _ refl, refl), (inr (own_hidden a b (codes "meters") (map meter_columns new) only.schema are order), (inl (names_differ _ _ refl, refl), (inl (names_differ _ _ refl, refl), (inl (names_differ _ _ refl, refl), (inl (names_differ _ _ refl, refl), (inl (names_differ _ _ refl, refl), (inl (names_differ _ _ refl, refl), (inl (names_differ _ _ refl, refl), tt)))))))))))
 
-  pub steps_changed : (steps : List StepRow) → ChangesOnly (codes "tariff_steps") a b → map (drop 1) (b.trees (tree_in a.schema (codes "tariff_steps"))) ≡ map step_columns steps → IsInOrder (b.trees (tree_in a.schema (codes "tariff_steps")))
-      → Holds b (record rows { steps = steps })
-  steps_changed steps only are order =
-      changed present_format a b rows (record rows { steps = steps }) steps_kept (steps_in.there a.schema in_a.has) only present_format in_a (
-        inl (names_differ _ _ refl, refl),
-        (
-          inl (names_differ _ _ refl, refl),
-          (
-            inr (own_hidden a b (codes "tariff_steps") (map step_columns steps) only.schema are order),
-            (inl (names_differ _ _ refl, refl), (inl (names_differ _ _ refl, refl), (inl (names_differ _ _ refl, refl), tt))),
-          ),
-        ),
-      )
+  pub shifts_changed : (new : List Shift) → ChangesOnly (codes "shifts") a b → b.trees (tree_in a.schema (codes "shifts")) ≡ map shift_row new → HoldsOf present_format told b (record rows { shifts = new })
+  shifts_changed new only are =
+      changed told told a b rows (record rows { shifts = new }) shifts_kept (shifts_in.there a.schema in_a.has) only in_a (inl (names_differ _ _ refl, refl), (inl (names_differ _ _ refl, refl), (inl (names_differ _ _ refl, refl), (inl (names_differ _ _ refl, refl), (inr (own_rows a b (codes "shifts") only.schema ∙ are), (inl (names_differ _ _ refl, refl), (inl (names_differ _ _ refl, refl), (inl (names_differ _ _ refl, refl), (inl (names_differ _ _ refl, refl), (inl (names_differ _ _ refl, refl), (inl (names_differ _ _ refl, refl), tt)))))))))))
 
-  pub tariffs_changed : (tariffs : List (List ℕ)) → ChangesOnly (codes "tariffs") a b → map (drop 1) (b.trees (tree_in a.schema (codes "tariffs"))) ≡ map tariff_columns tariffs → IsInOrder (b.trees (tree_in a.schema (codes "tariffs")))
-      → Holds b (record rows { tariffs = tariffs })
-  tariffs_changed tariffs only are order =
-      changed present_format a b rows (record rows { tariffs = tariffs }) tariffs_kept (tariffs_in.there a.schema in_a.has) only present_format in_a (
-        inl (names_differ _ _ refl, refl),
-        (
-          inr (own_hidden a b (codes "tariffs") (map tariff_columns tariffs) only.schema are order),
-          (inl (names_differ _ _ refl, refl), (inl (names_differ _ _ refl, refl), (inl (names_differ _ _ refl, refl), (inl (names_differ _ _ refl, refl), tt)))),
-        ),
-      )
+  pub sales_changed : (new : List Sale) → ChangesOnly (codes "sales") a b → b.trees (tree_in a.schema (codes "sales")) ≡ map sale_row new → HoldsOf present_format told b (record rows { sales = new })
+  sales_changed new only are =
+      changed told told a b rows (record rows { sales = new }) sales_kept (sales_in.there a.schema in_a.has) only in_a (inl (names_differ _ _ refl, refl), (inl (names_differ _ _ refl, refl), (inl (names_differ _ _ refl, refl), (inl (names_differ _ _ refl, refl), (inl (names_differ _ _ refl, refl), (inr (own_rows a b (codes "sales") only.schema ∙ are), (inl (names_differ _ _ refl, refl), (inl (names_differ _ _ refl, refl), (inl (names_differ _ _ refl, refl), (inl (names_differ _ _ refl, refl), (inl (names_differ _ _ refl, refl), tt)))))))))))
+
+  pub last_ids_changed : (new : List ((List ℕ × Base) × ℕ)) → ChangesOnly (codes "last_ids") a b → map (drop 1) (b.trees (tree_in a.schema (codes "last_ids"))) ≡ map last_id_columns new → IsInOrder (b.trees (tree_in a.schema (codes "last_ids"))) → HoldsOf present_format told b (record rows { last_ids = new })
+  last_ids_changed new only are order =
+      changed told told a b rows (record rows { last_ids = new }) last_ids_kept (last_ids_in.there a.schema in_a.has) only in_a (inl (names_differ _ _ refl, refl), (inl (names_differ _ _ refl, refl), (inl (names_differ _ _ refl, refl), (inl (names_differ _ _ refl, refl), (inl (names_differ _ _ refl, refl), (inl (names_differ _ _ refl, refl), (inr (own_hidden a b (codes "last_ids") (map last_id_columns new) only.schema are order), (inl (names_differ _ _ refl, refl), (inl (names_differ _ _ refl, refl), (inl (names_differ _ _ refl, refl), (inl (names_differ _ _ refl, refl), tt)))))))))))
+
+  pub month_tenths_changed : (new : List ((List ℕ × ℕ) × ℕ)) → ChangesOnly (codes "month_tenths") a b → map (drop 1) (b.trees (tree_in a.schema (codes "month_tenths"))) ≡ map month_columns new → IsInOrder (b.trees (tree_in a.schema (codes "month_tenths"))) → HoldsOf present_format told b (record rows { month_tenths = new })
+  month_tenths_changed new only are order =
+      changed told told a b rows (record rows { month_tenths = new }) month_tenths_kept (month_tenths_in.there a.schema in_a.has) only in_a (inl (names_differ _ _ refl, refl), (inl (names_differ _ _ refl, refl), (inl (names_differ _ _ refl, refl), (inl (names_differ _ _ refl, refl), (inl (names_differ _ _ refl, refl), (inl (names_differ _ _ refl, refl), (inl (names_differ _ _ refl, refl), (inr (own_hidden a b (codes "month_tenths") (map month_columns new) only.schema are order), (inl (names_differ _ _ refl, refl), (inl (names_differ _ _ refl, refl), (inl (names_differ _ _ refl, refl), tt)))))))))))
+
+  pub shift_totals_changed : (new : List (ℕ × Totals)) → ChangesOnly (codes "shift_totals") a b → b.trees (tree_in a.schema (codes "shift_totals")) ≡ map totals_row new → HoldsOf present_format told b (record rows { shift_totals = new })
+  shift_totals_changed new only are =
+      changed told told a b rows (record rows { shift_totals = new }) shift_totals_kept (shift_totals_in.there a.schema in_a.has) only in_a (inl (names_differ _ _ refl, refl), (inl (names_differ _ _ refl, refl), (inl (names_differ _ _ refl, refl), (inl (names_differ _ _ refl, refl), (inl (names_differ _ _ refl, refl), (inl (names_differ _ _ refl, refl), (inl (names_differ _ _ refl, refl), (inl (names_differ _ _ refl, refl), (inr (own_rows a b (codes "shift_totals") only.schema ∙ are), (inl (names_differ _ _ refl, refl), (inl (names_differ _ _ refl, refl), tt)))))))))))
+
+  pub bases_changed : (new : List (List ℕ × Base)) → ChangesOnly (codes "meter_bases") a b → map (drop 1) (b.trees (tree_in a.schema (codes "meter_bases"))) ≡ map base_columns new → IsInOrder (b.trees (tree_in a.schema (codes "meter_bases"))) → HoldsOf present_format told b (record rows { bases = new })
+  bases_changed new only are order =
+      changed told told a b rows (record rows { bases = new }) bases_kept (bases_in.there a.schema in_a.has) only in_a (inl (names_differ _ _ refl, refl), (inl (names_differ _ _ refl, refl), (inl (names_differ _ _ refl, refl), (inl (names_differ _ _ refl, refl), (inl (names_differ _ _ refl, refl), (inl (names_differ _ _ refl, refl), (inl (names_differ _ _ refl, refl), (inl (names_differ _ _ refl, refl), (inl (names_differ _ _ refl, refl), (inr (own_hidden a b (codes "meter_bases") (map base_columns new) only.schema are order), (inl (names_differ _ _ refl, refl), tt)))))))))))
+
+  pub dated_steps_changed : (new : List DatedStepRow) → ChangesOnly (codes "dated_steps") a b → map (drop 1) (b.trees (tree_in a.schema (codes "dated_steps"))) ≡ map dated_columns new → IsInOrder (b.trees (tree_in a.schema (codes "dated_steps"))) → HoldsOf present_format told b (record rows { dated_steps = new })
+  dated_steps_changed new only are order =
+      changed told told a b rows (record rows { dated_steps = new }) dated_steps_kept (dated_steps_in.there a.schema in_a.has) only in_a (inl (names_differ _ _ refl, refl), (inl (names_differ _ _ refl, refl), (inl (names_differ _ _ refl, refl), (inl (names_differ _ _ refl, refl), (inl (names_differ _ _ refl, refl), (inl (names_differ _ _ refl, refl), (inl (names_differ _ _ refl, refl), (inl (names_differ _ _ refl, refl), (inl (names_differ _ _ refl, refl), (inl (names_differ _ _ refl, refl), (inr (own_hidden a b (codes "dated_steps") (map dated_columns new) only.schema are order), tt)))))))))))
+
+-- `about` tells the present format, whatever it told before
+pub about_changed : (before : ℕ) (a b : Database) (rows : Rows) → HoldsOf present_format before a rows → ChangesOnly (codes "about") a b → b.trees (tree_in a.schema (codes "about")) ≡ about_rows present_format → HoldsOf present_format present_format b rows
+about_changed before a b rows in_a only is =
+    changed before present_format a b rows rows about_kept (about_in.there a.schema in_a.has) only in_a (inr (own_rows a b (codes "about") only.schema ∙ is), (inl (names_differ _ _ refl, refl), (inl (names_differ _ _ refl, refl), (inl (names_differ _ _ refl, refl), (inl (names_differ _ _ refl, refl), (inl (names_differ _ _ refl, refl), (inl (names_differ _ _ refl, refl), (inl (names_differ _ _ refl, refl), (inl (names_differ _ _ refl, refl), (inl (names_differ _ _ refl, refl), (inl (names_differ _ _ refl, refl), tt)))))))))))

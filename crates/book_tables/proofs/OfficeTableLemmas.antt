@@ -1,11 +1,11 @@
 -- Each table is one of an office's, so what is read of it alone is read of an office.
-use Rattle.std.proofs.Common.{Result, Ok, Err, IfErr}
+use Rattle.std.proofs.Common.{ℕ, Result, Ok, Err, IfErr}
 use Rattle.sqlite.specs.Effect.{Database}
 use Rattle.sqlite.specs.State.{IsUnchanged, State}
 use Rattle.sqlite_schema.specs.declared.schema.Schema.{Schema}
 use Rattle.one_table.proofs.ReadsOnlyLemmas.{read_where}
-use Rattle.book_tables.specs.Holds.{HasOffice, Holds, HoldsRows, IsKept}
-use Rattle.book_tables.specs.Kept.{Kept, about_kept, meters_kept, sales_kept, shifts_kept, steps_kept, tariffs_kept}
+use Rattle.book_tables.specs.Holds.{HasOffice, Holds, HoldsOf, HoldsRows, IsKept}
+use Rattle.book_tables.specs.Kept.{Kept, about_kept, bases_kept, dated_steps_kept, last_ids_kept, meters_kept, month_tenths_kept, sales_kept, shift_totals_kept, shifts_kept, steps_kept, tariffs_kept}
 use Rattle.book_tables.specs.Reading.{FailsToRead, FailsToReadOf, HasRows, HasTable, HasTableRows, HasTables, OnlyReads, ReadsTable, TableHolds}
 use Rattle.book_tables.specs.Rows.{Rows, present_format}
 use Rattle.book_tables.specs.declared.error.TableError.{TableError}
@@ -14,29 +14,44 @@ use Rattle.book_tables.specs.declared.error.TableError.TheVariants.{Database as 
 -- the table is one of the present format
 pub record IsInOffice (k : Kept) : Type 0 where
   pub there : (s : Schema) → HasOffice s → IsKept s k
-  pub holds : (db : Database) (rows : Rows) → Holds db rows → HoldsRows db present_format rows k
+  pub holds : (told : ℕ) (db : Database) (rows : Rows) → HoldsOf present_format told db rows → HoldsRows db told rows k
 
 pub about_in : IsInOffice about_kept
-about_in = record { there = λ s has. has.tables.0; holds = λ db rows held. held.are.0 }
+about_in = record { there = λ s has. has.tables.0; holds = λ told db rows held. held.are.0 }
 
 pub tariffs_in : IsInOffice tariffs_kept
-tariffs_in = record { there = λ s has. has.tables.1.0; holds = λ db rows held. held.are.1.0 }
+tariffs_in = record { there = λ s has. has.tables.1.0; holds = λ told db rows held. held.are.1.0 }
 
 pub steps_in : IsInOffice steps_kept
-steps_in = record { there = λ s has. has.tables.1.1.0; holds = λ db rows held. held.are.1.1.0 }
+steps_in = record { there = λ s has. has.tables.1.1.0; holds = λ told db rows held. held.are.1.1.0 }
 
 pub meters_in : IsInOffice meters_kept
-meters_in = record { there = λ s has. has.tables.1.1.1.0; holds = λ db rows held. held.are.1.1.1.0 }
+meters_in = record { there = λ s has. has.tables.1.1.1.0; holds = λ told db rows held. held.are.1.1.1.0 }
 
 pub shifts_in : IsInOffice shifts_kept
-shifts_in = record { there = λ s has. has.tables.1.1.1.1.0; holds = λ db rows held. held.are.1.1.1.1.0 }
+shifts_in = record { there = λ s has. has.tables.1.1.1.1.0; holds = λ told db rows held. held.are.1.1.1.1.0 }
 
 pub sales_in : IsInOffice sales_kept
-sales_in = record { there = λ s has. has.tables.1.1.1.1.1.0; holds = λ db rows held. held.are.1.1.1.1.1.0 }
+sales_in = record { there = λ s has. has.tables.1.1.1.1.1.0; holds = λ told db rows held. held.are.1.1.1.1.1.0 }
+
+pub last_ids_in : IsInOffice last_ids_kept
+last_ids_in = record { there = λ s has. has.tables.1.1.1.1.1.1.0; holds = λ told db rows held. held.are.1.1.1.1.1.1.0 }
+
+pub month_tenths_in : IsInOffice month_tenths_kept
+month_tenths_in = record { there = λ s has. has.tables.1.1.1.1.1.1.1.0; holds = λ told db rows held. held.are.1.1.1.1.1.1.1.0 }
+
+pub shift_totals_in : IsInOffice shift_totals_kept
+shift_totals_in = record { there = λ s has. has.tables.1.1.1.1.1.1.1.1.0; holds = λ told db rows held. held.are.1.1.1.1.1.1.1.1.0 }
+
+pub bases_in : IsInOffice bases_kept
+bases_in = record { there = λ s has. has.tables.1.1.1.1.1.1.1.1.1.0; holds = λ told db rows held. held.are.1.1.1.1.1.1.1.1.1.0 }
+
+pub dated_steps_in : IsInOffice dated_steps_kept
+dated_steps_in = record { there = λ s has. has.tables.1.1.1.1.1.1.1.1.1.1.0; holds = λ told db rows held. held.are.1.1.1.1.1.1.1.1.1.1.0 }
 
 module _ {k : Kept} (in_office : IsInOffice k) where
   pub table_holds : (db : Database) (rows : Rows) → Holds db rows → TableHolds k db rows
-  table_holds db rows held = (in_office.there db.schema held.has, (present_format, in_office.holds db rows held))
+  table_holds db rows held = (in_office.there db.schema held.has, (present_format, in_office.holds present_format db rows held))
 
   pub has_table : (s : State) → HasTables s → HasTable k s
   has_table s has runs = in_office.there s.now.schema (has runs)

@@ -8,7 +8,7 @@ use Rattle.vend_core.specs.declared.meter.Meter.{Meter}
 use Rattle.vend_core.specs.declared.sale.Sale.{Sale}
 use Rattle.vend_core.specs.declared.shift.Shift.{Shift}
 use Rattle.book_tables.specs.ReadBack.{ReadsBack}
-use Rattle.book_tables.specs.Rows.{StepRow, meter_columns, optional, sale_row, secret_of, shift_row, shown_meter, shown_number, shown_sale, shown_shift, shown_step, step_columns, tariff_columns}
+use Rattle.book_tables.specs.Rows.{DatedStepRow, StepRow, base_columns, dated_columns, meter_columns, optional, sale_row, secret_of, shift_row, shown_meter, shown_number, shown_sale, shown_shift, shown_step, step_columns, tariff_columns}
 use Rattle.book_tables.specs.Values.{IsKey}
 use Rattle.book_tables.proofs.KeyTextLemmas.{one_key}
 
@@ -114,6 +114,20 @@ pub one_meter : (a b : List ℕ × Meter) → IsKey a.1.key → IsKey b.1.key �
 one_meter a b small_a small_b e =
     let m : a.1 ≡ b.1 = one_shown_meter a.1 b.1 small_a small_b (cc) in
     let same : (a.0, a.1) ≡ (b.0, b.1) = cc in
+    same
+
+pub one_base_row : (a b : List ℕ × Base) → base_columns a ≡ base_columns b → a ≡ b
+one_base_row a b e =
+    let base : a.1 ≡ b.1 = one_base a.1 b.1 (cc) in
+    let same : (a.0, a.1) ≡ (b.0, b.1) = cc in
+    same
+
+pub one_dated : (a b : DatedStepRow) → dated_columns a ≡ dated_columns b → a ≡ b
+one_dated a b e =
+    let step : a.step ≡ b.step = one_shown_step a.step b.step (cc) in
+    let A : DatedStepRow = record { tariff = a.tariff; day = a.day; place = a.place; step = a.step } in
+    let B : DatedStepRow = record { tariff = b.tariff; day = b.day; place = b.place; step = b.step } in
+    let same : A ≡ B = cc in
     same
 
 pub one_shift : (a b : Shift) → shift_row a ≡ shift_row b → a ≡ b

@@ -15,7 +15,7 @@ use Rattle.one_table.specs.Listed.{no_limit}
 use Rattle.one_table.proofs.HiddenLemmas.{rising_hidden}
 use Rattle.one_table.proofs.TestsLemmas.{text_is}
 use Rattle.book_tables.specs.Reading.{AreOfOffice, FailsToReadOf, TableHolds}
-use Rattle.book_tables.specs.Kept.{steps_kept}
+use Rattle.book_tables.specs.Kept.{Kept, steps_kept}
 use Rattle.book_tables.specs.Rows.{Rows, StepRow, shown_step}
 use Rattle.book_tables.specs.Stands.{AreApart, AreMembersOf}
 use Rattle.book_tables.specs.Tables.{tariff_steps_table}
@@ -23,7 +23,7 @@ use Rattle.book_tables.specs.Values.{AreStepValues}
 use Rattle.book_tables.specs.declared.error.TableError.{TableError}
 use Rattle.book_tables.specs.declared.error.TableError.TheVariants.{Database, RowOfNoOffice}
 use Rattle.book_tables.proofs.ListingLemmas.{Lists}
-use Rattle.book_tables.proofs.MemberLemmas.{one_office}
+use Rattle.book_tables.proofs.MemberLemmas.{itself, same_tariff}
 use Rattle.book_tables.proofs.RowLemmas.{one_shown_step}
 use Rattle.book_tables.proofs.StepLemmas.{DifferInKey, pairs_that_pass, passes_there, permuted, row_there, rows_differ, rows_from, rows_rise, there_passes, there_row}
 use Rattle.book_tables.proofs.StepTexts.{step_names, steps_of_asks, steps_of_query, steps_of_text}
@@ -64,6 +64,21 @@ of_a_tariff shown (Some steps) keeps same some = subst IsSteps (sym same) keeps
 values_keep : (o : Office) → IsOffice o → (name : List ℕ) (tariff : Option (List Step)) → o.tariffs name ≡ tariff → All AreStepValues (listed_of tariff)
 values_keep o office name None e = All-nil AreStepValues
 values_keep o office name (Some steps) e = steps_keep o office name steps e
+
+-- why nothing is made of a list: it is of no office, or there was no memory
+module _ (k : Kept) (steps_in : Office → Option (List Step)) (keeps : (o : Office) → IsOffice o → IfSome (steps_in o) IsSteps) where
+  pub fails_to_make : (shown : List Step) (old new : State) → IsUnchanged old new
+      → ((rows : Rows) → TableHolds k old.now rows → AreOfOffice rows → (o : Office) → IsOffice o → AreMembersOf rows o → shown ≡ listed_of (steps_in o))
+      → {A : Type 0} (r : Result A TableError) → IfErr r (λ e. IsMemory e ⊎ ((e ≡ RowOfNoOffice) × (shown ≢ []) × ¬ IsSteps shown)) → IfErr r (FailsToReadOf (TableHolds k) old new)
+  fails_to_make shown old new same are (Ok x) why = why
+  fails_to_make shown old new same are (Err e) (inl is) = subst (FailsToReadOf (TableHolds k) old new) (sym is) (inr (refl, same))
+  fails_to_make shown old new same are (Err e) (inr (is, some, none)) =
+      subst (FailsToReadOf (TableHolds k) old new) (sym is) (
+        λ rows held of_office.
+            let (o, office, members) = of_office in
+            none (of_a_tariff shown (steps_in o) (keeps o office) (are rows held of_office o office members) some),
+        same,
+      )
 
 -- ---- the steps of the tariff of a name
 
@@ -109,18 +124,6 @@ module _ (name : List ℕ) where
   abbrev pub AreStepsOf : Rows → List Step → Type 0
   AreStepsOf rows found = (o : Office) → AreMembersOf rows o → found ≡ listed_of (o.tariffs name)
 
-  pub fails_to_make : (shown : List Step) (old new : State) → IsUnchanged old new → ((rows : Rows) → TableHolds steps_kept old.now rows → AreOfOffice rows → AreStepsOf rows shown)
-      → {A : Type 0} (r : Result A TableError) → IfErr r (λ e. IsMemory e ⊎ ((e ≡ RowOfNoOffice) × (shown ≢ []) × ¬ IsSteps shown)) → IfErr r (FailsToReadOf (TableHolds steps_kept) old new)
-  fails_to_make shown old new same are (Ok x) why = why
-  fails_to_make shown old new same are (Err e) (inl is) = subst (FailsToReadOf (TableHolds steps_kept) old new) (sym is) (inr (refl, same))
-  fails_to_make shown old new same are (Err e) (inr (is, some, none)) =
-      subst (FailsToReadOf (TableHolds steps_kept) old new) (sym is) (
-        λ rows held of_office.
-            let (o, office, members) = of_office in
-            none (of_a_tariff shown (o.tariffs name) (tariff_keeps o office name (o.tariffs name) refl) (are rows held of_office o members) some),
-        same,
-      )
-
   pub steps_of : Lists steps_kept steps_of_text (Text name ∷ []) shown_step AreStepValues AreStepsOf
   steps_of = record {
     table = tariff_steps_table;
@@ -134,7 +137,7 @@ module _ (name : List ℕ) where
         let o = of_office.0 in
         let found = listed_of (o.tariffs name) in (
           found,
-          λ other those. ap (λ (o : Office). listed_of (o.tariffs name)) (one_office rows o other of_office.2 those),
+          λ other those. ap listed_of (same_tariff rows rows (itself rows) o other of_office.2 those name),
           rising_hidden (record { holds_them = held.1.1.0; some = λ r none. cc; passes = λ hidden r. last_term (text_is r.tariff name); shows = λ hidden r. refl }) 2 (λ r. pos r.place) (λ hidden r. refl) no_limit answer
               (rows_from name 0 found) (rows_are rows o of_office.2) (rows_rise name 0 found) is ∙ shown_are 0 found,
         );

@@ -1,17 +1,13 @@
 -- What the rows are after a tariff with its steps was added, row by row.
-use Rattle.std.proofs.Common.{◌≡◌, ℕ, ◌+◌, IsTrue, List, [], ◌∷◌, ◌++◌, length, map, codes, sym, ap, subst, ◌∙◌, arith, append-nil, append_assoc}
-use Rattle.std.specs.List.{AllByRecursion, enumerate_from}
-use Rattle.sqlite_rules.specs.Edit.{IsNoIndex}
+use Rattle.std.proofs.Common.{◌≡◌, ℕ, ◌+◌, List, [], ◌∷◌, ◌++◌, length, map, codes, sym, ap, subst, ◌∙◌, arith, append-nil, append_assoc}
+use Rattle.std.specs.List.{enumerate_from}
 use Rattle.sqlite.specs.State.{State}
-use Rattle.sqlite_keyed.proofs.ListLemmas.{all_both, all_weaker}
-use Rattle.sqlite_schema.specs.declared.schema.Schema.{Schema}
-use Rattle.sqlite_schema.specs.declared.schema.Table.{Table}
 use Rattle.tariff.specs.declared.step.Step.{Step}
 use Rattle.book_tables.specs.Edited.{step_rows}
-use Rattle.book_tables.specs.Holds.{HasOffice, Holds}
+use Rattle.book_tables.specs.Holds.{Holds}
 use Rattle.book_tables.specs.Rows.{StepRow}
-use Rattle.one_table.proofs.ChangeLemmas.{stays_then}
-use Rattle.book_tables.specs.Writing.{AddsName, AddsStep, AddsTariff, IsOfNone, WritesOnly}
+use Rattle.book_tables.specs.Writing.{AddsName, AddsStep, AddsTariff, WritesOnly}
+use Rattle.book_tables.proofs.OnlyLemmas.{only_among, only_both}
 
 -- ---- lists
 
@@ -29,28 +25,10 @@ abbrev both : List (List ℕ)
 both = codes "tariffs" ∷ codes "tariff_steps" ∷ []
 
 first_only : (old new : State) → WritesOnly (codes "tariffs" ∷ []) old new → WritesOnly both old new
-first_only old new only = record {
-  inside = only.inside;
-  marks = only.marks;
-  schema = only.schema;
-  tables = all_weaker _ _ (λ u kept apart. kept (apart.0, tt)) old.now.schema.tables only.tables;
-  others = λ tree apart none. only.others tree (apart.0, tt) none;
-  sound = only.sound;
-}
+first_only = only_among (codes "tariffs" ∷ []) both (λ s tree apart. (apart.0, tt))
 
 then_second : (old mid new : State) → WritesOnly both old mid → WritesOnly (codes "tariff_steps" ∷ []) mid new → WritesOnly both old new
-then_second old mid new first second = record {
-  inside = stays_then old mid new first.inside second.inside;
-  marks = second.marks ∙ first.marks;
-  schema = second.schema ∙ first.schema;
-  tables = all_both _ _ _ (λ u kept later apart. later (there u.tree apart) ∙ kept apart) old.now.schema.tables first.tables
-      (subst (λ (s : Schema). AllByRecursion (λ (u : Table). IsOfNone mid.now.schema (codes "tariff_steps" ∷ []) u.tree → new.now.trees u.tree ≡ mid.now.trees u.tree) s.tables) first.schema second.tables);
-  others = λ tree apart none. second.others tree (there tree apart) (subst (λ (s : Schema). IsNoIndex s tree) (sym first.schema) none) ∙ first.others tree apart none;
-  sound = second.sound;
-}
-  where
-    there : (tree : ℕ) → IsOfNone old.now.schema both tree → IsOfNone mid.now.schema (codes "tariff_steps" ∷ []) tree
-    there tree apart = subst (λ (s : Schema). IsOfNone s (codes "tariff_steps" ∷ []) tree) (sym first.schema) (apart.1.0, tt)
+then_second old mid new first second = only_both both old mid new first (only_among (codes "tariff_steps" ∷ []) both (λ s tree apart. (apart.1.0, tt)) mid new second)
 
 -- ---- a tariff
 
@@ -83,7 +61,3 @@ pub adds_next : (name : List ℕ) (xs : List Step) (place : ℕ) (s : Step) (old
     → AddsTariff name (xs ++ s ∷ []) old new
 adds_next name xs place s old mid new is first added =
     adds_at_end name xs s old mid new first (subst (λ (n : ℕ). AddsStep (record { tariff = name; place = n; step = s }) mid new) is added)
-
--- the office's tables are still there
-pub still_has : (name : List ℕ) (xs : List Step) (old mid : State) → AddsTariff name xs old mid → (IsTrue old.is_open → HasOffice old.now.schema) → IsTrue mid.is_open → HasOffice mid.now.schema
-still_has name xs old mid adds has is = subst HasOffice (sym adds.only.schema) (has adds.only.inside.was_open)

@@ -15,7 +15,7 @@ use Rattle.one_table.proofs.UpdateLemmas.{sets_listed}
 use Rattle.vend_core.specs.Fold.{closed_at}
 use Rattle.vend_core.specs.declared.shift.Shift.{Shift}
 use Rattle.book_tables.specs.Edited.{shift_closed}
-use Rattle.book_tables.specs.Rows.{optional, shift_columns, shift_row}
+use Rattle.book_tables.specs.Rows.{optional, present_format, shift_columns, shift_row}
 use Rattle.book_tables.specs.Tables.{shifts_table}
 use Rattle.book_tables.specs.Writing.{AddsShift, ClosesShift}
 use Rattle.book_tables.proofs.FoundLemmas.{found_numbered}
@@ -130,7 +130,7 @@ module _ (old new : State) (s : Sale) (params : Row) (bound : params ≡ sale_co
             let put = h.changed.rows_are ∙ ap (λ (r : Row). put_row r (old.now.trees sales.tree)) row
             ∙ ap (put_row (sale_row s)) held.are.1.1.1.1.1.0
             ∙ appends (λ (x : Sale). pos x.number) sale_row (λ x. refl) rows.sales s (numbers_rise (λ (x : Sale). x.number) rows.sales next.numbered) (next_number (λ (x : Sale). x.number) rows.sales s.number next) in
-            sales_changed old.now new.now rows held (rows.sales ++ s ∷ []) (changes_only (codes "sales") old new only) put;
+            sales_changed present_format old.now new.now rows held (rows.sales ++ s ∷ []) (changes_only (codes "sales") old new only) put;
       }
 
 -- ---- a new shift
@@ -152,7 +152,7 @@ module _ (old new : State) where
             ap (λ (p : Row). new_row shifts new_shift_terms p (old.now.trees shifts.tree)) bound ∙ shift_is shifts.tree s (old.now.trees shifts.tree) in
             let put = h.changed.rows_are ∙ ap (λ (r : Row). put_row r (old.now.trees shifts.tree)) row ∙ ap (put_row (shift_row s)) held.are.1.1.1.1.0
             ∙ appends (λ (x : Shift). pos x.number) shift_row (λ x. refl) rows.shifts s (numbers_rise (λ (x : Shift). x.number) rows.shifts next.numbered) (next_number (λ (x : Shift). x.number) rows.shifts s.number next) in
-            shifts_changed old.now new.now rows held (rows.shifts ++ s ∷ []) (changes_only (codes "shifts") old new only) put;
+            shifts_changed present_format old.now new.now rows held (rows.shifts ++ s ∷ []) (changes_only (codes "shifts") old new only) put;
       }
 
   -- ---- a shift that is closed
@@ -179,5 +179,5 @@ module _ (old new : State) where
             let one : length (filter (is_that number) rows.shifts) ≤ 1 = subst (λ (l : List Shift). length l ≤ 1) (sym (found_numbered (λ (s : Shift). s.number) rows.shifts number numbered)) (few (find (is_that number) rows.shifts)) in
             let changed = sets_listed shifts is_that_shift shift_closed_terms (Int (pos number) ∷ Int (pos moment) ∷ []) (λ (s : Shift). pos s.number) shift_row (is_that number) (closed_at moment) (closing number moment)
             old new rows.shifts set held.are.1.1.1.1.0 (numbers_rise (λ (s : Shift). s.number) rows.shifts numbered) one in
-            shifts_changed old.now new.now rows held (map (shift_closed number moment) rows.shifts) (changes_only (codes "shifts") old new only) changed.rows_are;
+            shifts_changed present_format old.now new.now rows held (map (shift_closed number moment) rows.shifts) (changes_only (codes "shifts") old new only) changed.rows_are;
       }

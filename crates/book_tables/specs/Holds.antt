@@ -1,19 +1,18 @@
 -- The office's tables in a database, and the office that a database stands for. Other tables do not
 -- count.
-use Rattle.std.specs.Prelude.{◌≡◌, ◌≤◌, ℕ, Bool, true, false, not, List, map, drop, IsTrue}
+use Rattle.std.specs.Prelude.{◌≡◌, ◌≤◌, ℕ, Bool, true, false, not, List, map, drop}
 use Rattle.std.specs.List.{AllByRecursion, list_all}
 use Rattle.sqlite.specs.Effect.{Database}
 use Rattle.sqlite.specs.Order.{Row}
 use Rattle.sqlite_catalog.specs.Change.{is_used}
 use Rattle.sqlite_schema.specs.declared.schema.Schema.{Schema}
-use Rattle.sqlite_trees.specs.Tree.{IsTable, rowid}
-use Rattle.sqlite_trees.specs.View.{is_int}
+use Rattle.one_table.specs.Numbered.{IsInOrder}
 use Rattle.one_table.specs.Referring.{is_harmless, is_left_alone, is_unreferred}
 use Rattle.one_table.specs.Standing.{Stands, tree_in}
 use Rattle.vend_core.specs.Office.{IsOffice, Office, empty_office}
 use Rattle.book_tables.specs.Kept.{Kept, kept, later, kept_names, upto}
 use Rattle.book_tables.specs.Rows.{Rows, present_format}
-use Rattle.book_tables.specs.Stands.{AreMembersOf}
+use Rattle.book_tables.specs.Stands.{AreMembersOf, IsOfFormat}
 
 -- the names of the tables of all formats
 abbrev pub table_names : List (List ℕ)
@@ -45,11 +44,6 @@ IsUntaken s = HasOfficeOf 0 s
 abbrev pub rows_in : Database → List ℕ → List Row
 rows_in db name = db.trees (tree_in db.schema name)
 
--- the numbers of the rows, which stand in front of their columns, are whole and rise
-pub record IsInOrder (rows : List Row) : Type 0 where
-  pub rises : IsTable rows
-  pub are_numbers : AllByRecursion (λ r. IsTrue (is_int (rowid r))) rows
-
 -- The rows are these, or these after their hidden numbers. SQLite keeps rows in the order of their
 -- numbers, but no clause of `sqlite` says that of a database that is found, so it is said here: then
 -- a new row stands last.
@@ -66,6 +60,7 @@ HoldsRows db told rows k = AreStoredRows k.is_numbered (rows_in db k.table.name)
 pub record HoldsOf (n told : ℕ) (db : Database) (rows : Rows) : Type 0 where
   pub has : HasOfficeOf n db.schema
   pub are : AllByRecursion (HoldsRows db told rows) (upto n)
+  pub of_format : IsOfFormat n rows
 
 abbrev pub Holds : Database → Rows → Type 0
 Holds db rows = HoldsOf present_format present_format db rows

@@ -1,39 +1,87 @@
--- The tables of an office that are made in a database, beside whatever other tables it has.
-use Rattle.std.specs.Prelude.{◌≡◌, ℕ, true, List, fold, IsTrue}
+-- The tables of an office that are made in a database, beside whatever other tables it has, and the
+-- tables of an older format that are brought up to the present one.
+use Rattle.std.specs.Prelude.{◌≡◌, ℕ, zero, suc, true, [], ◌∷◌, codes, fold, map, IsTrue}
+use Rattle.std.specs.List.{AllByRecursion}
 use Rattle.sqlite.specs.Effect.{Database, IsDatabase}
 use Rattle.sqlite.specs.State.{Shows, State}
 use Rattle.sqlite.specs.Table.{Table}
-use Rattle.sqlite_catalog.specs.Change.{KeepsRows}
 use Rattle.one_table.specs.Making.{made}
 use Rattle.one_table.specs.Place.{Has}
-use Rattle.vend_core.specs.Office.{empty_office}
+use Rattle.vend_core.specs.Office.{IsOffice, Office}
 use Rattle.book_tables.specs.Edited.{no_rows}
-use Rattle.book_tables.specs.Holds.{Holds, IsUntaken, StandsFor}
-use Rattle.book_tables.specs.Kept.{kept_tables, upto}
-use Rattle.book_tables.specs.Rows.{present_format}
+use Rattle.book_tables.specs.Holds.{HasOffice, HasOfficeOf, Holds, HoldsMembers, HoldsOf, StandsFor}
+use Rattle.book_tables.specs.Kept.{kept_names, kept_tables, later, upto}
+use Rattle.book_tables.specs.Rows.{Rows, present_format}
+use Rattle.book_tables.specs.Stands.{AreTotalsOf}
+use Rattle.book_tables.specs.declared.error.TableError.{TableError}
+use Rattle.book_tables.specs.declared.error.TableError.TheVariants as fails
+use Rattle.book_tables.specs.Writing.{IsOfNone, WritesOnly, totals_names, with_totals_of}
 
--- the tables of the present format, in the order in which they are made
-abbrev pub office_tables : List Table
-office_tables = kept_tables (upto present_format)
+-- while the connection is open, its database is sound and has the tables of a format
+abbrev pub HasFormatTables : ℕ → State → Type 0
+HasFormatTables n s = IsTrue s.is_open → IsDatabase s.now × HasOfficeOf n s.now.schema
 
--- while the connection is open, its database is sound and has room for the office's tables
-abbrev pub HasRoom : State → Type 0
-HasRoom s = IsTrue s.is_open → IsDatabase s.now × IsUntaken s.now.schema
+-- the rows of the tables of a format, and none of those that it lacks
+abbrev pub rows_upto : ℕ → Rows → Rows
+rows_upto zero rows = no_rows
+rows_upto (suc zero) rows =
+    record rows { last_ids = []; month_tenths = []; shift_totals = []; bases = []; dated_steps = [] }
+rows_upto (suc (suc zero)) rows = record rows { bases = []; dated_steps = [] }
+rows_upto (suc (suc (suc zero))) rows = record rows { dated_steps = [] }
+rows_upto (suc (suc (suc (suc n)))) rows = rows
 
--- None of the names was taken. Now the office's tables are there, and hold nothing but the number of
--- their format: the empty office. Whatever else was there stays.
-pub record BeginsOffice (old new : Database) : Type 0 where
-  pub untaken : IsUntaken old.schema
-  pub empty : Holds new no_rows
-  pub stands : StandsFor new empty_office
-  -- nothing but the six tables is added to the schema
-  pub schema : new.schema ≡ fold made old.schema office_tables
-  -- each table that was there has its place, its definition and its rows
-  pub places : (at : ℕ) (t : Table) → Has old.schema at t → Has new.schema at t
-  pub rows : KeepsRows old.schema.tables old.trees new.trees
+-- what stands beside the tables of a format: nothing but the tables that it lacks is added to the
+-- schema, each table has its place, and those of other names their rows
+pub record LeavesBeside (from : ℕ) (old new : Database) : Type 0 where
+  pub schema : new.schema ≡ fold made old.schema (kept_tables (later from))
+  pub places : (at : ℕ) (t : Table) → Has old.schema at t
+      → Has new.schema at t
+  pub others : AllByRecursion (λ u. IsOfNone old.schema (kept_names (upto from)) u.tree
+      → new.trees u.tree ≡ old.trees u.tree) old.schema.tables
   pub sound : IsDatabase new
 
--- The office begins inside a transaction: the connection is in it, and nothing is committed.
-pub record MakesOffice (old new : State) : Type 0 where
+-- the tables that a format lacks are made, with nothing in them
+pub record MakesMissing (from : ℕ) (old new : Database) : Type 0 where
+  pub had : HasOfficeOf from old.schema
+  pub rows : (rows : Rows) → HoldsOf from from old rows
+      → HoldsOf present_format from new (rows_upto from rows)
+  pub beside : LeavesBeside from old new
+
+-- `about` tells the present format, where it told another or none
+pub record TellsPresent (told : ℕ) (old new : State) : Type 0 where
+  pub only : WritesOnly (codes "about" ∷ []) old new
+  pub rows : (rows : Rows) → HoldsOf present_format told old.now rows → Holds new.now rows
+
+-- the totals are those of all sales, where there were none
+pub record FillsTotals (old new : State) : Type 0 where
+  pub only : WritesOnly totals_names old new
+  pub rows : (told : ℕ) (rows : Rows) (o : Office) → IsOffice o → rows.sales ≡ o.sales
+      → HoldsOf present_format told old.now rows → AreTotalsOf [] rows
+      → (totals : Rows) × HoldsOf present_format told new.now (with_totals_of totals rows)
+      × AreTotalsOf o.sales totals
+
+-- each meter's present base is one that it had, where no base was
+pub record FillsBases (old new : State) : Type 0 where
+  pub only : WritesOnly (codes "meter_bases" ∷ []) old new
+  pub rows : (told : ℕ) (rows : Rows) → HoldsOf present_format told old.now rows → rows.bases ≡ []
+      → HoldsOf present_format told new.now
+      (record rows { bases = map (λ r. (r.0, r.1.base)) rows.meters })
+
+-- The database has the present tables in place of those of a format, or of none, and holds the
+-- office that it stood for: the empty one, where there was none.
+pub record BringsOffice (from : ℕ) (old new : Database) : Type 0 where
+  pub had : HasOfficeOf from old.schema
+  pub has : HasOffice new.schema
+  pub members : (o : Office) → StandsFor old o → HoldsMembers new o
+  pub beside : LeavesBeside from old new
+
+-- it is not, where a row is that of no office: then the database stands for none
+abbrev pub TellsOf : ℕ → Database → TableError → Type 0
+TellsOf from old (fails.Database e) = Unit {0}
+TellsOf from old fails.RowOfNoOffice =
+    IsDatabase old → HasOfficeOf from old.schema → (o : Office) → ¬ StandsFor old o
+
+-- The same inside a transaction: the connection is in it, and nothing is committed.
+pub record Brings (from : ℕ) (old new : State) : Type 0 where
   pub inside : Shows old new new.now old.committed true
-  pub begins : BeginsOffice old.now new.now
+  pub brings : BringsOffice from old.now new.now

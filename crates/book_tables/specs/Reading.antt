@@ -1,24 +1,31 @@
 -- What a connection has of the office's tables, and why a read or a write of them fails.
-use Rattle.std.specs.Prelude.{◌≡◌, ◌⊎◌, ℕ, List, Result, IfOk, IsTrue}
+use Rattle.std.specs.Prelude.{◌≡◌, ◌⊎◌, ◌≤◌, ◌<◌, ℕ, List, Option, None, Some, Result, IfOk, IsSome, IsTrue}
 use Rattle.sqlite.specs.Effect.{Database}
 use Rattle.sqlite.specs.Order.{Row}
 use Rattle.sqlite.specs.State.{HasCleanDisk, IsUnchanged, State}
 use Rattle.sqlite.specs.declared.error.Error.TheVariants.{SqliteFailure}
 use Rattle.sqlite.specs.declared.error.ErrorCode.TheVariants.{OutOfMemory}
 use Rattle.sqlite_schema.specs.declared.command.Command.{Command}
+use Rattle.sqlite_schema.specs.declared.schema.Table.{Table}
 use Rattle.one_table.specs.Answer.{FailsToRead as FailsToAnswer}
 use Rattle.one_table.specs.InTransaction.{FailsToWrite}
+use Rattle.one_table.specs.Merges.{FailsToTouch}
 use Rattle.one_table.specs.Reading.{FailsPlainly}
-use Rattle.one_table.specs.ReadsOnly.{ReadsOnly}
+use Rattle.one_table.specs.ReadsOnly.{ReadsInside, ReadsOnly}
+use Rattle.one_table.specs.Upserting.{Merging}
 use Rattle.one_table.specs.declared.read_fault.ReadFault.{ReadFault}
 use Rattle.one_table.specs.declared.read_fault.ReadFault.TheVariants as fault
+use Rattle.tariff.specs.declared.step.Step.{Step}
 use Rattle.vend_core.specs.Office.{IsOffice, Office}
+use Rattle.vend_core.specs.OfficeLaws.{NoneBegun}
+use Rattle.vend_core.specs.declared.meter.Meter.{Meter}
 use Rattle.book_tables.specs.Holds.{HasOffice, Holds, HoldsRows, IsKept}
 use Rattle.book_tables.specs.Kept.{Kept}
 use Rattle.book_tables.specs.Rows.{Rows}
 use Rattle.book_tables.specs.Stands.{AreMembersOf}
 use Rattle.book_tables.specs.declared.error.TableError.{TableError}
 use Rattle.book_tables.specs.declared.error.TableError.TheVariants as fails
+use Rattle.book_tables.specs.declared.paging.MeterBase.{MeterBase}
 
 -- the rows are the members of an office
 abbrev pub AreOfOffice : Rows → Type 0
@@ -58,6 +65,28 @@ abbrev pub ReadsTable : {T : Type 0} → Kept → State → State → Result T T
 ReadsTable k old new result =
     ReadsOnly (HasTable k) IsUnchanged (FailsToReadOf (TableHolds k)) old new result
 
+-- the same inside a transaction, which `KeepsTransaction` says of any statement
+abbrev pub ReadsTableInside : {T : Type 0} → Kept → State → State → Result T TableError → Type 0
+ReadsTableInside k old new result =
+    ReadsInside (HasTable k) (FailsToReadOf (TableHolds k)) old new result
+
+-- ---- steps of later days, by first day
+
+-- steps begin on the first day, which is not after the day, and none begin between
+pub record IsLastBegun (dated : ℕ → Option (List Step)) (day first : ℕ) : Type 0 where
+  pub not_after : first ≤ day
+  pub there : IsSome (dated first)
+  pub none_between : (other : ℕ) → first < other → other ≤ day → dated other ≡ None
+
+-- the last day until the day on which steps begin, or that none have begun
+abbrev pub IsFirstDay : (ℕ → Option (List Step)) → ℕ → Option ℕ → Type 0
+IsFirstDay dated day None = NoneBegun dated day
+IsFirstDay dated day (Some first) = IsLastBegun dated day first
+
+-- the present base of a meter
+abbrev pub present_base : (List ℕ × Meter) → MeterBase
+present_base m = record { number = m.0; base = m.1.base }
+
 -- ---- all tables
 
 -- the same of the tables of the present format
@@ -81,6 +110,14 @@ abbrev pub FailsToStore : State → State → TableError → Type 0
 FailsToStore old new (fails.Database e) =
     (command : Command) × (params : Row) × FailsToWrite command params old new e
 FailsToStore old new fails.RowOfNoOffice = ⊥
+
+-- the same of an upsert, of which a row comes back: this may be no office's
+abbrev pub FailsToMerge : State → State → TableError → Type 0
+FailsToMerge old new (fails.Database e) =
+    (t : Table) × (m : Merging) × (params : Row) × (at : ℕ)
+    × FailsToTouch t m params old new at (fault.Database e)
+FailsToMerge old new fails.RowOfNoOffice =
+    (t : Table) × (m : Merging) × (params : Row) × (at : ℕ) × FailsToTouch t m params old new at fault.Row
 
 -- what is told of a reader's fault: rows that add up to too much are no office's either
 abbrev pub told : ReadFault → TableError

@@ -1,4 +1,4 @@
--- The office's six tables, as their texts define them, each by the number of its tree.
+-- The office's tables, as their texts define them, each by the number of its tree.
 use Rattle.std.specs.Prelude.{ℕ, Bool, true, false, List, [], ◌∷◌, map, Option, Some, None, codes}
 use Rattle.sqlite.specs.Collation.TheVariants.{Binary}
 use Rattle.sqlite.specs.Kind.{Kind}
@@ -111,3 +111,35 @@ sales_table tree =
     (Some 0) (0 ∷ []) ((5 ∷ 6 ∷ []) ∷ (7 ∷ 8 ∷ 9 ∷ []) ∷ [])
     (reference_to 4 (codes "shifts") (codes "number") ∷ reference_to 7 (codes "meters")
     (codes "meter") ∷ [])
+
+abbrev pub last_ids_table : ℕ → Table
+last_ids_table tree =
+    strict_table (codes "last_ids") tree
+    (text_column (codes "meter") ∷ number_column (codes "base") ∷ number_column (codes "tid") ∷ [])
+    None [] ((1 ∷ 2 ∷ []) ∷ []) []
+
+abbrev pub month_tenths_table : ℕ → Table
+month_tenths_table tree =
+    strict_table (codes "month_tenths") tree
+    (text_column (codes "meter") ∷ number_column (codes "month") ∷ number_column (codes "tenths") ∷ [])
+    None [] ((1 ∷ 2 ∷ []) ∷ []) []
+
+abbrev pub shift_totals_table : ℕ → Table
+shift_totals_table tree =
+    strict_table (codes "shift_totals") tree
+    (key_column (codes "shift") ∷ number_column (codes "sales") ∷ number_column (codes "tenths")
+    ∷ number_column (codes "cash") ∷ [])
+    (Some 0) (0 ∷ []) [] []
+
+abbrev pub meter_bases_table : ℕ → Table
+meter_bases_table tree =
+    strict_table (codes "meter_bases") tree
+    (text_column (codes "meter") ∷ number_column (codes "base") ∷ [])
+    None [] ((1 ∷ 2 ∷ []) ∷ []) (reference_to 1 (codes "meters") (codes "meter") ∷ [])
+
+abbrev pub dated_steps_table : ℕ → Table
+dated_steps_table tree =
+    strict_table (codes "dated_steps") tree
+    (text_column (codes "tariff") ∷ number_column (codes "day") ∷ number_column (codes "place")
+    ∷ optional_column (codes "ends") ∷ number_column (codes "price") ∷ [])
+    None [] ((1 ∷ 2 ∷ 3 ∷ []) ∷ []) (reference_to 1 (codes "tariffs") (codes "name") ∷ [])

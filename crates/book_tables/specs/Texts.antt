@@ -18,3 +18,18 @@ shifts_text = codes "CREATE TABLE shifts (number INTEGER PRIMARY KEY, operator T
 
 abbrev pub sales_text : List ℕ
 sales_text = codes "CREATE TABLE sales (number INTEGER PRIMARY KEY, moment INTEGER NOT NULL, month INTEGER NOT NULL, shift INTEGER NOT NULL REFERENCES shifts (number), operator TEXT NOT NULL, ref TEXT NOT NULL, meter TEXT NOT NULL REFERENCES meters (meter), base INTEGER NOT NULL, tid INTEGER NOT NULL, rnd INTEGER NOT NULL, tenths INTEGER NOT NULL, price INTEGER NOT NULL, tender INTEGER NOT NULL, digits TEXT NOT NULL, UNIQUE (operator, ref), UNIQUE (meter, base, tid)) STRICT"
+
+abbrev pub last_ids_text : List ℕ
+last_ids_text = codes "CREATE TABLE last_ids (meter TEXT NOT NULL, base INTEGER NOT NULL, tid INTEGER NOT NULL, UNIQUE (meter, base)) STRICT"
+
+abbrev pub month_tenths_text : List ℕ
+month_tenths_text = codes "CREATE TABLE month_tenths (meter TEXT NOT NULL, month INTEGER NOT NULL, tenths INTEGER NOT NULL, UNIQUE (meter, month)) STRICT"
+
+abbrev pub shift_totals_text : List ℕ
+shift_totals_text = codes "CREATE TABLE shift_totals (shift INTEGER PRIMARY KEY, sales INTEGER NOT NULL, tenths INTEGER NOT NULL, cash INTEGER NOT NULL) STRICT"
+
+abbrev pub meter_bases_text : List ℕ
+meter_bases_text = codes "CREATE TABLE meter_bases (meter TEXT NOT NULL REFERENCES meters (meter), base INTEGER NOT NULL, UNIQUE (meter, base)) STRICT"
+
+abbrev pub dated_steps_text : List ℕ
+dated_steps_text = codes "CREATE TABLE dated_steps (tariff TEXT NOT NULL REFERENCES tariffs (name), day INTEGER NOT NULL, place INTEGER NOT NULL, ends INTEGER, price INTEGER NOT NULL, UNIQUE (tariff, day, place)) STRICT"

@@ -12,6 +12,7 @@ use Rattle.vend_core.specs.Office.{greatest_count}
 use Rattle.vend_core.specs.declared.meter.Meter.{Meter}
 use Rattle.vend_core.specs.declared.sale.Sale.{Sale}
 use Rattle.vend_core.specs.declared.shift.Shift.{Shift}
+use Rattle.book_tables.specs.declared.totals.Totals.{Totals}
 
 -- a number from the first bound to the second
 abbrev pub IsFromTo : ℕ → ℕ → ℕ → Type 0
@@ -36,6 +37,13 @@ IsTid tid = tid ≤ last_tid
 -- an amount that a sale can be of: one that a token can carry
 abbrev pub IsSoldAmount : ℕ → Type 0
 IsSoldAmount tenths = IsRepresentable tenths
+
+-- the greatest number of a running total: more than all sales of an office add up to
+abbrev pub greatest_total : ℕ
+greatest_total = 10 ^ 18
+
+abbrev pub IsTotal : ℕ → Type 0
+IsTotal n = n ≤ greatest_total
 
 -- a key is a number of 64 bits
 abbrev pub IsKey : ℕ → Type 0
@@ -67,3 +75,8 @@ pub record AreSaleValues (s : Sale) : Type 0 where
   pub price : s.price ≤ s.tender
   pub tender : IsTender s.tender
   pub digits : AreTwentyDigits s.digits
+
+pub record AreTotalsValues (t : Totals) : Type 0 where
+  pub sales : IsTotal t.sales
+  pub tenths : IsTotal t.tenths
+  pub cash : IsTotal t.cash

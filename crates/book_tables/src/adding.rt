@@ -5,8 +5,9 @@ ghost use Rattle.sqlite.specs.State.{HasCleanDisk};
 ghost use Rattle.sqlite.specs.Held.{state};
 ghost use Rattle.one_table.specs.InTransaction.{KeepsTransaction};
 ghost use Rattle.book_tables.specs.Reading.{HasTables};
-ghost use Rattle.book_tables.specs.Writing.{AddsMeter, AddsName, AddsSale, AddsShift, AddsStep, AddsTariff, WritesTables};
+ghost use Rattle.book_tables.specs.Writing.{AddsMeter, AddsMeterRow, AddsName, AddsSale, AddsShift, AddsStep, AddsTariff, WritesTables};
 
+use crate::bases::add_base;
 use crate::error::TableError;
 use crate::storing::put;
 use crate::texts::{NEW_METER, NEW_SALE, NEW_SHIFT, NEW_STEP, NEW_TARIFF};
@@ -41,7 +42,27 @@ pub fn add_shift<S: Alter>(tx: &mut Transaction<'_, S>, shift: &Shift) -> Result
     put(tx, NEW_SHIFT, &shift_values(shift))
 }
 
-/// Adds a meter, with its number and its key.
+/// Adds the row of a meter, with its number and its key.
+///
+/// # Errors
+/// What the database refuses: a number that is taken, a tariff that is not there; want of memory,
+/// and the disk.
+fn add_meter_row<S: Alter>(
+    tx: &mut Transaction<'_, S>,
+    number: &MeterNo,
+    meter: &Meter,
+) -> Result<(), TableError>
+    ensures same_reference { tx.new.conn.ghost_name ≡ tx.old.conn.ghost_name }
+    ensures writes { WritesTables (AddsMeterRow number.now meter.now)
+        (state S.Store tx.old.conn.now) (state S.Store tx.new.conn.now) result }
+{
+    let secret = key_text(meter.key);
+    put(tx, NEW_METER, &meter_values(number, meter, &secret))
+}
+
+/// Adds a meter, with its number, its key and its base.
+///
+/// What was added before an error goes with the transaction, which the caller drops.
 ///
 /// # Errors
 /// What the database refuses: a number that is taken, a tariff that is not there; want of memory,
@@ -52,11 +73,15 @@ pub fn add_meter<S: Alter>(
     meter: &Meter,
 ) -> Result<(), TableError>
     ensures same_reference { tx.new.conn.ghost_name ≡ tx.old.conn.ghost_name }
-    ensures writes { WritesTables (AddsMeter number.now meter.now)
+    ensures added { HasCleanDisk (state S.Store tx.new.conn.now)
+        → HasTables (state S.Store tx.old.conn.now)
+        → OnOk result (AddsMeter number.now meter.now
+        (state S.Store tx.old.conn.now) (state S.Store tx.new.conn.now)) }
+    ensures transaction { KeepsTransaction
         (state S.Store tx.old.conn.now) (state S.Store tx.new.conn.now) result }
 {
-    let secret = key_text(meter.key);
-    put(tx, NEW_METER, &meter_values(number, meter, &secret))
+    add_meter_row(tx, number, meter)?;
+    add_base(tx, number, meter.base)
 }
 
 /// Adds the name of a tariff, with no steps.

@@ -9,17 +9,18 @@ ghost use Rattle.sqlite_value.specs.declared.value.Value.TheVariants.{Int, Text}
 ghost use Rattle.sqlite_value.specs.Order.{column};
 ghost use Rattle.sqlite_value.specs.Value.{owned};
 ghost use Rattle.sts_fields.specs.Base.{year_of};
+ghost use Rattle.sts_fields.specs.Day.{IsDay};
 ghost use Rattle.sts_token.specs.Token.{AreTwentyDigits};
 ghost use Rattle.tariff.specs.Tender.{IsTender};
 ghost use Rattle.vend_core.specs.Names.{IsMeterNo, IsName, IsOperator};
 ghost use Rattle.sts_fields.specs.Moment.{IsMoment};
 ghost use Rattle.book_tables.specs.ReadBack.{ReadsBack};
 ghost use Rattle.book_tables.specs.Rows.{number, optional, secret_of};
-ghost use Rattle.book_tables.specs.Values.{IsClosing, IsEnd, IsFromTo, IsKey, IsNumber, IsSoldAmount, IsTid};
+ghost use Rattle.book_tables.specs.Values.{IsClosing, IsEnd, IsFromTo, IsKey, IsNumber, IsSoldAmount, IsTid, IsTotal};
 
 use sqlite::Row;
 use sqlite::types::ValueRef;
-use sts_fields::{Amount, Base, Moment, amount_law};
+use sts_fields::{Amount, Base, Day, Moment, amount_law};
 use sts_token::read_key;
 use tariff::Tender;
 use vend_core::{MeterNo, Operator, Ref, TariffName};
@@ -83,6 +84,23 @@ pub(crate) fn tid_at(row: &Row, at: usize) -> Option<u32>
     between_at(row, at, 0, 16_777_215)
 }
 
+/// A number from 0 up, where 64 bits hold it with a sign.
+fn long_at(row: &Row, at: usize) -> Option<u64>
+    ensures { ReadsBack number (λ n. n < 2 ^ 63) (column row.now at) result }
+{
+    whole_at(row, at).and_then(|whole| u64::try_from(whole).ok())
+}
+
+/// A running total.
+pub(crate) fn total_at(row: &Row, at: usize) -> Option<u64>
+    ensures { ReadsBack number IsTotal (column row.now at) result }
+{
+    match long_at(row, at) {
+        Some(total) if total <= 1_000_000_000_000_000_000 => Some(total),
+        _ => None,
+    }
+}
+
 /// A number of four bits.
 pub(crate) fn nibble_at(row: &Row, at: usize) -> Option<u8>
     ensures { ReadsBack number (λ nibble. nibble < 2 ^ 4) (column row.now at) result }
@@ -116,6 +134,13 @@ pub(crate) fn closing_at(row: &Row, at: usize) -> Option<Option<Moment>>
         ValueRef::Int(seconds) => Moment::of_secs(seconds).map(Some),
         _ => None,
     }
+}
+
+/// A day, by its number.
+pub(crate) fn day_at(row: &Row, at: usize) -> Option<Day>
+    ensures { ReadsBack number IsDay (column row.now at) result }
+{
+    word_at(row, at).and_then(Day::of_days)
 }
 
 /// A base date, by its year.

@@ -1,28 +1,27 @@
 //! What holds of the office's tables, whatever statement is run on them.
 
-ghost use Rattle.std.specs.Prelude.{◌≡◌, ◌⊎◌, ◌≤◌, ◌<◌, ◌&&◌, ◌==◌, ℕ, true, List, [], Option, None, Some, All, Ok, bytes_eq, filter, is_none, length, map, option_map, slice_get, unwrap_or};
+ghost use Rattle.std.specs.Prelude.{◌≡◌, ◌≤◌, ◌&&◌, ◌==◌, ℕ, true, false, List, Option, Some, All, Ok, bytes_eq, filter, is_none, map, option_map};
+ghost use Rattle.std.specs.List.{AllByRecursion};
 ghost use Rattle.std.specs.Option.{option_to_list};
 ghost use Rattle.sqlite.specs.Effect.{Database};
 ghost use Rattle.sqlite_resolve.specs.Compile.{table_defined_by};
+ghost use Rattle.sqlite_schema.specs.declared.schema.Schema.{Schema};
 ghost use Rattle.tariff.specs.declared.step.Step.{Step};
-ghost use Rattle.vend_core.specs.Decision.{decision};
 ghost use Rattle.vend_core.specs.Edits.{applied};
-ghost use Rattle.vend_core.specs.Lookup.{open_shift, sale_numbered, sale_of_ref, shift_numbered, steps_on};
+ghost use Rattle.vend_core.specs.Lookup.{open_shift, sale_numbered, sale_of_ref, shift_numbered};
 ghost use Rattle.vend_core.specs.Office.{IsOffice, Office, empty_office};
-ghost use Rattle.vend_core.specs.declared.answer.Answer.{Answer};
+ghost use Rattle.vend_core.specs.Store.{Meets};
 ghost use Rattle.vend_core.specs.declared.change.Edit.{Edit};
 ghost use Rattle.vend_core.specs.declared.meter.Meter.{Meter};
-ghost use Rattle.vend_core.specs.declared.request.Stamped.{Stamped};
 ghost use Rattle.vend_core.specs.declared.sale.Sale.{Sale};
 ghost use Rattle.vend_core.specs.declared.shift.Shift.{Shift};
-ghost use Rattle.book_tables.specs.Edited.{IsNew, can_hold, edited, no_rows};
-ghost use Rattle.book_tables.specs.Found.{meters_numbered, step_at, steps_at, tariffs_named};
-ghost use Rattle.book_tables.specs.Holds.{HoldsMembers, IsUntaken, StandsFor};
+ghost use Rattle.book_tables.specs.Edited.{edited, is_sale, no_rows};
+ghost use Rattle.book_tables.specs.Found.{meters_numbered, tariffs_named};
+ghost use Rattle.book_tables.specs.Holds.{HasOfficeOf, HoldsMembers, HoldsMembersOf, IsUntaken, StandsFor};
+ghost use Rattle.book_tables.specs.Kept.{kept};
 ghost use Rattle.book_tables.specs.ReadBack.{ReadsBack};
-ghost use Rattle.book_tables.specs.Rows.{Rows, shown_meter, shown_number, shown_sale, shown_shift, shown_step};
+ghost use Rattle.book_tables.specs.Rows.{Rows, present_format, shown_meter, shown_number, shown_sale, shown_shift, shown_step};
 ghost use Rattle.book_tables.specs.Stands.{AreMembersOf};
-ghost use Rattle.book_tables.specs.Tables.{about_table, meters_table, sales_table, shifts_table, tariff_steps_table, tariffs_table};
-ghost use Rattle.book_tables.specs.Texts.{about_text, meters_text, sales_text, shifts_text, tariff_steps_text, tariffs_text};
 ghost use Rattle.book_tables.specs.Values.{AreMeterValues, AreSaleValues, AreShiftValues, AreStepValues, IsNumber, IsSoldAmount, IsTid};
 
 use vend_core::office_law;
@@ -34,9 +33,13 @@ pub fn stands_law()
     ensures untaken { (db : Database) → IsUntaken db.schema → StandsFor db empty_office }
     ensures members { (db : Database) (o : Office)
         → IsOffice o → HoldsMembers db o → StandsFor db o }
-    // So it has the tables of the present format, or it has none and the office is empty.
-    ensures held { (db : Database) (o : Office) → StandsFor db o
-        → HoldsMembers db o ⊎ (IsUntaken db.schema × (o ≡ empty_office)) }
+    // By the format of its tables, of which there is one: it holds the office's members in them, and
+    // where there are none the office is empty.
+    ensures held { (db : Database) (o : Office) (n : ℕ)
+        → StandsFor db o → n ≤ present_format → HasOfficeOf n db.schema
+        → HoldsMembersOf n db o × (n ≡ 0 → o ≡ empty_office) }
+    ensures one_format { (s : Schema) (m n : ℕ) → m ≤ present_format → n ≤ present_format
+        → HasOfficeOf m s → HasOfficeOf n s → m ≡ n }
 
     // The members of an office keep the rules of their values, so that no row of theirs is refused.
     ensures steps { (o : Office) (name : List ℕ) (steps : List Step)
@@ -65,47 +68,26 @@ pub fn stands_law()
     ensures sale_back { (s : Sale) (read : Option Sale)
         → AreSaleValues s → ReadsBack shown_sale AreSaleValues (shown_sale s) read → read ≡ Some s }
 
-    // The six texts define the six tables.
-    ensures about_defined { table_defined_by about_text ≡ Ok (about_table 0) }
-    ensures tariffs_defined { table_defined_by tariffs_text ≡ Ok (tariffs_table 0) }
-    ensures tariff_steps_defined { table_defined_by tariff_steps_text ≡ Ok (tariff_steps_table 0) }
-    ensures meters_defined { table_defined_by meters_text ≡ Ok (meters_table 0) }
-    ensures shifts_defined { table_defined_by shifts_text ≡ Ok (shifts_table 0) }
-    ensures sales_defined { table_defined_by sales_text ≡ Ok (sales_table 0) }
+    // The text of each table defines it.
+    ensures defined { AllByRecursion (λ k. table_defined_by k.text ≡ Ok k.table) kept }
 {
     office_law();
 }
 
 /// What the rows have of the office whose members they are, and how both change by an edit.
 pub fn members_law()
-    // An edit that the tables can hold leaves them its members, where what it adds is new, as it is in
-    // each decision.
+    // An edit that its office decided leaves the rows its members; and so does a sale, with which
+    // its totals come.
     ensures empty { AreMembersOf no_rows empty_office }
     ensures edited { (rows : Rows) (o : Office) (edit : Edit)
-        → AreMembersOf rows o → can_hold edit ≡ true → IsNew edit o
+        → AreMembersOf rows o → Meets edit o → is_sale edit ≡ false
         → AreMembersOf (edited edit rows) (applied edit o) }
-    ensures decided { (forward : ℕ → ℕ → ℕ) (o : Office) (at : Stamped) (edit : Edit) (answer : Answer)
-        → decision forward o at ≡ Ok (record { edit = Some edit; answer = answer }) → IsNew edit o }
 
     // The rows that have what is looked up are what the office has under it.
     ensures tariff { (rows : Rows) (o : Office) (name : List ℕ) → AreMembersOf rows o
         → tariffs_named rows name ≡ option_to_list (option_map (λ _. name) (o.tariffs name)) }
-    ensures step { (rows : Rows) (o : Office) (name : List ℕ) (place : ℕ) → AreMembersOf rows o
-        → map (λ r. r.step) (steps_at rows name place) ≡ option_to_list (step_at o name place) }
     ensures meter { (rows : Rows) (o : Office) (number : List ℕ) → AreMembersOf rows o
         → map (λ r. r.1) (meters_numbered rows number) ≡ option_to_list (o.meters number) }
-
-    // The steps at the first places, as far as there are any, are those of the tariff.
-    ensures all_steps { (o : Office) (name : List ℕ) (steps : List Step)
-        → IsOffice o → 1 ≤ length steps → length steps ≤ 8
-        → ((place : ℕ) → place < 8 → step_at o name place ≡ slice_get steps place)
-        → o.tariffs name ≡ Some steps }
-    ensures no_steps { (o : Office) (name : List ℕ)
-        → IsOffice o → step_at o name 0 ≡ None → o.tariffs name ≡ None }
-
-    // On each day the steps of a tariff are its first ones.
-    ensures first_steps { (rows : Rows) (o : Office) (name : List ℕ) (day : ℕ)
-        → AreMembersOf rows o → steps_on o name day ≡ unwrap_or (o.tariffs name) [] }
 
     // At most one shift and one sale pass each test.
     ensures shift_numbered { (o : Office) (number : ℕ) → IsOffice o

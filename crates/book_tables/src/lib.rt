@@ -4,17 +4,25 @@
 #![tactic(auto)]
 
 pub use error::TableError;
+pub use formats::PRESENT_FORMAT;
 pub use laws::{members_law, stands_law};
+pub use totals::{SaleTotals, Totals};
 
 pub mod adding;
+pub mod bases;
 mod cells;
 pub mod changing;
+mod counted;
+pub mod dated;
 mod error;
 pub mod format;
+mod formats;
 mod laws;
 mod listed;
 pub mod making;
+mod merging;
 pub mod meters;
+pub mod paging;
 pub mod recognising;
 mod records;
 pub mod sale_lists;
@@ -25,4 +33,6 @@ pub mod sold;
 mod storing;
 pub mod tariffs;
 mod texts;
+pub mod totalling;
+mod totals;
 mod values;

@@ -15,7 +15,10 @@ use sqlite::types::ValueRef;
 use sqlite::{Alter, Connection};
 use std::alloc::{AllocError, Global};
 
-fn records_of<T: Record + Drop>(alloc: Global, shown: Vec<Shown<T>>) -> Result<Vec<T>, AllocError>
+pub(crate) fn records_of<T: Record + Drop>(
+    alloc: Global,
+    shown: Vec<Shown<T>>,
+) -> Result<Vec<T>, AllocError>
     ensures { IfOk result (λ records. records.items ≡ map (λ s. s.record) shown.items) }
 {
     shown.into_iter().map(|shown| shown.record).collect(alloc)

@@ -1,33 +1,92 @@
-//! The making of the office's tables.
+//! The making of the office's tables, where there are none or those of an older format.
 
-ghost use Rattle.std.specs.Prelude.{◌≡◌, OnOk};
+ghost use Rattle.std.specs.Prelude.{◌≡◌, ◌≢◌, ◌<◌, IfErr, OnOk};
 ghost use Rattle.sqlite.specs.State.{HasCleanDisk};
 ghost use Rattle.sqlite.specs.Held.{state};
-ghost use Rattle.one_table.specs.InTransaction.{KeepsTransaction};
-ghost use Rattle.book_tables.specs.Making.{HasRoom, MakesOffice};
+ghost use Rattle.one_table.specs.InTransaction.{KeepsTransaction, StaysInside};
+ghost use Rattle.book_tables.specs.Making.{Brings, HasFormatTables, MakesMissing, TellsOf, TellsPresent};
+ghost use Rattle.book_tables.specs.Rows.{present_format};
+ghost use Rattle.book_tables.specs.Writing.{WritesTables};
 
 use crate::error::TableError;
-use crate::storing::put;
-use crate::texts::{NEW_FORMAT, TABLES};
+use crate::formats::tables_after;
+use crate::storing::{put, set};
+use crate::texts::{FORMAT_SET, NEW_FORMAT};
 use one_table::make::create_tables;
 use sqlite::{Alter, Transaction};
+use std::alloc::{AllocError, Global};
 
-/// Makes the six tables, with the row that tells their format and no other.
+// Makes the tables that a format lacks, with nothing in them.
+fn make_missing<S: Alter>(tx: &mut Transaction<'_, S>, from: u32) -> Result<(), TableError>
+    requires { from < present_format }
+    ensures same_reference { tx.new.conn.ghost_name ≡ tx.old.conn.ghost_name }
+    ensures made { HasCleanDisk (state S.Store tx.new.conn.now)
+        → HasFormatTables from (state S.Store tx.old.conn.now)
+        → OnOk result (MakesMissing from
+        (state S.Store tx.old.conn.now).now (state S.Store tx.new.conn.now).now) }
+    ensures database { IfErr result (λ e. e ≢ TableError.RowOfNoOffice) }
+    ensures inside { HasCleanDisk (state S.Store tx.new.conn.now)
+        → OnOk result (StaysInside
+        (state S.Store tx.old.conn.now) (state S.Store tx.new.conn.now)) }
+    ensures transaction { KeepsTransaction
+        (state S.Store tx.old.conn.now) (state S.Store tx.new.conn.now) result }
+{
+    create_tables(tx, tables_after(from).texts)?;
+    Ok(())
+}
+
+// Tells the present format, where the tables tell none.
+fn tell_first<S: Alter>(tx: &mut Transaction<'_, S>) -> Result<(), TableError>
+    ensures same_reference { tx.new.conn.ghost_name ≡ tx.old.conn.ghost_name }
+    ensures database { IfErr result (λ e. e ≢ TableError.RowOfNoOffice) }
+    ensures writes { WritesTables (TellsPresent 0)
+        (state S.Store tx.old.conn.now) (state S.Store tx.new.conn.now) result }
+{
+    put(tx, NEW_FORMAT, &[])
+}
+
+// The tables of an office, with nothing in them but the number of their format, where there are none.
+fn begin<S: Alter>(tx: &mut Transaction<'_, S>) -> Result<(), TableError>
+    ensures same_reference { tx.new.conn.ghost_name ≡ tx.old.conn.ghost_name }
+    ensures brings { HasCleanDisk (state S.Store tx.new.conn.now)
+        → HasFormatTables 0 (state S.Store tx.old.conn.now)
+        → OnOk result (Brings 0
+        (state S.Store tx.old.conn.now) (state S.Store tx.new.conn.now)) }
+    ensures told { HasCleanDisk (state S.Store tx.new.conn.now)
+        → IfErr result (TellsOf 0 (state S.Store tx.old.conn.now).now) }
+    ensures transaction { KeepsTransaction
+        (state S.Store tx.old.conn.now) (state S.Store tx.new.conn.now) result }
+{
+    make_missing(tx, 0)?;
+    tell_first(tx)
+}
+
+/// Brings the tables of a format to the present one, with the same office; format 0 is that there are
+/// none, and the office is the empty one.
 ///
 /// Other tables stay as they are, whatever they are. What was made before an error goes with the
 /// transaction, which the caller drops.
 ///
 /// # Errors
-/// What the database refuses: a name that is taken, and want of memory.
-pub fn make_tables<S: Alter>(tx: &mut Transaction<'_, S>) -> Result<(), TableError>
+/// What the database refuses, want of memory, and a row that is no office's.
+pub fn bring<S: Alter>(
+    alloc: Global,
+    tx: &mut Transaction<'_, S>,
+    from: u32,
+) -> Result<(), TableError>
+    requires { from < present_format }
     ensures same_reference { tx.new.conn.ghost_name ≡ tx.old.conn.ghost_name }
-    ensures made { HasCleanDisk (state S.Store tx.new.conn.now)
-        → HasRoom (state S.Store tx.old.conn.now)
-        → OnOk result (MakesOffice
+    ensures brings { HasCleanDisk (state S.Store tx.new.conn.now)
+        → HasFormatTables from (state S.Store tx.old.conn.now)
+        → OnOk result (Brings from
         (state S.Store tx.old.conn.now) (state S.Store tx.new.conn.now)) }
+    ensures told { HasCleanDisk (state S.Store tx.new.conn.now)
+        → IfErr result (TellsOf from (state S.Store tx.old.conn.now).now) }
     ensures transaction { KeepsTransaction
         (state S.Store tx.old.conn.now) (state S.Store tx.new.conn.now) result }
 {
-    create_tables(tx, &TABLES)?;
-    put(tx, NEW_FORMAT, &[])
+    match from {
+        0 => begin(tx),
+        _ => Err(TableError::from(AllocError)),
+    }
 }

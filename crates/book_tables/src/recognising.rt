@@ -1,27 +1,23 @@
 //! What a database has under the names of the office's tables.
 
-ghost use Rattle.std.specs.Prelude.{◌≡◌, ◌↔◌, IsTrue, IfOk};
-ghost use Rattle.book_tables.specs.Holds.{HasOffice, IsUntaken};
+ghost use Rattle.std.specs.Prelude.{◌≡◌, ◌↔◌, ◌≤◌, ℕ, Some, IfOk, IfSome, IsTrue};
+ghost use Rattle.std.specs.List.{AllByRecursion};
+ghost use Rattle.book_tables.specs.Holds.{HasOfficeOf, IsKept};
+ghost use Rattle.book_tables.specs.Kept.{upto};
+ghost use Rattle.book_tables.specs.Rows.{present_format};
 
-use crate::texts::{NAMES, TABLES};
-use one_table::inspect::{are_untaken, is_harmless, is_unreferred};
+use crate::formats::{PRESENT_FORMAT, tables_after, tables_upto};
+use crate::texts::NAMES;
+use one_table::inspect::{are_free, is_harmless, is_unreferred};
 use one_table::recognise::{are_left_alone, stand};
 use sqlite_schema::schema::Schema;
 use std::alloc::{AllocError, Global};
 
-/// What a database has under the names of the office's tables, whatever other tables it has.
-#[derive(Clone, Copy, Debug, PartialEq, Eq)]
-pub enum Found {
-    /// The six tables, each as it is defined, which no other table refers to.
-    Office,
-    /// No table, index or view, and no table that refers to one of the names.
-    Nothing,
-    /// Anything else: some of the tables, others of their names, or a table that refers to them.
-    Another,
-}
-
-fn has_office(alloc: Global, schema: &Schema) -> Result<bool, AllocError>
-    ensures { IfOk result (λ all. IsTrue all ↔ HasOffice schema.now) }
+// Whether the tables of a format are there, each as it is defined, and none of a later one; and no
+// other table refers to one of the names.
+fn has_format(alloc: Global, schema: &Schema, format: u32) -> Result<bool, AllocError>
+    requires { format ≤ present_format }
+    ensures { IfOk result (λ all. IsTrue all ↔ HasOfficeOf format schema.now) }
 {
     if !is_unreferred(schema, &NAMES) {
         return Ok(false);
@@ -29,29 +25,42 @@ fn has_office(alloc: Global, schema: &Schema) -> Result<bool, AllocError>
     if !is_harmless(schema, &NAMES) {
         return Ok(false);
     }
-    if !are_left_alone(schema, &NAMES) {
+    if !are_free(schema, tables_after(format).names) {
         return Ok(false);
     }
-    match stand(alloc, schema, &TABLES) {
+    has_tables(alloc, schema, format)
+}
+
+fn has_tables(alloc: Global, schema: &Schema, format: u32) -> Result<bool, AllocError>
+    requires { format ≤ present_format }
+    ensures { IfOk result (λ all. IsTrue all ↔ AllByRecursion (IsKept schema.now) (upto format)) }
+{
+    let tables = tables_upto(format);
+    if !are_left_alone(schema, tables.names) {
+        return Ok(false);
+    }
+    match stand(alloc, schema, tables.texts) {
         Ok(all) => Ok(all),
         Err(_) => Err(AllocError),
     }
 }
 
-/// Tells what a database has, by its schema: the rows are not read.
+/// The format of which a database has the tables, by its schema: the rows are not read. It is 0
+/// where the database has nothing under their names, and `None` where it has anything else: some of
+/// the tables, others of their names, or a table that refers to them.
 ///
 /// # Errors
 /// Want of memory.
-pub fn what_is_here(alloc: Global, schema: &Schema) -> Result<Found, AllocError>
-    ensures office { IfOk result (λ found. (found ≡ Found.Office) ↔ HasOffice schema.now) }
-    ensures nothing { IfOk result (λ found. (found ≡ Found.Nothing) ↔ IsUntaken schema.now) }
+pub fn format_here(alloc: Global, schema: &Schema) -> Result<Option<u32>, AllocError>
+    ensures known { IfOk result (λ found. IfSome found (λ n. n ≤ present_format)) }
+    ensures found { IfOk result (λ found. (n : ℕ) → n ≤ present_format
+        → (found ≡ Some n) ↔ HasOfficeOf n schema.now) }
 {
-    if are_untaken(schema, &NAMES) {
-        return Ok(Found::Nothing);
+    'formats: for back in 0..PRESENT_FORMAT + 1 {
+        let format = PRESENT_FORMAT - back;
+        if has_format(alloc, schema, format)? {
+            return Ok(Some(format));
+        }
     }
-    if has_office(alloc, schema)? {
-        Ok(Found::Office)
-    } else {
-        Ok(Found::Another)
-    }
+    Ok(None)
 }

@@ -1,79 +1,24 @@
-//! The statements on the sales to a meter, whose rows are taken one at a time: there may be more
-//! of them than there is memory.
+//! What was sold so far, each as one row by its key: to a meter under a base and in a month, and in
+//! a shift.
 
-ghost use Rattle.std.specs.Prelude.{◌≡◌, ◌&&◌, ◌==◌, ◌+◌, ◌^◌, ◌<◌, ⊤, bytes_eq, filter, map, max, Some, sum_by, unwrap_or};
+ghost use Rattle.std.specs.Prelude.{◌≡◌, length, map, option_map, sum_by, unwrap_or};
 ghost use Rattle.sqlite.specs.Held.{state};
-ghost use Rattle.sts_fields.specs.Calendar.{month_at};
-ghost use Rattle.sts_fields.specs.Base.{base_eq};
+ghost use Rattle.vend_core.specs.Cash.{cash_of};
 ghost use Rattle.vend_core.specs.Lookup.{greatest_of};
-ghost use Rattle.book_tables.specs.Kept.{sales_kept};
+ghost use Rattle.book_tables.specs.Kept.{last_ids_kept, month_tenths_kept, shift_totals_kept};
 ghost use Rattle.book_tables.specs.Reading.{ReadsTable, SaysOfTable};
-ghost use Rattle.book_tables.specs.Rows.{shown_number};
-ghost use Rattle.book_tables.specs.Values.{IsTid};
+ghost use Rattle.book_tables.specs.Stands.{sales_in_month, sales_in_shift, sales_under};
+ghost use Rattle.book_tables.specs.Writing.{no_totals};
 
-use crate::cells;
+use crate::counted::{Tenths, Tid};
 use crate::error::TableError;
-use crate::shown::{Record, Shown};
-use crate::texts::{TENTHS_SOLD, TIDS_SOLD};
-use crate::values::{base_values, month_values};
-use one_table::{Gather, fold_rows};
-use sqlite::{Alter, Connection, Row};
-use sts_fields::{Amount, Base, amount_law};
-use vend_core::{MeterNo, office_law};
-
-// An identifier, as a row shows it.
-#[derive(Drop)]
-struct Tid {
-    number: u32,
-}
-
-impl Record for Tid {
-    ghost shown = { λ tid. shown_number tid.number };
-
-    ghost keeps = { λ tid. IsTid tid.number };
-
-    fn of_row(row: &Row) -> Option<Tid> {
-        if row.column_count() != 1 {
-            return None;
-        }
-        let number = cells::tid_at(row, 0)?;
-        Some(Tid { number })
-    }
-}
-
-// The greatest identifier so far.
-#[derive(Drop)]
-struct Greatest {
-    tid: Option<u32>,
-}
-
-impl Gather<Shown<Tid>> for Greatest {
-    ghost gathered = { λ all x. record { tid = Some (max (unwrap_or all.tid 0) x.record.number) } };
-
-    ghost has_room = { λ _ _. ⊤ };
-
-    fn gather(self, value: Shown<Tid>) -> Option<Greatest> {
-        let tid = self.tid.unwrap_or(0).max(value.record.number);
-        Some(Greatest { tid: Some(tid) })
-    }
-}
-
-// The tenths so far.
-#[derive(Drop)]
-struct Total {
-    tenths: u64,
-}
-
-impl Gather<Shown<Amount>> for Total {
-    ghost gathered = { λ all x. record { tenths = all.tenths + x.record } };
-
-    ghost has_room = { λ all x. all.tenths + x.record < 2 ^ 64 };
-
-    fn gather(self, value: Shown<Amount>) -> Option<Total> {
-        let tenths = self.tenths.checked_add(u64::from(value.record.tenths()))?;
-        Some(Total { tenths })
-    }
-}
+use crate::shown::first_record;
+use crate::texts::{LAST_ID, MONTH_TENTHS, SHIFT_TOTALS};
+use crate::totals::Totals;
+use crate::values::{base_values, month_values, number_values};
+use sqlite::{Alter, Connection};
+use sts_fields::{Base, amount_law};
+use vend_core::MeterNo;
 
 /// The greatest identifier sold to a meter under a base.
 ///
@@ -84,16 +29,23 @@ pub fn greatest_tid<S: Alter>(
     meter: &MeterNo,
     base: Base,
 ) -> Result<Option<u32>, TableError>
-    ensures given { SaysOfTable sales_kept (λ rows greatest. greatest ≡ greatest_of (map (λ s. s.tid)
-        (filter (λ s. bytes_eq s.meter meter.now && base_eq s.base base) rows.sales)))
+    ensures given { SaysOfTable last_ids_kept (λ rows greatest. greatest ≡ greatest_of (map (λ s. s.tid)
+        (sales_under rows.sales (meter.now, base))))
         (state S.Store conn.old) (state S.Store conn.new) result }
-    ensures reads { ReadsTable sales_kept
+    ensures reads { ReadsTable last_ids_kept
         (state S.Store conn.old) (state S.Store conn.new) result }
 {
-    office_law();
-    let start = Greatest { tid: None };
-    let greatest: Greatest = fold_rows(conn, TIDS_SOLD, &base_values(meter, base), start)?;
-    Ok(greatest.tid)
+    let found: Option<Tid> = first_record(conn, LAST_ID, &base_values(meter, base))?;
+    Ok(number_of(found))
+}
+
+fn number_of(found: Option<Tid>) -> Option<u32>
+    ensures { result ≡ option_map (λ tid. tid.number) found }
+{
+    match found {
+        Some(Tid { number }) => Some(number),
+        None => None,
+    }
 }
 
 /// The tenths of a kWh sold to a meter in a month, under any base.
@@ -105,14 +57,50 @@ pub fn tenths_in_month<S: Alter>(
     meter: &MeterNo,
     month: u32,
 ) -> Result<u64, TableError>
-    ensures given { SaysOfTable sales_kept (λ rows tenths. tenths ≡ sum_by (λ s. s.tenths)
-        (filter (λ s. bytes_eq s.meter meter.now && (month_at s.moment == month)) rows.sales))
+    ensures given { SaysOfTable month_tenths_kept (λ rows tenths. tenths ≡ sum_by (λ s. s.tenths)
+        (sales_in_month rows.sales (meter.now, month)))
         (state S.Store conn.old) (state S.Store conn.new) result }
-    ensures reads { ReadsTable sales_kept
+    ensures reads { ReadsTable month_tenths_kept
         (state S.Store conn.old) (state S.Store conn.new) result }
 {
     amount_law();
-    let start = Total { tenths: 0 };
-    let total: Total = fold_rows(conn, TENTHS_SOLD, &month_values(meter, month), start)?;
-    Ok(total.tenths)
+    let found: Option<Tenths> = first_record(conn, MONTH_TENTHS, &month_values(meter, month))?;
+    Ok(sum_of(found))
+}
+
+fn sum_of(found: Option<Tenths>) -> u64
+    ensures { result ≡ unwrap_or (option_map (λ tenths. tenths.sum) found) 0 }
+{
+    match found {
+        Some(Tenths { sum }) => sum,
+        None => 0,
+    }
+}
+
+/// How many sales there are in a shift, and the sums of their tenths and of their prices.
+///
+/// # Errors
+/// What the database refuses, and a row that is no office's.
+pub fn totals_of_shift<S: Alter>(conn: &mut Connection<S>, shift: u32) -> Result<Totals, TableError>
+    ensures given { SaysOfTable shift_totals_kept (λ rows totals. totals ≡ record {
+      sales = length (sales_in_shift rows.sales shift);
+      tenths = sum_by (λ s. s.tenths) (sales_in_shift rows.sales shift);
+      cash = cash_of (sales_in_shift rows.sales shift);
+    }) (state S.Store conn.old) (state S.Store conn.new) result }
+    ensures reads { ReadsTable shift_totals_kept
+        (state S.Store conn.old) (state S.Store conn.new) result }
+{
+    amount_law();
+    let found: Option<Totals> = first_record(conn, SHIFT_TOTALS, &number_values(shift))?;
+    Ok(totals_or_none(found))
+}
+
+fn totals_or_none(found: Option<Totals>) -> Totals
+    ensures { result ≡ unwrap_or found no_totals }
+{
+    found.unwrap_or(Totals {
+        sales: 0,
+        tenths: 0,
+        cash: 0,
+    })
 }

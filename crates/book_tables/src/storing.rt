@@ -1,6 +1,6 @@
 //! What writes a row, or sets columns of rows, and how it fails.
 
-ghost use Rattle.std.specs.Prelude.{◌≡◌, ℕ, List, true, length, IsTrue, IfErr, OnOk};
+ghost use Rattle.std.specs.Prelude.{◌≡◌, ◌≢◌, ℕ, List, true, length, IsTrue, IfErr, OnOk};
 ghost use Rattle.sqlite.specs.Held.{state};
 ghost use Rattle.sqlite.specs.Query.{Query};
 ghost use Rattle.sqlite.specs.State.{HasCleanDisk};
@@ -34,6 +34,7 @@ pub(crate) fn put<S: Alter>(
         → OnOk result (PutsRow t (new_row t terms (bound params.now)
         ((state S.Store tx.old.conn.now).now.trees t.tree))
         (state S.Store tx.old.conn.now) (state S.Store tx.new.conn.now)) }
+    ensures database { IfErr result (λ e. e ≢ TableError.RowOfNoOffice) }
     ensures transaction { KeepsTransaction
         (state S.Store tx.old.conn.now) (state S.Store tx.new.conn.now) result }
     ensures refused { HasCleanDisk (state S.Store tx.new.conn.now)
@@ -62,6 +63,7 @@ pub(crate) fn set<S: Alter>(
         × (is_left_alone (state S.Store tx.old.conn.now).now.schema t.tree ≡ true))
         → OnOk result (SetsRows t q (bound params.now)
         (state S.Store tx.old.conn.now) (state S.Store tx.new.conn.now)) }
+    ensures database { IfErr result (λ e. e ≢ TableError.RowOfNoOffice) }
     ensures transaction { KeepsTransaction
         (state S.Store tx.old.conn.now) (state S.Store tx.new.conn.now) result }
     ensures refused { HasCleanDisk (state S.Store tx.new.conn.now)

@@ -35,7 +35,7 @@ pub fn has_tariff<S: Alter>(conn: &mut Connection<S>, name: &TariffName) -> Resu
 }
 
 // A tariff with these steps, or none where there is no step: each tariff of an office has one.
-fn tariff_of(alloc: Global, shown: &[Step]) -> Result<Option<Steps>, TableError>
+pub(crate) fn tariff_of(alloc: Global, shown: &[Step]) -> Result<Option<Steps>, TableError>
     ensures steps { IfOk result (λ found. unwrap_or found [] ≡ shown.now) }
     ensures kept { IfOk result (λ found. IfSome found IsSteps) }
     ensures faults { IfErr result (λ e.

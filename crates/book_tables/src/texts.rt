@@ -1,7 +1,7 @@
 //! The texts of the fixed statements on the office's tables.
 
-/// What defines each of the six tables, in the order in which they are made.
-pub(crate) const TABLES: [&str; 6] = [
+/// What defines each of the tables, in the order in which they are made.
+pub(crate) const TABLES: [&str; 11] = [
     "CREATE TABLE about (id INTEGER PRIMARY KEY, format INTEGER NOT NULL) STRICT",
     "CREATE TABLE tariffs (name TEXT NOT NULL PRIMARY KEY) STRICT",
     "CREATE TABLE tariff_steps (tariff TEXT NOT NULL REFERENCES tariffs (name), \
@@ -16,19 +16,37 @@ pub(crate) const TABLES: [&str; 6] = [
     base INTEGER NOT NULL, tid INTEGER NOT NULL, rnd INTEGER NOT NULL, tenths INTEGER NOT NULL, \
     price INTEGER NOT NULL, tender INTEGER NOT NULL, digits TEXT NOT NULL, \
     UNIQUE (operator, ref), UNIQUE (meter, base, tid)) STRICT",
+    "CREATE TABLE last_ids (meter TEXT NOT NULL, base INTEGER NOT NULL, tid INTEGER NOT NULL, \
+    UNIQUE (meter, base)) STRICT",
+    "CREATE TABLE month_tenths (meter TEXT NOT NULL, month INTEGER NOT NULL, \
+    tenths INTEGER NOT NULL, UNIQUE (meter, month)) STRICT",
+    "CREATE TABLE shift_totals (shift INTEGER PRIMARY KEY, sales INTEGER NOT NULL, \
+    tenths INTEGER NOT NULL, cash INTEGER NOT NULL) STRICT",
+    "CREATE TABLE meter_bases (meter TEXT NOT NULL REFERENCES meters (meter), \
+    base INTEGER NOT NULL, UNIQUE (meter, base)) STRICT",
+    "CREATE TABLE dated_steps (tariff TEXT NOT NULL REFERENCES tariffs (name), \
+    day INTEGER NOT NULL, place INTEGER NOT NULL, ends INTEGER, price INTEGER NOT NULL, \
+    UNIQUE (tariff, day, place)) STRICT",
 ];
 
-/// The names of the six tables.
-pub(crate) const NAMES: [&str; 6] = [
+/// The names of the tables, in the same order.
+pub(crate) const NAMES: [&str; 11] = [
     "about",
     "tariffs",
     "tariff_steps",
     "meters",
     "shifts",
     "sales",
+    "last_ids",
+    "month_tenths",
+    "shift_totals",
+    "meter_bases",
+    "dated_steps",
 ];
 
-pub(crate) const NEW_FORMAT: &str = "INSERT INTO about (id, format) VALUES (1, 1)";
+pub(crate) const NEW_FORMAT: &str = "INSERT INTO about (id, format) VALUES (1, 4)";
+
+pub(crate) const FORMAT_SET: &str = "UPDATE about SET format = 4 WHERE id = 1";
 
 pub(crate) const FORMAT: &str = "SELECT id, format FROM about LIMIT 2";
 
@@ -78,8 +96,6 @@ pub(crate) const NEW_STEP: &str =
 
 pub(crate) const TARIFF_SET: &str = "UPDATE meters SET tariff = ?2 WHERE meter = ?1";
 
-pub(crate) const FORMAT_NUMBER: &str = "SELECT format FROM about";
-
 pub(crate) const SALES_AFTER: &str =
     "SELECT number, moment, shift, operator, ref, meter, base, tid, rnd, tenths, price, tender, \
     digits FROM sales WHERE number > ?1 ORDER BY number LIMIT ?2";
@@ -89,6 +105,39 @@ pub(crate) const SALES_OF_SHIFT: &str =
     "SELECT number, moment, shift, operator, ref, meter, base, tid, rnd, tenths, price, tender, \
     digits FROM sales WHERE shift = ?1 ORDER BY number";
 
-pub(crate) const TIDS_SOLD: &str = "SELECT tid FROM sales WHERE meter = ?1 AND base = ?2";
+pub(crate) const LAST_ID: &str = "SELECT tid FROM last_ids WHERE meter = ?1 AND base = ?2";
 
-pub(crate) const TENTHS_SOLD: &str = "SELECT tenths FROM sales WHERE meter = ?1 AND month = ?2";
+pub(crate) const STEPS_FROM: &str =
+    "SELECT ends, price FROM dated_steps WHERE tariff = ?1 AND day = ?2 ORDER BY place";
+
+// The index of tariff, day and place gives the days of a tariff, and this walks it backwards to the
+// first one.
+pub(crate) const FIRST_DAY_UNTIL: &str =
+    "SELECT day FROM dated_steps WHERE tariff = ?1 AND day <= ?2 ORDER BY day DESC LIMIT 1";
+
+pub(crate) const NEW_DATED_STEP: &str =
+    "INSERT INTO dated_steps (tariff, day, place, ends, price) VALUES (?1, ?2, ?3, ?4, ?5)";
+
+pub(crate) const NEW_BASE: &str = "INSERT INTO meter_bases (meter, base) VALUES (?1, ?2)";
+
+pub(crate) const BASE_SET: &str = "UPDATE meters SET base = ?2 WHERE meter = ?1";
+
+pub(crate) const PRESENT_BASES: &str = "SELECT meter, base FROM meters";
+
+pub(crate) const MONTH_TENTHS: &str =
+    "SELECT tenths FROM month_tenths WHERE meter = ?1 AND month = ?2";
+
+pub(crate) const SHIFT_TOTALS: &str =
+    "SELECT sales, tenths, cash FROM shift_totals WHERE shift = ?1";
+
+pub(crate) const LAST_ID_SET: &str = "INSERT INTO last_ids (meter, base, tid) VALUES (?1, ?2, ?3) \
+    ON CONFLICT (meter, base) DO UPDATE SET tid = excluded.tid RETURNING tid";
+
+pub(crate) const TENTHS_ADDED: &str =
+    "INSERT INTO month_tenths (meter, month, tenths) VALUES (?1, ?2, ?3) \
+    ON CONFLICT (meter, month) DO UPDATE SET tenths = tenths + excluded.tenths RETURNING tenths";
+
+pub(crate) const SALE_COUNTED: &str =
+    "INSERT INTO shift_totals (shift, sales, tenths, cash) VALUES (?1, 1, ?2, ?3) \
+    ON CONFLICT (shift) DO UPDATE SET sales = sales + 1, tenths = tenths + excluded.tenths, \
+    cash = cash + excluded.cash RETURNING sales, tenths, cash";

@@ -5,11 +5,11 @@ ghost use Rattle.sqlite.specs.Values.{bound};
 ghost use Rattle.sqlite.specs.declared.types.Value.TheVariants.{Text};
 ghost use Rattle.sts_fields.specs.Base.{year_of};
 ghost use Rattle.sts_token.specs.Key.{IsKeyText};
-ghost use Rattle.book_tables.specs.Rows.{meter_columns, number, optional, sale_columns, shift_columns, step_columns, tariff_columns};
+ghost use Rattle.book_tables.specs.Rows.{dated_columns, last_id_columns, meter_columns, month_columns, number, optional, sale_columns, shift_columns, step_columns, tariff_columns};
 ghost use Rattle.sqlite_value.specs.Value.{owned};
 
 use sqlite::types::ValueRef;
-use sts_fields::{Base, Moment, month_of};
+use sts_fields::{Base, Day, Moment, month_of};
 use tariff::Step;
 use vend_core::{Meter, MeterNo, Operator, Ref, Sale, Shift, TariffName};
 
@@ -76,6 +76,36 @@ pub(crate) fn step_values(name: &TariffName, place: u32, step: Step) -> [ValueRe
     };
     [
         ValueRef::Text(name.as_bytes()),
+        whole(place),
+        ends,
+        whole(step.price),
+    ]
+}
+
+/// The name of a tariff, and a day.
+pub(crate) fn dated_values(name: &TariffName, day: Day) -> [ValueRef<'_>; 2]
+    ensures { bound result ≡ Text name.now ∷ number day ∷ [] }
+{
+    [ValueRef::Text(name.as_bytes()), whole(day.days())]
+}
+
+/// A step of those that a tariff has from a day on, at its place, from 0.
+pub(crate) fn dated_step_values(
+    name: &TariffName,
+    day: Day,
+    place: u32,
+    step: Step,
+) -> [ValueRef<'_>; 5]
+    ensures { bound result
+        ≡ dated_columns (record { tariff = name.now; day = day; place = place; step = step }) }
+{
+    let ends = match step.ends {
+        Some(ends) => whole(ends),
+        None => ValueRef::Null,
+    };
+    [
+        ValueRef::Text(name.as_bytes()),
+        whole(day.days()),
         whole(place),
         ends,
         whole(step.price),
@@ -158,4 +188,33 @@ pub(crate) fn month_values(meter: &MeterNo, month: u32) -> [ValueRef<'_>; 2]
     ensures { bound result ≡ Text meter.now ∷ number month ∷ [] }
 {
     [ValueRef::Text(meter.as_bytes()), whole(month)]
+}
+
+/// The number of a meter, a base, and the last identifier of the meter under it.
+pub(crate) fn last_id_values(meter: &MeterNo, base: Base, tid: u32) -> [ValueRef<'_>; 3]
+    ensures { bound result ≡ last_id_columns ((meter.now, base), tid) }
+{
+    [
+        ValueRef::Text(meter.as_bytes()),
+        whole(base.year()),
+        whole(tid),
+    ]
+}
+
+/// The number of a meter, a month, and tenths of the meter in it.
+pub(crate) fn tenths_values(meter: &MeterNo, month: u32, tenths: u32) -> [ValueRef<'_>; 3]
+    ensures { bound result ≡ month_columns ((meter.now, month), tenths) }
+{
+    [
+        ValueRef::Text(meter.as_bytes()),
+        whole(month),
+        whole(tenths),
+    ]
+}
+
+/// The number of a shift, and the tenths and the price of a sale in it.
+pub(crate) fn sale_total_values(shift: u32, tenths: u32, price: u32) -> [ValueRef<'static>; 3]
+    ensures { bound result ≡ number shift ∷ number tenths ∷ number price ∷ [] }
+{
+    [whole(shift), whole(tenths), whole(price)]
 }

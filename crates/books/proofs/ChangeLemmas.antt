@@ -1,11 +1,12 @@
 -- What a write of the tables makes of the members of an office, and what it leaves of other tables.
-use Rattle.std.proofs.Common.{◌≡◌, ℕ, ◌+◌, true, List, [], ◌∷◌, ◌++◌, length, codes, Result, Ok, Err, OnOk, refl, sym, ap, subst, ◌∙◌}
+use Rattle.std.proofs.Common.{◌≡◌, ℕ, ◌+◌, false, List, [], ◌∷◌, ◌++◌, length, codes, Result, Ok, Err, OnOk, refl, sym, ap, subst, ◌∙◌}
 use Rattle.std.specs.List.{AllByRecursion}
 use Rattle.sqlite.specs.Effect.{Database}
 use Rattle.sqlite.specs.State.{Shows, State}
 use Rattle.sqlite_schema.specs.declared.schema.Schema.{Schema}
 use Rattle.sqlite_schema.specs.declared.schema.Table.{Table}
 use Rattle.sqlite_trees.specs.Tree.{Trees}
+use Rattle.sts_fields.specs.declared.base.Base.{Base}
 use Rattle.tariff.specs.declared.step.Step.{Step}
 use Rattle.vend_core.specs.Edits.{applied, with_row, with_rows}
 use Rattle.vend_core.specs.Office.{AreNumbered, IsOffice, Office}
@@ -17,19 +18,19 @@ use Rattle.vend_core.specs.declared.row.Row.{Row}
 use Rattle.vend_core.specs.declared.row.Row.TheVariants as kinds
 use Rattle.vend_core.specs.declared.sale.Sale.{Sale}
 use Rattle.vend_core.specs.declared.shift.Shift.{Shift}
-use Rattle.book_tables.specs.Edited.{IsNew, can_hold, edited}
+use Rattle.book_tables.specs.Edited.{edited, is_sale}
 use Rattle.book_tables.specs.Holds.{HasOffice, HoldsMembers, table_names}
 use Rattle.book_tables.specs.Reading.{HasTables}
 use Rattle.book_tables.specs.Rows.{Rows}
 use Rattle.book_tables.specs.Stands.{AreMembersOf}
-use Rattle.book_tables.specs.Writing.{AddsMeter, AddsSale, AddsShift, AddsTariff, ClosesShift, IsNextNumber, IsOfNone, SetsTariff, WritesOnly}
+use Rattle.book_tables.specs.Writing.{AddsMeter, AddsShift, AddsSold, AddsSteps, AddsTariff, ClosesShift, IsNextNumber, IsOfNone, MovesBase, SetsTariff, WritesOnly, totals_names}
 use Rattle.books.specs.Changing.{Makes, MakesEdit, MakesRows}
 use Rattle.books.specs.Others.{SameOthers}
 
--- the rows after an edit that the tables can hold are the members of the office after it
+-- the rows after an edit that its office decided are the members of the office after it
 abbrev pub KeepsMembers : Type 0
 KeepsMembers =
-    (rows : Rows) (o : Office) (edit : Edit) → AreMembersOf rows o → can_hold edit ≡ true → IsNew edit o → AreMembersOf (edited edit rows) (applied edit o)
+    (rows : Rows) (o : Office) (edit : Edit) → AreMembersOf rows o → Meets edit o → is_sale edit ≡ false → AreMembersOf (edited edit rows) (applied edit o)
 
 -- ---- other tables
 
@@ -68,18 +69,19 @@ makes_row row names old new ours only members = record {
   sound = only.sound;
 }
 
+-- the tables of meters and of their bases
+abbrev both_meters : List (List ℕ)
+both_meters = codes "meters" ∷ codes "meter_bases" ∷ []
+
+of_meters : AreOurs both_meters
+of_meters s tree none = (none.1.1.1.0, (none.1.1.1.1.1.1.1.1.1.0, tt))
+
 module _ (law : KeepsMembers) (old new : State) where
   -- ---- sales and shifts
 
-  pub makes_sale : (s : Sale) → AddsSale s old new → MakesEdit (edits.AddSale s) old.now new.now
+  pub makes_sale : (s : Sale) → AddsSold s old new → MakesEdit (edits.AddSale s) old.now new.now
   makes_sale s adds =
-      makes (edits.AddSale s) (codes "sales" ∷ []) old new (λ t tree none. (none.1.1.1.1.1.0, tt)) adds.only (λ o office meets held.
-      let are = held.2 in
-      let next : IsNextNumber (λ (s : Sale). s.number) held.0.sales s.number = record {
-        numbered = subst (λ (l : List Sale). AreNumbered (λ (s : Sale). s.number) l) (sym are.sales) office.sale_numbers;
-        next_is = meets.number ∙ ap (λ (l : List Sale). length l + 1) (sym are.sales);
-      } in
-      (edited (edits.AddSale s) held.0, adds.rows held.0 held.1 next, law held.0 o (edits.AddSale s) are refl tt))
+      makes (edits.AddSale s) (codes "sales" ∷ totals_names) old new (λ t tree none. (none.1.1.1.1.1.0, (none.1.1.1.1.1.1.0, (none.1.1.1.1.1.1.1.0, (none.1.1.1.1.1.1.1.1.0, tt))))) adds.only adds.members
 
   pub makes_shift : (s : Shift) → AddsShift s old new → MakesEdit (edits.OpenShift s) old.now new.now
   makes_shift s adds =
@@ -89,14 +91,14 @@ module _ (law : KeepsMembers) (old new : State) where
         numbered = subst (λ (l : List Shift). AreNumbered (λ (s : Shift). s.number) l) (sym are.shifts) office.shift_numbers;
         next_is = meets.number ∙ ap (λ (l : List Shift). length l + 1) (sym are.shifts);
       } in
-      (edited (edits.OpenShift s) held.0, adds.rows held.0 held.1 next, law held.0 o (edits.OpenShift s) are refl tt))
+      (edited (edits.OpenShift s) held.0, adds.rows held.0 held.1 next, law held.0 o (edits.OpenShift s) are meets refl))
 
   pub makes_closing : (number moment : ℕ) → ClosesShift number moment old new → MakesEdit (edits.CloseShift number moment) old.now new.now
   makes_closing number moment closes =
       makes (edits.CloseShift number moment) (codes "shifts" ∷ []) old new (λ t tree none. (none.1.1.1.1.0, tt)) closes.only (λ o office meets held.
       let are = held.2 in
       let numbered = subst (λ (l : List Shift). AreNumbered (λ (s : Shift). s.number) l) (sym are.shifts) office.shift_numbers in
-      (edited (edits.CloseShift number moment) held.0, closes.rows held.0 held.1 numbered, law held.0 o (edits.CloseShift number moment) are refl tt))
+      (edited (edits.CloseShift number moment) held.0, closes.rows held.0 held.1 numbered, law held.0 o (edits.CloseShift number moment) are meets refl))
 
   -- ---- tariffs and meters
 
@@ -104,17 +106,41 @@ module _ (law : KeepsMembers) (old new : State) where
   makes_setting number name sets =
       makes (edits.SetTariff number name) (codes "meters" ∷ []) old new (λ t tree none. (none.1.1.1.0, tt)) sets.only (λ o office meets held.
       let are = held.2 in
-      (edited (edits.SetTariff number name) held.0, sets.rows held.0 held.1 are.meters_once, law held.0 o (edits.SetTariff number name) are refl tt))
+      (edited (edits.SetTariff number name) held.0, sets.rows held.0 held.1 are.meters_once, law held.0 o (edits.SetTariff number name) are meets refl))
+
+  pub makes_moving : (number : List ℕ) (base : Base) → MovesBase number base old new → MakesEdit (edits.MoveBase number base) old.now new.now
+  makes_moving number base moves =
+      makes (edits.MoveBase number base) both_meters old new of_meters moves.only (λ o office meets held.
+      let are = held.2 in
+      (edited (edits.MoveBase number base) held.0, moves.rows held.0 held.1 are.meters_once, law held.0 o (edits.MoveBase number base) are meets refl))
+
+  with_steps_row : (name : List ℕ) (day : ℕ) (steps : List Step) → AddsSteps name day steps old new → (o : Office) → MeetsRow (kinds.Steps name day steps) o → HoldsMembers old.now o
+      → HoldsMembers new.now (with_row (kinds.Steps name day steps) o)
+  with_steps_row name day steps adds o meets held =
+      (edited (edits.AddSteps name day steps) held.0, adds.rows held.0 held.1, law held.0 o (edits.AddSteps name day steps) held.2 meets refl)
+
+  pub makes_steps : (name : List ℕ) (day : ℕ) (steps : List Step) → AddsSteps name day steps old new → MakesEdit (edits.AddSteps name day steps) old.now new.now
+  makes_steps name day steps adds =
+      makes (edits.AddSteps name day steps) (codes "dated_steps" ∷ []) old new (λ t tree none. (none.1.1.1.1.1.1.1.1.1.1.0, tt)) adds.only
+      (λ o office meets held. with_steps_row name day steps adds o meets held)
+
+  of_steps : (name : List ℕ) (day : ℕ) (steps : List Step) → AddsSteps name day steps old new → MakesRows (kinds.Steps name day steps ∷ []) old.now new.now
+  of_steps name day steps adds =
+      makes_row (kinds.Steps name day steps) (codes "dated_steps" ∷ []) old new (λ t tree none. (none.1.1.1.1.1.1.1.1.1.1.0, tt)) adds.only (with_steps_row name day steps adds)
+
+  pub makes_steps_row : (row : Row) (name : List ℕ) (day : ℕ) (steps listed : List Step) → row ≡ kinds.Steps name day steps → listed ≡ steps → AddsSteps name day listed old new → MakesRows (row ∷ []) old.now new.now
+  makes_steps_row row name day steps listed is same adds =
+      subst (λ (r : Row). MakesRows (r ∷ []) old.now new.now) (sym is) (of_steps name day steps (subst (λ (l : List Step). AddsSteps name day l old new) same adds))
 
   with_tariff_row : (name : List ℕ) (steps : List Step) → AddsTariff name steps old new → (o : Office) → MeetsRow (kinds.Tariff name steps) o → HoldsMembers old.now o
       → HoldsMembers new.now (with_row (kinds.Tariff name steps) o)
   with_tariff_row name steps adds o meets held =
-      (edited (edits.AddTariff name steps) held.0, adds.rows held.0 held.1, law held.0 o (edits.AddTariff name steps) held.2 refl meets.2)
+      (edited (edits.AddTariff name steps) held.0, adds.rows held.0 held.1, law held.0 o (edits.AddTariff name steps) held.2 meets refl)
 
   with_meter_row : (number : List ℕ) (m : Meter) → AddsMeter number m old new → (o : Office) → MeetsRow (kinds.Meter number m) o → HoldsMembers old.now o
       → HoldsMembers new.now (with_row (kinds.Meter number m) o)
   with_meter_row number m adds o meets held =
-      (edited (edits.AddMeter number m) held.0, adds.rows held.0 held.1, law held.0 o (edits.AddMeter number m) held.2 refl meets.free)
+      (edited (edits.AddMeter number m) held.0, adds.rows held.0 held.1, law held.0 o (edits.AddMeter number m) held.2 meets refl)
 
   pub makes_tariff : (name : List ℕ) (steps : List Step) → AddsTariff name steps old new → MakesEdit (edits.AddTariff name steps) old.now new.now
   makes_tariff name steps adds =
@@ -123,7 +149,7 @@ module _ (law : KeepsMembers) (old new : State) where
 
   pub makes_meter : (number : List ℕ) (m : Meter) → AddsMeter number m old new → MakesEdit (edits.AddMeter number m) old.now new.now
   makes_meter number m adds =
-      makes (edits.AddMeter number m) (codes "meters" ∷ []) old new (λ t tree none. (none.1.1.1.0, tt)) adds.only
+      makes (edits.AddMeter number m) both_meters old new of_meters adds.only
       (λ o office meets held. with_meter_row number m adds o meets held)
 
   of_tariff : (name : List ℕ) (steps : List Step) → AddsTariff name steps old new → MakesRows (kinds.Tariff name steps ∷ []) old.now new.now
@@ -133,7 +159,7 @@ module _ (law : KeepsMembers) (old new : State) where
 
   of_meter : (number : List ℕ) (m : Meter) → AddsMeter number m old new → MakesRows (kinds.Meter number m ∷ []) old.now new.now
   of_meter number m adds =
-      makes_row (kinds.Meter number m) (codes "meters" ∷ []) old new (λ t tree none. (none.1.1.1.0, tt)) adds.only (with_meter_row number m adds)
+      makes_row (kinds.Meter number m) both_meters old new of_meters adds.only (with_meter_row number m adds)
 
   pub makes_tariff_row : (row : Row) (name : List ℕ) (steps listed : List Step) → row ≡ kinds.Tariff name steps → listed ≡ steps → AddsTariff name listed old new → MakesRows (row ∷ []) old.now new.now
   makes_tariff_row row name steps listed is same adds =

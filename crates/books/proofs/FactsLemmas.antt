@@ -1,7 +1,7 @@
 -- What reads of the tables tell of the office whose members these hold.
 use Rattle.std.proofs.Common.{◌≡◌, ◌↔◌, ◌⊎◌, ◌&&◌, ℕ, suc, ◌+◌, ◌<◌, ◌≤◌, ◌++◌, Bool, true, false, cond, List, [], ◌∷◌, filter, find, is_none, is_some, map, Option, None, Some, option_map, Result, Ok, Err, IfOk, IsNone, add-one, append_assoc, arith, drop, drop-cons, get_or, refl, sym, ◌∙◌, ap, subst, IsTrue, IsSome}
 use Rattle.std.specs.Prelude.{All, Contains, bytes_eq, length, unwrap_or}
-use Rattle.std.specs.Option.{option_to_list}
+use Rattle.std.specs.Option.{option_or, option_to_list}
 use Rattle.std.proofs.lemmas.Bool.{false≢true}
 use Rattle.std.proofs.lemmas.List.Elements.{All-head, All-tail}
 use Rattle.sqlite.specs.Effect.{Database}
@@ -11,7 +11,7 @@ use Rattle.sts_fields.specs.Day.{day_at}
 use Rattle.tariff.specs.declared.step.Step.{Step}
 use Rattle.vend_core.specs.Decision.{MeterAccount, account_of, row_decision}
 use Rattle.vend_core.specs.Facts.{AreNewSaleFacts, AreRowsFacts, AreSaleFacts, row_facts}
-use Rattle.vend_core.specs.Lookup.{greatest_of, open_shift, prior, sale_of_ref, steps_on, used}
+use Rattle.vend_core.specs.Lookup.{greatest_of, latest, open_shift, prior, sale_of_ref, steps_on, used}
 use Rattle.vend_core.specs.Office.{IsOffice, Office}
 use Rattle.vend_core.specs.declared.facts.Facts.{Facts}
 use Rattle.vend_core.specs.declared.meter.Meter.{Meter}
@@ -24,8 +24,8 @@ use Rattle.vend_core.specs.declared.shift.Shift.{Shift}
 use Rattle.book_tables.specs.Found.{meters_numbered}
 use Rattle.book_tables.specs.Holds.{Holds, HoldsMembers}
 use Rattle.book_tables.specs.Reading.{AreOfOffice, FailsToRead, HasTableRows, HasTables, OnlyReads}
-use Rattle.book_tables.specs.Kept.{Kept, meters_kept, sales_kept, shifts_kept, steps_kept, tariffs_kept}
-use Rattle.book_tables.proofs.OfficeTableLemmas.{IsInOffice, has_table_rows, meters_in, sales_in, shifts_in, steps_in, tariffs_in}
+use Rattle.book_tables.specs.Kept.{Kept, meters_kept, shifts_kept, tariffs_kept}
+use Rattle.book_tables.proofs.OfficeTableLemmas.{IsInOffice, has_table_rows, meters_in, shifts_in, tariffs_in}
 use Rattle.book_tables.specs.Rows.{Rows}
 use Rattle.book_tables.specs.Stands.{AreMembersOf}
 use Rattle.book_tables.specs.declared.error.TableError.TheVariants.{RowOfNoOffice}
@@ -66,22 +66,6 @@ members_after o {old} {mid} {new} members before survives clean is_open =
     subst (λ (db : Database). HoldsMembers db o) (sym so_far.now_is) (members (sym so_far.is_open ∙ is_open))
 
 module _ {T : Type 0} {value : T} {o : Office} {old mid new : State} (office : IsOffice o) (members : HasMembers old o) (before : HasPassed old mid) (this : OnlyReads IsUnchanged mid new (Ok value)) (clean : HasCleanDisk new) where
-  -- the rows of the tables are the office's members
-  members_here : (rows : Rows) × AreMembersOf rows o
-  members_here =
-      let tables = tables_of old o members in
-      let so_far = earlier old mid new before this.survives tables clean in
-      let same = this.same clean (tables_after before tables) in
-      let held = members (sym so_far.is_open ∙ same.0.was_open) in
-      (held.0, held.2)
-
-  -- and no steps of a later day are
-  pub undated_told : (name : List ℕ) (day : ℕ) → None ≡ o.dated_steps name day
-  undated_told name day = sym (members_here.1.dated_steps name day)
-
-  pub first_steps_told : ((rows : Rows) (o : Office) (name : List ℕ) (day : ℕ) → AreMembersOf rows o → steps_on o name day ≡ unwrap_or (o.tariffs name) []) → (name : List ℕ) (day : ℕ) → steps_on o name day ≡ unwrap_or (o.tariffs name) []
-  first_steps_told law name day = law members_here.0 o name day members_here.1
-
   -- a read tells it of rows that are the office's
   told : {k : Kept} (in_office : IsInOffice k) (Says : Rows → Type 0) → ((rows : Rows) → HasTableRows k mid rows → AreOfOffice rows → Says rows) → (rows : Rows) × AreMembersOf rows o × Says rows
   told in_office Says given =
@@ -98,8 +82,8 @@ module _ {T : Type 0} {value : T} {o : Office} {old mid new : State} (office : I
   pub shifts_told : {X : Type 0} (f : List Shift → X) (x : X) → ((rows : Rows) → HasTableRows shifts_kept mid rows → AreOfOffice rows → x ≡ f rows.shifts) → x ≡ f o.shifts
   shifts_told f x given = let it = told shifts_in (λ rows. x ≡ f rows.shifts) given in it.2 ∙ ap f it.1.shifts
 
-  pub sales_told : {X : Type 0} (f : List Sale → X) (x : X) → ((rows : Rows) → HasTableRows sales_kept mid rows → AreOfOffice rows → x ≡ f rows.sales) → x ≡ f o.sales
-  sales_told f x given = let it = told sales_in (λ rows. x ≡ f rows.sales) given in it.2 ∙ ap f it.1.sales
+  pub sales_told : {k : Kept} (in_office : IsInOffice k) {X : Type 0} (f : List Sale → X) (x : X) → ((rows : Rows) → HasTableRows k mid rows → AreOfOffice rows → x ≡ f rows.sales) → x ≡ f o.sales
+  sales_told in_office f x given = let it = told in_office (λ rows. x ≡ f rows.sales) given in it.2 ∙ ap f it.1.sales
 
   pub open_shift_told : (operator : List ℕ) (found : Option Shift)
       → ((rows : Rows) → HasTableRows shifts_kept mid rows → AreOfOffice rows → found ≡ find (λ s. bytes_eq s.operator operator && is_none s.closed) rows.shifts) → found ≡ open_shift o operator
@@ -116,9 +100,10 @@ module _ {T : Type 0} {value : T} {o : Office} {old mid new : State} (office : I
       let it = told meters_in (λ rows. found ≡ option_map (λ r. r.1) (find (λ r. bytes_eq r.0 number) rows.meters)) given in
       it.2 ∙ first_of_one (λ (r : List ℕ × Meter). r.1) (λ r. bytes_eq r.0 number) it.0.meters (o.meters number) (law it.0 o number it.1)
 
-  pub steps_told : (name : List ℕ) (found : Option (List Step)) → ((rows : Rows) (o : Office) → HasTableRows steps_kept mid rows → IsOffice o → AreMembersOf rows o → found ≡ o.tariffs name) → found ≡ o.tariffs name
-  steps_told name found given =
-      let it = told steps_in (λ rows. (o : Office) → IsOffice o → AreMembersOf rows o → found ≡ o.tariffs name) (λ rows has _ p office_p members_p. given rows p has office_p members_p) in
+  -- what a read gives of whichever office the rows are, it gives of this one
+  pub office_told : {k : Kept} (in_office : IsInOffice k) {X : Type 0} (f : Office → X) (x : X) → ((rows : Rows) (o : Office) → HasTableRows k mid rows → IsOffice o → AreMembersOf rows o → x ≡ f o) → x ≡ f o
+  office_told in_office f x given =
+      let it = told in_office (λ rows. (o : Office) → IsOffice o → AreMembersOf rows o → x ≡ f o) (λ rows has _ p office_p members_p. given rows p has office_p members_p) in
       it.2 o office it.1
 
 -- what was read, and is that of no office
@@ -138,26 +123,42 @@ greatest_within bound (n ∷ ns) all =
 pub last_within : (bound : ℕ) (last : Option ℕ) (ns : List ℕ) → last ≡ greatest_of ns → All (λ n. n ≤ bound) ns → unwrap_or last 0 ≤ bound
 last_within bound last ns is all = rw is (greatest_within bound ns all)
 
+-- the steps of a tariff on a day, where there is the tariff
+abbrev steps_found : Office → List ℕ → ℕ → Option (List Step)
+steps_found o name day = option_or (latest (o.dated_steps name) day) (o.tariffs name)
+
 -- an office has the tariff of each of its meters
-pub has_steps : (o : Office) → IsOffice o → (number : List ℕ) (there : Option Meter) (m : Meter) (found : Option (List Step)) → there ≡ o.meters number → there ≡ Some m → found ≡ o.tariffs m.tariff → found ≡ None → ⊥
-has_steps o office number there m found there_is here found_is gone =
-    let some : is_some (o.tariffs m.tariff) ≡ true = (office.meters number m (sym there_is ∙ here)).tariff in
-    false≢true (ap is_some (sym gone ∙ found_is) ∙ some)
+pub has_steps : (o : Office) → IsOffice o → (number : List ℕ) (day : ℕ) (there : Option Meter) (m : Meter) (found : Option (List Step)) → there ≡ o.meters number → there ≡ Some m → found ≡ steps_found o m.tariff day → found ≡ None → ⊥
+has_steps o office number day there m found there_is here found_is gone =
+    none_found (latest (o.dated_steps m.tariff) day) (o.tariffs m.tariff) (office.meters number m (sym there_is ∙ here)).tariff (sym found_is ∙ gone)
+  where
+    none_found : (begun first : Option (List Step)) → is_some first ≡ true → option_or begun first ≡ None → ⊥
+    none_found None None some none = false≢true some
+    none_found None (Some steps) some none = cc
+    none_found (Some steps) first some none = cc
 
 -- the account of a meter with its steps
 pub account_is : (o : Office) (number : List ℕ) (moment : ℕ) (there : Option Meter) (m : Meter) (found : Option (List Step)) (steps : List Step) (b : MeterAccount)
-    → there ≡ o.meters number → there ≡ Some m → found ≡ o.tariffs m.tariff → found ≡ Some steps
+    → there ≡ o.meters number → there ≡ Some m → found ≡ steps_found o m.tariff (day_at moment) → found ≡ Some steps
     → b ≡ record { meter = m; steps = steps; last = greatest_of (used o number m.base); prior = prior o number (month_at moment) }
-    → steps_on o m.tariff (day_at moment) ≡ unwrap_or (o.tariffs m.tariff) []
     → Some b ≡ account_of o number moment
-account_is o number moment there m found steps b there_is here found_is known is first =
-    let steps_are : steps ≡ steps_on o m.tariff (day_at moment) = ap (λ (s : Option (List Step)). unwrap_or s []) (sym known ∙ found_is) ∙ sym first in
+account_is o number moment there m found steps b there_is here found_is known is =
+    let steps_are : steps ≡ steps_on o m.tariff (day_at moment) = ap (λ (s : Option (List Step)). unwrap_or s []) (sym known ∙ found_is) in
     ap (λ (b : MeterAccount). let some : Option MeterAccount = Some b in some)
     (is ∙ ap (λ (s : List Step). let b : MeterAccount = record { meter = m; steps = s; last = greatest_of (used o number m.base); prior = prior o number (month_at moment) } in b) steps_are)
     ∙ ap (λ (there : Option Meter). option_map (account_with o number moment) there) (sym here ∙ there_is)
   where
     account_with : Office → List ℕ → ℕ → Meter → MeterAccount
     account_with o number moment m = record { meter = m; steps = steps_on o m.tariff (day_at moment); last = greatest_of (used o number m.base); prior = prior o number (month_at moment) }
+
+-- the latest steps that have begun, or else the first
+pub begun_or_first : (begun first found : Option (List Step)) → is_some begun ≡ false → found ≡ first → found ≡ option_or begun first
+begun_or_first None first found none is = is
+begun_or_first (Some steps) first found none is = absurd (false≢true (sym none))
+
+pub begun_alone : (begun first : Option (List Step)) → is_some begun ≡ true → begun ≡ option_or begun first
+begun_alone None first some = absurd (false≢true some)
+begun_alone (Some steps) first some = refl
 
 -- the facts of a sale under a new ref
 pub new_sale_is : {E : Type 0} (Known : Type 0) (o : Office) (moment : ℕ) (order : Order) (first : Option Sale) (r : Result Facts E) → first ≡ sale_of_ref o order.operator order.order_ref → is_some first ≡ false

@@ -9,7 +9,7 @@ use Rattle.vend_core.specs.Office.{empty_office}
 use Rattle.book_tables.specs.Holds.{IsUntaken, StandsFor}
 use Rattle.books.specs.Keeps.{StoreStandsFor}
 use Rattle.books.specs.declared.fault.OpenFault.{OpenFault}
-use Rattle.books.specs.declared.fault.OpenFault.TheVariants.{NotAnOffice, OldOffice, Store, Memory}
+use Rattle.books.specs.declared.fault.OpenFault.TheVariants.{NotAnOffice, Store, Memory}
 
 -- a schema with nothing in it
 abbrev pub bare : Schema
@@ -28,8 +28,7 @@ memory_stands c untaken h =
       left = λ trees leaves. (s.committed, (h.1 h.0.is_open).1, leaves, subst (λ (db : Database). StandsFor db empty_office) h.0.clean stands);
     }
 
-pub store_or_memory : (fault : OpenFault) → fault ≢ NotAnOffice → fault ≢ OldOffice → (fault ≡ Store) ⊎ (fault ≡ Memory)
-store_or_memory NotAnOffice other old = absurd (other refl)
-store_or_memory OldOffice other old = absurd (old refl)
-store_or_memory Store other old = inl refl
-store_or_memory Memory other old = inr refl
+pub store_or_memory : (fault : OpenFault) → fault ≢ NotAnOffice → (fault ≡ Store) ⊎ (fault ≡ Memory)
+store_or_memory NotAnOffice other = absurd (other refl)
+store_or_memory Store other = inl refl
+store_or_memory Memory other = inr refl

@@ -1,7 +1,6 @@
 mod AlongLemmas
 mod AttemptLemmas
-mod BeginningLemmas
-mod BegunLemmas
+mod BroughtLemmas
 mod ChangeLemmas
 mod CommitLemmas
 mod FactsLemmas

@@ -1,13 +1,12 @@
 -- What looks at the store leave, and what they tell of it.
-use Rattle.std.proofs.Common.{◌≡◌, ◌⊎◌, ℕ, false, true, OnOk, OnErr, IfErr, None, Some, Option, Result, Ok, Err, ◌∙◌, codes, refl, sym, ap, subst, inl, inr, arith, nat_eq}
-use Rattle.std.proofs.lemmas.Bool.{both_ways, cases_Bool}
+use Rattle.std.proofs.Common.{◌≡◌, ◌≤◌, ◌⊎◌, ℕ, zero, suc, false, true, OnOk, OnErr, IfErr, None, Some, Option, Result, Ok, Err, ◌∙◌, refl, sym, ap, subst, inl, inr, arith, nat_eq}
+use Rattle.std.proofs.lemmas.Bool.{both_ways, cases_Bool, le-leb}
 use Rattle.std.proofs.lemmas.Bool.Decides.{nat_tests}
 use Rattle.std.specs.Option.{option_eq}
 use Rattle.std.proofs.lemmas.Result.{IfErr-weaker, on_err_weaker, on_ok_weaker}
 use Rattle.sqlite.proofs.StateLemmas.{survives_then}
 use Rattle.sqlite_trees.proofs.Doubt.{no_doubt}
-use Rattle.sqlite_schema.specs.Names.{table_named}
-use Rattle.one_table.specs.Standing.{place_in}
+use Rattle.sqlite_rules.specs.Lists.{Has as Member}
 use Rattle.sqlite.specs.Effect.{Database, IsDatabase}
 use Rattle.sqlite.specs.State.{HasCleanDisk, IsUnchanged, State, Survives}
 use Rattle.sqlite.specs.declared.error.Error.{Error}
@@ -15,16 +14,18 @@ use Rattle.sqlite.proofs.Callers.{unchanged_then}
 use Rattle.one_table.specs.Answer.{IsLeft}
 use Rattle.vend_core.specs.Office.{Office}
 use Rattle.book_tables.specs.Format.{HasFormat, IsFormatOf}
-use Rattle.book_tables.specs.Holds.{HasOffice, HoldsMembers, IsUntaken, StandsFor}
-use Rattle.book_tables.proofs.HoldsLemmas.{holds_or_empty}
-use Rattle.book_tables.specs.Reading.{FailsToRead, HasTables}
+use Rattle.book_tables.specs.Holds.{HasOfficeOf, HoldsMembersOf, HoldsOf, HoldsRows, IsKept, StandsFor}
+use Rattle.book_tables.specs.Kept.{Kept, about_kept, kept, sales_kept}
+use Rattle.book_tables.proofs.HoldsLemmas.{held_as, of_upto}
+use Rattle.book_tables.specs.Reading.{FailsToReadOf, HasTable, TableHolds}
+use Rattle.book_tables.specs.Rows.{Rows, present_format}
 use Rattle.book_tables.specs.declared.error.TableError.{TableError}
 use Rattle.book_tables.specs.declared.error.TableError.TheVariants as table
 use Rattle.books.specs.Keeps.{StoreStandsFor}
-use Rattle.books.specs.Opening.{HasSoundDatabase, ShowsNoOffice, fault_of_table}
+use Rattle.books.specs.Opening.{HasSoundDatabase, HasTablesOf, ShowsNoOffice, fault_of_table}
 use Rattle.books.specs.Same.{IsSame}
 use Rattle.books.specs.declared.fault.OpenFault.{OpenFault}
-use Rattle.books.specs.declared.fault.OpenFault.TheVariants.{NotAnOffice, OldOffice, Store, Memory}
+use Rattle.books.specs.declared.fault.OpenFault.TheVariants.{NotAnOffice, Store, Memory}
 
 pub same_unchanged : (old new : State) → IsUnchanged old new → IsSame old new
 same_unchanged old new h = record { was_open = λ _. h.0.was_open; now_is = λ _. h.0.now_is }
@@ -47,47 +48,55 @@ stands_after old new o clean same survives at = record {
   left = λ trees leaves. elim (survives.crash clean trees leaves) [ inl was ↦ at.left trees was | inr none ↦ absurd none ];
 }
 
--- The office's tables are there: none of their names is free.
-pub taken : (db : Database) → HasOffice db.schema → ¬ IsUntaken db.schema
-taken db has untaken =
-    let named : table_named db.schema (codes "about") ≡ Some (place_in db.schema (codes "about")) = has.tables.0.0.has.named in
-    let none = rw named at untaken.free in cc
+-- the tables of a format, by each
+module _ (n : ℕ) (k : Kept) (listed : Member kept k) (came : k.since ≤ n) where
+  pub has_kept : (s : State) → HasTablesOf n s → HasTable k s
+  has_kept s has runs = of_upto (IsKept s.now.schema) n k kept listed (le-leb k.since n came) (has runs).tables
 
-pub members_of : (db : Database) (o : Office) → HasOffice db.schema → StandsFor db o → HoldsMembers db o
-members_of db o has stands = elim (holds_or_empty db o stands) [ inl held ↦ held | inr none ↦ absurd (taken db has none.0) ]
+  rows_kept : (db : Database) (rows : Rows) → HoldsOf n n db rows → TableHolds k db rows
+  rows_kept db rows held =
+      (of_upto (IsKept db.schema) n k kept listed (le-leb k.since n came) held.has.tables, (n, of_upto (HoldsRows db n rows) n k kept listed (le-leb k.since n came) held.are))
 
--- a read that failed shows that there is no office, where its fault says so
-pub shows_fault : (old new : State) → HasTables old → (e : TableError) (fault : OpenFault) → ((why : Error) → e ≡ table.Database why → (fault ≡ Store) ⊎ (fault ≡ Memory)) → fault ≡ fault_of_table e
-    → FailsToRead old new e → ShowsNoOffice old fault
-shows_fault old new tables (table.Database why) fault kind is fails = elim (kind why refl) [ inl e ↦ rw e tt | inr e ↦ rw e tt ]
-shows_fault old new tables table.RowOfNoOffice fault kind is fails =
-    rw is (λ o at. let held = members_of old.now o (tables fails.1.0.was_open) (at.now fails.1.0.was_open) in fails.0 held.0 held.1 (o, at.office, held.2))
+  -- a read that failed shows that there is no office, where its fault says so
+  pub shows_fault : (old new : State) → n ≤ present_format → HasTablesOf n old → (e : TableError) (fault : OpenFault) → ((why : Error) → e ≡ table.Database why → (fault ≡ Store) ⊎ (fault ≡ Memory)) → fault ≡ fault_of_table e
+      → FailsToReadOf (TableHolds k) old new e → ShowsNoOffice old fault
+  shows_fault old new known tables (table.Database why) fault kind is fails = elim (kind why refl) [ inl e ↦ rw e tt | inr e ↦ rw e tt ]
+  shows_fault old new known tables table.RowOfNoOffice fault kind is fails =
+      rw is (λ o at.
+      let held = held_as old.now o n (at.now fails.1.0.was_open) known (tables fails.1.0.was_open) in
+      fails.0 held.0.0 (rows_kept old.now held.0.0 held.0.1) (o, at.office, held.0.2))
+
+pub at_about : Member kept about_kept
+at_about = inl refl
+
+pub at_sales : Member kept sales_kept
+at_sales = inr (inr (inr (inr (inr (inl refl)))))
 
 -- the tables of an office tell their format
-pub format_of : (db : Database) (o : Office) → HoldsMembers db o → HasFormat db 1
-format_of db o held = held.1.are.0
+pub format_of : (n : ℕ) → 1 ≤ n → (db : Database) (o : Office) → HoldsMembersOf n db o → HasFormat db n
+format_of zero some db o held = absurd (omega (arith, some))
+format_of (suc n) some db o held = of_upto (HoldsRows db (suc n) held.0) (suc n) about_kept kept at_about (le-leb 1 (suc n) some) held.1.are
 
-pub is_format : (db : Database) (o : Office) (found : Option ℕ) → HoldsMembers db o → IsFormatOf db found → found ≡ Some 1
-is_format db o found held is = (is 1 (omega arith)).1 (format_of db o held)
+pub is_format : (n : ℕ) → 1 ≤ n → n ≤ present_format → (db : Database) (o : Office) (found : Option ℕ) → HoldsMembersOf n db o → IsFormatOf db found → found ≡ Some n
+is_format n some known db o found held is = (is n (omega (arith, known))).1 (format_of n some db o held)
 
-pub has_format : (db : Database) (found : Option ℕ) → option_eq nat_eq found (Some 1) ≡ true → IsFormatOf db found → HasFormat db 1
-has_format db found same is = (is 1 (omega arith)).0 (some_one found same)
+pub has_format : (n : ℕ) → n ≤ present_format → (db : Database) (found : Option ℕ) → option_eq nat_eq found (Some n) ≡ true → IsFormatOf db found → HasFormat db n
+has_format n known db found same is = (is n (omega (arith, known))).0 (some_one found same)
   where
-    some_one : (o : Option ℕ) → option_eq nat_eq o (Some 1) ≡ true → o ≡ Some 1
+    some_one : (o : Option ℕ) → option_eq nat_eq o (Some n) ≡ true → o ≡ Some n
     some_one None h = absurd (let e = h in cc)
-    some_one (Some n) h = (let e : n ≡ 1 = grind (arith, nat_tests) in ap Some e)
+    some_one (Some m) h = (let e : m ≡ n = grind (arith, nat_tests) in ap Some e)
 
 -- a fault that names the file is true of the store as it was before a look
 pub shown_before : (old mid : State) (fault : OpenFault) → ((o : Office) → StoreStandsFor old o → StoreStandsFor mid o) → ShowsNoOffice mid fault → ShowsNoOffice old fault
 shown_before old mid NotAnOffice after none = λ o at. none o (after o at)
-shown_before old mid OldOffice after none = none
 shown_before old mid Store after none = tt
 shown_before old mid Memory after none = tt
 
 -- a store that is not clean shows as shut, so the tables are there after a look, whatever the disk did
-pub tables_after : (old mid : State) → (mid.is_clean ≡ false → mid.is_open ≡ false) → (HasCleanDisk mid → IsUnchanged old mid) → HasTables old → HasTables mid
-tables_after old mid shut same has = λ is_open. elim (cases_Bool mid.is_clean) [
-  | inl is ↦ (let it = same (no_doubt mid.is_clean is) in subst (λ (db : Database). HasOffice db.schema) (sym it.0.now_is) (has it.0.was_open))
+pub tables_after : (n : ℕ) (old mid : State) → (mid.is_clean ≡ false → mid.is_open ≡ false) → (HasCleanDisk mid → IsUnchanged old mid) → HasTablesOf n old → HasTablesOf n mid
+tables_after n old mid shut same has = λ is_open. elim (cases_Bool mid.is_clean) [
+  | inl is ↦ (let it = same (no_doubt mid.is_clean is) in subst (λ (db : Database). HasOfficeOf n db.schema) (sym it.0.now_is) (has it.0.was_open))
   | inr dirty ↦ absurd (both_ways mid.is_open (shut dirty) is_open)
 ]
 

@@ -11,3 +11,4 @@ pub mod Path
 pub mod Same
 pub mod Serving
 pub mod Stopping
+pub mod Totals

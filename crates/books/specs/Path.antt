@@ -9,7 +9,7 @@ use Rattle.sqlite_trees.specs.Tree.{Trees}
 use Rattle.sqlite_wal.specs.Recovery.{Image}
 use Rattle.vend_core.specs.Office.{Office}
 use Rattle.books.specs.Keeps.{RecoversTo, StoreStandsFor}
-use Rattle.books.specs.Opening.{LeavesBegun, LeavesRefused, OpensAs}
+use Rattle.books.specs.Opening.{LeavesBrought, LeavesRefused, OpensAs}
 use Rattle.books.specs.Same.{IsSame}
 use Rattle.books.specs.declared.fault.OpenFault.{OpenFault}
 use Rattle.books.specs.declared.fault.OpenFault.TheVariants.{NotAnOffice, Store, Memory}
@@ -36,7 +36,7 @@ module _ {D : Type 0} {g : Ghosts D} where
     pub first : Held (FileStore D g)
     pub connected : HasCleanDisk (file_state first) → IsConnected image (file_state first)
     pub finds : HasCleanDisk (file_state last) → OpensAs (file_state first) (file_state last)
-    pub survives : Survives (file_state first) (file_state last) (LeavesBegun (file_state first))
+    pub survives : Survives (file_state first) (file_state last) (LeavesBrought (file_state first))
 
   -- None was opened over a connection that was just made to the files. A fault that names the file
   -- is true of it. The connection has what it had, and what the files stood for it stands for; a

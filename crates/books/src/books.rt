@@ -15,6 +15,7 @@ mod path;
 mod serve;
 mod serve_all;
 mod stopping;
+mod totals;
 
 /// An office that is kept in the tables of a database (`docs/LIVES.md`).
 ///

@@ -2,13 +2,15 @@
 
 ghost use Rattle.books.specs.Changing.{Makes};
 
-use book_tables::adding::{add_meter, add_sale, add_shift, add_tariff};
+use book_tables::adding::{add_meter, add_shift, add_tariff};
+use book_tables::bases::move_base;
 use book_tables::changing::{close_shift, set_tariff};
+use book_tables::dated::add_steps;
+use book_tables::totalling::add_sold;
 use book_tables::{TableError, members_law};
 use one_table::Change;
 use rows::add_rows;
 use sqlite::{Alter, Transaction};
-use std::alloc::AllocError;
 use vend_core::Edit;
 
 mod rows;
@@ -28,14 +30,14 @@ impl<S: Alter> Change<S> for Editing<'_> {
         members_law();
         match self.edit {
             Edit::AddTariff(name, steps) => add_tariff(tx, name, steps.as_slice()),
-            // The tables have no place for these: as without memory, nothing is done.
-            Edit::AddSteps(..) | Edit::MoveBase(..) => Err(TableError::from(AllocError)),
+            Edit::AddSteps(name, day, steps) => add_steps(tx, name, *day, steps.as_slice()),
             Edit::AddMeter(number, meter) => add_meter(tx, number, meter),
             Edit::AddRows(rows) => add_rows(tx, rows.as_slice()),
             Edit::SetTariff(number, name) => set_tariff(tx, number, name),
+            Edit::MoveBase(number, base) => move_base(tx, number, *base),
             Edit::OpenShift(shift) => add_shift(tx, shift),
             Edit::CloseShift(number, moment) => close_shift(tx, *number, *moment),
-            Edit::AddSale(sale) => add_sale(tx, sale),
+            Edit::AddSale(sale) => add_sold(tx, sale),
         }
     }
 }

@@ -16,7 +16,8 @@ mod accounts;
 mod imports;
 mod meters;
 mod sales;
-mod shifts;
+pub(crate) mod shifts;
+mod steps;
 
 /// What the tests of a request look at, as far as they do and no further. The count of sales is the
 /// caller's.
@@ -36,7 +37,7 @@ pub(crate) fn facts_of<S: Alter>(
 {
     match &at.request {
         Request::AddTariff(name, _) => meters::tariff_facts(alloc, conn, name),
-        Request::AddSteps(name, ..) => meters::dated_facts(conn, name),
+        Request::AddSteps(name, day, _) => steps::dated_facts(alloc, conn, name, *day),
         Request::AddMeter(number, meter) => meters::meter_facts(conn, number, meter),
         Request::Import(rows) => imports::import_facts(alloc, conn, rows),
         Request::SetTariff(number, name) => meters::setting_facts(conn, number, name),

@@ -8,8 +8,6 @@ use thiserror::Error;
 pub enum OpenFault {
     #[error("the file has tables that are not an office's")]
     NotAnOffice,
-    #[error("the file has an office of an older format")]
-    OldOffice,
     #[error("the store failed")]
     Store,
     #[error("out of memory")]
@@ -23,7 +21,6 @@ impl OpenFault {
     {
         match self {
             OpenFault::NotAnOffice => 1,
-            OpenFault::OldOffice => 2,
             OpenFault::Store => 3,
             OpenFault::Memory => 4,
         }
@@ -35,7 +32,6 @@ impl OpenFault {
     {
         match self {
             OpenFault::NotAnOffice => "NotAnOffice",
-            OpenFault::OldOffice => "OldOffice",
             OpenFault::Store => "Store",
             OpenFault::Memory => "Memory",
         }

@@ -5,12 +5,13 @@
 //! and a life that the contracts speak of.
 #![tactic(auto)]
 
+pub use book_tables::Totals;
 pub use books::Books;
 pub use fault::OpenFault;
 pub use headline::headline_law;
 pub use reopening::opening_law;
 
-mod beginning;
+mod bringing;
 mod books;
 mod changing;
 mod facts;

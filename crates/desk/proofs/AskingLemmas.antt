@@ -11,6 +11,7 @@ use Rattle.papers.specs.declared.row_fault.RowFault.TheVariants as row_faults
 use Rattle.serde_json.specs.Data.{Data, number, string, unsigned}
 use Rattle.serde_json.specs.Find.{get}
 use Rattle.sts_fields.specs.Base.{year_of}
+use Rattle.sts_fields.specs.Day.{IsDayText}
 use Rattle.sts_fields.specs.declared.base.Base.{Base}
 use Rattle.sts_fields.specs.declared.base.Base.TheVariants.{Y1993, Y2014, Y2035}
 use Rattle.tariff.specs.StepsText.{IsStepsText}
@@ -24,11 +25,11 @@ use Rattle.vend_core.specs.declared.row_cause.RowCause.{RowCause}
 use Rattle.desk.specs.declared.body_fault.BodyFault.{BodyFault}
 use Rattle.desk.specs.declared.body_fault.BodyFault.TheVariants as faults
 use Rattle.desk.specs.declared.route.Route.{Route}
-use Rattle.desk.specs.declared.route.Route.TheVariants.{AddTariff, AddMeter, SetTariff, OpenShift, CloseShift, ShiftReport, Sell, Reprint, Receipt, ImportMeters, ImportTariffs}
+use Rattle.desk.specs.declared.route.Route.TheVariants.{AddTariff, AddSteps, AddMeter, SetTariff, MoveBase, OpenShift, CloseShift, ShiftReport, Sell, Reprint, Receipt, ImportMeters, ImportTariffs}
 use Rattle.desk.specs.declared.json_kind.JsonKind.{JsonKind}
 use Rattle.desk.specs.declared.json_kind.JsonKind.TheVariants as kinds
 use Rattle.desk.specs.Asking.{AsksByJson, AsksImport, BodyAsks, SaysJson, import_of}
-use Rattle.desk.specs.JsonBody.{BodySays, BodySaysMeter, BodySaysOperator, SaysOrder, BodySaysTariff, SaysTariffName}
+use Rattle.desk.specs.JsonBody.{BodySays, BodySaysMeter, BodySaysOperator, SaysBase, SaysDatedSteps, SaysOrder, BodySaysTariff, SaysTariffName}
 use Rattle.desk.specs.Reads.{IsFoundIn}
 
 -- ---- members
@@ -51,18 +52,37 @@ same_base a b e = absurd (omega (arith, e))
 
 -- ---- what a value says
 
--- a text is that of one list of steps
-abbrev pub OneList : Type 0
-OneList = (text : List ℕ) (steps others : List Step)
-    → IsStepsText text steps → IsStepsText text others → steps ≡ others
+-- what is known of texts: each is that of one list of steps, and of one day
+pub record TextsSayOne : Type 0 where
+  pub one_list : (text : List ℕ) (steps others : List Step) → IsStepsText text steps
+      → IsStepsText text others → steps ≡ others
+  pub one_day : (day other : ℕ) (text : List ℕ) → IsDayText text day → IsDayText text other
+      → day ≡ other
 
-one_tariff : OneList → (json : Data) (name other : List ℕ) (steps others : List Step)
+-- what a member says is one, where its texts say one thing each
+one_value : {A : Type 0} (Says : List ℕ → A → Type 0)
+    → ((text : List ℕ) (x y : A) → Says text x → Says text y → x ≡ y) → (found : Option Data)
+    (a b : List ℕ) (x y : A) → found ≡ Some (string a) → found ≡ Some (string b) → Says a x → Says b y
+    → x ≡ y
+one_value Says one found a b x y at_a at_b says_x says_y =
+    one a x y says_x (subst (λ text. Says text y) (sym (same_text found a b at_a at_b)) says_y)
+
+one_tariff : TextsSayOne → (json : Data) (name other : List ℕ) (steps others : List Step)
     → BodySaysTariff json name steps → BodySaysTariff json other others → (name ≡ other) × (steps ≡ others)
-one_tariff one_list json name other steps others a b =
-    let texts = same_text (get (codes "steps") json) a.steps_text b.steps_text a.members.each.1.0 b.members.each.1.0 in (
-      same_text (get (codes "name") json) name other a.members.each.0 b.members.each.0,
-      one_list a.steps_text steps others a.written (subst (λ text. IsStepsText text others) (sym texts) b.written),
-    )
+one_tariff are json name other steps others a b = (
+  same_text (get (codes "name") json) name other a.members.each.0 b.members.each.0,
+  one_value IsStepsText are.one_list (get (codes "steps") json) a.steps_text b.steps_text steps others
+      a.members.each.1.0 b.members.each.1.0 a.written b.written,
+)
+
+one_dated : TextsSayOne → (json : Data) (day other : ℕ) (steps others : List Step)
+    → SaysDatedSteps json day steps → SaysDatedSteps json other others → (day ≡ other) × (steps ≡ others)
+one_dated are json day other steps others a b = (
+  one_value IsDayText (λ text x y. are.one_day x y text) (get (codes "from") json) a.day_text b.day_text day other
+      a.members.each.0 b.members.each.0 a.dated b.dated,
+  one_value IsStepsText are.one_list (get (codes "steps") json) a.steps_text b.steps_text steps others
+      a.members.each.1.0 b.members.each.1.0 a.written b.written,
+)
 
 one_meter : (json : Data) (meter other : List ℕ) (m n : Meter) → BodySaysMeter json meter m
     → BodySaysMeter json other n → (meter ≡ other) × (m ≡ n)
@@ -96,31 +116,41 @@ one_tariff_name : (json : Data) (a b : List ℕ) → SaysTariffName json a → S
 one_tariff_name json a b x y =
     same_text (get (codes "tariff") json) a b x.members.each.0 y.members.each.0
 
-one_said : OneList → (kind : JsonKind) (json : Data) (x y : Request) → BodySays kind json x
+one_base : (json : Data) (a b : Base) → SaysBase json a → SaysBase json b → a ≡ b
+one_base json a b x y =
+    same_base a b (same_number (get (codes "base") json) (year_of a) (year_of b) x.members.each.0 y.members.each.0)
+
+one_said : TextsSayOne → (kind : JsonKind) (json : Data) (x y : Request) → BodySays kind json x
     → BodySays kind json y → x ≡ y
-one_said one_list kinds.Tariff json x y a b =
-    let same = one_tariff one_list json a.0 b.0 a.1 b.1 a.3 b.3 in
+one_said are kinds.Tariff json x y a b =
+    let same = one_tariff are json a.0 b.0 a.1 b.1 a.3 b.3 in
     a.2 ∙ ap (λ name. requests.AddTariff name a.1) same.0
     ∙ ap (λ steps. requests.AddTariff b.0 steps) same.1 ∙ sym b.2
-one_said one_list kinds.Meter json x y a b =
+one_said are (kinds.TariffSteps tariff) json x y a b =
+    let same = one_dated are json a.0 b.0 a.1 b.1 a.3 b.3 in
+    a.2 ∙ ap (λ day. requests.AddSteps tariff day a.1) same.0
+    ∙ ap (λ steps. requests.AddSteps tariff b.0 steps) same.1 ∙ sym b.2
+one_said are kinds.Meter json x y a b =
     let same = one_meter json a.0 b.0 a.1 b.1 a.3 b.3 in
     a.2 ∙ ap (λ meter. requests.AddMeter meter a.1) same.0
     ∙ ap (λ m. requests.AddMeter b.0 m) same.1 ∙ sym b.2
-one_said one_list (kinds.MeterTariff meter) json x y a b =
+one_said are (kinds.MeterTariff meter) json x y a b =
     a.1 ∙ ap (λ name. requests.SetTariff meter name) (one_tariff_name json a.0 b.0 a.2 b.2) ∙ sym b.1
-one_said one_list kinds.Opening json x y a b =
+one_said are (kinds.MeterBase meter) json x y a b =
+    a.1 ∙ ap (λ base. requests.MoveBase meter base) (one_base json a.0 b.0 a.2 b.2) ∙ sym b.1
+one_said are kinds.Opening json x y a b =
     a.1 ∙ ap requests.OpenShift (one_operator json a.0 b.0 a.2 b.2) ∙ sym b.1
-one_said one_list kinds.Closing json x y a b =
+one_said are kinds.Closing json x y a b =
     a.1 ∙ ap requests.CloseShift (one_operator json a.0 b.0 a.2 b.2) ∙ sym b.1
-one_said one_list kinds.Order json x y a b =
+one_said are kinds.Order json x y a b =
     a.1 ∙ ap requests.Sell (one_order json a.0 b.0 a.2 b.2) ∙ sym b.1
 
-one_said_by : OneList → (kind : JsonKind) (body : List ℕ) (x y : Request) → SaysJson kind body x
+one_said_by : TextsSayOne → (kind : JsonKind) (body : List ℕ) (x y : Request) → SaysJson kind body x
     → SaysJson kind body y → x ≡ y
-one_said_by one_list kind body x y a b =
+one_said_by are kind body x y a b =
     let e : Some b.0 ≡ Some a.0 = sym b.1.reads ∙ a.1.reads in
     let same : b.0 ≡ a.0 = cc in
-    one_said one_list kind a.0 x y a.2 (subst (λ json. BodySays kind json y) same b.2)
+    one_said are kind a.0 x y a.2 (subst (λ json. BodySays kind json y) same b.2)
 
 one_found : {A : Type 0} (Holds : A → Type 0) → ((x y : A) → Holds x → Holds y → x ≡ y)
     → (a b : Result A BodyFault) → IsFoundIn Holds a → IsFoundIn Holds b → a ≢ Err faults.Memory
@@ -177,22 +207,24 @@ one_import are kind body a b x y u v =
 
 -- ---- what a body asks
 
-one_by_json : OneList → (kind : JsonKind) (body : List ℕ) (a b : Result Request BodyFault)
+one_by_json : TextsSayOne → (kind : JsonKind) (body : List ℕ) (a b : Result Request BodyFault)
     → AsksByJson kind body a → AsksByJson kind body b → a ≢ Err faults.Memory
     → b ≢ Err faults.Memory → a ≡ b
-one_by_json one_list kind body = one_found (SaysJson kind body) (one_said_by one_list kind body)
+one_by_json are kind body = one_found (SaysJson kind body) (one_said_by are kind body)
 
-pub one_asking : OneList → AreOne → (route : Route) (body : List ℕ) (a b : Result Request BodyFault)
+pub one_asking : TextsSayOne → AreOne → (route : Route) (body : List ℕ) (a b : Result Request BodyFault)
     → BodyAsks route body a → BodyAsks route body b → a ≢ Err faults.Memory
     → b ≢ Err faults.Memory → a ≡ b
-one_asking one_list are AddTariff body = one_by_json one_list kinds.Tariff body
-one_asking one_list are AddMeter body = one_by_json one_list kinds.Meter body
-one_asking one_list are (SetTariff meter) body = one_by_json one_list (kinds.MeterTariff meter) body
-one_asking one_list are OpenShift body = one_by_json one_list kinds.Opening body
-one_asking one_list are CloseShift body = one_by_json one_list kinds.Closing body
-one_asking one_list are Sell body = one_by_json one_list kinds.Order body
-one_asking one_list are (ShiftReport shift) body = λ a b x y u v. x ∙ sym y
-one_asking one_list are (Reprint sale) body = λ a b x y u v. x ∙ sym y
-one_asking one_list are (Receipt sale) body = λ a b x y u v. x ∙ sym y
-one_asking one_list are ImportMeters body = one_import are Meters body
-one_asking one_list are ImportTariffs body = one_import are Tariffs body
+one_asking texts files AddTariff body = one_by_json texts kinds.Tariff body
+one_asking texts files (AddSteps tariff) body = one_by_json texts (kinds.TariffSteps tariff) body
+one_asking texts files AddMeter body = one_by_json texts kinds.Meter body
+one_asking texts files (SetTariff meter) body = one_by_json texts (kinds.MeterTariff meter) body
+one_asking texts files (MoveBase meter) body = one_by_json texts (kinds.MeterBase meter) body
+one_asking texts files OpenShift body = one_by_json texts kinds.Opening body
+one_asking texts files CloseShift body = one_by_json texts kinds.Closing body
+one_asking texts files Sell body = one_by_json texts kinds.Order body
+one_asking texts files (ShiftReport shift) body = λ a b x y u v. x ∙ sym y
+one_asking texts files (Reprint sale) body = λ a b x y u v. x ∙ sym y
+one_asking texts files (Receipt sale) body = λ a b x y u v. x ∙ sym y
+one_asking texts files ImportMeters body = one_import files Meters body
+one_asking texts files ImportTariffs body = one_import files Tariffs body

@@ -1,5 +1,5 @@
 -- What bodies say, from what was read of them.
-use Rattle.std.proofs.Common.{◌≡◌, ◌≢◌, ℕ, List, Some, Result, Err, String, Global, nat_eq, length, refl, ap, sym, subst, ◌∙◌, arith}
+use Rattle.std.proofs.Common.{◌≡◌, ℕ, List, Some, Err, String, Global, nat_eq, length, ap, sym, subst, ◌∙◌, arith}
 use Rattle.std.specs.Prelude.{◌↔◌, IsTrue, codes, option_map}
 use Rattle.std.proofs.lemmas.Bool.Decides.{nat_tests}
 use Rattle.serde_json.specs.Data.{Data}
@@ -14,8 +14,8 @@ use Rattle.vend_core.specs.declared.request.Request.{Request}
 use Rattle.desk.specs.declared.body_fault.BodyFault.{BodyFault}
 use Rattle.desk.specs.declared.body_fault.BodyFault.TheVariants.{OutsideRule, Row, Memory}
 use Rattle.desk.specs.declared.json_kind.JsonKind.{JsonKind}
-use Rattle.desk.specs.declared.json_kind.JsonKind.TheVariants.{Tariff}
-use Rattle.desk.specs.JsonBody.{HasMemberCount, IsKeyAt, BodySays, BodySaysMeter, BodySaysTariff}
+use Rattle.desk.specs.declared.json_kind.JsonKind.TheVariants.{Tariff, TariffSteps}
+use Rattle.desk.specs.JsonBody.{HasMemberCount, IsKeyAt, BodySays, BodySaysMeter, BodySaysTariff, SaysDatedSteps}
 use Rattle.desk.specs.Reads.{IsFoundIn}
 
 -- a map has as many entries as its object has members
@@ -43,11 +43,26 @@ not_found_in Part Whole OutsideRule has none = λ whole holds.
 not_found_in Part Whole (Row number cause) has none = none
 not_found_in Part Whole Memory has none = none
 
--- a value that says no tariff says nothing where it is to say one
+-- a value that says none of what is needed for a kind says nothing where it is to say that kind
+not_said : {A : Type 0} (Says : A → Type 0) (kind own : JsonKind) (json : Data) (fault : BodyFault)
+    → ((request : Request) → BodySays own json request → (said : A) × Says said) → kind ≡ own
+    → IsFoundIn Says (Err fault) → IsFoundIn (BodySays kind json) (Err fault)
+not_said Says kind own json fault needs same none =
+    subst (λ k. IsFoundIn (BodySays k json) (Err fault)) (sym same) (not_found_in Says (BodySays own json) fault needs none)
+
+-- a value that says no tariff
 pub no_tariff : (kind : JsonKind) (json : Data) (fault : BodyFault) → kind ≡ Tariff
     → IsFoundIn {A = List ℕ × List Step} (λ said. BodySaysTariff json said.0 said.1) (Err fault)
     → IsFoundIn (BodySays kind json) (Err fault)
-no_tariff kind json fault same none =
-    subst (λ k. IsFoundIn (BodySays k json) (Err fault)) (sym same)
-    (not_found_in {A = List ℕ × List Step} (λ said. BodySaysTariff json said.0 said.1) (BodySays Tariff json) fault
-    (λ request says. ((says.0, says.1), says.3)) none)
+no_tariff kind json fault =
+    not_said {A = List ℕ × List Step} (λ said. BodySaysTariff json said.0 said.1) kind Tariff json fault
+    (λ request says. ((says.0, says.1), says.3))
+
+-- a value that says no dated steps
+pub no_dated_steps : (kind : JsonKind) (name : List ℕ) (json : Data) (fault : BodyFault)
+    → kind ≡ TariffSteps name
+    → IsFoundIn {A = ℕ × List Step} (λ said. SaysDatedSteps json said.0 said.1) (Err fault)
+    → IsFoundIn (BodySays kind json) (Err fault)
+no_dated_steps kind name json fault =
+    not_said {A = ℕ × List Step} (λ said. SaysDatedSteps json said.0 said.1) kind (TariffSteps name) json fault
+    (λ request says. ((says.0, says.1), says.3))

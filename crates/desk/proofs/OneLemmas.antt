@@ -14,9 +14,9 @@ use Rattle.desk.specs.declared.form.Form.{Form}
 use Rattle.desk.specs.declared.form.Form.TheVariants.{Json}
 use Rattle.desk.specs.declared.method.Method.{Method}
 use Rattle.desk.specs.declared.outcome.Outcome.{Outcome}
-use Rattle.desk.specs.declared.outcome.Outcome.TheVariants.{Refused, Faulty, Served}
+use Rattle.desk.specs.declared.outcome.Outcome.TheVariants.{Faulty, Served}
 use Rattle.desk.specs.declared.route.Route.{Route}
-use Rattle.desk.specs.Along.{AreAsked, Asked, AskedNothing}
+use Rattle.desk.specs.Along.{AreAsked}
 use Rattle.desk.specs.Asking.{BodyAsks}
 use Rattle.desk.specs.Conversation.{messages_of}
 use Rattle.desk.specs.Exchanges.{MessageExchange}

@@ -1,6 +1,7 @@
 -- The numbers that targets name, and what is read between a front and an end.
 use Rattle.std.proofs.Common.{◌≡◌, ◌≢◌, ℕ, zero, suc, ◌^◌, ◌<◌, ◌≤◌, List, ◌++◌, length, get_or, Option, Some, None, Result, Ok, Err, refl, ap, sym, subst, ◌∙◌, arith}
-use Rattle.std.specs.Prelude.{◌↔◌, IfSome, IsSome, IsUtf8, decimal}
+use Rattle.std.specs.Prelude.{◌↔◌, IfSome, IsSome, IsUtf8, MatchOption, decimal}
+use Rattle.std.specs.Borrow.{Bor}
 use Rattle.std.specs.Str.Parse.{AllDigits, ParsesUnsigned, digits_value}
 use Rattle.std.proofs.lemmas.Fmt.{IsAscii-decimal, decimal-digits_value, decimal_digit, decimal_injective, decimal_is_IsNumeral, decimal_nonempty, first_decimal}
 use Rattle.std.proofs.lemmas.List.{append_cancel_left, append_cancel_right}
@@ -19,13 +20,25 @@ reads_after rule write text front rest (Some value) e (keeps, same) =
 reads_after rule write text front rest None e none = λ value keeps same.
     none value keeps (append_cancel_left front rest (write value) (sym e ∙ same))
 
-pub reads_before : {A : Type 0} (rule : A → Type 0) (write : A → List ℕ) (text rest end : List ℕ)
-    (r : Option A) → text ≡ rest ++ end → ReadsWritten rule write rest r
-    → ReadsWritten rule (λ value. write value ++ end) text r
-reads_before rule write text rest end (Some value) e (keeps, same) =
-    (keeps, e ∙ ap (λ bytes. bytes ++ end) same)
-reads_before rule write text rest end None e none = λ value keeps same.
-    none value keeps (append_cancel_right rest (write value) end (sym e ∙ same))
+-- what stands between, by what stands before the end, and what of that behind the front
+pub stands_between : (text front rest end : List ℕ) (r : Option (Bor (List ℕ))) → text ≡ rest ++ end
+    → MatchOption r ((middle : List ℕ) → rest ≢ front ++ middle) (λ middle. rest ≡ front ++ middle.now)
+    → MatchOption r ((middle : List ℕ) → text ≢ (front ++ middle) ++ end)
+    (λ middle. text ≡ (front ++ middle.now) ++ end)
+stands_between text front rest end (Some middle) e is = e ∙ ap (λ bytes. bytes ++ end) is
+stands_between text front rest end None e none = λ middle same.
+    none middle (append_cancel_right rest (front ++ middle) end (sym e ∙ same))
+
+-- what is read of what stands between
+pub reads_between : {A : Type 0} (rule : A → Type 0) (write : A → List ℕ)
+    (text front middle end : List ℕ) (r : Option A) → text ≡ (front ++ middle) ++ end
+    → ReadsWritten rule write middle r
+    → ReadsWritten rule (λ value. (front ++ write value) ++ end) text r
+reads_between rule write text front middle end (Some value) e (keeps, same) =
+    (keeps, e ∙ ap (λ bytes. (front ++ bytes) ++ end) same)
+reads_between rule write text front middle end None e none = λ value keeps same.
+    none value keeps (append_cancel_left front middle (write value)
+    (append_cancel_right (front ++ middle) (front ++ write value) end (sym e ∙ same)))
 
 -- what the reader of a name finds
 pub reads_name : (rule : List ℕ → Type 0) (text : List ℕ) (r : Option (List ℕ))

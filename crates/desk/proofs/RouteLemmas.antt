@@ -13,7 +13,7 @@ use Rattle.desk.specs.declared.endpoint.Endpoint.{Endpoint}
 use Rattle.desk.specs.declared.endpoint.Endpoint.TheVariants.{Tariffs}
 use Rattle.desk.specs.declared.method.Method.{Method}
 use Rattle.desk.specs.declared.route.Route.{Route}
-use Rattle.desk.specs.declared.route.Route.TheVariants.{AddTariff, AddMeter, SetTariff, OpenShift, CloseShift, ShiftReport, Sell, Reprint, Receipt, ImportMeters, ImportTariffs}
+use Rattle.desk.specs.declared.route.Route.TheVariants.{AddTariff, AddSteps, AddMeter, SetTariff, MoveBase, OpenShift, CloseShift, ShiftReport, Sell, Reprint, Receipt, ImportMeters, ImportTariffs}
 use Rattle.desk.specs.Endpoint.{Table, endpoints, endpoint_method, pattern_of, with_endpoint, with_pattern}
 use Rattle.desk.specs.Route.{Finds, IsRouted, LeadsTo, Names, endpoint_of}
 use Rattle.desk.proofs.ParameterLemmas.{same_number}
@@ -28,7 +28,7 @@ inserted (Err error) endpoint old new (Ok u) (same, inr e) clean = absurd (cc)
 inserted read endpoint old new (Err error) is clean = absurd (cc)
 
 -- the table with the endpoint at a place, after those before it
-pub next_rows : (old new : Table) (i : ℕ) (pattern : List ℕ) → i < 11
+pub next_rows : (old new : Table) (i : ℕ) (pattern : List ℕ) → i < 13
     → old ≡ fold with_endpoint [] (take i endpoints)
     → pattern ≡ pattern_of (get_or endpoints i Tariffs)
     → new ≡ with_pattern old (parse_route pattern) (get_or endpoints i Tariffs)
@@ -45,14 +45,23 @@ pub one_endpoint : (target : List ℕ) (a b : Endpoint) → Finds target a → F
 one_endpoint target a b one other =
     let e : Some a ≡ Some b = sym one.found ∙ other.found in cc
 
+-- what stands between a front and an end is one
+same_between : (target front end x y : List ℕ) → target ≡ (front ++ x) ++ end
+    → target ≡ (front ++ y) ++ end → x ≡ y
+same_between target front end x y one other =
+    append_cancel_left front x y (append_cancel_right (front ++ x) (front ++ y) end (sym one ∙ other))
+
 -- a target is that of one route
 same_route : (target : List ℕ) (a b : Route) → endpoint_of a ≡ endpoint_of b → Names target a
     → Names target b → a ≡ b
 same_route target AddTariff AddTariff e m n = refl
+same_route target (AddSteps x) (AddSteps y) e m n =
+    ap AddSteps (same_between target (codes "/tariffs/") (codes "/steps") x y m.0 n.0)
 same_route target AddMeter AddMeter e m n = refl
 same_route target (SetTariff x) (SetTariff y) e m n =
-    let fronts = append_cancel_right (codes "/meters/" ++ x) (codes "/meters/" ++ y) (codes "/tariff") (sym m.0 ∙ n.0) in
-    ap SetTariff (append_cancel_left (codes "/meters/") x y fronts)
+    ap SetTariff (same_between target (codes "/meters/") (codes "/tariff") x y m.0 n.0)
+same_route target (MoveBase x) (MoveBase y) e m n =
+    ap MoveBase (same_between target (codes "/meters/") (codes "/base") x y m.0 n.0)
 same_route target OpenShift OpenShift e m n = refl
 same_route target CloseShift CloseShift e m n = refl
 same_route target (ShiftReport x) (ShiftReport y) e m n =
@@ -61,8 +70,7 @@ same_route target Sell Sell e m n = refl
 same_route target (Reprint x) (Reprint y) e m n =
     ap Reprint (same_number x y (omega (arith, m.1.most)) n.1 (append_cancel_left (codes "/sales/") (decimal x) (decimal y) (sym m.0 ∙ n.0)))
 same_route target (Receipt x) (Receipt y) e m n =
-    let fronts = append_cancel_right (codes "/sales/" ++ decimal x) (codes "/sales/" ++ decimal y) (codes "/receipt") (sym m.0 ∙ n.0) in
-    ap Receipt (same_number x y (omega (arith, m.1.most)) n.1 (append_cancel_left (codes "/sales/") (decimal x) (decimal y) fronts))
+    ap Receipt (same_number x y (omega (arith, m.1.most)) n.1 (same_between target (codes "/sales/") (codes "/receipt") (decimal x) (decimal y) m.0 n.0))
 same_route target ImportMeters ImportMeters e m n = refl
 same_route target ImportTariffs ImportTariffs e m n = refl
 same_route target a b e m n = absurd (cc)

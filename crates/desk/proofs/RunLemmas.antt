@@ -17,7 +17,7 @@ use Rattle.desk.specs.Heads.{longest_head}
 use Rattle.desk.specs.Messages.{failed, EndsAs, broken}
 use Rattle.desk.specs.Parts.{EndsHere, IsOver}
 use Rattle.desk.specs.Run.{IsRun}
-use Rattle.desk.specs.Uses.{AreInTurn, AreOpen, AreSound, Grows, IsOpen, IsPaced, MayAsk, Use, asked, came_by, longest_message, received, written}
+use Rattle.desk.specs.Uses.{AreOpen, AreSound, Grows, IsOpen, IsPaced, MayAsk, Use, asked, came_by, longest_message, received, written}
 use Rattle.desk.specs.Wants.{count_of, IsAwaited}
 use Rattle.desk.proofs.EndLemmas.{Written, WrittenBytes, all_left, left_of, told_here}
 use Rattle.desk.proofs.MessageLemmas.{framed_fits, some_head, some_head_is}

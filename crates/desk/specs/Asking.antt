@@ -15,7 +15,7 @@ use Rattle.desk.specs.declared.body_fault.BodyFault.TheVariants as faults
 use Rattle.desk.specs.declared.route.Route.{Route}
 use Rattle.desk.specs.declared.json_kind.JsonKind.{JsonKind}
 use Rattle.desk.specs.declared.json_kind.JsonKind.TheVariants as kinds
-use Rattle.desk.specs.declared.route.Route.TheVariants.{AddTariff, AddMeter, SetTariff, OpenShift, CloseShift, ShiftReport, Sell, Reprint, Receipt, ImportMeters, ImportTariffs}
+use Rattle.desk.specs.declared.route.Route.TheVariants.{AddTariff, AddSteps, AddMeter, SetTariff, MoveBase, OpenShift, CloseShift, ShiftReport, Sell, Reprint, Receipt, ImportMeters, ImportTariffs}
 use Rattle.desk.specs.JsonBody.{IsJson, BodySays}
 use Rattle.desk.specs.Reads.{IsFoundIn}
 
@@ -44,8 +44,10 @@ AsksImport kind body result =
 -- so that one more has no meaning until it has one.
 abbrev pub BodyAsks : Route → List ℕ → Result Request BodyFault → Type 0
 BodyAsks AddTariff body result = AsksByJson kinds.Tariff body result
+BodyAsks (AddSteps tariff) body result = AsksByJson (kinds.TariffSteps tariff) body result
 BodyAsks AddMeter body result = AsksByJson kinds.Meter body result
 BodyAsks (SetTariff meter) body result = AsksByJson (kinds.MeterTariff meter) body result
+BodyAsks (MoveBase meter) body result = AsksByJson (kinds.MeterBase meter) body result
 BodyAsks OpenShift body result = AsksByJson kinds.Opening body result
 BodyAsks CloseShift body result = AsksByJson kinds.Closing body result
 BodyAsks Sell body result = AsksByJson kinds.Order body result

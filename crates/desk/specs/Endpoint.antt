@@ -8,22 +8,33 @@ use Rattle.matchit.specs.Router.{RouteOf, route_from}
 use Rattle.matchit.specs.Rows.{RowsOf}
 use Rattle.matchit.specs.declared.error.InsertError.{InsertError}
 use Rattle.desk.specs.declared.endpoint.Endpoint.{Endpoint}
-use Rattle.desk.specs.declared.endpoint.Endpoint.TheVariants.{Tariffs, Meters, MeterTariff, Shifts, ShiftClosing, Shift, Sales, Sale, SaleReceipt, MeterImports, TariffImports}
+use Rattle.desk.specs.declared.endpoint.Endpoint.TheVariants.{Tariffs, TariffSteps, Meters, MeterTariff, MeterBase, Shifts, ShiftClosing, Shift, Sales, Sale, SaleReceipt, MeterImports, TariffImports}
 use Rattle.desk.specs.declared.method.Method.{Method}
 use Rattle.desk.specs.declared.method.Method.TheVariants.{Get, Post}
 
 -- the method that an endpoint is asked by
 abbrev pub endpoint_method : Endpoint → Method
+endpoint_method Tariffs = Post
+endpoint_method TariffSteps = Post
+endpoint_method Meters = Post
+endpoint_method MeterTariff = Post
+endpoint_method MeterBase = Post
+endpoint_method Shifts = Post
+endpoint_method ShiftClosing = Post
 endpoint_method Shift = Get
+endpoint_method Sales = Post
 endpoint_method Sale = Get
 endpoint_method SaleReceipt = Get
-endpoint_method endpoint = Post
+endpoint_method MeterImports = Post
+endpoint_method TariffImports = Post
 
 -- the pattern of its targets
 abbrev pub pattern_of : Endpoint → List ℕ
 pattern_of Tariffs = codes "/tariffs"
+pattern_of TariffSteps = codes "/tariffs/{tariff}/steps"
 pattern_of Meters = codes "/meters"
 pattern_of MeterTariff = codes "/meters/{meter}/tariff"
+pattern_of MeterBase = codes "/meters/{meter}/base"
 pattern_of Shifts = codes "/shifts"
 pattern_of ShiftClosing = codes "/shifts/close"
 pattern_of Shift = codes "/shifts/{number}"
@@ -36,8 +47,8 @@ pattern_of TariffImports = codes "/imports/tariffs"
 -- all endpoints, in the order in which their patterns are inserted
 abbrev pub endpoints : List Endpoint
 endpoints =
-    Tariffs ∷ Meters ∷ MeterTariff ∷ Shifts ∷ ShiftClosing ∷ Shift ∷ Sales ∷ Sale ∷ SaleReceipt
-    ∷ MeterImports ∷ TariffImports ∷ []
+    Tariffs ∷ TariffSteps ∷ Meters ∷ MeterTariff ∷ MeterBase ∷ Shifts ∷ ShiftClosing ∷ Shift ∷ Sales
+    ∷ Sale ∷ SaleReceipt ∷ MeterImports ∷ TariffImports ∷ []
 
 -- the rows of a router, as `matchit` keeps them
 abbrev pub Table : Type 0

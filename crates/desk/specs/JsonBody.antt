@@ -7,6 +7,7 @@ use Rattle.serde_json.specs.Events.{members_len}
 use Rattle.serde_json.specs.Find.{as_object, get}
 use Rattle.serde_json.specs.Read.{read}
 use Rattle.sts_fields.specs.Base.{year_of}
+use Rattle.sts_fields.specs.Day.{IsDayText}
 use Rattle.sts_fields.specs.declared.base.Base.{Base}
 use Rattle.sts_token.specs.Key.{IsKeyText}
 use Rattle.tariff.specs.Steps.{IsSteps}
@@ -40,6 +41,10 @@ abbrev pub IsStepsAt : Option Data → List Step → Type 0
 IsStepsAt found steps =
     (text : List ℕ) × (found ≡ Some (string text)) × IsStepsText text steps × IsSteps steps
 
+-- a member is the text of this day
+abbrev pub IsDayAt : Option Data → ℕ → Type 0
+IsDayAt found day = (text : List ℕ) × (found ≡ Some (string text)) × IsDayText text day
+
 -- a member is the text of this key
 abbrev pub IsKeyAt : Option Data → ℕ → Type 0
 IsKeyAt found key = (text : List ℕ) × (found ≡ Some (string text)) × IsKeyText key text
@@ -57,6 +62,16 @@ pub record BodySaysTariff (json : Data) (name : List ℕ) (steps : List Step) : 
   pub written : IsStepsText steps_text steps
   pub priced : IsSteps steps
 
+-- the value says dated steps: the text of the day from which they hold, and their own text
+pub record SaysDatedSteps (json : Data) (day : ℕ) (steps : List Step) : Type 0 where
+  pub day_text : List ℕ
+  pub steps_text : List ℕ
+  pub members : IsObject json
+      ((codes "from", string day_text) ∷ (codes "steps", string steps_text) ∷ [])
+  pub dated : IsDayText day_text day
+  pub written : IsStepsText steps_text steps
+  pub priced : IsSteps steps
+
 -- the value says a meter: the year of its base date, its key, its number and the name of its tariff
 pub record BodySaysMeter (json : Data) (meter : List ℕ) (m : Meter) : Type 0 where
   pub key_text : List ℕ
@@ -71,6 +86,10 @@ pub record BodySaysMeter (json : Data) (meter : List ℕ) (m : Meter) : Type 0 w
 pub record SaysTariffName (json : Data) (name : List ℕ) : Type 0 where
   pub members : IsObject json ((codes "tariff", string name) ∷ [])
   pub named : IsName name
+
+-- the value says a base date, by its year
+pub record SaysBase (json : Data) (base : Base) : Type 0 where
+  pub members : IsObject json ((codes "base", number (unsigned (year_of base))) ∷ [])
 
 -- the value says an operator
 pub record BodySaysOperator (json : Data) (operator : List ℕ) : Type 0 where
@@ -92,11 +111,16 @@ abbrev pub BodySays : JsonKind → Data → Request → Type 0
 BodySays kinds.Tariff json request =
     (name : List ℕ) × (steps : List Step) × (request ≡ requests.AddTariff name steps)
     × BodySaysTariff json name steps
+BodySays (kinds.TariffSteps tariff) json request =
+    (day : ℕ) × (steps : List Step) × (request ≡ requests.AddSteps tariff day steps)
+    × SaysDatedSteps json day steps
 BodySays kinds.Meter json request =
     (meter : List ℕ) × (m : Meter) × (request ≡ requests.AddMeter meter m)
     × BodySaysMeter json meter m
 BodySays (kinds.MeterTariff meter) json request =
     (name : List ℕ) × (request ≡ requests.SetTariff meter name) × SaysTariffName json name
+BodySays (kinds.MeterBase meter) json request =
+    (base : Base) × (request ≡ requests.MoveBase meter base) × SaysBase json base
 BodySays kinds.Opening json request =
     (operator : List ℕ) × (request ≡ requests.OpenShift operator) × BodySaysOperator json operator
 BodySays kinds.Closing json request =

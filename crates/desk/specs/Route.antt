@@ -2,21 +2,23 @@
 use Rattle.std.specs.Prelude.{◌≡◌, ◌≢◌, ℕ, ◌≤◌, List, ◌++◌, Some, option_map, Result, Ok, Err, IsUtf8, codes, decimal, ⊤}
 use Rattle.matchit.specs.Router.{RouteOf}
 use Rattle.matchit.specs.Seek.{first}
-use Rattle.vend_core.specs.Names.{IsMeterNo}
+use Rattle.vend_core.specs.Names.{IsMeterNo, IsName}
 use Rattle.desk.specs.declared.desk_fault.DeskFault.{DeskFault}
 use Rattle.desk.specs.declared.desk_fault.DeskFault.TheVariants as faults
 use Rattle.desk.specs.declared.endpoint.Endpoint.{Endpoint}
-use Rattle.desk.specs.declared.endpoint.Endpoint.TheVariants.{Tariffs, Meters, MeterTariff, Shifts, ShiftClosing, Shift, Sales, Sale, SaleReceipt, MeterImports, TariffImports}
+use Rattle.desk.specs.declared.endpoint.Endpoint.TheVariants.{Tariffs, TariffSteps, Meters, MeterTariff, MeterBase, Shifts, ShiftClosing, Shift, Sales, Sale, SaleReceipt, MeterImports, TariffImports}
 use Rattle.desk.specs.declared.method.Method.{Method}
 use Rattle.desk.specs.declared.route.Route.{Route}
-use Rattle.desk.specs.declared.route.Route.TheVariants.{AddTariff, AddMeter, SetTariff, OpenShift, CloseShift, ShiftReport, Sell, Reprint, Receipt, ImportMeters, ImportTariffs}
+use Rattle.desk.specs.declared.route.Route.TheVariants.{AddTariff, AddSteps, AddMeter, SetTariff, MoveBase, OpenShift, CloseShift, ShiftReport, Sell, Reprint, Receipt, ImportMeters, ImportTariffs}
 use Rattle.desk.specs.Endpoint.{endpoint_method, table}
 
 -- the endpoint that a route is asked at
 abbrev pub endpoint_of : Route → Endpoint
 endpoint_of AddTariff = Tariffs
+endpoint_of (AddSteps tariff) = TariffSteps
 endpoint_of AddMeter = Meters
 endpoint_of (SetTariff meter) = MeterTariff
+endpoint_of (MoveBase meter) = MeterBase
 endpoint_of OpenShift = Shifts
 endpoint_of CloseShift = ShiftClosing
 endpoint_of (ShiftReport number) = Shift
@@ -36,16 +38,26 @@ pub record Finds (target : List ℕ) (endpoint : Endpoint) : Type 0 where
   pub text : IsUtf8 target
   pub found : option_map (λ (row : RouteOf Endpoint). row.value) (first table target) ≡ Some endpoint
 
--- the target names what the route is for, where the pattern has its parameter: a meter's number, or
--- a number without leading zeros
+-- The target names what the route is for, where the pattern has its parameter: a tariff's name, a
+-- meter's number, or a number without leading zeros. A route whose pattern has none names nothing.
 abbrev pub Names : List ℕ → Route → Type 0
+Names target AddTariff = ⊤
+Names target (AddSteps tariff) =
+    (target ≡ (codes "/tariffs/" ++ tariff) ++ codes "/steps") × IsName tariff
+Names target AddMeter = ⊤
 Names target (SetTariff meter) =
     (target ≡ (codes "/meters/" ++ meter) ++ codes "/tariff") × IsMeterNo meter
+Names target (MoveBase meter) =
+    (target ≡ (codes "/meters/" ++ meter) ++ codes "/base") × IsMeterNo meter
+Names target OpenShift = ⊤
+Names target CloseShift = ⊤
 Names target (ShiftReport number) = (target ≡ codes "/shifts/" ++ decimal number) × IsTargetNumber number
+Names target Sell = ⊤
 Names target (Reprint number) = (target ≡ codes "/sales/" ++ decimal number) × IsTargetNumber number
 Names target (Receipt number) =
     (target ≡ (codes "/sales/" ++ decimal number) ++ codes "/receipt") × IsTargetNumber number
-Names target route = ⊤
+Names target ImportMeters = ⊤
+Names target ImportTariffs = ⊤
 
 -- the target leads to the route, by whatever method
 pub record LeadsTo (target : List ℕ) (route : Route) : Type 0 where

@@ -11,6 +11,7 @@ use crate::json_requests::said;
 use crate::route::Route;
 use papers::{RowFault, import_law, read_meters, read_tariffs};
 use std::alloc::Global;
+use sts_fields::day_law;
 use tariff::steps_text_law;
 use vend_core::{Request, Rows};
 
@@ -25,8 +26,10 @@ pub fn request_of(alloc: Global, route: Route, body: &[u8]) -> Result<Request, B
         Route::ImportMeters => import_of(read_meters(alloc, body)),
         Route::ImportTariffs => import_of(read_tariffs(alloc, body)),
         Route::AddTariff => said_by(alloc, JsonKind::Tariff, body),
+        Route::AddSteps(name) => said_by(alloc, JsonKind::TariffSteps(name), body),
         Route::AddMeter => said_by(alloc, JsonKind::Meter, body),
         Route::SetTariff(meter) => said_by(alloc, JsonKind::MeterTariff(meter), body),
+        Route::MoveBase(meter) => said_by(alloc, JsonKind::MeterBase(meter), body),
         Route::OpenShift => said_by(alloc, JsonKind::Opening, body),
         Route::CloseShift => said_by(alloc, JsonKind::Closing, body),
         Route::Sell => said_by(alloc, JsonKind::Order, body),
@@ -41,6 +44,7 @@ pub fn asking_law()
 {
     import_law();
     steps_text_law();
+    day_law();
 }
 
 // The request that a body says as JSON.

@@ -7,8 +7,10 @@ use crate::method::Method;
 #[derive(Clone, Copy, Debug, PartialEq, Eq, Hash)]
 pub enum Endpoint {
     Tariffs,
+    TariffSteps,
     Meters,
     MeterTariff,
+    MeterBase,
     Shifts,
     ShiftClosing,
     Shift,
@@ -26,7 +28,16 @@ impl Endpoint {
     {
         match self {
             Endpoint::Shift | Endpoint::Sale | Endpoint::SaleReceipt => Method::Get,
-            _ => Method::Post,
+            Endpoint::Tariffs
+            | Endpoint::TariffSteps
+            | Endpoint::Meters
+            | Endpoint::MeterTariff
+            | Endpoint::MeterBase
+            | Endpoint::Shifts
+            | Endpoint::ShiftClosing
+            | Endpoint::Sales
+            | Endpoint::MeterImports
+            | Endpoint::TariffImports => Method::Post,
         }
     }
 
@@ -36,8 +47,10 @@ impl Endpoint {
     {
         match self {
             Endpoint::Tariffs => "/tariffs",
+            Endpoint::TariffSteps => "/tariffs/{tariff}/steps",
             Endpoint::Meters => "/meters",
             Endpoint::MeterTariff => "/meters/{meter}/tariff",
+            Endpoint::MeterBase => "/meters/{meter}/base",
             Endpoint::Shifts => "/shifts",
             Endpoint::ShiftClosing => "/shifts/close",
             Endpoint::Shift => "/shifts/{number}",

@@ -1,4 +1,4 @@
-use vend_core::MeterNo;
+use vend_core::{MeterNo, TariffName};
 
 /// What an object of JSON is to say. Each route that is asked by JSON has one of these, so that no
 /// route is without a rule for its body.
@@ -6,10 +6,14 @@ use vend_core::MeterNo;
 pub enum JsonKind {
     /// A tariff: its name and its steps.
     Tariff,
+    /// Further steps of this tariff, and the day from which they hold.
+    TariffSteps(TariffName),
     /// A meter: its base date, its key, its number and its tariff.
     Meter,
     /// The tariff that this meter is to have.
     MeterTariff(MeterNo),
+    /// The base date that this meter is moved to.
+    MeterBase(MeterNo),
     /// Who opens a shift.
     Opening,
     /// Who closes a shift.

@@ -2,7 +2,7 @@ ghost use Rattle.std.specs.Prelude.{Some};
 ghost use Rattle.serde_json.specs.Data.{number, string, unsigned};
 ghost use Rattle.serde_json.specs.Find.{get};
 ghost use Rattle.serde_json.specs.View.{view};
-ghost use Rattle.desk.specs.JsonBody.{IsBaseAt, IsKeyAt, IsStepsAt};
+ghost use Rattle.desk.specs.JsonBody.{IsBaseAt, IsDayAt, IsKeyAt, IsStepsAt};
 ghost use Rattle.desk.specs.Reads.{IsFound, IsFoundIn, ReadsWritten};
 ghost use Rattle.tariff.specs.Tender.{IsTender};
 ghost use Rattle.vend_core.specs.Names.{IsMeterNo, IsName, IsOperator};
@@ -11,7 +11,7 @@ use crate::body_fault::BodyFault;
 use crate::json_body::{number_at, text_at};
 use serde_json::Value;
 use std::alloc::Global;
-use sts_fields::Base;
+use sts_fields::{Base, Day};
 use sts_token::read_key;
 use tariff::{Steps, StepsFault};
 use vend_core::{MeterNo, Operator, Ref, TariffName, Tender};
@@ -76,6 +76,16 @@ pub(crate) fn base_at(value: &Value, name: &str) -> Option<Base>
         Some(2014) => Some(Base::Y2014),
         Some(2035) => Some(Base::Y2035),
         _ => None,
+    }
+}
+
+// The day whose text the member of a name is.
+pub(crate) fn day_at(value: &Value, name: &str) -> Option<Day>
+    ensures { IsFound (IsDayAt (get name.now (view value.now))) result }
+{
+    match text_at(value, name) {
+        Some(text) => Day::of_text(text).ok(),
+        None => None,
     }
 }
 

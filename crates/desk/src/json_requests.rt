@@ -1,15 +1,16 @@
 ghost use Rattle.serde_json.specs.View.{view};
-ghost use Rattle.desk.specs.JsonBody.{BodySays, BodySaysMeter, BodySaysOperator, SaysOrder, BodySaysTariff, SaysTariffName};
+ghost use Rattle.desk.specs.JsonBody.{BodySays, BodySaysMeter, BodySaysOperator, SaysBase, SaysDatedSteps, SaysOrder, BodySaysTariff, SaysTariffName};
 ghost use Rattle.desk.specs.Reads.{IsFound, IsFoundIn};
 
 use crate::body_fault::BodyFault;
 use crate::json_body::has_count;
 use crate::json_kind::JsonKind;
 use crate::json_names::{
-    base_at, key_at, meter_at, operator_at, ref_at, steps_at, tariff_at, tender_at,
+    base_at, day_at, key_at, meter_at, operator_at, ref_at, steps_at, tariff_at, tender_at,
 };
 use serde_json::Value;
 use std::alloc::Global;
+use sts_fields::{Base, Day};
 use tariff::Steps;
 use vend_core::{Meter, MeterNo, Operator, Order, Request, TariffName};
 
@@ -22,12 +23,20 @@ pub(crate) fn said(alloc: Global, kind: JsonKind, value: &Value) -> Result<Reque
             Ok((name, steps)) => Ok(Request::AddTariff(name, steps)),
             Err(fault) => Err(fault),
         },
+        JsonKind::TariffSteps(name) => match dated_steps(alloc, value) {
+            Ok((day, steps)) => Ok(Request::AddSteps(name, day, steps)),
+            Err(fault) => Err(fault),
+        },
         JsonKind::Meter => match meter(value) {
             Some((number, meter)) => Ok(Request::AddMeter(number, meter)),
             None => Err(BodyFault::OutsideRule),
         },
         JsonKind::MeterTariff(meter) => match tariff_name(value) {
             Some(name) => Ok(Request::SetTariff(meter, name)),
+            None => Err(BodyFault::OutsideRule),
+        },
+        JsonKind::MeterBase(meter) => match base(value) {
+            Some(base) => Ok(Request::MoveBase(meter, base)),
             None => Err(BodyFault::OutsideRule),
         },
         JsonKind::Opening => operator(value)
@@ -58,6 +67,22 @@ fn tariff(alloc: Global, value: &Value) -> Result<(TariffName, Steps), BodyFault
     }
 }
 
+// The dated steps that a value says: the day from which they hold, and the steps.
+fn dated_steps(alloc: Global, value: &Value) -> Result<(Day, Steps), BodyFault>
+    ensures { IsFoundIn (λ said. SaysDatedSteps (view value.now) said.0 said.1) result }
+{
+    if !has_count(value, 2) {
+        return Err(BodyFault::OutsideRule);
+    }
+    match day_at(value, "from") {
+        Some(day) => match steps_at(alloc, value, "steps") {
+            Ok(steps) => Ok((day, steps)),
+            Err(fault) => Err(fault),
+        },
+        None => Err(BodyFault::OutsideRule),
+    }
+}
+
 // The meter that a value says, with its number.
 fn meter(value: &Value) -> Option<(MeterNo, Meter)>
     ensures { IsFound (λ said. BodySaysMeter (view value.now) said.0 said.1) result }
@@ -78,6 +103,17 @@ fn tariff_name(value: &Value) -> Option<TariffName>
 {
     if has_count(value, 1) {
         tariff_at(value, "tariff")
+    } else {
+        None
+    }
+}
+
+// The base date that a value says.
+fn base(value: &Value) -> Option<Base>
+    ensures { IsFound (SaysBase (view value.now)) result }
+{
+    if has_count(value, 1) {
+        base_at(value, "base")
     } else {
         None
     }

@@ -1,10 +1,10 @@
-ghost use Rattle.std.specs.Prelude.{◌++◌, ◌≤◌, ◌↔◌, IsTrue, decimal, slice_index};
+ghost use Rattle.std.specs.Prelude.{◌≡◌, ◌≢◌, ◌++◌, ◌≤◌, ◌↔◌, ℕ, List, IsTrue, MatchOption, decimal, slice_index};
 ghost use Rattle.desk.specs.Reads.{ReadsWritten};
 ghost use Rattle.desk.specs.Route.{IsTargetNumber};
-ghost use Rattle.vend_core.specs.Names.{IsMeterNo};
+ghost use Rattle.vend_core.specs.Names.{IsMeterNo, IsName};
 
 use std::str;
-use vend_core::MeterNo;
+use vend_core::{MeterNo, TariffName};
 
 // The greatest number that a target may name.
 const GREATEST: u32 = 1_000_000_000;
@@ -24,8 +24,8 @@ pub(crate) fn number_between(text: &[u8], front: &[u8], end: &[u8]) -> Option<u3
     ensures { ReadsWritten IsTargetNumber
         (λ number. (front.now ++ decimal number) ++ end.now) text.now result }
 {
-    match text.strip_suffix(end) {
-        Some(text) => number_after(text, front),
+    match between(text, front, end) {
+        Some(digits) => read_number(digits),
         None => None,
     }
 }
@@ -34,18 +34,30 @@ pub(crate) fn number_between(text: &[u8], front: &[u8], end: &[u8]) -> Option<u3
 pub(crate) fn meter_between(text: &[u8], front: &[u8], end: &[u8]) -> Option<MeterNo>
     ensures { ReadsWritten IsMeterNo (λ meter. (front.now ++ meter) ++ end.now) text.now result }
 {
-    match text.strip_suffix(end) {
-        Some(text) => meter_after(text, front),
+    match between(text, front, end) {
+        Some(digits) => MeterNo::read(digits),
         None => None,
     }
 }
 
-// The number of a meter that stands behind this front.
-fn meter_after(text: &[u8], front: &[u8]) -> Option<MeterNo>
-    ensures { ReadsWritten IsMeterNo (λ meter. front.now ++ meter) text.now result }
+// The name of a tariff that stands between a front and an end.
+pub(crate) fn tariff_between(text: &[u8], front: &[u8], end: &[u8]) -> Option<TariffName>
+    ensures { ReadsWritten IsName (λ name. (front.now ++ name) ++ end.now) text.now result }
 {
-    match text.strip_prefix(front) {
-        Some(digits) => MeterNo::read(digits),
+    match between(text, front, end) {
+        Some(name) => TariffName::read(name),
+        None => None,
+    }
+}
+
+// What stands between a front and an end.
+fn between<'t>(text: &'t [u8], front: &[u8], end: &[u8]) -> Option<&'t [u8]>
+    ensures { MatchOption result
+        ((middle : List ℕ) → text.now ≢ (front.now ++ middle) ++ end.now)
+        (λ middle. text.now ≡ (front.now ++ middle.now) ++ end.now) }
+{
+    match text.strip_suffix(end) {
+        Some(text) => text.strip_prefix(front),
         None => None,
     }
 }

@@ -1,11 +1,13 @@
-use vend_core::MeterNo;
+use vend_core::{MeterNo, TariffName};
 
-/// What a target asks for, with the meter or the number that it names.
+/// What a target asks for, with the tariff, the meter or the number that it names.
 #[derive(Clone, Copy, Debug, PartialEq, Eq)]
 pub enum Route {
     AddTariff,
+    AddSteps(TariffName),
     AddMeter,
     SetTariff(MeterNo),
+    MoveBase(MeterNo),
     OpenShift,
     CloseShift,
     /// A shift by its number, 1 to 1000000000.

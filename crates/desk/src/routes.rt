@@ -9,17 +9,19 @@ ghost use Rattle.desk.specs.declared.route.Route.{Route};
 use crate::desk_fault::DeskFault;
 use crate::endpoint::Endpoint;
 use crate::method::Method;
-use crate::parameter::{meter_between, number_after, number_between};
+use crate::parameter::{meter_between, number_after, number_between, tariff_between};
 use crate::route::Route;
 use matchit::Router;
 use std::alloc::{AllocError, Global};
 use std::str;
 
 // The endpoints, in the order in which their patterns are inserted.
-const ENDPOINTS: [Endpoint; 11] = [
+const ENDPOINTS: [Endpoint; 13] = [
     Endpoint::Tariffs,
+    Endpoint::TariffSteps,
     Endpoint::Meters,
     Endpoint::MeterTariff,
+    Endpoint::MeterBase,
     Endpoint::Shifts,
     Endpoint::ShiftClosing,
     Endpoint::Shift,
@@ -98,10 +100,14 @@ fn read_route(endpoint: Endpoint, target: &[u8]) -> Option<Route>
 {
     match endpoint {
         Endpoint::Tariffs => Some(Route::AddTariff),
+        Endpoint::TariffSteps => {
+            tariff_between(target, b"/tariffs/", b"/steps").map(Route::AddSteps)
+        }
         Endpoint::Meters => Some(Route::AddMeter),
         Endpoint::MeterTariff => {
             meter_between(target, b"/meters/", b"/tariff").map(Route::SetTariff)
         }
+        Endpoint::MeterBase => meter_between(target, b"/meters/", b"/base").map(Route::MoveBase),
         Endpoint::Shifts => Some(Route::OpenShift),
         Endpoint::ShiftClosing => Some(Route::CloseShift),
         Endpoint::Shift => number_after(target, b"/shifts/").map(Route::ShiftReport),

@@ -19,7 +19,7 @@ const ANN: &str = "{\"operator\":\"ann\"}";
 
 // Messages, and what their replies say: a method with its target and a body, and a status with its
 // phrase and a body.
-const ROWS: [(&str, &str, &str, &str); 19] = [
+const ROWS: [(&str, &str, &str, &str); 29] = [
     (
         "POST /tariffs",
         "{\"name\":\"flat\",\"steps\":\":100\"}",
@@ -53,6 +53,66 @@ const ROWS: [(&str, &str, &str, &str); 19] = [
         "{\"tariff\":\"flat\"}",
         "200 OK",
         DONE,
+    ),
+    (
+        "POST /meters/12345678903/base",
+        "{\"base\":2014}",
+        "200 OK",
+        DONE,
+    ),
+    (
+        "POST /meters/12345678903/base",
+        "{\"base\":1993}",
+        "409 Conflict",
+        "{\"error\":\"NotLater\",\"refusal\":18}",
+    ),
+    (
+        "POST /meters/12345678903/base",
+        "{\"base\":2035}",
+        "409 Conflict",
+        "{\"error\":\"BeforeBase\",\"refusal\":7}",
+    ),
+    (
+        "POST /meters/12345678903/base",
+        "{\"base\":2015}",
+        "422 Unprocessable Entity",
+        "{\"error\":\"Body\"}",
+    ),
+    (
+        "POST /meters/00000000000/base",
+        "{\"base\":2014}",
+        "404 Not Found",
+        "{\"error\":\"NoMeter\",\"refusal\":4}",
+    ),
+    (
+        "POST /meters/12345678904/base",
+        "{\"base\":2014}",
+        "404 Not Found",
+        "{\"error\":\"NoRoute\"}",
+    ),
+    (
+        "POST /tariffs/flat/steps",
+        "{\"from\":\"2014-01-01\",\"steps\":\":200\"}",
+        "409 Conflict",
+        "{\"error\":\"DayPast\",\"refusal\":19}",
+    ),
+    (
+        "POST /tariffs/none/steps",
+        "{\"from\":\"2014-01-02\",\"steps\":\":200\"}",
+        "404 Not Found",
+        "{\"error\":\"NoTariff\",\"refusal\":5}",
+    ),
+    (
+        "POST /tariffs/flat/steps",
+        "{\"from\":\"2014-02-30\",\"steps\":\":200\"}",
+        "422 Unprocessable Entity",
+        "{\"error\":\"Body\"}",
+    ),
+    (
+        "POST /tariffs/flat_1/steps",
+        "{\"from\":\"2014-01-02\",\"steps\":\":200\"}",
+        "404 Not Found",
+        "{\"error\":\"NoRoute\"}",
     ),
     ("POST /shifts/close", ANN, "200 OK", "{\"shift\":1}"),
     (

@@ -18,10 +18,12 @@ pub(crate) fn message(alloc: Global, ask: Ask) -> Result<String, AllocError> {
 fn line(alloc: Global, ask: Ask) -> Result<String, AllocError> {
     match ask {
         Ask::AddTariff(..) => format!(in alloc; "POST /tariffs"),
+        Ask::AddSteps(name, ..) => format!(in alloc; "POST /tariffs/{name}/steps"),
         Ask::AddMeter(..) => format!(in alloc; "POST /meters"),
         Ask::ImportTariffs(..) => format!(in alloc; "POST /imports/tariffs"),
         Ask::ImportMeters(..) => format!(in alloc; "POST /imports/meters"),
         Ask::SetTariff(meter, _) => format!(in alloc; "POST /meters/{meter}/tariff"),
+        Ask::MoveBase(meter, _) => format!(in alloc; "POST /meters/{meter}/base"),
         Ask::OpenShift(_) => format!(in alloc; "POST /shifts"),
         Ask::CloseShift(_) => format!(in alloc; "POST /shifts/close"),
         Ask::Sell(..) => format!(in alloc; "POST /sales"),
@@ -36,10 +38,17 @@ fn body(alloc: Global, ask: Ask) -> Result<String, AllocError> {
         Ask::AddTariff(name, steps) => {
             format!(in alloc; "{{\"name\":\"{name}\",\"steps\":\"{steps}\"}}")
         }
+        Ask::AddSteps(_, from, steps) => {
+            format!(in alloc; "{{\"from\":\"{from}\",\"steps\":\"{steps}\"}}")
+        }
         Ask::AddMeter(meter, base, tariff) => meter_body(alloc, meter, base, tariff),
         Ask::ImportTariffs(one, other) => tariffs_body(alloc, one, other),
         Ask::ImportMeters(one, other) => meters_body(alloc, one, other),
         Ask::SetTariff(_, tariff) => format!(in alloc; "{{\"tariff\":\"{tariff}\"}}"),
+        Ask::MoveBase(_, base) => {
+            let year = base.year();
+            format!(in alloc; "{{\"base\":{year}}}")
+        }
         Ask::OpenShift(who) | Ask::CloseShift(who) => {
             format!(in alloc; "{{\"operator\":\"{who}\"}}")
         }

@@ -4,7 +4,7 @@ use std::alloc::Global;
 use std::process::Abort;
 use std::test::Fail;
 use sts_fields::Base;
-use vend_core::{Request, RowCause};
+use vend_core::{MeterNo, Request, RowCause, TariffName};
 
 // It has no clause, so that the proof of a test does not carry what the desk promises.
 fn asked(alloc: Global, route: Route, body: &[u8]) -> Result<Request, BodyFault> {
@@ -46,6 +46,109 @@ fn tariffs_and_meters(rt: HostRuntime) -> Result<(), Fail> {
     };
     assert_eq!(rt; other, number);
     assert_eq!(rt; name.as_bytes(), b"flat".as_slice());
+    Ok(())
+}
+
+fn moving() -> Result<Route, Fail> {
+    Ok(Route::MoveBase(MeterNo::read(b"12345678903").ok_or("a meter")?))
+}
+
+fn dating() -> Result<Route, Fail> {
+    Ok(Route::AddSteps(TariffName::read(b"flat").ok_or("a tariff")?))
+}
+
+#[test]
+fn later_bases(rt: HostRuntime) -> Result<(), Fail> {
+    let rows: [(&[u8], Base); 4] = [
+        (b"{\"base\":1993}", Base::Y1993),
+        (b"{\"base\":2014}", Base::Y2014),
+        (b" {\t\"base\" : 2035\r\n} ", Base::Y2035),
+        (b"{\"base\":1993,\"base\":2014}", Base::Y2014),
+    ];
+    for (body, year) in rows {
+        let Request::MoveBase(number, base) = asked(rt.alloc(), moving()?, body)? else {
+            return Err(Fail::new("no move"));
+        };
+        assert_eq!(rt; number.as_bytes(), b"12345678903".as_slice());
+        assert_eq!(rt; base, year);
+    }
+    Ok(())
+}
+
+#[test]
+fn dated_steps(rt: HostRuntime) -> Result<(), Fail> {
+    // Days count from 1993-01-01.
+    let rows: [(&[u8], u32); 4] = [
+        (b"{\"from\":\"1993-01-01\",\"steps\":\"500:100;:200\"}", 0),
+        (
+            b"{\"steps\":\"500:100;:200\",\"from\":\"2014-02-01\"}",
+            7701,
+        ),
+        (
+            b"{\"from\":\"2096-02-29\",\"steps\":\"500:100;:200\"}",
+            37679,
+        ),
+        (
+            b"{\"from\":\"2099-12-31\",\"steps\":\"500:100;:200\"}",
+            39080,
+        ),
+    ];
+    for (body, days) in rows {
+        let Request::AddSteps(name, from, steps) = asked(rt.alloc(), dating()?, body)? else {
+            return Err(Fail::new("no steps"));
+        };
+        assert_eq!(rt; name.as_bytes(), b"flat".as_slice());
+        assert_eq!(rt; from.days(), days);
+        let found = steps.as_slice();
+        assert_eq!(rt; found.len(), 2);
+        assert_eq!(rt; (found[0].ends, found[0].price), (Some(500), 100));
+        assert_eq!(rt; (found[1].ends, found[1].price), (None, 200));
+    }
+    Ok(())
+}
+
+#[test]
+fn later_bases_and_dated_steps_outside_their_rule(rt: HostRuntime) -> Result<(), Fail> {
+    let bases: [&[u8]; 13] = [
+        b"",
+        b"2014",
+        b"{}",
+        b"{\"base\":null}",
+        b"{\"base\":\"2014\"}",
+        b"{\"base\":2014.0}",
+        b"{\"base\":2015}",
+        b"{\"base\":-2014}",
+        b"{\"base\":18446744073709553630}",
+        b"{\"Base\":2014}",
+        b"{\"tariff\":\"flat\"}",
+        b"{\"base\":2014,\"meter\":\"12345678903\"}",
+        b"{\"base\":2014}{}",
+    ];
+    for body in bases {
+        is_outside(&rt, moving()?, body);
+    }
+    let dated: [&[u8]; 17] = [
+        b"",
+        b"{}",
+        b"{\"from\":\"2014-02-01\"}",
+        b"{\"steps\":\":200\"}",
+        b"{\"from\":\"2014-02-01\",\"steps\":\":200\",\"name\":\"flat\"}",
+        b"{\"name\":\"flat\",\"steps\":\":200\"}",
+        b"{\"from\":\":200\",\"steps\":\"2014-02-01\"}",
+        b"{\"from\":7701,\"steps\":\":200\"}",
+        b"{\"from\":\"\",\"steps\":\":200\"}",
+        b"{\"from\":\"20140201\",\"steps\":\":200\"}",
+        b"{\"from\":\"2014-02-29\",\"steps\":\":200\"}",
+        b"{\"from\":\"2014-02-01T00:00:00Z\",\"steps\":\":200\"}",
+        b"{\"from\":\"1992-12-31\",\"steps\":\":200\"}",
+        b"{\"from\":\"2100-01-01\",\"steps\":\":200\"}",
+        b"{\"from\":\"2014-02-01\",\"steps\":\"200\"}",
+        b"{\"from\":\"2014-02-01\",\"steps\":\":0\"}",
+        b"{\"from\":\"2014-02-01\",\"steps\":\"1:1;2:1;3:1;4:1;5:1;6:1;7:1;8:1;:1\"}",
+    ];
+    for body in dated {
+        is_outside(&rt, dating()?, body);
+    }
     Ok(())
 }
 

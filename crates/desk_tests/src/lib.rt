@@ -19,11 +19,15 @@ mod faults;
 #[cfg(test)]
 mod inputs;
 #[cfg(test)]
+mod later;
+#[cfg(test)]
 mod limits;
 #[cfg(test)]
 mod messages;
 #[cfg(test)]
 mod offices;
+#[cfg(test)]
+mod paced;
 #[cfg(test)]
 mod prepared;
 #[cfg(test)]

@@ -13,18 +13,18 @@ use std::alloc::Global;
 use std::process::Abort;
 use std::test::Fail;
 use sts_token::{BlockTransform, Plain};
-use vend_core::{Lists, Reply};
+use vend_core::{Lists, Reply, Request};
 
-// What a conversation came to: its end, and what was written.
+/// What a conversation came to: its end, and what was written.
 #[derive(Drop)]
-struct Told {
-    end: End,
-    text: Vec<u8>,
+pub(crate) struct Told {
+    pub(crate) end: End,
+    pub(crate) text: Vec<u8>,
 }
 
-// The conversation of these bytes, whose clock gives these moments. It has no clause, so that the
-// proof of a test does not carry what the desk promises.
-fn talk<S: Alter, T: BlockTransform>(
+/// The conversation of these bytes, whose clock gives these moments. It has no clause, so that the
+/// proof of a test does not carry what the desk promises.
+pub(crate) fn talk<S: Alter, T: BlockTransform>(
     alloc: Global,
     books: &mut Books<S, T>,
     input: &[u8],
@@ -39,8 +39,8 @@ fn talk<S: Alter, T: BlockTransform>(
     Ok(Told { end, text })
 }
 
-// All messages of a list.
-fn messages(alloc: Global, asks: &[(i64, Ask, Wanted)]) -> Result<Vec<u8>, Fail> {
+/// All messages of a list.
+pub(crate) fn messages(alloc: Global, asks: &[(i64, Ask, Wanted)]) -> Result<Vec<u8>, Fail> {
     let mut input = Vec::new(alloc);
     for (_, ask, _) in asks {
         input.extend_from_slice(message(alloc, *ask)?.as_bytes())?;
@@ -48,7 +48,8 @@ fn messages(alloc: Global, asks: &[(i64, Ask, Wanted)]) -> Result<Vec<u8>, Fail>
     Ok(input)
 }
 
-fn moments(alloc: Global, asks: &[(i64, Ask, Wanted)]) -> Result<Vec<i64>, Fail> {
+/// The moments of a list.
+pub(crate) fn moments(alloc: Global, asks: &[(i64, Ask, Wanted)]) -> Result<Vec<i64>, Fail> {
     let mut moments = Vec::new(alloc);
     for (seconds, _, _) in asks {
         moments.push(*seconds)?;
@@ -56,15 +57,14 @@ fn moments(alloc: Global, asks: &[(i64, Ask, Wanted)]) -> Result<Vec<i64>, Fail>
     Ok(moments)
 }
 
-// The reply of the lists, with the nibble of the next sale's number.
-fn listed<T: BlockTransform>(
-    alloc: Global,
+/// The reply of the lists, with the nibble of the next sale's number.
+pub(crate) fn listed<T: BlockTransform>(
     lists: &mut Lists<T>,
     seconds: i64,
-    ask: Ask,
+    request: Request,
 ) -> Result<Reply, Fail> {
     let nibble = (lists.sales().len().saturating_add(1) % 16) as u8;
-    let at = stamped(seconds, nibble, request(alloc, ask)?)?;
+    let at = stamped(seconds, nibble, request)?;
     Ok(lists.serve(&at))
 }
 
@@ -76,7 +76,7 @@ fn after_reply<'text, T: BlockTransform>(
     (seconds, ask, wanted): (i64, Ask, Wanted),
     text: &'text [u8],
 ) -> Result<&'text [u8], Fail> {
-    let reply = listed(rt.alloc(), lists, seconds, ask)?;
+    let reply = listed(lists, seconds, request(rt.alloc(), ask)?)?;
     assert!(rt; is_wanted(wanted, &reply), "{reply:?}");
     let bytes = reply_bytes(rt.alloc(), matches!(ask, Ask::Receipt(_)), &reply)?;
     assert!(rt; text.starts_with(&bytes), "{reply:?}");
@@ -136,7 +136,7 @@ type Fault = (
 );
 
 // Each fault of the desk, each message that is refused, and files that are no imports.
-static FAULTS: [Fault; 12] = [
+static FAULTS: [Fault; 14] = [
     (
         FIRST_DAY,
         b"GET /nowhere HTTP/1.1\r\nHost: d\r\n\r\n",
@@ -166,6 +166,22 @@ static FAULTS: [Fault; 12] = [
         b"POST /sales/1 HTTP/1.1\r\nHost: d\r\n\r\n",
         "405 Method Not Allowed",
         "Allow: GET\r\n",
+        "{\"error\":\"Method\"}",
+        End::Closed,
+    ),
+    (
+        FIRST_DAY,
+        b"GET /meters/12345678903/base HTTP/1.1\r\nHost: d\r\n\r\n",
+        "405 Method Not Allowed",
+        "Allow: POST\r\n",
+        "{\"error\":\"Method\"}",
+        End::Closed,
+    ),
+    (
+        FIRST_DAY,
+        b"GET /tariffs/flat/steps HTTP/1.1\r\nHost: d\r\n\r\n",
+        "405 Method Not Allowed",
+        "Allow: POST\r\n",
         "{\"error\":\"Method\"}",
         End::Closed,
     ),

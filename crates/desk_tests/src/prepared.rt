@@ -1,6 +1,6 @@
 //! An office in memory that can sell to a meter, messages to it, and what is written for them.
 use books::Books;
-use desk::{Desk, End, Script};
+use desk::{Desk, End, Line, Script};
 use sqlite::MemStore;
 use std::alloc::Global;
 use std::io::{Read, Write};
@@ -85,4 +85,17 @@ pub(crate) fn hold<R: Read, W: Write>(
     let desk = Desk::new(alloc).ok()?;
     let mut clock = Script::new(NOW, &[]);
     Some(desk.run(alloc, reader, writer, books, &mut clock))
+}
+
+/// The same over a line.
+pub(crate) fn hold_over<L: Line, R: Read, W: Write>(
+    alloc: Global,
+    line: &mut L,
+    books: &mut Books<MemStore, Plain>,
+    reader: &mut R,
+    writer: &mut W,
+) -> Option<End> {
+    let desk = Desk::new(alloc).ok()?;
+    let mut clock = Script::new(NOW, &[]);
+    Some(desk.run_over(alloc, line, reader, writer, books, &mut clock))
 }

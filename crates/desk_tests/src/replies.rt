@@ -169,6 +169,8 @@ fn each_refusal(rt: HostRuntime) -> Result<(), Fail> {
         (Refusal::Memory, "503 Service Unavailable", "Memory", 15),
         (Refusal::Store, "503 Service Unavailable", "Store", 16),
         (Refusal::Stopped, "503 Service Unavailable", "Stopped", 17),
+        (Refusal::NotLater, "409 Conflict", "NotLater", 18),
+        (Refusal::DayPast, "409 Conflict", "DayPast", 19),
     ];
     for (refusal, status, name, number) in rows {
         let body = format!(in alloc; "{{\"error\":\"{name}\",\"refusal\":{number}}}")?;
@@ -208,6 +210,24 @@ fn some_refusals_written_out(rt: HostRuntime) -> Result<(), Fail> {
             "422 Unprocessable Entity",
             68,
             "{\"cause\":\"TooManyRows\",\"error\":\"ImportRow\",\"refusal\":14,\"row\":10001}",
+        ),
+        (
+            Refusal::ImportRow(2, RowCause::DayPast),
+            "422 Unprocessable Entity",
+            60,
+            "{\"cause\":\"DayPast\",\"error\":\"ImportRow\",\"refusal\":14,\"row\":2}",
+        ),
+        (
+            Refusal::NotLater,
+            "409 Conflict",
+            33,
+            "{\"error\":\"NotLater\",\"refusal\":18}",
+        ),
+        (
+            Refusal::DayPast,
+            "409 Conflict",
+            32,
+            "{\"error\":\"DayPast\",\"refusal\":19}",
         ),
     ];
     for (refusal, status, len, body) in rows {

@@ -1,23 +1,51 @@
 //! Which route a target and a method stand for.
 use desk::{DeskFault, Endpoint, Method, Route, Routes};
 use std::test::Fail;
-use vend_core::MeterNo;
+use vend_core::{MeterNo, TariffName};
 
 fn meter() -> Result<MeterNo, Fail> {
     Ok(MeterNo::read(b"12345678903").ok_or("a meter")?)
 }
 
+fn tariff(name: &[u8]) -> Result<TariffName, Fail> {
+    Ok(TariffName::read(name).ok_or("a tariff")?)
+}
+
 #[test]
 fn each_route(rt: HostRuntime) -> Result<(), Fail> {
     let routes = Routes::new(rt.alloc())?;
-    let rows: [(&[u8], Method, Method, Route); 14] = [
+    let rows: [(&[u8], Method, Method, Route); 18] = [
         (b"/tariffs", Method::Post, Method::Get, Route::AddTariff),
+        (
+            b"/tariffs/flat/steps",
+            Method::Post,
+            Method::Get,
+            Route::AddSteps(tariff(b"flat")?),
+        ),
+        (
+            b"/tariffs/steps/steps",
+            Method::Post,
+            Method::Get,
+            Route::AddSteps(tariff(b"steps")?),
+        ),
+        (
+            b"/tariffs/abcdefghijklmnopqrstuvwxyz-01234/steps",
+            Method::Post,
+            Method::Get,
+            Route::AddSteps(tariff(b"abcdefghijklmnopqrstuvwxyz-01234")?),
+        ),
         (b"/meters", Method::Post, Method::Get, Route::AddMeter),
         (
             b"/meters/12345678903/tariff",
             Method::Post,
             Method::Get,
             Route::SetTariff(meter()?),
+        ),
+        (
+            b"/meters/12345678903/base",
+            Method::Post,
+            Method::Get,
+            Route::MoveBase(meter()?),
         ),
         (b"/shifts", Method::Post, Method::Get, Route::OpenShift),
         (
@@ -82,7 +110,7 @@ fn each_route(rt: HostRuntime) -> Result<(), Fail> {
 #[test]
 fn no_route(rt: HostRuntime) -> Result<(), Fail> {
     let routes = Routes::new(rt.alloc())?;
-    let targets: [&[u8]; 31] = [
+    let targets: [&[u8]; 45] = [
         b"",
         b"/",
         b"*",
@@ -93,12 +121,26 @@ fn no_route(rt: HostRuntime) -> Result<(), Fail> {
         b"/tariffs?",
         b"/tariffs\xff",
         b"http://d/tariffs",
+        b"/tariffs/flat",
+        b"/tariffs/flat/",
+        b"/tariffs/flat/step",
+        b"/tariffs/flat/steps/",
+        b"/tariffs//steps",
+        b"/tariffs/flat_1/steps",
+        b"/tariffs/fl%61t/steps",
+        b"/tariffs/fl\xc3\xa4t/steps",
+        b"/tariffs/a/b/steps",
+        b"/tariffs/abcdefghijklmnopqrstuvwxyz-012345/steps",
         b"/meters/12345678904/tariff",
         b"/meters/1234567890/tariff",
         b"/meters/012345678903/tariff",
         b"/meters/%312345678903/tariff",
         b"/meters//tariff",
         b"/meters/12345678903",
+        b"/meters/12345678904/base",
+        b"/meters//base",
+        b"/meters/12345678903/bases",
+        b"/meters/12345678903/base/",
         b"/shifts/closed",
         b"/shifts/0",
         b"/shifts/01",
@@ -128,6 +170,8 @@ fn no_route(rt: HostRuntime) -> Result<(), Fail> {
 fn patterns(rt: HostRuntime) {
     assert_eq!(rt; Endpoint::MeterTariff.pattern(), "/meters/{meter}/tariff");
     assert_eq!(rt; Endpoint::MeterTariff.method(), Method::Post);
+    assert_eq!(rt; Endpoint::MeterBase.pattern(), "/meters/{meter}/base");
+    assert_eq!(rt; Endpoint::TariffSteps.pattern(), "/tariffs/{tariff}/steps");
 }
 
 #[test]

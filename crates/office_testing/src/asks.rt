@@ -6,7 +6,7 @@ use office_lines::values::{
 };
 use std::alloc::Global;
 use std::test::Fail;
-use sts_fields::Base;
+use sts_fields::{Base, Day};
 use tariff::Steps;
 use vend_core::{Answer, Refusal, Reply, Request, Row, RowCause};
 
@@ -21,6 +21,8 @@ pub type MeterText = (&'static str, Base, &'static str);
 pub enum Ask {
     /// A name and its steps.
     AddTariff(&'static str, &'static str),
+    /// A name, a day, and the steps from it on.
+    AddSteps(&'static str, &'static str, &'static str),
     /// A meter's number, its base date, and its tariff.
     AddMeter(&'static str, Base, &'static str),
     /// Two rows.
@@ -29,6 +31,8 @@ pub enum Ask {
     ImportMeters(MeterText, MeterText),
     /// A meter's number and a tariff.
     SetTariff(&'static str, &'static str),
+    /// A meter's number and a base date.
+    MoveBase(&'static str, Base),
     OpenShift(&'static str),
     CloseShift(&'static str),
     /// A ref, a meter's number, and a tender in cents.
@@ -229,6 +233,11 @@ pub fn request(alloc: Global, ask: Ask) -> Result<Request, Fail> {
             tariff_name(name.as_bytes())?,
             Steps::of_text(alloc, steps.as_bytes())?,
         ),
+        Ask::AddSteps(name, from, steps) => Request::AddSteps(
+            tariff_name(name.as_bytes())?,
+            Day::of_text(from.as_bytes())?,
+            Steps::of_text(alloc, steps.as_bytes())?,
+        ),
         Ask::AddMeter(number, base, tariff) => Request::AddMeter(
             meter_no(number.as_bytes())?,
             meter(base, tariff.as_bytes())?,
@@ -239,6 +248,7 @@ pub fn request(alloc: Global, ask: Ask) -> Result<Request, Fail> {
             meter_no(number.as_bytes())?,
             tariff_name(tariff.as_bytes())?,
         ),
+        Ask::MoveBase(number, base) => Request::MoveBase(meter_no(number.as_bytes())?, base),
         Ask::OpenShift(who) => Request::OpenShift(operator(who.as_bytes())?),
         Ask::CloseShift(who) => Request::CloseShift(operator(who.as_bytes())?),
         Ask::Sell(order_ref, number, cents) => {

@@ -105,6 +105,11 @@ pub on_ok : {A E P Q : Type 0} (r : Result A E) → (P → Q) → OnOk r P → O
 on_ok (Ok a) f p = f p
 on_ok (Err e) f p = tt
 
+-- what holds whatever the value is
+pub all_ok : {A E P : Type 0} (r : Result A E) → P → OnOk r P
+all_ok (Ok a) p = p
+all_ok (Err e) p = tt
+
 pub if_err : {A E : Type 0} {P Q : E → Type 0} (r : Result A E) → ((e : E) → P e → Q e) → IfErr r P → IfErr r Q
 if_err (Ok a) f p = tt
 if_err (Err e) f p = f e p

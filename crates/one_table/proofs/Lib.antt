@@ -17,8 +17,13 @@ pub mod GivenLemmas
 pub mod UpsertTextLemmas
 mod OneRowLemmas
 pub mod UpsertLemmas
-mod UpsertExample
+pub mod TouchLemmas
 pub mod MergeLemmas
+pub mod NumberedLemmas
+pub mod HiddenMergeLemmas
+pub mod SumLemmas
+pub mod SameKeyLemmas
+mod UpsertExample
 pub mod AppendLemmas
 pub mod UpdateLemmas
 pub mod ListedLemmas

@@ -1,5 +1,5 @@
 -- What an upsert of one row does, and what it shows.
-use Rattle.std.proofs.Common.{◌≡◌, ◌+◌, ◌⊎◌, ◌≤◌, ◌<◌, arith, ℕ, zero, suc, ℤ, Bool, true, false, ◌&&◌, ◌||◌, ◌==◌, if◌then◌else◌, IsTrue, List, [], ◌∷◌, ◌++◌, map, filter, length, append-nil, bytes_eq, get_or, Option, None, Some, Ok, refl, sym, ap, ◌∙◌, subst, inl, inr}
+use Rattle.std.proofs.Common.{◌≡◌, ◌+◌, ◌⊎◌, ◌≤◌, ◌<◌, arith, ℕ, zero, suc, ℤ, Bool, true, false, ◌&&◌, ◌||◌, ◌==◌, if◌then◌else◌, IsTrue, List, [], ◌∷◌, ◌++◌, map, filter, length, append-nil, drop, bytes_eq, get_or, Option, None, Some, Ok, refl, sym, ap, ◌∙◌, subst, inl, inr}
 use Rattle.std.specs.List.{AllByRecursion, list_all, list_any}
 use Rattle.std.proofs.Math.Path.{fun_ext}
 use Rattle.std.proofs.lemmas.Bool.{and_parts, cases_Bool, not-true}
@@ -36,12 +36,13 @@ use Rattle.sqlite_rules.specs.Cast.{cast_row}
 use Rattle.sqlite_rules.specs.Edit.{Edit, edit_of, edited, id_in, taken_by, with_rowid}
 use Rattle.sqlite_rules.specs.Keys.{AreConflicts, conflicts, shares}
 use Rattle.sqlite_rules.specs.Lists.{Has as Member}
+use Rattle.sqlite_rules.proofs.ProbeLemmas.{has_mapped}
 use Rattle.sqlite.specs.Clock.{timed}
 use Rattle.sqlite.specs.Does.{Returns, Shows as ShowsEach}
 use Rattle.sqlite.specs.Rows.{Clears, Edited, InsertsOr, Judged, Meets, Puts, Task, Tries, TriesEach, Updates, Upserts as Upserts', Written, count_of, nothing, shown}
 use Rattle.sqlite.specs.State.{Shown, Shows, ShowsRows, State, Writes, text_of}
 use Rattle.sqlite.proofs.Callers.{one_step}
-use Rattle.sqlite_keyed.specs.Keyed.{IsKeyedBy}
+use Rattle.sqlite_keyed.proofs.KeyedLemmas.{same_int}
 use Rattle.sqlite.specs.declared.error.Error.{Error}
 use Rattle.one_table.specs.declared.read_fault.ReadFault.{ReadFault}
 use Rattle.one_table.specs.declared.read_fault.ReadFault.TheVariants.{Database as Failed, Row as Bad, TooMuch}
@@ -51,16 +52,17 @@ use Rattle.one_table.specs.Inserting.{source_of_row}
 use Rattle.one_table.specs.Listed.{IsListing}
 use Rattle.one_table.specs.Merges.{FailsToUpsert, PutsGiven, SetsThere, TakesUpserts, Upserts, given_row, set_row, shown_row}
 use Rattle.one_table.specs.Numbered.{IsInOrder}
+use Rattle.one_table.specs.Place.{Has}
 use Rattle.one_table.specs.Reading.{is_whole}
-use Rattle.one_table.specs.Standing.{Key, key_of, own_keys}
+use Rattle.one_table.specs.Standing.{Key, key_of, keys_on, own_keys}
 use Rattle.one_table.specs.Upserting.{IsUpsert, Merging, is_of_key, returning_as, set_query, shown_source, upsert_as}
 use Rattle.one_table.proofs.AnswerLemmas.{shown_open}
 use Rattle.one_table.proofs.ChangeLemmas.{HasWritten, has_changed, has_written, same_value, task_on, went}
-use Rattle.one_table.proofs.HiddenSetLemmas.{ids_rise}
 use Rattle.one_table.proofs.InsertLemmas.{by_false, no_works, one_value_row, sourced}
 use Rattle.one_table.proofs.ListedLemmas.{none_laid, one_row}
 use Rattle.one_table.proofs.LookUpLemmas.{few_of_key}
-use Rattle.one_table.proofs.OneRowLemmas.{as_numbered, column_after, member_of, numbered_row, only_kept}
+use Rattle.one_table.proofs.NumberedLemmas.{beside, columns, hides_all, number, rise, rows_are, with_number}
+use Rattle.one_table.proofs.OneRowLemmas.{column_after, only_kept}
 use Rattle.one_table.proofs.ReadsOnlyLemmas.{shown_stays}
 use Rattle.one_table.proofs.RefusalLemmas.{fails_showing, upsert_changes}
 use Rattle.one_table.proofs.UpdateLemmas.{idle_works}
@@ -140,11 +142,14 @@ module _ (db : Trees) (t : Table) (m : Merging) (params : Row) (counted : length
   abbrev read : Row
   read = params ++ rowid there ∷ rest
 
-  abbrev all : (ns : List (ℤ × Row)) × (db t.tree ≡ map numbered_row ns)
-  all = as_numbered (db t.tree) order.are_numbers
+  abbrev all : List (ℤ × Row)
+  all = beside columns (db t.tree) (map (drop 1) (db t.tree)) (hides_all (db t.tree)) order
 
-  it : (n : ℤ × Row) × Member all.0 n × (there ≡ numbered_row n)
-  it = member_of numbered_row all.0 there (subst (λ l. Member l there) all.1 member)
+  all_are : db t.tree ≡ map (with_number columns) all
+  all_are = rows_are columns (db t.tree) (map (drop 1) (db t.tree)) (hides_all (db t.tree)) order
+
+  it : (n : ℤ × Row) × Member all n × (there ≡ with_number columns n)
+  it = has_mapped (with_number columns) all there (subst (λ l. Member l there) all_are member)
 
   abbrev picks : ℤ × Row → Bool
   picks x = int_eq x.0 it.0.0
@@ -152,28 +157,25 @@ module _ (db : Trees) (t : Table) (m : Merging) (params : Row) (counted : length
   id_read : column read m.count ≡ Int it.0.0
   id_read = ap (column read) (sym counted) ∙ column_after params (rowid there) rest ∙ ap rowid it.2
 
-  passes_is : (x : ℤ × Row) → list_all (holds (read ∷ numbered_row x ∷ [])) (equal Binary (col 1 0) (col 0 m.count) ∷ []) ≡ picks x
+  passes_is : (x : ℤ × Row) → list_all (holds (read ∷ with_number columns x ∷ [])) (equal Binary (col 1 0) (col 0 m.count) ∷ []) ≡ picks x
   passes_is x = last_term (ap (λ v. is_true (binary (Compare Eq Binary) (Int x.0) v)) id_read ∙ at_ints false Eq x.0 it.0.0)
 
   abbrev shows : ℤ × Row → Row
-  shows x = eval_all (col 1 0 ∷ m.sets) (read ∷ numbered_row x ∷ [])
+  shows x = eval_all (col 1 0 ∷ m.sets) (read ∷ with_number columns x ∷ [])
 
-  listing : IsListing db t.tree (equal Binary (col 1 0) (col 0 m.count) ∷ []) (col 1 0 ∷ m.sets) read numbered_row all.0 picks shows
-  listing = record { holds_them = all.1; passes = passes_is; shows = λ _. refl }
-
-  same_id : (a b : ℤ) → int_eq a b ≡ true → a ≡ b
-  same_id a b h = (Decides-int_eq a b).0 h
+  listing : IsListing db t.tree (equal Binary (col 1 0) (col 0 m.count) ∷ []) (col 1 0 ∷ m.sets) read (with_number columns) all picks shows
+  listing = record { holds_them = all_are; passes = passes_is; shows = λ _. refl }
 
   own_id : (a : ℤ) → int_eq a a ≡ true
   own_id a = (Decides-int_eq a a).1 refl
 
-  few : length (filter picks all.0) ≤ 1
-  few = few_of_key (λ (x : ℤ × Row). x.0) it.0.0 picks all.0 (ids_rise (λ (r : Row). r) all.0 (subst IsTable all.1 order.rises)) (λ x h. same_id x.0 it.0.0 h)
+  few : length (filter picks all) ≤ 1
+  few = few_of_key number it.0.0 picks all (rise columns (db t.tree) (map (drop 1) (db t.tree)) (hides_all (db t.tree)) order) (λ x h. same_int x.0 it.0.0 h)
 
   -- the one row of that rowid is found
   pub finds_one : (found : List Row) → IsAnswer (set_query t m) db read found → (n : ℤ) × (rowid there ≡ Int n) × (found ≡ (Int n ∷ eval_all m.sets (read ∷ there ∷ [])) ∷ [])
   finds_one found answer =
-      let only = only_kept picks all.0 it.0 few it.1 (own_id it.0.0) in (
+      let only = only_kept picks all it.0 few it.1 (own_id it.0.0) in (
         it.0.0,
         ap rowid it.2,
         one_row listing found answer few ∙ ap (map shows) only ∙ ap (λ (r : Row). (Int it.0.0 ∷ eval_all m.sets (read ∷ r ∷ [])) ∷ []) (sym it.2),
@@ -267,24 +269,41 @@ module _ (sql : List ℕ) (params : Row) (old new : State) (t : Table) (at : ℕ
     written_so : Upserted w.tally.shown
     written_so = let done = judged_well task m.given db (clause ∷ []) given_now one.0 one.1 in by_conflicts done.0 done.1 done.2
 
+  -- what was shown by the text, as what its command wrote
+  pub record WasWritten (rows : List Row) : Type 0 where
+    pub text : List ℕ
+    pub count : ℕ
+    pub writes : Writes old new (Some (returning_as m)) (upsert_as at t m) text params count
+    pub shows : rows ≡ writes.tally.shown
+    pub counted : length params ≡ m.count
+
+  pub was_written : Has old.now.schema at t → keys_on old.now.schema t.tree ≡ own_keys t → (rows : List Row) → Shown sql params old new rows → WasWritten rows
+  unfolding Shown
+  was_written has keys rows h =
+      let text = means_upsert old.now.schema at t has keys m sql is in
+      let known : h.0 ≡ text.0.compiled = let both : Ok h.0 ≡ Ok text.0.compiled = sym h.1.is ∙ text.0.understands in cc in
+      let command_is : h.0.command ≡ upsert_as at t m = ap (λ (c : Compiled). c.command) known ∙ text.0.command in
+      let returning_is : h.0.returning ≡ Some (returning_as m) = ap (λ (c : Compiled). c.returning) known ∙ text.0.returning in
+      let timeless : h.0.formats ≡ [] = ap (λ (c : Compiled). c.formats) known ∙ text.0.timeless in
+      let no_times : timed params h.0.formats h.1.now ≡ params = rw (timeless, append-nil params) refl in
+      let it_1 = subst (ShowsRows old new sql h.0 (timed params h.0.formats h.1.now) rows) returning_is h.2 in
+      let it_2 = subst (λ ps. ShowsRows old new sql h.0 ps rows (Some (returning_as m))) no_times it_1 in
+      let it_3 = subst (λ c. (count : ℕ) × (w : Writes old new (Some (returning_as m)) c (text_of sql h.0) params count) × (rows ≡ w.tally.shown)) command_is it_2 in
+      record {
+        text = text_of sql h.0;
+        count = it_3.0;
+        writes = it_3.1;
+        shows = it_3.2;
+        counted = h.1.given ∙ ap (λ (c : Compiled). length c.names) known ∙ text.1;
+      }
+
   module _ (takes : IsTrue old.is_open → TakesUpserts old.now at t) where
     -- what was shown by the text is shown of the row that was put in or merged
     pub upserted : (rows : List Row) → Shown sql params old new rows → IsUnderWay old → Upserted rows
-    unfolding Shown
     upserted rows h way =
-        let open_now = shown_open sql params old new rows h in
-        let k = takes open_now in
-        let text = means_upsert old.now.schema at t k.has k.keys m sql is in
-        let known : h.0 ≡ text.0.compiled = let both : Ok h.0 ≡ Ok text.0.compiled = sym h.1.is ∙ text.0.understands in cc in
-        let command_is : h.0.command ≡ upsert_as at t m = ap (λ (c : Compiled). c.command) known ∙ text.0.command in
-        let returning_is : h.0.returning ≡ Some (returning_as m) = ap (λ (c : Compiled). c.returning) known ∙ text.0.returning in
-        let timeless : h.0.formats ≡ [] = ap (λ (c : Compiled). c.formats) known ∙ text.0.timeless in
-        let no_times : timed params h.0.formats h.1.now ≡ params = rw (timeless, append-nil params) refl in
-        let it_1 = subst (ShowsRows old new sql h.0 (timed params h.0.formats h.1.now) rows) returning_is h.2 in
-        let it_2 = subst (λ ps. ShowsRows old new sql h.0 ps rows (Some (returning_as m))) no_times it_1 in
-        let it_3 = subst (λ c. (count : ℕ) × (w : Writes old new (Some (returning_as m)) c (text_of sql h.0) params count) × (rows ≡ w.tally.shown)) command_is it_2 in
-        let counted = h.1.given ∙ ap (λ (c : Compiled). length c.names) known ∙ text.1 in
-        subst Upserted (sym it_3.2) (written_so k counted (shown_stays sql params old new rows h way) (text_of sql h.0) it_3.0 it_3.1)
+        let k = takes (shown_open sql params old new rows h) in
+        let wrote = was_written k.has k.keys rows h in
+        subst Upserted (sym wrote.shows) (written_so k wrote.counted (shown_stays sql params old new rows h way) wrote.text wrote.count wrote.writes)
 
     -- why it fails, from why its value is not read
     pub fails_unread : (IsReadable : Row → Type 0) (rows : List Row) (x : Row) → Upserted rows → x ≡ get_or rows 0 x → (why : ReadFault) → OnlyWhere (¬ IsReadable x) why → FailsToUpsert t m params old new at IsReadable why

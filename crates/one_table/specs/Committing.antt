@@ -40,3 +40,8 @@ Risks Makes old new (InDoubt e) = Survives old new (LeavesMade Makes old.now)
 abbrev pub WasMade : {F : Type 0} → State → CommitFault F → Type 0
 WasMade old (Unmade why) = Unit {0}
 WasMade old (InDoubt e) = IsTrue old.is_open
+
+-- what the fault of a change that was not made tells of the database before it
+abbrev pub Tells : {F : Type 0} → (Database → F → Type 0) → Database → CommitFault F → Type 0
+Tells Says old (Unmade why) = Says old why
+Tells Says old (InDoubt e) = Unit {0}

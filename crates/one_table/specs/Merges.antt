@@ -5,6 +5,7 @@ use Rattle.sqlite_value.specs.declared.value.Value.TheVariants.{Null}
 use Rattle.sqlite_value.specs.Order.{Row}
 use Rattle.sqlite_trees.specs.Tree.{put_row, rowid, without_rowid}
 use Rattle.sqlite_sql.specs.Term.{eval_all}
+use Rattle.sqlite_schema.specs.declared.schema.Schema.{Schema}
 use Rattle.sqlite_schema.specs.declared.schema.Table.{Table}
 use Rattle.sqlite_rules.specs.Cast.{cast_row}
 use Rattle.sqlite_rules.specs.Edit.{id_in}
@@ -23,6 +24,12 @@ use Rattle.one_table.specs.Referring.{is_left_alone}
 use Rattle.one_table.specs.Standing.{keys_on, own_keys}
 use Rattle.one_table.specs.Upserting.{Merging, is_of_key, returning_as, upsert_as}
 
+-- the table stands at this place with no keys but its own, and no reference to it takes an action
+pub record StandsForUpserts (s : Schema) (at : ℕ) (t : Table) : Type 0 where
+  pub has : Has s at t
+  pub keys : keys_on s t.tree ≡ own_keys t
+  pub left_alone : is_left_alone s t.tree ≡ true
+
 -- The table stands at this place with no keys but its own, no reference to it takes an action, and
 -- its rows are in order.
 pub record TakesUpserts (db : Database) (at : ℕ) (t : Table) : Type 0 where
@@ -36,6 +43,11 @@ module _ (t : Table) (m : Merging) (params : Row) where
   abbrev pub shown_row : Row → Row
   shown_row row = eval_all m.shown ((params ++ Null ∷ shown t row) ∷ [])
 
+  -- where this row is given, what becomes of the row that has its key
+  abbrev pub set_by : Row → Row → Row
+  set_by given there =
+      cast_row t (eval_all m.sets ((params ++ rowid there ∷ shown t given) ∷ there ∷ []))
+
   module _ (rows : List Row) where
     -- the row that is given, with the rowid that it would have
     abbrev pub given_row : Row
@@ -46,8 +58,7 @@ module _ (t : Table) (m : Merging) (params : Row) where
 
     -- the row that has the key, as it is set
     abbrev pub set_row : Row → Row
-    set_row there =
-        cast_row t (eval_all m.sets ((params ++ rowid there ∷ shown t given_row) ∷ there ∷ []))
+    set_row there = set_by given_row there
 
   module _ (old new : State) where
     abbrev rows_before : List Row
@@ -81,3 +92,15 @@ module _ (t : Table) (m : Merging) (params : Row) where
     FailsToUpsert at IsReadable fault.Row =
         (row : Row) × (¬ IsReadable (shown_row row)) × Upserts row
     FailsToUpsert at IsReadable fault.TooMuch = ⊥
+
+    -- whatever the order of the rows: only those of the table have changed
+    abbrev pub Touches : Type 0
+    Touches = (rows : List Row) × HasChanged t rows old new
+
+    -- the same of why an upsert fails
+    abbrev pub FailsToTouch : ℕ → ReadFault → Type 0
+    FailsToTouch at (fault.Database e) =
+        FailsToWriteAs (Some (returning_as m)) (upsert_as at t m) params old new e
+        ⊎ ((fault.Database e ≡ no_memory) × Touches)
+    FailsToTouch at fault.Row = Touches
+    FailsToTouch at fault.TooMuch = ⊥

@@ -4,7 +4,7 @@ ghost use Rattle.sqlite.specs.Effect.{Database};
 ghost use Rattle.sqlite.specs.State.{HasCleanDisk, Survives};
 ghost use Rattle.sqlite.specs.Held.{state};
 ghost use Rattle.one_table.specs.InTransaction.{IsUnderWay, KeepsTransaction};
-ghost use Rattle.one_table.specs.Committing.{IsUndone, HasCommitted, LeavesMade, Risks, WasMade};
+ghost use Rattle.one_table.specs.Committing.{IsUndone, HasCommitted, LeavesMade, Risks, Tells, WasMade};
 
 use sqlite::{Alter, Connection, Error, Transaction};
 
@@ -15,12 +15,18 @@ pub trait Change<S: Alter> {
     // What the database is before and after it.
     ghost makes: { Self → Database → Database → Type 0 };
 
+    // What a fault tells of the database before it.
+    ghost tells: { Self → Database → Self.Fault → Type 0 };
+
     fn make(&self, tx: &mut Transaction<'_, S>) -> Result<(), Self::Fault>
         ensures same_reference { tx.new.conn.ghost_name ≡ tx.old.conn.ghost_name }
         ensures made { HasCleanDisk (state S.Store tx.new.conn.now)
             → IsUnderWay (state S.Store tx.old.conn.now)
             → OnOk result (makes self.now (state S.Store tx.old.conn.now).now
             (state S.Store tx.new.conn.now).now) }
+        ensures told { HasCleanDisk (state S.Store tx.new.conn.now)
+            → IsUnderWay (state S.Store tx.old.conn.now)
+            → IfErr result (tells self.now (state S.Store tx.old.conn.now).now) }
         ensures transaction { KeepsTransaction
             (state S.Store tx.old.conn.now) (state S.Store tx.new.conn.now) result };
 }
@@ -44,6 +50,8 @@ pub fn change_once<S: Alter, C: Change<S>>(
     ensures committed { HasCleanDisk (state S.Store conn.new)
         → OnOk result ((db : Database) × C.makes change.now (state S.Store conn.old).now db
         × HasCommitted db (state S.Store conn.old) (state S.Store conn.new)) }
+    ensures told { HasCleanDisk (state S.Store conn.new)
+        → IfErr result (Tells (C.tells change.now) (state S.Store conn.old).now) }
     ensures undone { HasCleanDisk (state S.Store conn.new)
         → OnErr result (IsUndone (state S.Store conn.old) (state S.Store conn.new)) }
     ensures doubted { HasCleanDisk (state S.Store conn.new)

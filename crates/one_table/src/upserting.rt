@@ -1,11 +1,11 @@
-ghost use Rattle.std.specs.Prelude.{◌≡◌, ℕ, IsTrue, IfErr, IfOk, length, true};
+ghost use Rattle.std.specs.Prelude.{◌≡◌, ℕ, IsTrue, IfErr, IfOk, OnOk, length, true};
 ghost use Rattle.sqlite.specs.Values.{bound};
 ghost use Rattle.sqlite.specs.State.{HasCleanDisk};
 ghost use Rattle.sqlite.specs.Held.{state};
 ghost use Rattle.sqlite_value.specs.Order.{Row as Stored};
 ghost use Rattle.sqlite.specs.Table.{Table};
 ghost use Rattle.one_table.specs.InTransaction.{IsUnderWay, KeepsTransaction};
-ghost use Rattle.one_table.specs.Merges.{FailsToUpsert, TakesUpserts, Upserts, shown_row};
+ghost use Rattle.one_table.specs.Merges.{FailsToTouch, FailsToUpsert, StandsForUpserts, TakesUpserts, Touches, Upserts, shown_row};
 ghost use Rattle.one_table.specs.Reading.{is_whole};
 ghost use Rattle.one_table.specs.Upserting.{IsUpsert, Merging};
 
@@ -36,6 +36,13 @@ pub fn upsert<S: Alter, X: FromRow>(
         × X.FromRow.reads_as (shown_row t m (bound params.now) row) x
         × Upserts t m (bound params.now)
         (state S.Store tx.old.conn.now) (state S.Store tx.new.conn.now) row) }
+    ensures touched { HasCleanDisk (state S.Store tx.new.conn.now)
+        → IsUnderWay (state S.Store tx.old.conn.now)
+        → (t : Table) (at : ℕ) (m : Merging) → IsUpsert t m sql.now
+        → (IsTrue (state S.Store tx.old.conn.now).is_open
+        → StandsForUpserts (state S.Store tx.old.conn.now).now.schema at t)
+        → OnOk result (Touches t m (bound params.now)
+        (state S.Store tx.old.conn.now) (state S.Store tx.new.conn.now)) }
     ensures transaction { KeepsTransaction
         (state S.Store tx.old.conn.now) (state S.Store tx.new.conn.now) result }
     ensures refused { HasCleanDisk (state S.Store tx.new.conn.now)
@@ -47,6 +54,14 @@ pub fn upsert<S: Alter, X: FromRow>(
         → IfErr result (FailsToUpsert t m (bound params.now)
         (state S.Store tx.old.conn.now) (state S.Store tx.new.conn.now) at
         X.FromRow.is_readable) }
+    ensures failed { HasCleanDisk (state S.Store tx.new.conn.now)
+        → IsUnderWay (state S.Store tx.old.conn.now)
+        → (t : Table) (at : ℕ) (m : Merging) → IsUpsert t m sql.now
+        → is_whole sql.now (length (bound params.now)) ≡ true
+        → (IsTrue (state S.Store tx.old.conn.now).is_open
+        → StandsForUpserts (state S.Store tx.old.conn.now).now.schema at t)
+        → IfErr result (FailsToTouch t m (bound params.now)
+        (state S.Store tx.old.conn.now) (state S.Store tx.new.conn.now) at) }
 {
     let rows = show(tx, sql, params)?;
     match rows.first() {

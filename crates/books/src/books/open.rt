@@ -6,7 +6,7 @@ ghost use Rattle.sqlite.specs.Held.{state};
 ghost use Rattle.vend_core.specs.LifeLaws.{opened};
 ghost use Rattle.vend_core.specs.Office.{Office};
 ghost use Rattle.books.specs.Keeps.{HaveTables, Represents, StoreStandsFor, seen};
-ghost use Rattle.books.specs.Opening.{LeavesBegun, LeavesRefused, OpensAs};
+ghost use Rattle.books.specs.Opening.{LeavesBrought, LeavesRefused, OpensAs};
 ghost use Rattle.books.specs.Same.{IsSame};
 
 use crate::books::Books;
@@ -40,7 +40,6 @@ impl<S: Alter, T: BlockTransform + Drop> Books<S, T> {
         ensures running { IfOk result (λ books. books.stopped ≡ false) }
         ensures other { IfErr result (λ e. HasCleanDisk (state S.Store e.1)
             → e.0 ≡ OpenFault.NotAnOffice → (o : Office) → ¬ StoreStandsFor (state S.Store conn) o) }
-        ensures never_old { IfErr result (λ e. e.0 ≢ OpenFault.OldOffice) }
         ensures same { IfErr result (λ e. HasCleanDisk (state S.Store e.1)
             → IsSame (state S.Store conn) (state S.Store e.1)) }
         ensures refused { IfErr result (λ e. HasCleanDisk (state S.Store e.1)
@@ -48,7 +47,7 @@ impl<S: Alter, T: BlockTransform + Drop> Books<S, T> {
         ensures rests { IfErr result (λ e. e.1.in_transaction ≡ false) }
         ensures survives { MatchResult result
             (λ books. Survives (state S.Store conn) (state S.Store books.conn)
-            (LeavesBegun (state S.Store conn)))
+            (LeavesBrought (state S.Store conn)))
             (λ e. Survives (state S.Store conn) (state S.Store e.1)
             (LeavesRefused (state S.Store conn) e.0)) }
     {

@@ -38,7 +38,6 @@ impl<B: Start, T: BlockTransform + Drop> Books<FileStore<FileFrom<B>>, T> {
         ensures finds { IfOk result (λ books. OpensFiles (image_at B.Start) books.conn) }
         ensures running { IfOk result (λ books. books.stopped ≡ false) }
         ensures refused { IfErr result (RefusedAt ⟦<FileFrom<B> as Disk>⟧ (image_at B.Start)) }
-        ensures never_old { IfErr result (λ fault. fault ≢ OpenFault.OldOffice) }
         ensures no_memory { path.now ≡ codes ":memory:" → result ≡ Err OpenFault.Store }
     {
         match Books::open_file(rt, path, start, transform) {
@@ -67,7 +66,6 @@ impl<B: Start, T: BlockTransform + Drop> Books<FileStore<FileFrom<B>>, T> {
         ensures finds { IfOk result (λ books. OpensFiles (image_at B.Start) books.conn) }
         ensures running { IfOk result (λ books. books.stopped ≡ false) }
         ensures refused { IfErr result (λ e. RefusesFiles (image_at B.Start) e.0 e.1) }
-        ensures never_old { IfErr result (λ e. e.0 ≢ OpenFault.OldOffice) }
         // What `sqlite` keeps in memory is no file, and is never opened.
         ensures no_memory { path.now ≡ codes ":memory:"
             → IsErrAnd result (λ e. e.0 ≡ OpenFault.Store) }

@@ -8,9 +8,9 @@ ghost use Rattle.book_tables.specs.Reading.{HasTables};
 ghost use Rattle.books.specs.Changing.{MakesRows};
 
 use book_tables::adding::{add_meter, add_tariff};
+use book_tables::dated::add_steps;
 use book_tables::{TableError, members_law};
 use sqlite::{Alter, Error, ErrorCode, Transaction};
-use std::alloc::AllocError;
 use vend_core::Row;
 
 /// Adds the rows of an import, one after another.
@@ -51,8 +51,7 @@ fn add_row<S: Alter>(tx: &mut Transaction<'_, S>, row: &Row) -> Result<(), Table
     members_law();
     match row {
         Row::Tariff(name, steps) => add_tariff(tx, name, steps.as_slice()),
-        // The tables have no place for these: as without memory, nothing is added.
-        Row::Steps(..) => Err(TableError::from(AllocError)),
+        Row::Steps(name, day, steps) => add_steps(tx, name, *day, steps.as_slice()),
         Row::Meter(number, meter) => add_meter(tx, number, meter),
     }
 }

@@ -9,10 +9,11 @@ ghost use Rattle.vend_core.specs.Lookup.{greatest_of, prior, used};
 ghost use Rattle.book_tables.specs.Reading.{OnlyReads};
 ghost use Rattle.books.specs.Members.{SaysOfOffice};
 
-use book_tables::{TableError, members_law, meters, sold, tariffs};
+use crate::facts::steps::steps_on;
+use book_tables::{TableError, members_law, meters, sold};
 use sqlite::{Alter, Connection};
 use std::alloc::Global;
-use sts_fields::{LAST_TID, month_of};
+use sts_fields::{LAST_TID, day_of, month_of};
 use tariff::{MAX_PRIOR, Steps};
 use vend_core::{Meter, MeterAccount, MeterNo, Moment, store_law};
 
@@ -33,7 +34,7 @@ pub(crate) fn account_numbered<S: Alter>(
     let Some(meter) = there else {
         return Ok(None);
     };
-    let found = tariffs::steps_of(alloc, conn, &meter.tariff)?;
+    let found = steps_on(alloc, conn, &meter.tariff, day_of(moment))?;
     let Some(steps) = found else {
         // An office has the tariff of each of its meters.
         return Err(TableError::RowOfNoOffice);

@@ -12,9 +12,10 @@ ghost use Rattle.book_tables.specs.Reading.{OnlyReads};
 ghost use Rattle.books.specs.Members.{SaysOfOffice};
 ghost use Rattle.books.specs.Same.{IsSame};
 
-use book_tables::{TableError, members_law, meters, tariffs};
+use book_tables::{TableError, dated, members_law, meters, tariffs};
 use sqlite::{Alter, Connection};
 use std::alloc::{AllocError, Global};
+use sts_fields::Day;
 use vend_core::{Facts, ImportFacts, Meter, MeterNo, Refusal, Row, RowFacts, Rows, TariffName};
 
 /// What an import looks at: what is under the names of its rows, up to the first row that differs
@@ -74,24 +75,26 @@ fn row_facts<S: Alter>(
             let steps = tariffs::steps_of(alloc, conn, name)?;
             Ok(RowFacts::Tariff(steps))
         }
-        Row::Steps(name, ..) => steps_row_facts(conn, name),
+        Row::Steps(name, day, _) => steps_row_facts(alloc, conn, name, *day),
         Row::Meter(number, meter) => meter_row_facts(conn, number, meter),
     }
 }
 
-// Whether there is the tariff. The tables have no steps of a later day.
 fn steps_row_facts<S: Alter>(
+    alloc: Global,
     conn: &mut Connection<S>,
     name: &TariffName,
+    day: Day,
 ) -> Result<RowFacts, TableError>
-    ensures facts { SaysOfOffice (λ o found. (day : ℕ) (steps : List Step)
+    ensures facts { SaysOfOffice (λ o found. (steps : List Step)
         → found ≡ row_facts o (Row.Steps name.now day steps))
         (state S.Store conn.old) (state S.Store conn.new) result }
     ensures reads { OnlyReads IsUnchanged
         (state S.Store conn.old) (state S.Store conn.new) result }
 {
     let has_tariff = tariffs::has_tariff(conn, name)?;
-    Ok(RowFacts::Steps(has_tariff, None))
+    let steps = dated::steps_from(alloc, conn, name, day)?;
+    Ok(RowFacts::Steps(has_tariff, steps))
 }
 
 fn meter_row_facts<S: Alter>(

@@ -3,7 +3,7 @@
 ghost use Rattle.std.specs.Prelude.{◌≡◌, ℕ};
 ghost use Rattle.sqlite.specs.State.{IsUnchanged};
 ghost use Rattle.sqlite.specs.Held.{state};
-ghost use Rattle.vend_core.specs.Facts.{AreDatedFacts, AreMeterFacts, AreSettingFacts};
+ghost use Rattle.vend_core.specs.Facts.{AreMeterFacts, AreSettingFacts};
 ghost use Rattle.book_tables.specs.Reading.{OnlyReads};
 ghost use Rattle.books.specs.Members.{SaysOfOffice};
 
@@ -26,23 +26,6 @@ pub(crate) fn tariff_facts<S: Alter>(
     let steps = tariffs::steps_of(alloc, conn, name)?;
     Ok(Facts {
         tariff: steps,
-        ..Facts::none()
-    })
-}
-
-/// What AddSteps looks at: whether there is its tariff. The tables have no steps of a later day.
-pub(crate) fn dated_facts<S: Alter>(
-    conn: &mut Connection<S>,
-    name: &TariffName,
-) -> Result<Facts, TableError>
-    ensures facts { SaysOfOffice (λ o f. (day : ℕ) → AreDatedFacts o name.now day f)
-        (state S.Store conn.old) (state S.Store conn.new) result }
-    ensures reads { OnlyReads IsUnchanged
-        (state S.Store conn.old) (state S.Store conn.new) result }
-{
-    let has_tariff = tariffs::has_tariff(conn, name)?;
-    Ok(Facts {
-        has_tariff,
         ..Facts::none()
     })
 }

@@ -7,8 +7,9 @@ ghost use Rattle.vend_core.specs.Facts.{AreOpeningFacts, report_of};
 ghost use Rattle.vend_core.specs.Lookup.{open_shift};
 ghost use Rattle.book_tables.specs.Reading.{OnlyReads};
 ghost use Rattle.books.specs.Members.{SaysOfOffice};
+ghost use Rattle.books.specs.Totals.{shift_totals};
 
-use book_tables::{TableError, sale_lists, shifts};
+use book_tables::{TableError, Totals, sale_lists, shifts, sold};
 use sqlite::{Alter, Connection};
 use std::alloc::Global;
 use vend_core::{Facts, Operator, Sales};
@@ -75,4 +76,22 @@ pub(crate) fn report_facts<S: Alter>(
         report: Some((shift, Sales::of(sales))),
         ..Facts::none()
     })
+}
+
+/// The totals of the shift of a number: of its sales only where there is such a shift.
+pub(crate) fn totals_of<S: Alter>(
+    conn: &mut Connection<S>,
+    number: u32,
+) -> Result<Option<Totals>, TableError>
+    ensures facts { SaysOfOffice (λ o found. found ≡ shift_totals o number)
+        (state S.Store conn.old) (state S.Store conn.new) result }
+    ensures reads { OnlyReads IsUnchanged
+        (state S.Store conn.old) (state S.Store conn.new) result }
+{
+    let found = shifts::shift_numbered(conn, number)?;
+    if found.is_none() {
+        return Ok(None);
+    }
+    let totals = sold::totals_of_shift(conn, number)?;
+    Ok(Some(totals))
 }

@@ -1,22 +1,24 @@
-use Rattle.std.proofs.Common.{◌≡◌, length, subst, sym, true}
-use Rattle.std.specs.Prelude.{codes}
+use Rattle.std.proofs.Common.{arith}
 use Rattle.sqlite.specs.Held.{state}
-use Rattle.one_table.proofs.ChangeLemmas.{on_ok}
-use Rattle.one_table.specs.Reading.{is_whole}
-use Rattle.one_table.specs.Standing.{place_in, tree_in}
-use Rattle.book_tables.specs.Tables.{meters_table}
-use Rattle.book_tables.proofs.HiddenWriteLemmas.{adds_meter}
-use Rattle.book_tables.proofs.WriteTexts.{new_meter_means, four_terms, new_meter_text, new_meter_whole}
+use Rattle.sqlite.specs.State.{HasCleanDisk}
+use Rattle.one_table.proofs.ChangeLemmas.{on_ok, transaction_off, transaction_then}
+use Rattle.book_tables.proofs.BaseLemmas.{adds_both}
+use Rattle.book_tables.proofs.OnlyLemmas.{tables_there}
 use Rattle.book_tables.proofs.adding.add_meter.Goals as goal
 
-pub returns-clause-writes : goal.returns-clause-writes
-returns-clause-writes g c =
-    let s = c.args.tx.now.conn.now.schema in
-    let tree = tree_in s (codes "meters") in
-    record {
-      made = λ clean has.
-          on_ok c.put.result (adds_meter (state g.S.Store c.args.tx.now.conn.now) (state g.S.Store c.put.new.tx.conn.now) c.args.number.now c.args.meter.now _ c.meter_values.ensures)
-          (c.put.ensures.added clean (meters_table tree) (place_in s (codes "meters")) four_terms (new_meter_means tree) (λ runs. (has runs).tables.1.1.1.0.0.has));
-      transaction = c.put.ensures.transaction;
-      refused = λ clean has. c.put.ensures.refused clean (meters_table tree) (place_in s (codes "meters")) four_terms (new_meter_means tree) (subst (λ ps. is_whole new_meter_text (length ps) ≡ true) (sym c.meter_values.ensures) new_meter_whole) (λ runs. (has runs).tables.1.1.1.0.0.has);
-    }
+pub returns-in_err-add_meter_row-clause-transaction : goal.returns-in_err-add_meter_row-clause-transaction
+returns-in_err-add_meter_row-clause-transaction g c =
+    transaction_off _ c.from_residual.result c.from_residual.ensures.1 c.in_err-add_meter_row.ensures.writes.transaction.kept c.in_err-add_meter_row.ensures.writes.transaction.survives
+
+pub returns-clause-added : goal.returns-clause-added
+returns-clause-added g c clean has =
+    let old = state g.S.Store c.args.tx.now.conn.now in
+    let mid = state g.S.Store c.add_meter_row.new.tx.conn.now in
+    let new = state g.S.Store c.add_base.new.tx.conn.now in
+    let early : HasCleanDisk mid = omega (arith, c.add_base.ensures.writes.transaction.survives.clean) in
+    let first = c.in_ok-add_meter_row.ensures.writes.made early has in
+    on_ok c.add_base.result (adds_both c.args.number.now c.args.meter.now old mid new first) (c.add_base.ensures.writes.made clean (tables_there _ old mid first.only has))
+
+pub returns-clause-transaction : goal.returns-clause-transaction
+returns-clause-transaction g c =
+    transaction_then (state g.S.Store c.args.tx.now.conn.now) (state g.S.Store c.add_meter_row.new.tx.conn.now) (state g.S.Store c.add_base.new.tx.conn.now) c.add_base.result c.in_ok-add_meter_row.ensures.writes.transaction c.add_base.ensures.writes.transaction

@@ -5,7 +5,8 @@ use Rattle.std.proofs.lemmas.List.{length-take-le, take_all, take_more}
 use Rattle.tariff.specs.declared.step.Step.{Step}
 use Rattle.one_table.proofs.ChangeLemmas.{transaction_off, transaction_on, transaction_then}
 use Rattle.book_tables.specs.Writing.{AddsTariff}
-use Rattle.book_tables.proofs.TariffWriteLemmas.{adds_next, adds_none, still_has}
+use Rattle.book_tables.proofs.OnlyLemmas.{tables_there}
+use Rattle.book_tables.proofs.TariffWriteLemmas.{adds_next, adds_none}
 use Rattle.book_tables.proofs.adding.add_tariff.Goals as goal
 
 pub steps-init : goal.steps-init
@@ -27,7 +28,7 @@ steps-preserved g c = record {
       let new = state g.S.Store c.add_step.new.tx.conn.now in
       let early : HasCleanDisk mid = omega (arith, c.add_step.ensures.writes.transaction.survives.clean) in
       let so_far = c.steps.invariant.added early has in
-      let last = c.in_ok-add_step.ensures.writes.made clean (still_has c.args.name.now _ old mid so_far has) in
+      let last = c.in_ok-add_step.ensures.writes.made clean (tables_there _ old mid so_far.only has) in
       let step = get_or c.args.steps.now c.steps.step-index (record { ends = None; price = 0 }) in
       let count : length (take c.steps.step-index c.args.steps.now) ≡ c.steps.step-index = length-take-le c.steps.step-index c.args.steps.now (omega (arith, c.steps-test.true)) in
       subst (λ (l : List Step). AddsTariff c.args.name.now l old new) (sym (take_more c.args.steps.now c.steps.step-index (record { ends = None; price = 0 }) c.steps-test.true))

@@ -1,6 +1,5 @@
 use Rattle.book_tables.proofs.EditLemmas.{edited_members, no_members}
-use Rattle.book_tables.proofs.FoundLemmas.{all_steps, found_numbered, found_open, found_ref, found_tariff, first_steps, meter_found, no_steps, step_found}
-use Rattle.book_tables.proofs.NewLemmas.{decided_new}
+use Rattle.book_tables.proofs.FoundLemmas.{found_numbered, found_open, found_ref, found_tariff, meter_found}
 use Rattle.book_tables.proofs.laws.members_law.Goals as goal
 
 pub returns-clause-empty : goal.returns-clause-empty
@@ -9,26 +8,11 @@ returns-clause-empty c = no_members
 pub returns-clause-edited : goal.returns-clause-edited
 returns-clause-edited c = edited_members
 
-pub returns-clause-decided : goal.returns-clause-decided
-returns-clause-decided c = decided_new
-
 pub returns-clause-tariff : goal.returns-clause-tariff
 returns-clause-tariff c = λ rows o name are. found_tariff rows o are name
 
-pub returns-clause-step : goal.returns-clause-step
-returns-clause-step c = step_found
-
 pub returns-clause-meter : goal.returns-clause-meter
 returns-clause-meter c = meter_found
-
-pub returns-clause-all_steps : goal.returns-clause-all_steps
-returns-clause-all_steps c = all_steps
-
-pub returns-clause-no_steps : goal.returns-clause-no_steps
-returns-clause-no_steps c = no_steps
-
-pub returns-clause-first_steps : goal.returns-clause-first_steps
-returns-clause-first_steps c = λ rows o name day are. first_steps rows o are name day
 
 pub returns-clause-shift_numbered : goal.returns-clause-shift_numbered
 returns-clause-shift_numbered c = λ o number office. found_numbered (λ s. s.number) o.shifts number office.shift_numbers

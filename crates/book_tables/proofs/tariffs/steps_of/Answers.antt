@@ -2,6 +2,7 @@ use Rattle.std.proofs.Common.{rules, subst, refl, ◌∙◌, inl, Err, IfOk}
 use Rattle.sqlite.specs.Held.{state}
 use Rattle.sqlite.specs.Values.{bound}
 use Rattle.one_table.specs.Answer.{IsLeft}
+use Rattle.book_tables.specs.Kept.{steps_kept}
 use Rattle.book_tables.proofs.ListingLemmas.{gives, only_asks, reads}
 use Rattle.one_table.proofs.ReadsOnlyLemmas.{fail_on}
 use Rattle.book_tables.proofs.StepListLemmas.{AreStepsOf, fails_to_make, makes, steps_of, tariff_keeps}
@@ -37,12 +38,12 @@ returns-clause-reads g c =
           search (rules, left);
       mode = c.in_ok-shown.ensures.reads.mode;
       faults = λ clean has.
-          fails_to_make name c.deref.result.now old new (c.in_ok-shown.ensures.reads.same clean (asks has))
+          fails_to_make steps_kept (λ o. o.tariffs name) (λ o office. tariff_keeps o office name (o.tariffs name) refl) c.deref.result.now old new (c.in_ok-shown.ensures.reads.same clean (asks has))
           (λ rows held of_office.
           let found = gives (steps_of name) (λ found. found.items) old new rows (λ _. held) of_office c.all_records.result
           (bound c.tariff_values.result) c.tariff_values.ensures (c.all_records.ensures.reads.same clean (asks has)) (c.all_records.ensures.given clean (asks has)) in
           let here = subst (λ r. IfOk r (λ found. AreStepsOf name rows found.items)) c.in_ok-shown.was found in
-          λ o are. c.deref.ensures.value ∙ here o are)
+          λ o office are. c.deref.ensures.value ∙ here o are)
           c.tariff_of.result c.tariff_of.ensures.faults;
       survives = λ has. c.in_ok-shown.ensures.reads.survives (asks has);
     }

@@ -1,18 +1,20 @@
 use Rattle.std.proofs.Common.{rules}
 use Rattle.sqlite.specs.Held.{state}
-use Rattle.book_tables.proofs.OfficeTableLemmas.{read_in_office, sales_in}
-use Rattle.books.proofs.OpeningLemmas.{shows_fault}
+use Rattle.one_table.proofs.ReadsOnlyLemmas.{read_where}
+use Rattle.book_tables.specs.Kept.{sales_kept}
+use Rattle.books.proofs.OpeningLemmas.{at_sales, has_kept, shows_fault}
 use Rattle.books.proofs.opening.next_by_sales.Goals as goal
 
 pub returns-in-Err-clause-looks : goal.returns-in-Err-clause-looks
-returns-in-Err-clause-looks g c =
-    let read = read_in_office sales_in c.in-Err.ensures.reads in
+returns-in-Err-clause-looks g c format some known =
+    let old = state g.S.Store c.args.conn.now in
+    let new = state g.S.Store c.last_sale_number.new.conn in
+    let read = c.in-Err.ensures.reads in
     record {
       finds = search rules;
       same = search rules;
-      kept = λ clean tables. read.kept clean tables;
+      kept = λ clean tables. read.kept clean (has_kept format sales_kept at_sales some old tables);
       other = λ clean tables sound.
-          shows_fault (state g.S.Store c.args.conn.now) (state g.S.Store c.last_sale_number.new.conn) tables c.in-Err.error c.fault_of_table.result c.fault_of_table.ensures.kind c.fault_of_table.ensures.value (read.faults clean tables);
-      never_old = c.fault_of_table.ensures.never_old;
-      survives = read.survives;
+          shows_fault format sales_kept at_sales some old new known tables c.in-Err.error c.fault_of_table.result c.fault_of_table.ensures.kind c.fault_of_table.ensures.value (read.faults clean (has_kept format sales_kept at_sales some old tables));
+      survives = λ tables. read.survives (has_kept format sales_kept at_sales some old tables);
     }

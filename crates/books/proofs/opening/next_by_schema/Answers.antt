@@ -4,7 +4,7 @@ use Rattle.book_tables.specs.Holds.{HasOffice, IsUntaken}
 use Rattle.book_tables.specs.Making.{HasRoom}
 use Rattle.book_tables.specs.Reading.{HasTables}
 use Rattle.books.specs.Opening.{HasSoundDatabase}
-use Rattle.books.proofs.BegunLemmas.{ends_begun, ends_found, no_office, refuses_nothing, same_none, survives_none}
+use Rattle.books.proofs.BroughtLemmas.{ends_begun, ends_found, no_office, refuses_nothing, same_none, survives_none}
 use Rattle.books.proofs.opening.next_by_schema.Goals as goal
 
 pub returns-in-Ok-Office-clause-ends : goal.returns-in-Ok-Office-clause-ends

@@ -1,6 +1,6 @@
 use Rattle.std.proofs.Common.{rules, IsTrue}
 use Rattle.sqlite.specs.Held.{state}
-use Rattle.books.proofs.BegunLemmas.{ends_after, refuses_tested}
+use Rattle.books.proofs.BroughtLemmas.{ends_after, refuses_tested}
 use Rattle.books.proofs.StayLemmas.{left_same}
 use Rattle.books.proofs.opening.next_here.Goals as goal
 

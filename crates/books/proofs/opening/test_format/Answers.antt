@@ -1,7 +1,8 @@
-use Rattle.std.proofs.Common.{rules, inl, sym, ◌∙◌}
+use Rattle.std.proofs.Common.{rules, inl, sym, ◌∙◌, arith}
 use Rattle.sqlite.specs.Held.{state}
-use Rattle.book_tables.proofs.OfficeTableLemmas.{about_in, has_table, read_in_office}
-use Rattle.books.proofs.OpeningLemmas.{has_format, is_format, members_of, shows_fault}
+use Rattle.book_tables.specs.Kept.{about_kept}
+use Rattle.book_tables.proofs.HoldsLemmas.{held_as}
+use Rattle.books.proofs.OpeningLemmas.{at_about, has_format, has_kept, is_format, shows_fault}
 use Rattle.books.proofs.opening.test_format.Goals as goal
 
 pub returns-then-eq-clause-looks : goal.returns-then-eq-clause-looks
@@ -9,12 +10,11 @@ returns-then-eq-clause-looks g c =
     let old = state g.S.Store c.args.conn.now in
     let reads = c.in-Ok.ensures.reads in
     record {
-      finds = λ clean tables sound. has_format old.now c.in-Ok.format (sym c.eq.ensures ∙ c.if-eq.true) (c.in-Ok.ensures.given clean (has_table about_in old tables) sound);
-      same = λ clean tables. reads.same clean (has_table about_in old tables);
+      finds = λ clean tables sound. has_format c.args.format c.requires.known old.now c.in-Ok.told (sym c.eq.ensures ∙ c.if-eq.true) (c.in-Ok.ensures.given clean (has_kept c.args.format about_kept at_about c.requires.some old tables) sound);
+      same = λ clean tables. reads.same clean (has_kept c.args.format about_kept at_about c.requires.some old tables);
       kept = search rules;
       other = search rules;
-      never_old = search rules;
-      survives = λ tables. reads.survives (has_table about_in old tables);
+      survives = λ tables. reads.survives (has_kept c.args.format about_kept at_about c.requires.some old tables);
     }
 
 pub returns-else-eq-clause-looks : goal.returns-else-eq-clause-looks
@@ -24,27 +24,25 @@ returns-else-eq-clause-looks g c =
     record {
       finds = search rules;
       same = search rules;
-      kept = λ clean tables. inl (reads.same clean (has_table about_in old tables));
+      kept = λ clean tables. inl (reads.same clean (has_kept c.args.format about_kept at_about c.requires.some old tables));
       other = λ clean tables sound o at.
-          let is_open = (reads.same clean (has_table about_in old tables)).0.was_open in
-          let held = members_of old.now o (tables is_open) (at.now is_open) in
-          let is = is_format old.now o c.in-Ok.format held (c.in-Ok.ensures.given clean (has_table about_in old tables) sound) in
+          let is_open = (reads.same clean (has_kept c.args.format about_kept at_about c.requires.some old tables)).0.was_open in
+          let held = held_as old.now o c.args.format (at.now is_open) c.requires.known (tables is_open) in
+          let is = is_format c.args.format c.requires.some c.requires.known old.now o c.in-Ok.told held.0 (c.in-Ok.ensures.given clean (has_kept c.args.format about_kept at_about c.requires.some old tables) sound) in
           let told = rw is at c.eq.ensures in
           let not = c.if-eq.false in cc;
-      never_old = search rules;
-      survives = λ tables. reads.survives (has_table about_in old tables);
+      survives = λ tables. reads.survives (has_kept c.args.format about_kept at_about c.requires.some old tables);
     }
 
 pub returns-in-Err-clause-looks : goal.returns-in-Err-clause-looks
 returns-in-Err-clause-looks g c =
     let old = state g.S.Store c.args.conn.now in
-    let read = read_in_office about_in c.in-Err.ensures.reads in
+    let read = c.in-Err.ensures.reads in
     record {
       finds = search rules;
       same = search rules;
-      kept = λ clean tables. read.kept clean tables;
+      kept = λ clean tables. read.kept clean (has_kept c.args.format about_kept at_about c.requires.some old tables);
       other = λ clean tables sound.
-          shows_fault old (state g.S.Store c.format_number.new.conn) tables c.in-Err.error c.fault_of_table.result c.fault_of_table.ensures.kind c.fault_of_table.ensures.value (read.faults clean tables);
-      never_old = c.fault_of_table.ensures.never_old;
-      survives = read.survives;
+          shows_fault c.args.format about_kept at_about c.requires.some old (state g.S.Store c.format_number.new.conn) c.requires.known tables c.in-Err.error c.fault_of_table.result c.fault_of_table.ensures.kind c.fault_of_table.ensures.value (read.faults clean (has_kept c.args.format about_kept at_about c.requires.some old tables));
+      survives = λ tables. read.survives (has_kept c.args.format about_kept at_about c.requires.some old tables);
     }

@@ -1,13 +1,10 @@
-use Rattle.std.proofs.Common.{◌≡◌, ◌++◌, ◌∷◌, ◌∙◌, [], Some, List, refl, ap, sym, subst, arith, append-nil}
-use Rattle.std.specs.Io.KnownBytes.{Keeps}
-use Rattle.std.proofs.KnownBytes.{Consumes-kept, Consumes-nil}
+use Rattle.std.proofs.Common.{◌≡◌, [], sym, subst, arith}
 use Rattle.desk.specs.Exchanges.{timed}
 use Rattle.desk.specs.Heads.{longest_head}
-use Rattle.desk.specs.Uses.{asked}
 use Rattle.desk.specs.Wants.{IsAwaited}
 use Rattle.desk.specs.declared.wants.Wants.TheVariants.{Head}
 use Rattle.desk.proofs.EndLemmas.{bytes_after, bytes_here_after, run_early, run_here}
-use Rattle.desk.proofs.ProgressLemmas.{progress_none, progress_trans}
+use Rattle.desk.proofs.ProgressLemmas.{progress_none}
 use Rattle.desk.proofs.RunLemmas.{after_read, awaited_fits, awaits_nothing, bytes_of, failed_run, over_end, paced_after, paced_read, read_run, used_none, went_on}
 use Rattle.desk.proofs.conversation.run.Goals as goal
 

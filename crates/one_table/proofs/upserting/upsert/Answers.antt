@@ -3,7 +3,8 @@ use Rattle.sqlite.specs.State.{Shown}
 use Rattle.sqlite.specs.Values.{bound}
 use Rattle.sqlite.specs.Held.{state}
 use Rattle.one_table.specs.declared.read_fault.ReadFault.TheVariants.{Database, Row as Bad}
-use Rattle.one_table.proofs.ChangeLemmas.{if_err, if_ok, told_as, transaction_into, transaction_off}
+use Rattle.one_table.proofs.ChangeLemmas.{all_ok, if_err, if_ok, told_as, transaction_into, transaction_off}
+use Rattle.one_table.proofs.TouchLemmas.{fails_to_touch, touched, touched_unread}
 use Rattle.one_table.proofs.UpsertLemmas.{fails_to_upsert, fails_unread, upserted}
 use Rattle.one_table.proofs.upserting.upsert.Goals as goal
 
@@ -38,6 +39,29 @@ returns-in-Some-clause-refused g c clean way t at m is whole takes =
     let shown = subst (Shown c.args.sql.now (bound c.args.params.now) old new) (sym c.deref.ensures.value) (c.in_ok-rows.ensures.shown clean) in
     let done = upserted c.args.sql.now (bound c.args.params.now) old new t at m is takes _ shown way in
     if_err c.from_row.result (fails_unread c.args.sql.now (bound c.args.params.now) old new t at m is takes g.X.FromRow.is_readable _ c.in-Some.row.now done item.1) c.from_row.ensures.err
+
+pub returns-in_err-rows-clause-failed : goal.returns-in_err-rows-clause-failed
+returns-in_err-rows-clause-failed g c clean way t at m is whole stands =
+    told_as _ c.from_residual.result (Database c.in_err-rows.field-0.0) c.from_residual.ensures.1
+    (fails_to_touch c.args.sql.now (bound c.args.params.now) (state g.S.Store c.args.tx.now.conn.now) (state g.S.Store c.show.new.tx.conn.now) t at m is stands whole c.in_err-rows.field-0.0
+    (c.in_err-rows.ensures.refused clean))
+
+pub returns-in-Some-clause-touched : goal.returns-in-Some-clause-touched
+returns-in-Some-clause-touched g c clean way t at m is stands =
+    let old = state g.S.Store c.args.tx.now.conn.now in
+    let new = state g.S.Store c.show.new.tx.conn.now in
+    all_ok c.from_row.result (touched c.args.sql.now (bound c.args.params.now) old new t at m is stands _ (c.in_ok-rows.ensures.shown clean) way)
+
+pub returns-in-Some-clause-failed : goal.returns-in-Some-clause-failed
+returns-in-Some-clause-failed g c clean way t at m is whole stands =
+    let old = state g.S.Store c.args.tx.now.conn.now in
+    let new = state g.S.Store c.show.new.tx.conn.now in
+    let done = touched c.args.sql.now (bound c.args.params.now) old new t at m is stands _ (c.in_ok-rows.ensures.shown clean) way in
+    if_err c.from_row.result (λ why only. touched_unread c.args.sql.now (bound c.args.params.now) old new t at m is stands why done only) c.from_row.ensures.err
+
+pub returns-clause-failed : goal.returns-clause-failed
+returns-clause-failed g c clean way t at m is whole stands =
+    touched c.args.sql.now (bound c.args.params.now) (state g.S.Store c.args.tx.now.conn.now) (state g.S.Store c.show.new.tx.conn.now) t at m is stands _ (c.in_ok-rows.ensures.shown clean) way
 
 pub returns-clause-refused : goal.returns-clause-refused
 returns-clause-refused g c clean way t at m is whole takes =

@@ -30,6 +30,3 @@ returns-in-Err-clause-refused g c = λ clean. (c.in-Err.ensures.ends.refused cle
 
 pub returns-in-Err-clause-survives : goal.returns-in-Err-clause-survives
 returns-in-Err-clause-survives g c = c.in-Err.ensures.ends.risks
-
-pub returns-in-Err-clause-never_old : goal.returns-in-Err-clause-never_old
-returns-in-Err-clause-never_old g c = c.in-Err.ensures.ends.never_old

@@ -2,9 +2,10 @@ use Rattle.std.proofs.Common.{List, Option, ap}
 use Rattle.std.proofs.lemmas.Result.{IfOk-weaker}
 use Rattle.sqlite.specs.Held.{state}
 use Rattle.tariff.specs.declared.step.Step.{Step}
+use Rattle.vend_core.specs.Office.{Office}
 use Rattle.vend_core.specs.declared.row_facts.RowFacts.{RowFacts}
 use Rattle.vend_core.specs.declared.row_facts.RowFacts.TheVariants as found
-use Rattle.books.proofs.FactsLemmas.{steps_told}
+use Rattle.books.proofs.FactsLemmas.{office_told}
 use Rattle.books.proofs.PassedLemmas.{passed_none}
 use Rattle.one_table.proofs.ReadsOnlyLemmas.{fail_on, read_on}
 use Rattle.book_tables.proofs.OfficeTableLemmas.{steps_in, read_in_office}
@@ -20,10 +21,10 @@ pub returns-in_ok-steps-in-Tariff-clause-facts : goal.returns-in_ok-steps-in-Tar
 returns-in_ok-steps-in-Tariff-clause-facts g c clean o office members =
     let none = passed_none (state g.S.Store c.args.conn.now) (g.met.S.Store.shut_if_dirty c.args.conn.now.store) in
     let read = read_in_office steps_in c.in_ok-steps-in-Tariff.ensures.reads in
-    let steps_are = steps_told office members none read clean c.in-Tariff.name c.in_ok-steps-in-Tariff.steps (c.in_ok-steps-in-Tariff.ensures.given clean) in
+    let steps_are = office_told office members none read clean steps_in (λ (o : Office). o.tariffs c.in-Tariff.name) c.in_ok-steps-in-Tariff.steps (c.in_ok-steps-in-Tariff.ensures.given clean) in
     rw c.in-Tariff.is (ap (λ (s : Option (List Step)). let f : RowFacts = found.Tariff s in f) steps_are)
 
 pub returns-in-Steps-clause-facts : goal.returns-in-Steps-clause-facts
 returns-in-Steps-clause-facts g c clean o office members =
-    IfOk-weaker c.steps_row_facts.result _ _ (λ found says. rw c.in-Steps.is (says c.in-Steps.field-1 c.in-Steps.field-2))
+    IfOk-weaker c.steps_row_facts.result _ _ (λ found says. rw c.in-Steps.is (says c.in-Steps.field-2))
     (c.steps_row_facts.ensures.facts clean o office members)

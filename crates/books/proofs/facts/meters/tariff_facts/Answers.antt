@@ -1,5 +1,5 @@
 use Rattle.sqlite.specs.Held.{state}
-use Rattle.books.proofs.FactsLemmas.{steps_told}
+use Rattle.books.proofs.FactsLemmas.{office_told}
 use Rattle.books.proofs.PassedLemmas.{passed_none}
 use Rattle.one_table.proofs.ReadsOnlyLemmas.{fail_on, read_on}
 use Rattle.book_tables.proofs.OfficeTableLemmas.{steps_in, read_in_office}
@@ -14,4 +14,4 @@ returns-clause-reads g c = read_on (read_in_office steps_in c.in_ok-steps.ensure
 pub returns-clause-facts : goal.returns-clause-facts
 returns-clause-facts g c clean o office members =
     let none = passed_none (state g.S.Store c.args.conn.now) (g.met.S.Store.shut_if_dirty c.args.conn.now.store) in
-    steps_told office members none (read_in_office steps_in c.in_ok-steps.ensures.reads) clean c.args.name.now c.in_ok-steps.steps (c.in_ok-steps.ensures.given clean)
+    office_told office members none (read_in_office steps_in c.in_ok-steps.ensures.reads) clean steps_in (λ (o : Office). o.tariffs c.args.name.now) c.in_ok-steps.steps (c.in_ok-steps.ensures.given clean)

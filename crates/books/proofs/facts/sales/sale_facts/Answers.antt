@@ -15,7 +15,7 @@ returns-then-is_some-clause-facts g c clean o office members counted =
     let none = passed_none (state g.S.Store c.args.conn.now) (g.met.S.Store.shut_if_dirty c.args.conn.now.store) in
     let read_1 = (read_in_office sales_in c.in_ok-first_sale.ensures.reads) in
     record {
-      first_sale = sales_told office members none read_1 clean (find (λ s. bytes_eq s.operator c.args.order.now.operator && bytes_eq s.order_ref c.args.order.now.order_ref)) c.in_ok-first_sale.first_sale (c.in_ok-first_sale.ensures.given clean);
+      first_sale = sales_told office members none read_1 clean sales_in (find (λ s. bytes_eq s.operator c.args.order.now.operator && bytes_eq s.order_ref c.args.order.now.order_ref)) c.in_ok-first_sale.first_sale (c.in_ok-first_sale.ensures.given clean);
       new_sale = search rules;
     }
 
@@ -28,7 +28,7 @@ returns-clause-facts g c clean o office members =
     let read_1 = (read_in_office sales_in c.in_ok-first_sale.ensures.reads) in
     let first = passed read_1 (g.met.S.Store.shut_if_dirty c.sale_of_ref.new.conn.store) in
     let was = clean_before first c.new_sale_facts.ensures.reads.survives (tables_of (state g.S.Store c.args.conn.now) o members) clean in
-    let first_is = sales_told office members none read_1 was (find (λ s. bytes_eq s.operator c.args.order.now.operator && bytes_eq s.order_ref c.args.order.now.order_ref)) c.in_ok-first_sale.first_sale (c.in_ok-first_sale.ensures.given was) in
+    let first_is = sales_told office members none read_1 was sales_in (find (λ s. bytes_eq s.operator c.args.order.now.operator && bytes_eq s.order_ref c.args.order.now.order_ref)) c.in_ok-first_sale.first_sale (c.in_ok-first_sale.ensures.given was) in
     let new = c.new_sale_facts.ensures.facts clean o office (members_after o members first c.new_sale_facts.ensures.reads.survives clean) in
     new_sale_is _ o c.args.moment c.args.order.now c.in_ok-first_sale.first_sale c.new_sale_facts.result first_is (sym c.is_some.ensures ∙ c.if-is_some.false) c.new_sale_facts.ensures.none new
 

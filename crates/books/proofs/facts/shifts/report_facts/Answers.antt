@@ -30,7 +30,7 @@ returns-clause-facts g c clean o office members =
     let read_2 = (read_in_office sales_in c.in_ok-sales.ensures.reads) in
     let was = was_clean office members first read_2 clean in
     let shift_is = shifts_told office members none read_1 was (find (λ s. s.number == c.args.number)) c.in_ok-found.found (c.in_ok-found.ensures.given was) in
-    let sales_are = sales_told office members first read_2 clean (filter (λ s. s.shift == c.args.number)) c.in_ok-sales.sales.items (c.in_ok-sales.ensures.given clean) in
+    let sales_are = sales_told office members first read_2 clean sales_in (filter (λ s. s.shift == c.args.number)) c.in_ok-sales.sales.items (c.in_ok-sales.ensures.given clean) in
     ap (λ (sales : List Sale). let found : Option (Shift × List Sale) = Some (c.in-Some.shift, sales) in found) (c.of.ensures ∙ sales_are)
     ∙ ap (option_map (λ (s : Shift). (s, sales_of_shift o c.args.number))) (sym c.in-Some.is ∙ shift_is)
 

@@ -9,4 +9,4 @@ returns-in-Ok-open_from-clause-opens g c = c.in-Ok-open_from.ensures.opens empty
 pub returns-clause-faults : goal.returns-clause-faults
 returns-clause-faults g c =
     let stands = memory_stands c.in-Ok.conn c.stands_law.ensures.untaken c.in-Ok.ensures.empty in
-    store_or_memory c.in-Err.fault (λ e. c.in-Err.ensures.other (memory_is_clean c.in-Err.field-0-1) e empty_office stands) c.in-Err.ensures.never_old
+    store_or_memory c.in-Err.fault (λ e. c.in-Err.ensures.other (memory_is_clean c.in-Err.field-0-1) e empty_office stands)

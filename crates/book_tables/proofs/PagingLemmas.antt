@@ -1,0 +1,99 @@
+-- What reads inside a transaction give, and what they leave.
+use Rattle.std.proofs.Common.{◌≡◌, ◌∙◌, ℕ, true, Bool, List, [], ◌∷◌, map, filter, Result, Ok, Err, IfErr, IsErrAnd, inl, get_or, length, ◌<◌, refl, sym, ap, subst, IsPermutation}
+use Rattle.std.specs.Prelude.{All}
+use Rattle.std.proofs.lemmas.List.Elements.{All-map, Contains-get_or}
+use Rattle.std.proofs.lemmas.List.Sorted.{All-permutation, IsPermutation-map}
+use Rattle.sqlite.specs.Order.{Row}
+use Rattle.sqlite.specs.State.{HasCleanDisk, IsUnchanged, State}
+use Rattle.sqlite_keyed.proofs.ListLemmas.{map-map}
+use Rattle.sqlite_trees.proofs.ListLemmas.{pull_back}
+use Rattle.vend_core.specs.Names.{IsMeterNo}
+use Rattle.vend_core.specs.declared.meter.Meter.{Meter}
+use Rattle.one_table.specs.Answer.{OnlyAsks}
+use Rattle.one_table.specs.ReadsOnly.{ReadsInside}
+use Rattle.one_table.proofs.HiddenLemmas.{all_hidden}
+use Rattle.book_tables.specs.Kept.{Kept, meters_kept}
+use Rattle.book_tables.specs.Reading.{AreOfOffice, FailsToShow, HasTable, ReadsTableInside, ShowsRecord, present_base}
+use Rattle.book_tables.specs.Rows.{Rows, base_columns, meter_columns}
+use Rattle.book_tables.specs.Tables.{meters_table}
+use Rattle.book_tables.specs.declared.error.TableError.{TableError}
+use Rattle.book_tables.specs.declared.paging.MeterBase.{MeterBase}
+use Rattle.book_tables.proofs.BaseTexts.{present_bases_asks, present_bases_names, present_bases_query, present_bases_text}
+use Rattle.book_tables.proofs.LastLemmas.{all_pass}
+use Rattle.book_tables.proofs.ListingLemmas.{Lists, fails, only_asks}
+use Rattle.book_tables.proofs.RowLemmas.{one_base}
+
+-- ---- what is left, from what is known of the read that it is made of
+
+module _ {K : State → Type 0} {old new : State} where
+  -- one that succeeds, whatever is made of its value
+  pub inside_on : {T U E F : Type 0} {A : State → State → E → Type 0} {B : State → State → F → Type 0} {x : T} {y : U} → ReadsInside K A old new (Ok x) → ReadsInside K B old new (Ok y)
+  inside_on this = record { same = this.same; kept = λ _ _. tt; faults = λ _ _. tt }
+
+  -- one that fails, whose error is told as another
+  pub inside_as : {T U E F : Type 0} {A : State → State → E → Type 0} {B : State → State → F → Type 0} {e : E} (f : F) (r : Result U F) → IsErrAnd r (λ x. x ≡ f)
+      → ReadsInside {T = T} K A old new (Err e) → (A old new e → B old new f) → ReadsInside K B old new r
+  inside_as f (Ok y) is this told = absurd is
+  inside_as {B = B} f (Err x) is this told = record { same = λ _ _. tt; kept = this.kept; faults = λ clean known. subst (B old new) (sym is) (told (this.faults clean known)) }
+
+  -- one that succeeds, of whose value nothing can be made
+  pub inside_stop : {T U E F : Type 0} {A : State → State → E → Type 0} {B : State → State → F → Type 0} {x : T} (f : F) (r : Result U F) → IsErrAnd r (λ y. y ≡ f)
+      → ReadsInside K A old new (Ok x) → (HasCleanDisk new → K old → B old new f) → ReadsInside K B old new r
+  inside_stop f (Ok y) is this stops = absurd is
+  inside_stop {B = B} f (Err x) is this stops =
+      record { same = λ _ _. tt; kept = λ clean known. inl (this.same clean known); faults = λ clean known. subst (B old new) (sym is) (stops clean known) }
+
+  -- one of which is known what something else implies, and which fails for a reason that implies another
+  inside_where : {T E : Type 0} {A B : State → State → E → Type 0} {L : State → Type 0} (r : Result T E) → (L old → K old) → ReadsInside K A old new r → (HasCleanDisk new → L old → IfErr r (B old new)) → ReadsInside L B old new r
+  inside_where r implies this faults = record {
+    same = λ clean known. this.same clean (implies known);
+    kept = λ clean known. this.kept clean (implies known);
+    faults = faults;
+  }
+
+-- a text that lists records of a table
+module _ {M : Type 0} {k : Kept} {sql : List ℕ} {params : Row} {shown : M → Row} {keeps : M → Type 0} {IsFound : Rows → List M → Type 0} (l : Lists k sql params shown keeps IsFound) where
+  pub reads_inside : {A : Type 0} (old new : State) (r : Result A TableError) (values : Row) → values ≡ params → ReadsInside (OnlyAsks sql) (FailsToShow (ShowsRecord shown keeps) sql values) old new r → ReadsTableInside k old new r
+  reads_inside old new r values are this = inside_where r (only_asks l old) this (λ clean has. fails l old new has r values are (this.faults clean (only_asks l old has)))
+
+-- ---- the present bases of all meters
+
+abbrev pub shown_base : MeterBase → Row
+shown_base m = base_columns (m.number, m.base)
+
+abbrev pub keeps_base : MeterBase → Type 0
+keeps_base m = IsMeterNo m.number
+
+-- of each meter its present base, once and in any order
+abbrev pub ArePresent : Rows → List MeterBase → Type 0
+ArePresent rows found = IsPermutation (map present_base rows.meters) found
+
+one_shown_base : (a b : MeterBase) → shown_base a ≡ shown_base b → a ≡ b
+one_shown_base a b e =
+    let base : a.base ≡ b.base = one_base a.base b.base (cc) in
+    let A : MeterBase = record { number = a.number; base = a.base } in
+    let B : MeterBase = record { number = b.number; base = b.base } in
+    let same : A ≡ B = cc in
+    same
+
+numbers_keep : (rows : Rows) → AreOfOffice rows → All (λ (m : List ℕ × Meter). IsMeterNo m.0) rows.meters
+numbers_keep rows (o, office, are) i d within =
+    let m = get_or rows.meters i d in
+    (office.meters m.0 m.1 ((are.meters m.0 m.1).1 (Contains-get_or rows.meters i d within))).numbered
+
+pub present_bases : Lists meters_kept present_bases_text [] shown_base keeps_base ArePresent
+present_bases = record {
+  table = meters_table;
+  query = present_bases_query;
+  names = present_bases_names;
+  asks = present_bases_asks;
+  stands = λ s has. has.0.has;
+  one = λ a b keeps_a keeps_b same. one_shown_base a b same;
+  kept = λ rows of_office found are. All-permutation keeps_base (map present_base rows.meters) found are (All-map keeps_base present_base rows.meters (numbers_keep rows of_office));
+  answers = λ db rows held of_office answer is.
+      let show : List ℕ × Meter → Row = λ m. shown_base (present_base m) in
+      let all = all_hidden {stored = meter_columns} {xs = rows.meters} {p = λ _. true} {show = show} (record { holds_them = held.1.1.0; some = λ r none. cc; passes = λ hidden r. refl; shows = λ hidden r. refl }) answer is in
+      let shown : IsPermutation (map show rows.meters) answer = subst (λ (l : List (List ℕ × Meter)). IsPermutation (map show l) answer) (all_pass rows.meters) all in
+      let found = pull_back show (map show rows.meters) answer shown rows.meters refl in
+      (map present_base found.0, IsPermutation-map present_base rows.meters found.0 found.1, found.2 ∙ sym (map-map shown_base present_base found.0));
+}

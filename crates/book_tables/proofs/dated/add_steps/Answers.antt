@@ -1,0 +1,45 @@
+use Rattle.std.proofs.Common.{rules, arith, ◌≡◌, ◌∷◌, ◌∙◌, ap, sym, subst, get_or, take, length, List, None, Ok}
+use Rattle.sqlite.specs.Held.{state}
+use Rattle.sqlite.specs.State.{HasCleanDisk}
+use Rattle.std.proofs.lemmas.List.{length-take-le, take_all, take_more}
+use Rattle.tariff.specs.declared.step.Step.{Step}
+use Rattle.one_table.proofs.ChangeLemmas.{transaction_off, transaction_on, transaction_then}
+use Rattle.book_tables.specs.Writing.{AddsSteps}
+use Rattle.book_tables.proofs.DatedWriteLemmas.{adds_next}
+use Rattle.book_tables.proofs.OnlyLemmas.{tables_there}
+use Rattle.book_tables.proofs.dated.add_steps.Goals as goal
+
+pub others-preserved : goal.others-preserved
+others-preserved g c =
+    let old = state g.S.Store c.args.tx.now.conn.now in
+    let mid = state g.S.Store c.others.tx.conn.now in
+    let new = state g.S.Store c.add_dated_step-in-others.new.tx.conn.now in
+    let name = c.args.name.now in
+    let others = c.in-Some.others.now in
+    record {
+      same = search rules;
+      place = search rules;
+      transaction = transaction_then old mid new (Ok tt) c.others.invariant.transaction (transaction_on c.in_ok-add_dated_step-2.ensures.writes.transaction);
+      added = λ clean has.
+          let early : HasCleanDisk mid = omega (arith, c.add_dated_step-in-others.ensures.writes.transaction.survives.clean) in
+          let so_far = c.others.invariant.added early has in
+          let first = so_far.0 in
+          let last = c.in_ok-add_dated_step-2.ensures.writes.made clean (tables_there _ old mid so_far.2.only has) in
+          let step = get_or others c.others.step-index (record { ends = None; price = 0 }) in
+          let count : c.others.place ≡ length (first ∷ take c.others.step-index others) = omega (arith, length-take-le c.others.step-index others (omega (arith, c.others-test.true)), c.others.invariant.place) in
+          let more = adds_next name c.args.day (first ∷ take c.others.step-index others) c.others.place step old mid new count so_far.2 last in
+          (first, so_far.1, subst (λ (l : List Step). AddsSteps name c.args.day (first ∷ l) old new) (sym (take_more others c.others.step-index (record { ends = None; price = 0 }) c.others-test.true)) more);
+    }
+
+pub returns-clause-added : goal.returns-clause-added
+returns-clause-added g c clean has =
+    let so_far = c.others.invariant.added clean has in
+    let first = so_far.0 in
+    let all = ap (λ (l : List Step). first ∷ l) (take_all c.others.step-index c.in-Some.others.now c.others-test.false) ∙ sym so_far.1 in
+    subst (λ (l : List Step). AddsSteps c.args.name.now c.args.day l (state g.S.Store c.args.tx.now.conn.now) (state g.S.Store c.others.tx.conn.now)) all so_far.2
+
+pub returns-in_err-add_dated_step-2-clause-transaction : goal.returns-in_err-add_dated_step-2-clause-transaction
+returns-in_err-add_dated_step-2-clause-transaction g c =
+    let r = c.from_residual-in_err-add_dated_step-2.result in
+    transaction_then (state g.S.Store c.args.tx.now.conn.now) (state g.S.Store c.others.tx.conn.now) (state g.S.Store c.add_dated_step-in-others.new.tx.conn.now) r c.others.invariant.transaction
+    (transaction_off _ r c.from_residual-in_err-add_dated_step-2.ensures.1 c.in_err-add_dated_step-2.ensures.writes.transaction.kept c.in_err-add_dated_step-2.ensures.writes.transaction.survives)

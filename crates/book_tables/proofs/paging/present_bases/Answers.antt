@@ -1,0 +1,16 @@
+use Rattle.std.proofs.Common.{[], refl}
+use Rattle.sqlite.specs.Held.{state}
+use Rattle.book_tables.proofs.ListingLemmas.{gives, only_asks}
+use Rattle.book_tables.proofs.PagingLemmas.{present_bases, reads_inside}
+use Rattle.book_tables.proofs.paging.present_bases.Goals as goal
+
+pub returns-clause-given : goal.returns-clause-given
+returns-clause-given g c clean rows has of_office =
+    let old = state g.S.Store c.args.tx.now.conn.now in
+    let only = only_asks present_bases old (λ runs. (has runs).0) in
+    gives present_bases (λ found. found.items) old (state g.S.Store c.records_inside.new.tx.conn.now) rows has of_office c.records_inside.result
+    [] refl (c.records_inside.ensures.reads.same clean only) (c.records_inside.ensures.given clean)
+
+pub returns-clause-reads : goal.returns-clause-reads
+returns-clause-reads g c =
+    reads_inside present_bases (state g.S.Store c.args.tx.now.conn.now) (state g.S.Store c.records_inside.new.tx.conn.now) c.records_inside.result [] refl c.records_inside.ensures.reads

@@ -1,0 +1,93 @@
+//! The running totals of a shift.
+
+ghost use Rattle.std.specs.Prelude.{◌≡◌, ◌≢◌, ◌↔◌, ◌⊎◌, false, true, Err, None, Some, IfErr, IfOk};
+ghost use Rattle.sqlite.specs.Held.{state};
+ghost use Rattle.sqlite.specs.State.{HasCleanDisk};
+ghost use Rattle.vend_core.specs.Life.{Life, present};
+ghost use Rattle.vend_core.specs.Office.{Office};
+ghost use Rattle.book_tables.specs.Reading.{HasTables};
+ghost use Rattle.books.specs.Failing.{IsToldOfRead};
+ghost use Rattle.books.specs.Keeps.{HaveTables, Represents, Stores, seen};
+ghost use Rattle.books.specs.Others.{LeavesOthers};
+ghost use Rattle.books.specs.Same.{ChangesNothing};
+ghost use Rattle.books.specs.Totals.{shift_totals};
+
+use super::Books;
+use super::failing::{has_failed, refusal_of};
+use crate::facts::shifts::totals_of;
+use book_tables::Totals;
+use sqlite::{Alter, Connection};
+use sts_token::BlockTransform;
+use vend_core::Refusal;
+
+impl<S: Alter, T: BlockTransform> Books<S, T> {
+    /// The totals of the shift of a number (1 to 10^9): the count of its sales, and the sums of their
+    /// tenths of a kWh and of their prices in cents. They are read in one row, and are zeros for a
+    /// shift without sales.
+    ///
+    /// # Errors
+    /// `NoSuchShift`; `Memory`; `Stopped`; and `Store`, after which the books are stopped too. It puts
+    /// nothing in doubt.
+    pub fn shift_totals(&mut self, number: u32) -> Result<Totals, Refusal>
+        ensures given { HasCleanDisk (seen S.Store T.forwards self.new).state
+            → (life : Life) → Represents life (seen S.Store T.forwards self.old)
+            → IfOk result (λ totals. shift_totals (present life) number ≡ Some totals) }
+        ensures none { HasCleanDisk (seen S.Store T.forwards self.new).state
+            → (life : Life) → Represents life (seen S.Store T.forwards self.old)
+            → result ≡ Err Refusal.NoSuchShift → shift_totals (present life) number ≡ None }
+        ensures keeps { (life : Life) → Represents life (seen S.Store T.forwards self.old)
+            → Represents life (seen S.Store T.forwards self.new) }
+        ensures tables { HaveTables (seen S.Store T.forwards self.old)
+            → HaveTables (seen S.Store T.forwards self.new) }
+        ensures others { HasCleanDisk (seen S.Store T.forwards self.new).state
+            → HaveTables (seen S.Store T.forwards self.old)
+            → LeavesOthers (seen S.Store T.forwards self.old).state
+            (seen S.Store T.forwards self.new).state }
+        ensures clean { HasCleanDisk (seen S.Store T.forwards self.new).state
+            → HasCleanDisk (seen S.Store T.forwards self.old).state }
+        ensures stopped { (result ≡ Err Refusal.Stopped) ↔ (self.old.stopped ≡ true) }
+        ensures stops { (self.new.stopped ≡ true)
+            ↔ ((result ≡ Err Refusal.Store) ⊎ (result ≡ Err Refusal.Stopped)) }
+        ensures failures { HasCleanDisk (seen S.Store T.forwards self.new).state
+            → HaveTables (seen S.Store T.forwards self.old) → self.old.stopped ≡ false
+            → IfErr result (λ refusal. (refusal ≡ Refusal.NoSuchShift) ⊎ IsToldOfRead refusal
+            (seen S.Store T.forwards self.old).state (seen S.Store T.forwards self.new).state) }
+        ensures idle { self.old.stopped ≡ true → self.new ≡ self.old }
+    {
+        if self.stopped {
+            return Err(Refusal::Stopped);
+        }
+        let totals = totals(&mut self.conn, number);
+        self.stopped = has_failed(&totals);
+        totals
+    }
+}
+
+// The totals that the tables have of a shift.
+fn totals<S: Alter>(conn: &mut Connection<S>, number: u32) -> Result<Totals, Refusal>
+    requires { conn.old.in_transaction ≡ false }
+    ensures given { HasCleanDisk (state S.Store conn.new)
+        → (o : Office) → Stores (state S.Store conn.old) o
+        → IfOk result (λ totals. shift_totals o number ≡ Some totals) }
+    ensures none { HasCleanDisk (state S.Store conn.new)
+        → (o : Office) → Stores (state S.Store conn.old) o
+        → result ≡ Err Refusal.NoSuchShift → shift_totals o number ≡ None }
+    ensures nothing { HasCleanDisk (state S.Store conn.new)
+        → HasTables (state S.Store conn.old)
+        → ChangesNothing (state S.Store conn.old) (state S.Store conn.new) }
+    ensures clean { HasCleanDisk (state S.Store conn.new) → HasCleanDisk (state S.Store conn.old) }
+    ensures failures { HasCleanDisk (state S.Store conn.new)
+        → HasTables (state S.Store conn.old)
+        → IfErr result (λ refusal. (refusal ≡ Refusal.NoSuchShift) ⊎ IsToldOfRead refusal
+        (state S.Store conn.old) (state S.Store conn.new)) }
+    ensures never_stopped { result ≢ Err Refusal.Stopped }
+    ensures outside { conn.new.in_transaction ≡ false }
+{
+    // Outside a transaction an open connection has what was committed last.
+    let _settled = conn.is_autocommit();
+    match totals_of(conn, number) {
+        Ok(Some(totals)) => Ok(totals),
+        Ok(None) => Err(Refusal::NoSuchShift),
+        Err(error) => Err(refusal_of(error)),
+    }
+}

@@ -1,0 +1,206 @@
+//! Later base dates and dated steps, message by message: what each asks of the office over plain lists,
+//! and that the desk tells what the books answer.
+
+use crate::asked::{message, reply_bytes};
+use crate::offices::{listed, messages, moments, talk};
+use books::Books;
+use desk::{End, Form, Next, Outcome, Routes, next_of, request_of};
+use office_testing::asks::{Ask, Wanted, is_wanted, request};
+use office_testing::values::{FIRST_DAY, LAST_SECOND, moment};
+use sqlite::MemStore;
+use std::alloc::Global;
+use std::test::Fail;
+use sts_fields::Base;
+use sts_token::Plain;
+use vend_core::{Lists, Refusal, Reply, Request};
+
+const M1993: &str = "10000000009";
+
+const M2014: &str = "12345678903";
+
+// No office has it.
+const NO_METER: &str = "00000000000";
+
+// 2014-01-31T23:59:59Z and the second after it.
+const JANUARY: i64 = 1_391_212_799;
+
+const FEBRUARY: i64 = 1_391_212_800;
+
+static LATER: [(i64, Ask, Wanted); 25] = [
+    (FIRST_DAY, Ask::AddTariff("flat", ":100"), Wanted::Done),
+    (
+        FIRST_DAY,
+        Ask::AddMeter(M1993, Base::Y1993, "flat"),
+        Wanted::Done,
+    ),
+    (
+        FIRST_DAY,
+        Ask::AddMeter(M2014, Base::Y2014, "flat"),
+        Wanted::Done,
+    ),
+    (FIRST_DAY, Ask::OpenShift("ann"), Wanted::Opened(1)),
+    (
+        FIRST_DAY,
+        Ask::MoveBase(NO_METER, Base::Y2014),
+        Wanted::Refused(Refusal::NoMeter),
+    ),
+    (
+        LAST_SECOND,
+        Ask::Sell("A-1", M1993, 100),
+        Wanted::Sold(1, 16_777_215),
+    ),
+    (
+        LAST_SECOND,
+        Ask::Sell("A-2", M1993, 100),
+        Wanted::Refused(Refusal::IdentifiersSpent),
+    ),
+    (LAST_SECOND, Ask::MoveBase(M1993, Base::Y2014), Wanted::Done),
+    (
+        LAST_SECOND,
+        Ask::Sell("A-2", M1993, 100),
+        Wanted::Sold(2, 5_732_415),
+    ),
+    (LAST_SECOND, Ask::MoveBase(M1993, Base::Y2014), Wanted::Done),
+    (
+        LAST_SECOND,
+        Ask::MoveBase(M1993, Base::Y1993),
+        Wanted::Refused(Refusal::NotLater),
+    ),
+    (
+        LAST_SECOND,
+        Ask::MoveBase(M1993, Base::Y2035),
+        Wanted::Refused(Refusal::BeforeBase),
+    ),
+    (LAST_SECOND, Ask::Reprint(1), Wanted::Reprinted(1)),
+    (
+        FIRST_DAY,
+        Ask::AddSteps("none", "2014-02-01", ":200"),
+        Wanted::Refused(Refusal::NoTariff),
+    ),
+    (
+        FIRST_DAY,
+        Ask::AddSteps("flat", "2014-01-01", ":200"),
+        Wanted::Refused(Refusal::DayPast),
+    ),
+    (
+        FIRST_DAY,
+        Ask::AddSteps("flat", "2014-02-01", ":200"),
+        Wanted::Done,
+    ),
+    (
+        JANUARY,
+        Ask::Sell("B-1", M2014, 100),
+        Wanted::Sold(3, 44_639),
+    ),
+    (
+        FEBRUARY,
+        Ask::Sell("B-2", M2014, 100),
+        Wanted::Sold(4, 44_640),
+    ),
+    (
+        FEBRUARY,
+        Ask::AddSteps("flat", "2014-02-01", ":200"),
+        Wanted::Done,
+    ),
+    (
+        FEBRUARY,
+        Ask::AddSteps("flat", "2014-02-01", ":300"),
+        Wanted::Refused(Refusal::Differs),
+    ),
+    (
+        FEBRUARY,
+        Ask::AddSteps("flat", "2014-01-31", ":300"),
+        Wanted::Refused(Refusal::DayPast),
+    ),
+    (
+        FEBRUARY,
+        Ask::AddSteps("flat", "2099-12-31", "1:1;:1000000"),
+        Wanted::Done,
+    ),
+    (FEBRUARY, Ask::AddTariff("flat", ":100"), Wanted::Done),
+    (
+        FEBRUARY,
+        Ask::AddMeter(M1993, Base::Y1993, "flat"),
+        Wanted::Refused(Refusal::Differs),
+    ),
+    (
+        FEBRUARY,
+        Ask::AddMeter(M1993, Base::Y2014, "flat"),
+        Wanted::Done,
+    ),
+];
+
+// It has no clause: a proof takes much longer over a list that it knows item by item.
+fn later() -> &'static [(i64, Ask, Wanted)] {
+    &LATER
+}
+
+// What the desk has a message ask. It has no clause either.
+fn asked(alloc: Global, routes: &Routes, text: &[u8]) -> Result<Request, Fail> {
+    let Next::Whole(message) = next_of(text) else {
+        return Err("no whole message".into());
+    };
+    let route = routes.route_of(message.target, message.method)?;
+    Ok(request_of(alloc, route, message.body)?)
+}
+
+fn told(alloc: Global, reply: Reply) -> Result<Vec<u8>, Fail> {
+    let outcome = Outcome::Served(Form::Json, reply);
+    Ok(desk::reply_bytes(alloc, &outcome, false)?)
+}
+
+#[test]
+fn over_lists(rt: HostRuntime) -> Result<(), Fail> {
+    let alloc = rt.alloc();
+    let routes = Routes::new(alloc)?;
+    let mut lists = Lists::new(alloc, Plain);
+    for (seconds, ask, wanted) in later() {
+        let text = message(alloc, *ask)?;
+        let request = asked(alloc, &routes, text.as_bytes())?;
+        let reply = listed(&mut lists, *seconds, request)?;
+        assert!(rt; is_wanted(*wanted, &reply), "{text}: {reply:?}");
+        let bytes = reply_bytes(alloc, false, &reply)?;
+        assert_eq!(rt; told(alloc, reply)?, bytes, "{text}");
+    }
+    let mut bought = Vec::new(alloc);
+    for sale in lists.sales() {
+        bought.push((sale.base, sale.tenths.tenths(), sale.price))?;
+    }
+    let expected = [
+        (Base::Y1993, 10, 100),
+        (Base::Y2014, 10, 100),
+        (Base::Y2014, 10, 100),
+        (Base::Y2014, 5, 100),
+    ];
+    assert_eq!(rt; bought.as_slice(), expected.as_slice());
+    Ok(())
+}
+
+// What books answer that are asked without a desk.
+fn answered(
+    alloc: Global,
+    books: &mut Books<MemStore, Plain>,
+    seconds: i64,
+    ask: Ask,
+) -> Result<Reply, Fail> {
+    Ok(books.ask(moment(seconds)?, request(alloc, ask)?))
+}
+
+#[test]
+fn as_the_books_answer(rt: HostRuntime) -> Result<(), Fail> {
+    let alloc = rt.alloc();
+    let mut books = Books::in_memory(alloc, Plain)?;
+    let input = messages(alloc, later())?;
+    let told = talk(alloc, &mut books, &input, &moments(alloc, later())?)?;
+    assert_eq!(rt; told.end, End::Closed);
+    let mut rest = told.text.as_slice();
+    let mut others = Books::in_memory(alloc, Plain)?;
+    for (seconds, ask, _) in later() {
+        let reply = answered(alloc, &mut others, *seconds, *ask)?;
+        let bytes = reply_bytes(alloc, false, &reply)?;
+        assert!(rt; rest.starts_with(&bytes), "{reply:?}");
+        rest = rest.get(bytes.len()..).unwrap_or(b"");
+    }
+    assert!(rt; rest.is_empty());
+    Ok(())
+}
