@@ -44,6 +44,7 @@ pub mod StepListLemmas
 pub mod StepTexts
 pub mod TariffLemmas
 pub mod TariffWriteLemmas
+pub mod TellingLemmas
 pub mod TextLemmas
 pub mod TotallingLemmas
 pub mod TotalsReadLemmas

@@ -1,5 +1,5 @@
 -- The tables that an older format lacks are made, and `about` tells the present format: the same office.
-use Rattle.std.proofs.Common.{◌≡◌, ◌≢◌, ◌<◌, ℕ, zero, suc, ◌+◌, ◌==◌, arith, Bool, true, false, not, cond, List, [], ◌∷◌, drop, filter, find, length, map, nat_le, Option, None, Some, refl, sym, ap, subst, ◌∙◌, inl, inr}
+use Rattle.std.proofs.Common.{◌≡◌, ◌≢◌, ◌<◌, ℕ, zero, suc, ◌+◌, ◌==◌, arith, Bool, true, false, not, cond, List, [], ◌∷◌, drop, filter, find, length, map, nat_le, Option, None, Some, refl, sym, ap, subst, ◌∙◌, inl, inr, IfErr, Result, Ok, Err}
 use Rattle.std.specs.Prelude.{codes, pos}
 use Rattle.std.specs.List.{AllByRecursion, list_all, position_from}
 use Rattle.std.proofs.lemmas.Bool.{cases_Bool, eq-eqb, false≢true}
@@ -34,10 +34,12 @@ use Rattle.one_table.proofs.MakingLemmas.{all_grow}
 use Rattle.book_tables.specs.Edited.{no_rows}
 use Rattle.book_tables.specs.Holds.{AreStoredRows, HasOffice, HasOfficeOf, HoldsMembers, HoldsOf, HoldsRows, IsKept, rows_in, table_names}
 use Rattle.book_tables.specs.Kept.{Kept, about_kept, kept, kept_names, kept_tables, kept_texts, later, upto}
-use Rattle.book_tables.specs.Making.{Brings, LeavesBeside, MakesMissing, TellsPresent, rows_upto}
+use Rattle.book_tables.specs.Making.{Brings, LeavesBeside, MakesMissing, TellsOf, TellsPresent, rows_upto}
 use Rattle.book_tables.specs.Rows.{Rows, about_rows, number, present_format}
 use Rattle.book_tables.specs.Tables.{about_table}
 use Rattle.book_tables.specs.Writing.{IsOfNone, WritesOnly}
+use Rattle.book_tables.specs.declared.error.TableError.{TableError}
+use Rattle.book_tables.specs.declared.error.TableError.TheVariants as fails
 use Rattle.book_tables.proofs.EditLemmas.{no_members}
 use Rattle.book_tables.proofs.HoldsLemmas.{free_later, held_as, of_upto}
 use Rattle.book_tables.proofs.KeptLemmas.{about_changed}
@@ -131,7 +133,7 @@ beside_tables n a b m = record {
 }
 
 pub makes_missing : (n : ℕ) → n < present_format → (a b : Database) → HasOfficeOf n a.schema → MakesTables (kept_tables (later n)) a b → MakesMissing n a b
-makes_missing n below a b had m = record { had = had; rows = rows_made n below a b had m; beside = beside_tables n a b m }
+makes_missing n below a b had m = record { had = had; has = has_all n a b had m; rows = rows_made n below a b had m; beside = beside_tables n a b m }
 
 -- a format below the present one lacks some table
 pub lacks_some : (n : ℕ) → n < present_format → 0 < length (kept_texts (later n))
@@ -267,10 +269,19 @@ brings_first old mid new inside made tells =
       inside = stays_then old mid new inside tells.only.inside;
       brings = record {
         had = made.had;
-        has = subst HasOffice (sym tells.only.schema) held.has;
+        has = subst HasOffice (sym tells.only.schema) made.has;
         members = λ o stands.
             let is = (held_as old.now o 0 stands (omega arith) made.had).1 refl in
             subst (HoldsMembers new.now) (sym is) (no_rows, tells.rows no_rows held, no_members);
-        beside = still_beside 0 old.now made.had mid new made.beside held.has (about_kept ∷ []) (inl refl, tt) tells.only;
+        beside = still_beside 0 old.now made.had mid new made.beside made.has (about_kept ∷ []) (inl refl, tt) tells.only;
       };
     }
+
+-- an error that tells of no row
+pub tells_error : (from : ℕ) (db : Database) (e : TableError) → e ≢ fails.RowOfNoOffice → TellsOf from db e
+tells_error from db (fails.Database e) none = tt
+tells_error from db fails.RowOfNoOffice none = absurd (none refl)
+
+pub tells_none : {A : Type 0} (from : ℕ) (db : Database) (r : Result A TableError) → IfErr r (λ e. e ≢ fails.RowOfNoOffice) → IfErr r (TellsOf from db)
+tells_none from db (Ok x) none = tt
+tells_none from db (Err e) none = tells_error from db e none

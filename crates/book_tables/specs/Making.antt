@@ -1,21 +1,20 @@
 -- The tables of an office that are made in a database, beside whatever other tables it has, and the
 -- tables of an older format that are brought up to the present one.
-use Rattle.std.specs.Prelude.{◌≡◌, ℕ, zero, suc, true, [], ◌∷◌, codes, fold, map, IsTrue}
+use Rattle.std.specs.Prelude.{◌≡◌, ℕ, zero, suc, true, [], ◌∷◌, codes, fold, IsTrue}
 use Rattle.std.specs.List.{AllByRecursion}
 use Rattle.sqlite.specs.Effect.{Database, IsDatabase}
 use Rattle.sqlite.specs.State.{Shows, State}
 use Rattle.sqlite.specs.Table.{Table}
 use Rattle.one_table.specs.Making.{made}
 use Rattle.one_table.specs.Place.{Has}
-use Rattle.vend_core.specs.Office.{IsOffice, Office}
+use Rattle.vend_core.specs.Office.{Office}
 use Rattle.book_tables.specs.Edited.{no_rows}
 use Rattle.book_tables.specs.Holds.{HasOffice, HasOfficeOf, Holds, HoldsMembers, HoldsOf, StandsFor}
 use Rattle.book_tables.specs.Kept.{kept_names, kept_tables, later, upto}
 use Rattle.book_tables.specs.Rows.{Rows, present_format}
-use Rattle.book_tables.specs.Stands.{AreTotalsOf}
 use Rattle.book_tables.specs.declared.error.TableError.{TableError}
 use Rattle.book_tables.specs.declared.error.TableError.TheVariants as fails
-use Rattle.book_tables.specs.Writing.{IsOfNone, WritesOnly, totals_names, with_totals_of}
+use Rattle.book_tables.specs.Writing.{IsOfNone, WritesOnly}
 
 -- while the connection is open, its database is sound and has the tables of a format
 abbrev pub HasFormatTables : ℕ → State → Type 0
@@ -43,6 +42,7 @@ pub record LeavesBeside (from : ℕ) (old new : Database) : Type 0 where
 -- the tables that a format lacks are made, with nothing in them
 pub record MakesMissing (from : ℕ) (old new : Database) : Type 0 where
   pub had : HasOfficeOf from old.schema
+  pub has : HasOffice new.schema
   pub rows : (rows : Rows) → HoldsOf from from old rows
       → HoldsOf present_format from new (rows_upto from rows)
   pub beside : LeavesBeside from old new
@@ -51,21 +51,6 @@ pub record MakesMissing (from : ℕ) (old new : Database) : Type 0 where
 pub record TellsPresent (told : ℕ) (old new : State) : Type 0 where
   pub only : WritesOnly (codes "about" ∷ []) old new
   pub rows : (rows : Rows) → HoldsOf present_format told old.now rows → Holds new.now rows
-
--- the totals are those of all sales, where there were none
-pub record FillsTotals (old new : State) : Type 0 where
-  pub only : WritesOnly totals_names old new
-  pub rows : (told : ℕ) (rows : Rows) (o : Office) → IsOffice o → rows.sales ≡ o.sales
-      → HoldsOf present_format told old.now rows → AreTotalsOf [] rows
-      → (totals : Rows) × HoldsOf present_format told new.now (with_totals_of totals rows)
-      × AreTotalsOf o.sales totals
-
--- each meter's present base is one that it had, where no base was
-pub record FillsBases (old new : State) : Type 0 where
-  pub only : WritesOnly (codes "meter_bases" ∷ []) old new
-  pub rows : (told : ℕ) (rows : Rows) → HoldsOf present_format told old.now rows → rows.bases ≡ []
-      → HoldsOf present_format told new.now
-      (record rows { bases = map (λ r. (r.0, r.1.base)) rows.meters })
 
 -- The database has the present tables in place of those of a format, or of none, and holds the
 -- office that it stood for: the empty one, where there was none.

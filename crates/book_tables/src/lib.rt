@@ -15,6 +15,7 @@ pub mod changing;
 mod counted;
 pub mod dated;
 mod error;
+mod filling;
 pub mod format;
 mod formats;
 mod laws;

@@ -1,6 +1,6 @@
 //! The making of the office's tables, where there are none or those of an older format.
 
-ghost use Rattle.std.specs.Prelude.{◌≡◌, ◌≢◌, ◌<◌, IfErr, OnOk};
+ghost use Rattle.std.specs.Prelude.{◌≡◌, ◌≢◌, ◌<◌, ℕ, suc, IfErr, OnOk};
 ghost use Rattle.sqlite.specs.State.{HasCleanDisk};
 ghost use Rattle.sqlite.specs.Held.{state};
 ghost use Rattle.one_table.specs.InTransaction.{KeepsTransaction, StaysInside};
@@ -9,12 +9,13 @@ ghost use Rattle.book_tables.specs.Rows.{present_format};
 ghost use Rattle.book_tables.specs.Writing.{WritesTables};
 
 use crate::error::TableError;
+use crate::filling::{fill_bases, fill_totals};
 use crate::formats::tables_after;
 use crate::storing::{put, set};
 use crate::texts::{FORMAT_SET, NEW_FORMAT};
 use one_table::make::create_tables;
 use sqlite::{Alter, Transaction};
-use std::alloc::{AllocError, Global};
+use std::alloc::Global;
 
 // Makes the tables that a format lacks, with nothing in them.
 fn make_missing<S: Alter>(tx: &mut Transaction<'_, S>, from: u32) -> Result<(), TableError>
@@ -61,6 +62,67 @@ fn begin<S: Alter>(tx: &mut Transaction<'_, S>) -> Result<(), TableError>
     tell_first(tx)
 }
 
+// Tells the present format, where the tables tell an older one.
+fn tell_present<S: Alter>(tx: &mut Transaction<'_, S>) -> Result<(), TableError>
+    ensures same_reference { tx.new.conn.ghost_name ≡ tx.old.conn.ghost_name }
+    ensures database { IfErr result (λ e. e ≢ TableError.RowOfNoOffice) }
+    ensures writes { (before : ℕ) → WritesTables (TellsPresent (suc before))
+        (state S.Store tx.old.conn.now) (state S.Store tx.new.conn.now) result }
+{
+    set(tx, FORMAT_SET, &[])
+}
+
+// The tables of format 1, which has no totals and no bases.
+fn bring_first<S: Alter>(alloc: Global, tx: &mut Transaction<'_, S>) -> Result<(), TableError>
+    ensures same_reference { tx.new.conn.ghost_name ≡ tx.old.conn.ghost_name }
+    ensures brings { HasCleanDisk (state S.Store tx.new.conn.now)
+        → HasFormatTables 1 (state S.Store tx.old.conn.now)
+        → OnOk result (Brings 1
+        (state S.Store tx.old.conn.now) (state S.Store tx.new.conn.now)) }
+    ensures told { HasCleanDisk (state S.Store tx.new.conn.now)
+        → IfErr result (TellsOf 1 (state S.Store tx.old.conn.now).now) }
+    ensures transaction { KeepsTransaction
+        (state S.Store tx.old.conn.now) (state S.Store tx.new.conn.now) result }
+{
+    make_missing(tx, 1)?;
+    fill_totals(alloc, tx)?;
+    fill_bases(alloc, tx)?;
+    tell_present(tx)
+}
+
+// The tables of format 2, which has no bases.
+fn bring_second<S: Alter>(alloc: Global, tx: &mut Transaction<'_, S>) -> Result<(), TableError>
+    ensures same_reference { tx.new.conn.ghost_name ≡ tx.old.conn.ghost_name }
+    ensures brings { HasCleanDisk (state S.Store tx.new.conn.now)
+        → HasFormatTables 2 (state S.Store tx.old.conn.now)
+        → OnOk result (Brings 2
+        (state S.Store tx.old.conn.now) (state S.Store tx.new.conn.now)) }
+    ensures told { HasCleanDisk (state S.Store tx.new.conn.now)
+        → IfErr result (TellsOf 2 (state S.Store tx.old.conn.now).now) }
+    ensures transaction { KeepsTransaction
+        (state S.Store tx.old.conn.now) (state S.Store tx.new.conn.now) result }
+{
+    make_missing(tx, 2)?;
+    fill_bases(alloc, tx)?;
+    tell_present(tx)
+}
+
+// The tables of format 3, which has no steps of later days.
+fn bring_third<S: Alter>(tx: &mut Transaction<'_, S>) -> Result<(), TableError>
+    ensures same_reference { tx.new.conn.ghost_name ≡ tx.old.conn.ghost_name }
+    ensures brings { HasCleanDisk (state S.Store tx.new.conn.now)
+        → HasFormatTables 3 (state S.Store tx.old.conn.now)
+        → OnOk result (Brings 3
+        (state S.Store tx.old.conn.now) (state S.Store tx.new.conn.now)) }
+    ensures told { HasCleanDisk (state S.Store tx.new.conn.now)
+        → IfErr result (TellsOf 3 (state S.Store tx.old.conn.now).now) }
+    ensures transaction { KeepsTransaction
+        (state S.Store tx.old.conn.now) (state S.Store tx.new.conn.now) result }
+{
+    make_missing(tx, 3)?;
+    tell_present(tx)
+}
+
 /// Brings the tables of a format to the present one, with the same office; format 0 is that there are
 /// none, and the office is the empty one.
 ///
@@ -87,6 +149,8 @@ pub fn bring<S: Alter>(
 {
     match from {
         0 => begin(tx),
-        _ => Err(TableError::from(AllocError)),
+        1 => bring_first(alloc, tx),
+        2 => bring_second(alloc, tx),
+        _ => bring_third(tx),
     }
 }

@@ -1,24 +1,27 @@
 //! Reads inside a transaction, as one makes that brings a file of an older format up to the present
 //! one.
 
-ghost use Rattle.std.specs.Prelude.{◌≡◌, IsPermutation, filter, map, nat_lt, take, IfOk};
+ghost use Rattle.std.specs.Prelude.{◌≡◌, IsPermutation, filter, map, nat_lt, option_map, slice_get, take, IfOk};
 ghost use Rattle.sqlite.specs.State.{HasCleanDisk};
 ghost use Rattle.sqlite.specs.Held.{state};
 ghost use Rattle.sqlite.specs.Values.{bound};
+ghost use Rattle.vend_core.specs.Lookup.{greatest_of};
 ghost use Rattle.vend_core.specs.Names.{IsMeterNo};
 ghost use Rattle.one_table.specs.Answer.{GivesAll, OnlyAsks};
 ghost use Rattle.one_table.specs.InTransaction.{KeepsTransaction};
 ghost use Rattle.one_table.specs.ReadsOnly.{ReadsInside};
-ghost use Rattle.book_tables.specs.Kept.{meters_kept, sales_kept};
+ghost use Rattle.book_tables.specs.Kept.{last_ids_kept, meters_kept, sales_kept};
 ghost use Rattle.book_tables.specs.Reading.{FailsToShow, IsShown, ReadsTableInside, SaysOfTable, ShowsRecord, present_base};
 ghost use Rattle.book_tables.specs.Rows.{base_columns};
+ghost use Rattle.book_tables.specs.Stands.{sales_under};
 
 use crate::cells;
+use crate::counted::Tid;
 use crate::error::TableError;
 use crate::listed::records_of;
 use crate::shown::{Record, Shown};
-use crate::texts::{PRESENT_BASES, SALES_AFTER};
-use crate::values::page_values;
+use crate::texts::{LAST_ID, PRESENT_BASES, SALES_AFTER};
+use crate::values::{base_values, page_values};
 use one_table::read_rows_inside;
 use sqlite::types::ValueRef;
 use sqlite::{Alter, Row, Transaction};
@@ -112,4 +115,36 @@ pub fn present_bases<S: Alter>(
         (state S.Store tx.old.conn.now) (state S.Store tx.new.conn.now) result }
 {
     records_inside(alloc, tx, PRESENT_BASES, &[])
+}
+
+/// The greatest identifier that is kept of a meter under a base.
+///
+/// # Errors
+/// What the database refuses, and a row that is no office's.
+pub fn greatest_inside<S: Alter>(
+    alloc: Global,
+    tx: &mut Transaction<'_, S>,
+    meter: &MeterNo,
+    base: Base,
+) -> Result<Option<u32>, TableError>
+    ensures same_reference { tx.new.conn.ghost_name ≡ tx.old.conn.ghost_name }
+    ensures given { SaysOfTable last_ids_kept (λ rows greatest. greatest ≡ greatest_of (map (λ s. s.tid)
+        (sales_under rows.sales (meter.now, base))))
+        (state S.Store tx.old.conn.now) (state S.Store tx.new.conn.now) result }
+    ensures reads { ReadsTableInside last_ids_kept
+        (state S.Store tx.old.conn.now) (state S.Store tx.new.conn.now) result }
+    ensures transaction { KeepsTransaction
+        (state S.Store tx.old.conn.now) (state S.Store tx.new.conn.now) result }
+{
+    let found: Vec<Tid> = records_inside(alloc, tx, LAST_ID, &base_values(meter, base))?;
+    Ok(first_of(&found))
+}
+
+fn first_of(found: &[Tid]) -> Option<u32>
+    ensures { result ≡ option_map (λ tid. tid.number) (slice_get found.now 0) }
+{
+    match found.first() {
+        Some(tid) => Some(tid.number),
+        None => None,
+    }
 }
