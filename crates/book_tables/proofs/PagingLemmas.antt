@@ -1,7 +1,8 @@
 -- What reads inside a transaction give, and what they leave.
-use Rattle.std.proofs.Common.{◌≡◌, ◌∙◌, ℕ, true, Bool, List, [], ◌∷◌, map, filter, Result, Ok, Err, IfErr, IsErrAnd, inl, get_or, length, ◌<◌, refl, sym, ap, subst, IsPermutation}
+use Rattle.std.proofs.Common.{◌≡◌, ◌∙◌, ℕ, true, Bool, List, [], ◌∷◌, map, filter, Result, Ok, Err, IfErr, IfSome, IsErrAnd, Option, None, Some, slice_get, inl, get_or, length, ◌<◌, refl, sym, ap, subst, IsPermutation}
 use Rattle.std.specs.Prelude.{All}
-use Rattle.std.proofs.lemmas.List.Elements.{All-map, Contains-get_or}
+use Rattle.std.proofs.lemmas.List.Elements.{All-cons, All-map, All-nil, All-same, Contains-get_or}
+use Rattle.std.specs.Option.{option_to_list}
 use Rattle.std.proofs.lemmas.List.Sorted.{All-permutation, IsPermutation-map}
 use Rattle.sqlite.specs.Order.{Row}
 use Rattle.sqlite.specs.State.{HasCleanDisk, IsUnchanged, State}
@@ -18,6 +19,7 @@ use Rattle.book_tables.specs.Rows.{Rows, base_columns, meter_columns}
 use Rattle.book_tables.specs.Tables.{meters_table}
 use Rattle.book_tables.specs.declared.error.TableError.{TableError}
 use Rattle.book_tables.specs.declared.paging.MeterBase.{MeterBase}
+use Rattle.book_tables.proofs.FindLemmas.{Finds}
 use Rattle.book_tables.proofs.BaseTexts.{present_bases_asks, present_bases_names, present_bases_query, present_bases_text}
 use Rattle.book_tables.proofs.LastLemmas.{all_pass}
 use Rattle.book_tables.proofs.ListingLemmas.{Lists, fails, only_asks}
@@ -55,6 +57,28 @@ module _ {K : State → Type 0} {old new : State} where
 module _ {M : Type 0} {k : Kept} {sql : List ℕ} {params : Row} {shown : M → Row} {keeps : M → Type 0} {IsFound : Rows → List M → Type 0} (l : Lists k sql params shown keeps IsFound) where
   pub reads_inside : {A : Type 0} (old new : State) (r : Result A TableError) (values : Row) → values ≡ params → ReadsInside (OnlyAsks sql) (FailsToShow (ShowsRecord shown keeps) sql values) old new r → ReadsTableInside k old new r
   reads_inside old new r values are this = inside_where r (only_asks l old) this (λ clean has. fails l old new has r values are (this.faults clean (only_asks l old has)))
+
+-- ---- a text that finds one record at most
+
+listed_kept : {M : Type 0} (keeps : M → Type 0) (o : Option M) → IfSome o keeps → All keeps (option_to_list o)
+listed_kept keeps None kept = All-nil keeps
+listed_kept keeps (Some x) kept = All-cons keeps x [] kept (All-nil keeps)
+
+pub listed_one : {M : Type 0} {k : Kept} {sql : List ℕ} {params : Row} {shown : M → Row} {keeps : M → Type 0} {found : Rows → Option M} → Finds k sql params shown keeps found → Lists k sql params shown keeps (λ rows xs. xs ≡ option_to_list (found rows))
+listed_one {keeps = keeps} {found = found} f = record {
+  table = f.table;
+  query = f.query;
+  names = f.names;
+  asks = f.asks;
+  stands = f.stands;
+  one = f.one;
+  kept = λ rows of_office xs are. All-same keeps xs (option_to_list (found rows)) are (listed_kept keeps (found rows) (f.kept rows of_office));
+  answers = λ db rows held of_office answer is. (option_to_list (found rows), refl, f.answers db rows held of_office answer is);
+}
+
+pub first_listed : {M : Type 0} (o : Option M) → slice_get (option_to_list o) 0 ≡ o
+first_listed None = refl
+first_listed (Some x) = refl
 
 -- ---- the present bases of all meters
 
