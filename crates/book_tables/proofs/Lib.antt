@@ -8,7 +8,9 @@ pub mod DatedListLemmas
 pub mod DatedTexts
 pub mod DatedWriteLemmas
 pub mod EditLemmas
+pub mod FillingLemmas
 pub mod FindLemmas
+pub mod FirstSalesLemmas
 pub mod FormatLemmas
 pub mod FoundLemmas
 pub mod HiddenWriteLemmas

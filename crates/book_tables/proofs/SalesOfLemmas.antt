@@ -85,7 +85,7 @@ totals_more (x ∷ xs) s =
 
 -- ---- one sale more
 
-kept_last : (p : Sale → Bool) (sales : List Sale) (s : Sale) → p s ≡ true → filter p (sales ++ s ∷ []) ≡ filter p sales ++ s ∷ []
+pub kept_last : (p : Sale → Bool) (sales : List Sale) (s : Sale) → p s ≡ true → filter p (sales ++ s ∷ []) ≡ filter p sales ++ s ∷ []
 kept_last p sales s is = filter-append p sales (s ∷ []) ∙ ap (λ (b : Bool). filter p sales ++ cond b (s ∷ []) []) is
 
 left_last : (p : Sale → Bool) (sales : List Sale) (s : Sale) → p s ≡ false → filter p (sales ++ s ∷ []) ≡ filter p sales
