@@ -19,9 +19,8 @@ use Rattle.book_tables.specs.Holds.{HasOffice, HoldsMembers, HoldsOf}
 use Rattle.book_tables.specs.Reading.{HasTables}
 use Rattle.book_tables.specs.Rows.{Rows, present_format}
 use Rattle.book_tables.specs.Stands.{AreMembersOf, AreTotalsOf, sales_in_month, sales_in_shift, sales_under, tenths_of, totals_of}
-use Rattle.book_tables.specs.Writing.{AddsSale, AddsSold, AddsTenths, AddsToShift, AddsTotals, AreSaleTotals, FitColumns, IsNextNumber, IsOfNone, MayAddSold, MayAddTenths, MayAddToShift, MayAddTotals, SetsLastId, TellsSold, TellsTotals, WritesOnly, totals_names, with_totals_of}
+use Rattle.book_tables.specs.Writing.{AddsSale, AddsTenths, AddsToShift, AreSaleTotals, FitColumns, IsNextNumber, IsOfNone, MayAddSold, MayAddTenths, MayAddToShift, MayAddTotals, SetsLastId, TellsSold, TellsTotals, WritesOnly, totals_names, with_totals_of}
 use Rattle.book_tables.specs.declared.totals.SaleTotals.{SaleTotals}
-use Rattle.book_tables.specs.declared.totals.Totals.{Totals}
 use Rattle.book_tables.proofs.RowsOfLemmas.{rows_of_same}
 use Rattle.book_tables.proofs.SalesOfLemmas.{fit_within, last_more, month_more, month_own, own_last, room_in_month, room_in_shift, sales_within, shift_more, shift_own, total_in_month, totals_in_shift}
 use Rattle.book_tables.proofs.TotallingLemmas.{total_fits}
