@@ -19,9 +19,8 @@ use Rattle.book_tables.specs.Holds.{HasOffice, HoldsMembers, HoldsOf}
 use Rattle.book_tables.specs.Reading.{HasTables}
 use Rattle.book_tables.specs.Rows.{Rows, present_format}
 use Rattle.book_tables.specs.Stands.{AreMembersOf, AreTotalsOf, sales_in_month, sales_in_shift, sales_under, tenths_of, totals_of}
-use Rattle.book_tables.specs.Writing.{AddsSale, AddsSold, AddsTenths, AddsToShift, AddsTotals, AreSaleTotals, FitColumns, IsNextNumber, IsOfNone, MayAddSold, MayAddTenths, MayAddToShift, MayAddTotals, SetsLastId, TellsSold, TellsTotals, WritesOnly, totals_names, with_totals_of}
+use Rattle.book_tables.specs.Writing.{AddsSale, AddsTenths, AddsToShift, AreSaleTotals, FitColumns, IsNextNumber, IsOfNone, MayAddSold, MayAddTenths, MayAddToShift, MayAddTotals, SetsLastId, TellsSold, TellsTotals, WritesOnly, totals_names, with_totals_of}
 use Rattle.book_tables.specs.declared.totals.SaleTotals.{SaleTotals}
-use Rattle.book_tables.specs.declared.totals.Totals.{Totals}
 use Rattle.book_tables.proofs.RowsOfLemmas.{rows_of_same}
 use Rattle.book_tables.proofs.SalesOfLemmas.{fit_within, last_more, month_more, month_own, own_last, room_in_month, room_in_shift, sales_within, shift_more, shift_own, total_in_month, totals_in_shift}
 use Rattle.book_tables.proofs.TotallingLemmas.{total_fits}
@@ -98,19 +97,19 @@ module _ (s : Sale) (last : ℕ) (shown : SaleTotals) (old one two new : State) 
 module _ (s : Sale) (last : ℕ) (old new : State) (format : ℕ) (rows : Rows) (held : HoldsOf present_format format old.now rows) where
   pub may_add_tenths : SetsLastId (s.meter, s.base) last old new → MayAddTotals s last format rows
       → (after : Rows) × HoldsOf present_format format new.now after × MayAddTenths (s.meter, month_at s.moment) s.tenths format after × MayAddToShift s.shift s.tenths s.price format after
-  may_add_tenths first (small, sales, are, few) =
+  may_add_tenths first (small, (sales, are, few)) =
       let ids = first.rows format rows (λ k. greatest_of (map (λ t. t.tid) (sales_under sales k))) held are.last_ids in (
         record rows { last_ids = ids.0 },
         ids.1,
-        ((λ k. tenths_of (sales_in_month sales k)), (are.month_tenths, total_in_month sales s few)),
-        ((λ k. totals_of (sales_in_shift sales k)), (are.shift_totals, (are.by_shift, totals_in_shift sales s few))),
+        ((λ k. tenths_of (sales_in_month sales k)), are.month_tenths, total_in_month sales s few),
+        ((λ k. totals_of (sales_in_shift sales k)), are.shift_totals, are.by_shift, totals_in_shift sales s few),
       )
 
   pub may_add_to_shift : (sum : ℕ) → AddsTenths (s.meter, month_at s.moment) s.tenths sum old new → MayAddTenths (s.meter, month_at s.moment) s.tenths format rows → MayAddToShift s.shift s.tenths s.price format rows
       → (after : Rows) × HoldsOf present_format format new.now after × MayAddToShift s.shift s.tenths s.price format after
   may_add_to_shift sum second (has, are, small) (has_totals, are_totals, up, within) =
       let month = second.rows format rows has held are (total_fits (unwrap_or (has (s.meter, month_at s.moment)) 0 + s.tenths) small) in
-      (record rows { month_tenths = month.0 }, month.1, (has_totals, (are_totals, (up, within))))
+      (record rows { month_tenths = month.0 }, month.1, (has_totals, are_totals, up, within))
 
 -- ---- a sale and its totals
 
@@ -130,10 +129,10 @@ module _ (s : Sale) where
   -- what is found after the sale was added
   pub may_add_totals : ((t : ℕ) → IsRepresentable t → t ≤ 18201624) → (old mid : State) → AddsSale s old mid → (format : ℕ) (rows : Rows) → HoldsOf present_format format old.now rows → MayAddSold s format rows
       → (after : Rows) × HoldsOf present_format format mid.now after × MayAddTotals s s.tid format after
-  may_add_totals greatest old mid first format rows held (present, o, office, meets, are) =
+  may_add_totals greatest old mid first format rows held (present, (o, office, meets, are)) =
       let before = subst (λ (f : ℕ). HoldsOf present_format f old.now rows) present held in
       let after = first.rows rows before (next_is o rows office meets are) in
-      (with_sale rows, subst (λ (f : ℕ). HoldsOf present_format f mid.now (with_sale rows)) (sym present) after, (meets.values.tid, (o.sales, (own_totals o rows are, sales_within greatest o s office meets))))
+      (with_sale rows, subst (λ (f : ℕ). HoldsOf present_format f mid.now (with_sale rows)) (sym present) after, (meets.values.tid, (o.sales, own_totals o rows are, sales_within greatest o s office meets)))
 
 module _ (greatest : (t : ℕ) → IsRepresentable t → t ≤ 18201624) (s : Sale) (shown : SaleTotals) (old mid new : State) (first : AddsSale s old mid) (second : TellsTotals s s.tid shown mid new) where
   members : (o : Office) → IsOffice o → MeetsNewSale o s → HoldsMembers old.now o → HoldsMembers new.now (applied (AddSale s) o)

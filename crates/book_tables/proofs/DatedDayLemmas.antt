@@ -1,5 +1,5 @@
 -- What the statement that looks for a first day finds.
-use Rattle.std.proofs.Common.{◌≡◌, ◌≢◌, ◌∙◌, ◌↔◌, ◌<◌, ◌≤◌, ℕ, true, false, List, [], ◌∷◌, Option, None, Some, IfSome, IsSome, arith, filter, map, nat_le, slice_get, refl, sym, ap, subst}
+use Rattle.std.proofs.Common.{◌≡◌, ◌∙◌, ◌↔◌, ◌≤◌, ℕ, true, List, [], ◌∷◌, Option, None, Some, IfSome, IsSome, arith, filter, map, nat_le, refl, sym, ap, subst}
 use Rattle.std.specs.Prelude.{◌&&◌, Bool, Contains, bytes_eq}
 use Rattle.std.specs.Option.{option_to_list}
 use Rattle.std.proofs.lemmas.Bool.{and_from, and_parts, false≢true}
@@ -13,10 +13,9 @@ use Rattle.sts_fields.specs.Tid.{IsLast}
 use Rattle.tariff.specs.declared.step.Step.{Step}
 use Rattle.vend_core.specs.Lookup.{IsLatest, greatest_of, latest}
 use Rattle.vend_core.specs.Office.{IsOffice, Office}
-use Rattle.vend_core.specs.OfficeLaws.{NoneBegun}
 use Rattle.one_table.proofs.TestsLemmas.{number_up_to, text_is}
 use Rattle.book_tables.specs.Kept.{dated_steps_kept}
-use Rattle.book_tables.specs.Reading.{AreOfOffice, IsFirstDay, IsLastBegun}
+use Rattle.book_tables.specs.Reading.{IsFirstDay, IsLastBegun}
 use Rattle.book_tables.specs.Rows.{DatedStepRow, Rows, dated_columns, number, shown_number}
 use Rattle.book_tables.specs.Stands.{AreMembersOf}
 use Rattle.book_tables.specs.Tables.{dated_steps_table}

@@ -1,5 +1,5 @@
 -- The steps that a tariff has from a day on, in the order of their places.
-use Rattle.std.proofs.Common.{◌≡◌, ◌∙◌, ◌+◌, ◌-◌, ◌<◌, ◌≤◌, ◌<ℤ◌, ◌⊎◌, inl, inr, ℕ, zero, suc, true, List, [], ◌∷◌, Option, None, Some, arith, filter, map, pos, slice_get, refl, sym, ap, subst, eq-eqb, IsPermutation}
+use Rattle.std.proofs.Common.{◌≡◌, ◌∙◌, ◌+◌, ◌-◌, ◌<◌, ◌≤◌, ◌<ℤ◌, inl, inr, ℕ, zero, suc, true, List, [], ◌∷◌, Option, None, Some, arith, filter, map, pos, slice_get, refl, sym, ap, subst, eq-eqb, IsPermutation}
 use Rattle.std.specs.Prelude.{◌&&◌, ◌==◌, AllPairs, Bool, Contains, bytes_eq}
 use Rattle.std.specs.List.{AllByRecursion, enumerate_from}
 use Rattle.std.proofs.lemmas.Bool.{and_from, and_parts}
@@ -8,7 +8,6 @@ use Rattle.std.proofs.lemmas.Int.{ints}
 use Rattle.std.proofs.lemmas.Slice.Eq.{bytes_eq-Decides}
 use Rattle.tariff.specs.declared.step.Step.{Step}
 use Rattle.vend_core.specs.Office.{Office}
-use Rattle.book_tables.specs.Edited.{dated_rows}
 use Rattle.book_tables.specs.Rows.{DatedStepRow, Rows, shown_step}
 use Rattle.book_tables.specs.Stands.{AreDatedApart, AreMembersOf}
 use Rattle.book_tables.proofs.ListLemmas.{contains_cases, contains_first, contains_further, contains_none, no_pairs, pairs_cons}

@@ -1,5 +1,5 @@
 -- The rows after an edit are the members of the office after it.
-use Rattle.std.proofs.Common.{◌≡◌, ◌≢◌, ◌↔◌, ℕ, zero, suc, ◌+◌, ◌⊎◌, inl, inr, Bool, true, false, List, [], ◌∷◌, ◌++◌, Option, Some, None, IsSome, refl, sym, ◌∙◌, ap, subst, arith, true≢false}
+use Rattle.std.proofs.Common.{◌≡◌, ◌≢◌, ℕ, zero, suc, ◌+◌, ◌⊎◌, inl, inr, Bool, true, false, List, [], ◌∷◌, ◌++◌, Option, Some, None, IsSome, refl, sym, ◌∙◌, ap, subst, arith, true≢false}
 use Rattle.std.specs.Prelude.{◌&&◌, ◌||◌, ◌==◌, AllPairs, Contains, bytes_eq, if◌then◌else◌, map, pos, option_map, slice_get}
 use Rattle.std.specs.List.{enumerate_from}
 use Rattle.std.proofs.lemmas.Bool.{eq-eqb, false≢true}
@@ -7,7 +7,7 @@ use Rattle.std.proofs.lemmas.Bool.Decides.{nat_tests}
 use Rattle.std.proofs.lemmas.List.Elements.{Contains-append_cases, Contains-append_left, Contains-append_right, Contains-push, Contains-push_cases}
 use Rattle.std.proofs.lemmas.Option.{same_Some}
 use Rattle.std.proofs.lemmas.Slice.Eq.{bytes_eq-Decides}
-use Rattle.sts_fields.specs.Base.{base_eq, year_of}
+use Rattle.sts_fields.specs.Base.{base_eq}
 use Rattle.sts_fields.specs.declared.base.Base.{Base}
 use Rattle.sts_fields.specs.declared.base.Base.TheVariants.{Y1993, Y2014, Y2035}
 use Rattle.tariff.specs.declared.step.Step.{Step}
@@ -15,14 +15,14 @@ use Rattle.sqlite_keyed.specs.Keyed.{IsKeyedBy}
 use Rattle.vend_core.specs.Lookup.{greatest_of}
 use Rattle.vend_core.specs.Edits.{applied, one_base_more, set_meter, with_base, with_row, with_rows, with_tariff}
 use Rattle.vend_core.specs.Office.{Office, empty_office}
-use Rattle.vend_core.specs.Store.{MeetRows, Meets, MeetsMove, MeetsRow}
+use Rattle.vend_core.specs.Store.{MeetRows, Meets, MeetsRow}
 use Rattle.vend_core.specs.declared.change.Edit.{Edit}
 use Rattle.vend_core.specs.declared.change.Edit.TheVariants as edits
 use Rattle.vend_core.specs.declared.meter.Meter.{Meter}
 use Rattle.vend_core.specs.declared.row.Row.{Row}
 use Rattle.vend_core.specs.declared.row.Row.TheVariants as kinds
 use Rattle.vend_core.specs.declared.sale.Sale.{Sale}
-use Rattle.book_tables.specs.Edited.{dated_rows, edited, is_sale, no_rows, row_added, row_with_base, row_with_tariff, rows_added, shift_closed, step_rows}
+use Rattle.book_tables.specs.Edited.{dated_rows, edited, is_sale, no_rows, row_added, rows_added, shift_closed, step_rows}
 use Rattle.book_tables.specs.Rows.{DatedStepRow, Rows, StepRow}
 use Rattle.book_tables.specs.Stands.{AreApart, AreDatedApart, AreMembersOf, AreRowsOf, AreTotalsOf, HasDatedStep, HasStep, sales_in_month, sales_in_shift, sales_under, tenths_of, totals_of}
 use Rattle.book_tables.specs.declared.totals.Totals.{Totals}

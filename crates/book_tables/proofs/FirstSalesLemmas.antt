@@ -23,10 +23,7 @@ use Rattle.book_tables.proofs.SalesOfLemmas.{greatest_within, kept_last, tells_u
 -- ---- the first of a list
 
 within_take : {X : Type 0} (n : ℕ) (xs : List X) (i : ℕ) → i < length (take n xs) → (i < n) × (i < length xs)
-within_take n [] i within = absurd (omega (arith, take_none n within))
-  where
-    take_none : (n : ℕ) → i < length (take n []) → i < 0
-    take_none n within = subst (λ l. i < length l) (take_all n [] (omega arith)) within
+within_take n [] i within = absurd (omega (arith, subst (λ l. i < length l) (take_all n [] (omega arith)) within))
 within_take zero (x ∷ xs) i within = absurd (omega (arith, within))
 within_take (suc n) (x ∷ xs) zero within = (omega arith, omega arith)
 within_take (suc n) (x ∷ xs) (suc i) within = let rest = within_take n xs i (omega (arith, within)) in (omega (arith, rest.0), omega (arith, rest.1))

@@ -1,6 +1,6 @@
 -- A database stands for at most one office.
-use Rattle.std.proofs.Common.{◌≡◌, ◌≤◌, ◌<◌, ◌⊎◌, ◌+◌, ℕ, zero, suc, arith, inl, inr, Bool, true, false, List, [], ◌∷◌, filter, map, nat_le, refl, sym, ◌∙◌, ap, subst, cond}
-use Rattle.std.specs.Prelude.{◌&&◌, ◌||◌, Contains, codes, is_some, not}
+use Rattle.std.proofs.Common.{◌≡◌, ◌≤◌, ◌<◌, ℕ, arith, inl, inr, Bool, true, false, List, [], ◌∷◌, filter, map, nat_le, refl, sym, ◌∙◌, ap, subst, cond}
+use Rattle.std.specs.Prelude.{◌&&◌, ◌||◌, Contains, is_some, not}
 use Rattle.std.specs.List.{AllByRecursion, list_all}
 use Rattle.std.proofs.lemmas.Bool.{cases_lt, false≢true, le-leb, lt-leb}
 use Rattle.sqlite.specs.Effect.{Database}
@@ -13,7 +13,7 @@ use Rattle.vend_core.proofs.OfficeLemmas.{empty_is_office}
 use Rattle.vend_core.specs.declared.meter.Meter.{Meter}
 use Rattle.book_tables.specs.Holds.{HasOfficeOf, HoldsMembers, HoldsMembersOf, HoldsOf, HoldsRows, IsKept, IsUntaken, StandsFor}
 use Rattle.book_tables.specs.Edited.{no_rows}
-use Rattle.book_tables.specs.Kept.{Kept, about_kept, bases_kept, dated_steps_kept, kept, kept_names, last_ids_kept, later, meters_kept, sales_kept, shifts_kept, steps_kept, tariffs_kept, upto}
+use Rattle.book_tables.specs.Kept.{Kept, bases_kept, dated_steps_kept, kept, kept_names, last_ids_kept, later, meters_kept, sales_kept, shifts_kept, steps_kept, tariffs_kept}
 use Rattle.book_tables.specs.Rows.{Rows, base_columns, dated_columns, meter_columns, present_format, sale_row, shift_row, step_columns, tariff_columns}
 use Rattle.book_tables.specs.Stands.{AreMembersOf}
 use Rattle.book_tables.specs.Values.{IsKey}

@@ -1,6 +1,6 @@
 -- Of numbers that a column keeps, ORDER BY it DESC LIMIT 1 shows the greatest.
 use Rattle.std.proofs.Common.{◌≡◌, ℕ, suc, ◌≤◌, inl, inr, Bool, false, true≢false, cond, List, [], ◌∷◌, filter, flat_map, map, take, Less, Option, Some, None, Ordering, is_lt, pos, int_cmp, add-one, arith, refl, sym, ap, ap₂, subst, ◌∙◌, IsPermutation, IsSorted}
-use Rattle.std.specs.Prelude.{All, Contains}
+use Rattle.std.specs.Prelude.{All}
 use Rattle.std.specs.Option.{option_to_list}
 use Rattle.std.specs.List.{list_all}
 use Rattle.std.proofs.lemmas.Bool.{cases_lt}

@@ -1,5 +1,5 @@
 -- The rows tell the office whose members they are.
-use Rattle.std.proofs.Common.{◌≡◌, ◌↔◌, ◌≤◌, ℕ, arith, Bool, true, false, List, Option, Some, None, IsSome, refl, sym, ◌∙◌, ap, subst, [], ◌∷◌, suc, length}
+use Rattle.std.proofs.Common.{◌≡◌, ◌≤◌, ℕ, arith, Bool, true, false, List, Option, Some, None, IsSome, refl, sym, ◌∙◌, ap, subst, [], ◌∷◌, suc, length}
 use Rattle.std.proofs.Math.Path.{fun_ext}
 use Rattle.std.specs.Prelude.{Contains, slice_get}
 use Rattle.std.proofs.lemmas.Bool.{false≢true}

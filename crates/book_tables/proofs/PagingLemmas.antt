@@ -1,11 +1,11 @@
 -- What reads inside a transaction give, and what they leave.
-use Rattle.std.proofs.Common.{◌≡◌, ◌∙◌, ℕ, true, Bool, List, [], ◌∷◌, map, filter, Result, Ok, Err, IfErr, IfSome, IsErrAnd, Option, None, Some, slice_get, inl, get_or, length, ◌<◌, refl, sym, ap, subst, IsPermutation}
+use Rattle.std.proofs.Common.{◌≡◌, ◌∙◌, ℕ, true, List, [], ◌∷◌, map, Result, Ok, Err, IfErr, IfSome, IsErrAnd, Option, None, Some, slice_get, inl, get_or, refl, sym, subst, IsPermutation}
 use Rattle.std.specs.Prelude.{All}
 use Rattle.std.proofs.lemmas.List.Elements.{All-cons, All-map, All-nil, All-same, Contains-get_or}
 use Rattle.std.specs.Option.{option_to_list}
 use Rattle.std.proofs.lemmas.List.Sorted.{All-permutation, IsPermutation-map}
 use Rattle.sqlite.specs.Order.{Row}
-use Rattle.sqlite.specs.State.{HasCleanDisk, IsUnchanged, State}
+use Rattle.sqlite.specs.State.{HasCleanDisk, State}
 use Rattle.sqlite_keyed.proofs.ListLemmas.{map-map}
 use Rattle.sqlite_trees.proofs.ListLemmas.{pull_back}
 use Rattle.vend_core.specs.Names.{IsMeterNo}
@@ -14,7 +14,7 @@ use Rattle.one_table.specs.Answer.{OnlyAsks}
 use Rattle.one_table.specs.ReadsOnly.{ReadsInside}
 use Rattle.one_table.proofs.HiddenLemmas.{all_hidden}
 use Rattle.book_tables.specs.Kept.{Kept, meters_kept}
-use Rattle.book_tables.specs.Reading.{AreOfOffice, FailsToShow, HasTable, ReadsTableInside, ShowsRecord, present_base}
+use Rattle.book_tables.specs.Reading.{AreOfOffice, FailsToShow, ReadsTableInside, ShowsRecord, present_base}
 use Rattle.book_tables.specs.Rows.{Rows, base_columns, meter_columns}
 use Rattle.book_tables.specs.Tables.{meters_table}
 use Rattle.book_tables.specs.declared.error.TableError.{TableError}

@@ -1,7 +1,7 @@
 -- Rows that are those of a function, one for each key: what stands under a key, and what the rows are with a value under it.
 use Rattle.std.proofs.Common.{◌≡◌, ◌≢◌, ◌≤◌, ◌<ℤ◌, ◌⊎◌, ◌||◌, ◌↔◌, ℕ, ℤ, pos, Bool, true, false, cond, if◌then◌else◌, List, [], ◌∷◌, ◌++◌, length, map, filter, Option, Some, None, inl, inr, refl, sym, ap, subst, ◌∙◌, arith, Ordering, Less, Equal, Greater, int_cmp, true≢false}
 use Rattle.std.specs.Prelude.{AllPairs, Contains}
-use Rattle.std.specs.List.{AllByRecursion, list_any}
+use Rattle.std.specs.List.{list_any}
 use Rattle.std.specs.Option.{option_to_list}
 use Rattle.std.specs.Ordering.{match_ordering}
 use Rattle.std.proofs.lemmas.Cmp.{int_ranked}
@@ -10,13 +10,12 @@ use Rattle.std.proofs.lemmas.List.Elements.{All-contains, All-from_recursion, Co
 use Rattle.std.proofs.lemmas.Option.{same_Some}
 use Rattle.sqlite_keyed.specs.Keyed.{IsKeyedBy, insert_by}
 use Rattle.sqlite_keyed.specs.Lists.{update_where}
-use Rattle.sqlite_keyed.proofs.KeyedLemmas.{IsKeyedBy-insert_by, IsKeyedBy-update_where}
+use Rattle.sqlite_keyed.proofs.KeyedLemmas.{IsKeyedBy-insert_by}
 use Rattle.sqlite_rules.specs.Lists.{Has as Member}
 use Rattle.one_table.proofs.LookUpLemmas.{unless_true}
 use Rattle.book_tables.specs.Stands.{AreRowsOf}
 use Rattle.book_tables.specs.Writing.{put_under}
 use Rattle.book_tables.proofs.ListLemmas.{NotBothPass, contains_cases, contains_first, contains_further, contains_map, contains_none, map_source, no_pairs, none_pass, one_passes, pairs_cons, pairs_map, pairs_push, pairs_weaker}
-use Rattle.book_tables.proofs.ReadLemmas.{few}
 
 -- ---- lists
 

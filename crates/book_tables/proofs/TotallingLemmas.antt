@@ -1,5 +1,5 @@
 -- What the rows of the running totals are after an upsert of one of them.
-use Rattle.std.proofs.Common.{◌≡◌, ◌≤◌, ◌<◌, ◌+◌, ◌^◌, ◌↔◌, ℕ, ℤ, pos, Bool, true, IsTrue, List, [], ◌∷◌, ◌++◌, drop, map, unwrap_or, Option, Some, None, codes, inl, inr, refl, sym, ap, subst, ◌∙◌, arith}
+use Rattle.std.proofs.Common.{◌≡◌, ◌<◌, ◌+◌, ◌^◌, ◌↔◌, ℕ, ℤ, pos, Bool, true, IsTrue, List, [], ◌∷◌, ◌++◌, drop, map, unwrap_or, Option, Some, None, codes, inl, inr, refl, sym, ap, subst, ◌∙◌, arith}
 use Rattle.std.specs.Prelude.{◌==◌}
 use Rattle.std.specs.List.{AllByRecursion}
 use Rattle.sqlite.specs.Order.{Row}
@@ -28,7 +28,7 @@ use Rattle.one_table.proofs.SameKeyLemmas.{of_number, of_text_and_number}
 use Rattle.one_table.proofs.SumLemmas.{cast_sum}
 use Rattle.book_tables.specs.Holds.{HoldsOf, IsKept}
 use Rattle.book_tables.specs.Kept.{Kept, last_ids_kept, month_tenths_kept, shift_totals_kept}
-use Rattle.book_tables.specs.Reading.{HasTables, IsShown, ShowsRecord}
+use Rattle.book_tables.specs.Reading.{IsShown, ShowsRecord}
 use Rattle.book_tables.specs.Rows.{Rows, last_id_columns, month_columns, number, present_format, shown_number, shown_totals, totals_row}
 use Rattle.book_tables.specs.Stands.{AreRowsOf}
 use Rattle.book_tables.specs.Tables.{last_ids_table, month_tenths_table, shift_totals_table}

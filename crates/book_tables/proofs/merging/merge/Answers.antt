@@ -1,6 +1,6 @@
 use Rattle.sqlite.specs.Held.{state}
 use Rattle.sqlite.specs.Values.{bound}
-use Rattle.book_tables.specs.Reading.{ShowsRecord, told}
+use Rattle.book_tables.specs.Reading.{ShowsRecord}
 use Rattle.one_table.proofs.ChangeLemmas.{transaction_off, transaction_on}
 use Rattle.book_tables.proofs.RefusalLemmas.{false_row, fails_to_merge}
 use Rattle.book_tables.proofs.merging.merge.Goals as goal

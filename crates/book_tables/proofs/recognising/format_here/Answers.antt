@@ -1,5 +1,5 @@
-use Rattle.std.proofs.Common.{arith, ◌≡◌, ◌≤◌, ◌<◌, ◌+◌, ◌-◌, ℕ, Some, None, inl, inr, sym, ap, subst, ◌∙◌}
-use Rattle.std.proofs.lemmas.Bool.{cases_eq, cases_lt, false≢true}
+use Rattle.std.proofs.Common.{arith, ◌≡◌, ◌+◌, ◌-◌, inl, inr, sym, subst, ◌∙◌}
+use Rattle.std.proofs.lemmas.Bool.{cases_lt, false≢true}
 use Rattle.book_tables.specs.Holds.{HasOfficeOf}
 use Rattle.book_tables.specs.Rows.{present_format}
 use Rattle.book_tables.proofs.recognising.format_here.Goals as goal

@@ -1,10 +1,9 @@
-use Rattle.std.proofs.Common.{◌≡◌, true, false, subst, sym, ap, ◌∙◌, List, ℕ}
+use Rattle.std.proofs.Common.{subst, sym, ap, ◌∙◌}
 use Rattle.std.specs.List.{AllByRecursion, list_all}
 use Rattle.std.proofs.lemmas.Bool.{false≢true}
 use Rattle.one_table.specs.Comparing.{StandsAs}
 use Rattle.one_table.specs.Referring.{is_left_alone}
 use Rattle.one_table.specs.Standing.{tree_in}
-use Rattle.book_tables.specs.Kept.{kept_names, kept_texts, upto}
 use Rattle.book_tables.proofs.RecognisingLemmas.{all_alone, all_stand, alone_of, stand_lent, stand_of, tables_found}
 use Rattle.book_tables.proofs.recognising.has_tables.Goals as goal
 

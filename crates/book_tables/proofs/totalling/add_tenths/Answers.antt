@@ -1,11 +1,9 @@
 use Rattle.std.proofs.Common.{◌≡◌, length, subst, sym, true}
 use Rattle.sqlite.specs.Held.{state}
 use Rattle.sqlite.specs.Values.{bound}
-use Rattle.one_table.proofs.ChangeLemmas.{transaction_off, transaction_on}
+use Rattle.one_table.proofs.ChangeLemmas.{transaction_on}
 use Rattle.one_table.specs.Reading.{is_whole}
-use Rattle.one_table.specs.Standing.{tree_in}
 use Rattle.book_tables.specs.Kept.{month_tenths_kept}
-use Rattle.book_tables.specs.Tables.{month_tenths_table}
 use Rattle.book_tables.specs.declared.error.TableError.TheVariants.{RowOfNoOffice}
 use Rattle.book_tables.proofs.OfficeTableLemmas.{month_tenths_in}
 use Rattle.book_tables.proofs.RefusalLemmas.{handed_on, merge_off}

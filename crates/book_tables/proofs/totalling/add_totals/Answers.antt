@@ -60,13 +60,13 @@ returns-clause-adds g c clean way has =
     let has_two = tables_stay (codes "month_tenths" ∷ []) one two second.only has_one in
     let third = c.in_ok-shift.ensures.merges.made clean second.only.inside.mode has_two in
     tells_totals sale c.args.last (record { month_tenths = sum; shift = shift }) old one two new first
-    (subst (λ (n : ℕ). AddsTenths (sale.meter, month_at sale.moment) n sum one two) c.tenths-tenths.ensures.value (subst (λ (n : ℕ). AddsTenths (sale.meter, n) c.tenths-tenths.result sum one two) c.month_of_sale.ensures second))
+    (subst (λ (n : ℕ). AddsTenths (sale.meter, month_at sale.moment) n sum one two) c.tenths-tenths.ensures.value (subst (λ (n : ℕ). AddsTenths (sale.meter, n) c.tenths-tenths.result sum one two) c.month_of_sale-month.ensures second))
     (subst (λ (n : ℕ). AddsToShift sale.shift n sale.price shift two new) c.tenths-tenths.ensures.value third)
 
 pub returns-in_err-set_last_id-clause-no_false_row : goal.returns-in_err-set_last_id-clause-no_false_row
 returns-in_err-set_last_id-clause-no_false_row g c clean way format rows held known told_so =
-    let are = known.2 in
-    c.in_err-set_last_id.ensures.no_false_row clean way format rows held (known.0, ((λ k. greatest_of (map (λ (t : Sale). t.tid) (sales_under known.1 k))), are.last_ids))
+    let are = known.1.1 in
+    c.in_err-set_last_id.ensures.no_false_row clean way format rows held (known.0, ((λ k. greatest_of (map (λ (t : Sale). t.tid) (sales_under known.1.0 k))), are.last_ids))
     (handed_on c.in_err-set_last_id.field-0.0 RowOfNoOffice c.from_residual.result c.from_residual.ensures.1 told_so)
 
 pub returns-in_err-month_tenths-clause-no_false_row : goal.returns-in_err-month_tenths-clause-no_false_row
@@ -79,7 +79,7 @@ returns-in_err-month_tenths-clause-no_false_row g c clean way format rows held k
     let first = c.in_ok-set_last_id.ensures.merges.made clean_one way (λ runs. (held runs).has) in
     let mid = may_add_tenths sale c.args.last old one format rows (held first.only.inside.was_open) first known in
     c.in_err-month_tenths.ensures.no_false_row clean first.only.inside.mode format mid.0 (λ _. mid.1)
-    (subst (λ (n : ℕ). MayAddTenths (sale.meter, n) c.tenths-tenths.result format mid.0) (sym c.month_of_sale.ensures) (subst (λ (n : ℕ). MayAddTenths (sale.meter, month_at sale.moment) n format mid.0) (sym c.tenths-tenths.ensures.value) mid.2))
+    (subst (λ (n : ℕ). MayAddTenths (sale.meter, n) c.tenths-tenths.result format mid.0) (sym c.month_of_sale-month.ensures) (subst (λ (n : ℕ). MayAddTenths (sale.meter, month_at sale.moment) n format mid.0) (sym c.tenths-tenths.ensures.value) mid.2))
     (handed_on c.in_err-month_tenths.field-0.0 RowOfNoOffice c.from_residual-in_err-month_tenths.result c.from_residual-in_err-month_tenths.ensures.1 told_so)
 
 pub returns-in_err-shift-clause-no_false_row : goal.returns-in_err-shift-clause-no_false_row
@@ -95,7 +95,7 @@ returns-in_err-shift-clause-no_false_row g c clean way format rows held known to
     let mid = may_add_tenths sale c.args.last old one format rows (held first.only.inside.was_open) first known in
     let second = c.in_ok-month_tenths.ensures.merges.made clean_two first.only.inside.mode (λ _. mid.1.has) in
     let adds = subst (λ (n : ℕ). AddsTenths (sale.meter, month_at sale.moment) n sum one two) c.tenths-tenths.ensures.value
-    (subst (λ (n : ℕ). AddsTenths (sale.meter, n) c.tenths-tenths.result sum one two) c.month_of_sale.ensures second) in
+    (subst (λ (n : ℕ). AddsTenths (sale.meter, n) c.tenths-tenths.result sum one two) c.month_of_sale-month.ensures second) in
     let then = may_add_to_shift sale c.args.last one two format mid.0 mid.1 sum adds mid.2 mid.3 in
     c.in_err-shift.ensures.no_false_row clean adds.only.inside.mode format then.0 (λ _. then.1) (subst (λ (n : ℕ). MayAddToShift sale.shift n sale.price format then.0) (sym c.tenths-tenths.ensures.value) then.2)
     (handed_on c.in_err-shift.field-0.0 RowOfNoOffice c.from_residual-in_err-shift.result c.from_residual-in_err-shift.ensures.1 told_so)

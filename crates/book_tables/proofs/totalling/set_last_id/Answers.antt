@@ -3,9 +3,7 @@ use Rattle.sqlite.specs.Held.{state}
 use Rattle.sqlite.specs.Values.{bound}
 use Rattle.one_table.proofs.ChangeLemmas.{transaction_off, transaction_on}
 use Rattle.one_table.specs.Reading.{is_whole}
-use Rattle.one_table.specs.Standing.{tree_in}
 use Rattle.book_tables.specs.Kept.{last_ids_kept}
-use Rattle.book_tables.specs.Tables.{last_ids_table}
 use Rattle.book_tables.specs.declared.error.TableError.TheVariants.{RowOfNoOffice}
 use Rattle.book_tables.proofs.OfficeTableLemmas.{last_ids_in}
 use Rattle.book_tables.proofs.RowLemmas.{one_number}
