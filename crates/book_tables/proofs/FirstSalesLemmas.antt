@@ -34,7 +34,7 @@ pairs_take R n xs pairs i j d before within =
     subst (λ a. R a (get_or (take n xs) j d)) (sym (get_or-take n xs i d (omega (arith, before, at.0))))
     (subst (λ b. R (get_or xs i d) b) (sym (get_or-take n xs j d at.0)) (pairs i j d before at.1))
 
-slice_first : {X : Type 0} (n : ℕ) (xs : List X) (i : ℕ) (x : X) → slice_get (take n xs) i ≡ Some x → slice_get xs i ≡ Some x
+pub slice_first : {X : Type 0} (n : ℕ) (xs : List X) (i : ℕ) (x : X) → slice_get (take n xs) i ≡ Some x → slice_get xs i ≡ Some x
 slice_first n [] i x at = subst (λ l. slice_get l i ≡ Some x) (take_all n [] (omega arith)) at
 slice_first zero (y ∷ ys) i x at = cc
 slice_first (suc n) (y ∷ ys) zero x at = at

@@ -5,9 +5,7 @@ ghost use Rattle.sqlite.specs.Held.{state};
 ghost use Rattle.sqlite.specs.State.{HasCleanDisk};
 ghost use Rattle.one_table.specs.InTransaction.{IsUnderWay, KeepsTransaction};
 ghost use Rattle.book_tables.specs.Filling.{AwaitsSomeBases, FillsBases, FillsTotals, FollowsTotals, HasSomeTotals, TotalsPage, TotalsSale};
-ghost use Rattle.book_tables.specs.Making.{HasFormatTables};
 ghost use Rattle.book_tables.specs.Reading.{HasTables};
-ghost use Rattle.book_tables.specs.Rows.{present_format};
 ghost use Rattle.book_tables.specs.Writing.{FindsNoFalseRow};
 
 use crate::bases::add_base;
@@ -65,7 +63,7 @@ fn total_page<S: Alter>(
     ensures same_reference { tx.new.conn.ghost_name ≡ tx.old.conn.ghost_name }
     ensures adds { HasCleanDisk (state S.Store tx.new.conn.now)
         → IsUnderWay (state S.Store tx.old.conn.now)
-        → HasFormatTables present_format (state S.Store tx.old.conn.now)
+        → HasTables (state S.Store tx.old.conn.now)
         → IfOk result (λ last. TotalsPage done last
         (state S.Store tx.old.conn.now) (state S.Store tx.new.conn.now)) }
     ensures transaction { KeepsTransaction
@@ -93,7 +91,7 @@ pub(crate) fn fill_totals<S: Alter>(
     ensures same_reference { tx.new.conn.ghost_name ≡ tx.old.conn.ghost_name }
     ensures fills { HasCleanDisk (state S.Store tx.new.conn.now)
         → IsUnderWay (state S.Store tx.old.conn.now)
-        → HasFormatTables present_format (state S.Store tx.old.conn.now)
+        → HasTables (state S.Store tx.old.conn.now)
         → OnOk result (FillsTotals
         (state S.Store tx.old.conn.now) (state S.Store tx.new.conn.now)) }
     ensures transaction { KeepsTransaction
@@ -124,7 +122,7 @@ pub(crate) fn fill_bases<S: Alter>(
     ensures same_reference { tx.new.conn.ghost_name ≡ tx.old.conn.ghost_name }
     ensures fills { HasCleanDisk (state S.Store tx.new.conn.now)
         → IsUnderWay (state S.Store tx.old.conn.now)
-        → HasFormatTables present_format (state S.Store tx.old.conn.now)
+        → HasTables (state S.Store tx.old.conn.now)
         → OnOk result (FillsBases
         (state S.Store tx.old.conn.now) (state S.Store tx.new.conn.now)) }
     ensures transaction { KeepsTransaction
