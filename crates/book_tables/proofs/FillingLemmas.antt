@@ -1,7 +1,8 @@
 -- What a step leaves that fills the totals from the sales.
-use Rattle.std.proofs.Common.{◌≡◌, ◌≤◌, ◌<◌, ◌+◌, ℕ, zero, suc, true, List, [], ◌∷◌, ◌++◌, drop, filter, length, map, max, nat_lt, slice_get, take, unwrap_or, IsTrue, Option, Some, arith, refl, sym, ap, subst, ◌∙◌}
+use Rattle.std.proofs.Common.{◌≡◌, ◌≢◌, ◌≤◌, ◌<◌, ◌+◌, ℕ, zero, suc, true, List, [], ◌∷◌, ◌++◌, drop, filter, length, map, max, nat_lt, slice_get, take, unwrap_or, IsTrue, Option, Some, arith, refl, sym, ap, subst, ◌∙◌}
 use Rattle.std.specs.List.{AllByRecursion}
 use Rattle.std.proofs.lemmas.Bool.{le-ltb, lt-ltb}
+use Rattle.std.proofs.lemmas.List.{take_all}
 use Rattle.std.proofs.lemmas.Option.{slice_get_within}
 use Rattle.sqlite.specs.Effect.{Database, IsDatabase}
 use Rattle.sqlite.specs.State.{IsUnchanged, State}
@@ -12,9 +13,9 @@ use Rattle.sqlite_schema.specs.declared.schema.Table.{Table}
 use Rattle.sts_fields.specs.Amount.{IsRepresentable}
 use Rattle.one_table.specs.InTransaction.{IsUnderWay}
 use Rattle.vend_core.specs.Lookup.{greatest_of}
-use Rattle.vend_core.specs.Office.{AreNumbered}
+use Rattle.vend_core.specs.Office.{AreNumbered, greatest_count}
 use Rattle.vend_core.specs.declared.sale.Sale.{Sale}
-use Rattle.book_tables.specs.Filling.{FollowsTotals, HasTotalsUpto, LeavesOthers, TotalsPage, TotalsSale}
+use Rattle.book_tables.specs.Filling.{FillsTotals, FollowsTotals, HasTotalsUpto, LeavesOthers, TotalsPage, TotalsSale, TotalsUpto}
 use Rattle.book_tables.specs.Holds.{HasOffice, HoldsOf}
 use Rattle.book_tables.specs.Kept.{last_ids_kept, sales_kept}
 use Rattle.book_tables.specs.Reading.{AreOfOffice, HasTableRows, HasTables, TableHolds}
@@ -262,3 +263,41 @@ totals_page page done i last old new ended some paged last_is = record {
       let none : length page ≤ 0 = omega (arith, last_is full it, same, ended) in
       omega (arith, page_empty page done full it none, upto.within);
 }
+
+-- ---- page after page
+
+pub totals_then : (from mid_number to : ℕ) (old mid new : State) → TotalsUpto from mid_number old mid → TotalsUpto mid_number to mid new → TotalsUpto from to old new
+totals_then from mid_number to old mid new first second = record {
+  others = leaves_both totals_names old mid new first.others second.others;
+  rows = λ told rows full held upto.
+      let one = first.rows told rows full held upto in
+      second.rows told (with_totals_of one.0 rows) full one.1 one.2;
+}
+
+-- how many pages there are at least
+pub page_more : (from done last : ℕ) (old mid new : State) → TotalsUpto from done old mid → TotalsPage done last mid new → last ≢ done
+    → (told : ℕ) (rows full : Rows) → HoldsOf present_format told old.now rows → HasTotalsUpto from full rows → done < last
+page_more from done last old mid new first page other told rows full held upto =
+    let one = first.rows told rows full held upto in
+    omega (arith, page.not_before told (with_totals_of one.0 rows) full one.1 one.2, other)
+
+pub fills_totals : (done last : ℕ) (old mid new : State) → TotalsUpto 0 done old mid → TotalsPage done last mid new → last ≡ done → FillsTotals old new
+fills_totals done last old mid new first page same = record {
+  others = leaves_both totals_names old mid new first.others page.totals.others;
+  rows = λ told rows full held upto.
+      let one = first.rows told rows full held upto in
+      let two = page.totals.rows told (with_totals_of one.0 rows) full one.1 one.2 in
+      let count = page.last told (with_totals_of one.0 rows) full one.1 one.2 same in
+      let are = subst (λ (l : List Sale). AreTotalsOf l (with_totals_of two.0 rows)) (take_all last full.sales (omega (arith, count, same))) two.2.totals in
+      (two.0, two.1, record { last_ids = are.last_ids; month_tenths = are.month_tenths; shift_totals = are.shift_totals; by_shift = are.by_shift });
+}
+
+few_in_office : (full : Rows) → AreOfOffice full → length full.sales ≤ greatest_count
+few_in_office full (o, office, are) = subst (λ (l : List Sale). length l ≤ greatest_count) (sym are.sales) office.sale_count
+
+-- no office has so many
+pub too_many : (done : ℕ) (old new : State) → TotalsUpto 0 done old new → 4294967295 ≤ done → (told : ℕ) (rows full : Rows) → HoldsOf present_format told old.now rows → HasTotalsUpto 0 full rows → ⊥
+too_many done old new first many told rows full held upto =
+    let one = first.rows told rows full held upto in
+    let few : length full.sales ≤ greatest_count = few_in_office full upto.office in
+    omega (arith, one.2.within, few, many)

@@ -100,7 +100,7 @@ pub(crate) fn fill_totals<S: Alter>(
         (state S.Store tx.old.conn.now) (state S.Store tx.new.conn.now) result }
 {
     let mut done = total_page(alloc, tx, 0)?;
-    'pages: for _ in 0..u32::MAX {
+    'pages: for turn in 0..u32::MAX {
         let last = total_page(alloc, tx, done)?;
         if last == done {
             return Ok(());
