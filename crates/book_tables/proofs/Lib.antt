@@ -2,12 +2,14 @@ pub mod AddTotalsLemmas
 pub mod AfterLemmas
 pub mod BaseLemmas
 pub mod BaseTexts
+pub mod BringingLemmas
 pub mod DatedDayLemmas
 pub mod DatedLemmas
 pub mod DatedListLemmas
 pub mod DatedTexts
 pub mod DatedWriteLemmas
 pub mod EditLemmas
+pub mod FillingBasesLemmas
 pub mod FillingLemmas
 pub mod FindLemmas
 pub mod FirstSalesLemmas

@@ -92,7 +92,7 @@ left_last : (p : Sale → Bool) (sales : List Sale) (s : Sale) → p s ≡ false
 left_last p sales s not =
     filter-append p sales (s ∷ []) ∙ ap (λ (b : Bool). filter p sales ++ cond b (s ∷ []) []) not ∙ append-nil (filter p sales)
 
-same_test : (a b : Bool) → (a ≡ true → b ≡ true) → (b ≡ true → a ≡ true) → a ≡ b
+pub same_test : (a b : Bool) → (a ≡ true → b ≡ true) → (b ≡ true → a ≡ true) → a ≡ b
 same_test true b to from = sym (to refl)
 same_test false true to from = from refl
 same_test false false to from = refl

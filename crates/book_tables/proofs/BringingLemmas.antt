@@ -1,0 +1,150 @@
+-- The tables of an older format are brought up to the present one, step after step: the same office.
+use Rattle.std.proofs.Common.{◌≡◌, ◌≢◌, ◌≤◌, ◌<◌, ◌↔◌, ℕ, zero, suc, true, Bool, List, [], ◌∷◌, codes, map, take, refl, sym, ap, subst, ◌∙◌, inl, inr, arith, IsPermutation, IsTrue, Result, Ok, Err, IfErr, IsErrAnd}
+use Rattle.std.specs.Prelude.{AllPairs, Contains}
+use Rattle.std.specs.List.{AllByRecursion}
+use Rattle.std.proofs.lemmas.List.Sorted.{Contains-permutation, IsPermutation-refl, IsPermutation-sym}
+use Rattle.std.proofs.lemmas.Map.Keys.{IsDistinct-IsPermutation}
+use Rattle.std.proofs.lemmas.Map.Made.{AllPairs-from_IsDistinct, IsDistinct-from_AllPairs}
+use Rattle.sqlite.specs.Effect.{Database, IsDatabase}
+use Rattle.sqlite.specs.State.{State}
+use Rattle.sqlite_rules.specs.Lists.{Has as Member}
+use Rattle.sqlite_schema.specs.declared.schema.Schema.{Schema}
+use Rattle.sts_fields.specs.declared.base.Base.{Base}
+use Rattle.vend_core.specs.Office.{IsOffice, Office}
+use Rattle.vend_core.specs.declared.meter.Meter.{Meter}
+use Rattle.one_table.specs.InTransaction.{StaysInside}
+use Rattle.one_table.proofs.ChangeLemmas.{stays_then}
+use Rattle.book_tables.specs.Edited.{no_rows}
+use Rattle.book_tables.specs.Filling.{AwaitsBases, AwaitsSomeBases, FillsBases, FillsTotals, HasSomeTotals, HasTotalsUpto, base_row}
+use Rattle.book_tables.specs.Holds.{HasOffice, HasOfficeOf, HoldsMembers, HoldsOf, StandsFor}
+use Rattle.book_tables.specs.Kept.{Kept, about_kept, bases_kept, kept, kept_names, last_ids_kept, month_tenths_kept, shift_totals_kept}
+use Rattle.book_tables.specs.Making.{Brings, MakesMissing, TellsOf, TellsPresent, rows_upto}
+use Rattle.book_tables.specs.Rows.{DatedStepRow, Rows, present_format}
+use Rattle.book_tables.specs.Stands.{AreDatedApart, AreMembersOf, AreTotalsOf, HasDatedStep}
+use Rattle.book_tables.specs.Writing.{IsOfNone, WritesOnly, is_under, totals_names, with_totals_of}
+use Rattle.book_tables.specs.declared.error.TableError.{TableError}
+use Rattle.book_tables.specs.declared.error.TableError.TheVariants as fails
+use Rattle.book_tables.proofs.EditLemmas.{no_members}
+use Rattle.book_tables.proofs.HoldsLemmas.{held_as}
+use Rattle.book_tables.proofs.MakingLemmas.{still_beside}
+use Rattle.book_tables.proofs.OnlyLemmas.{only_among, only_both}
+use Rattle.book_tables.proofs.SalesOfLemmas.{same_test, tells_under}
+
+-- ---- the office's members
+
+-- pairs of a number and a base that differ, in any order
+bases_apart : (xs ys : List (List ℕ × Base)) → IsPermutation xs ys → AllPairs (λ a b. a ≢ b) xs → AllPairs (λ a b. a ≢ b) ys
+bases_apart xs ys same apart =
+    let eq : List ℕ × Base → List ℕ × Base → Bool = λ a b. is_under b a in
+    let flips = λ (a b : List ℕ × Base). same_test (is_under b a) (is_under a b) (λ is. (tells_under a b).1 (sym ((tells_under b a).0 is))) (λ is. (tells_under b a).1 (sym ((tells_under a b).0 is))) in
+    let decides = λ (a b : List ℕ × Base). tells_under b a in
+    AllPairs-from_IsDistinct decides ys (IsDistinct-IsPermutation eq flips xs ys same (IsDistinct-from_AllPairs decides xs apart))
+
+-- where its totals are made anew, its bases stand in another order, and there are no steps of later days
+members_brought : (rows totals : Rows) (bases : List (List ℕ × Base)) (o : Office) → AreMembersOf rows o → rows.dated_steps ≡ [] → IsPermutation rows.bases bases → AreTotalsOf o.sales totals
+    → AreMembersOf (record (with_totals_of totals rows) { bases = bases; dated_steps = [] }) o
+members_brought rows totals bases o are none same they = record {
+  tariffs = are.tariffs;
+  steps = are.steps;
+  meters = are.meters;
+  bases = λ number base. (
+      λ has. Contains-permutation rows.bases bases (number, base) same ((are.bases number base).0 has),
+      λ there. (are.bases number base).1 (Contains-permutation bases rows.bases (number, base) (IsPermutation-sym rows.bases bases same) there),
+  );
+  dated_steps = λ r. subst (λ (l : List DatedStepRow). HasDatedStep o r ↔ Contains l r) none (are.dated_steps r);
+  shifts = are.shifts;
+  sales = are.sales;
+  totals = record { last_ids = they.last_ids; month_tenths = they.month_tenths; shift_totals = they.shift_totals; by_shift = they.by_shift };
+  tariffs_once = are.tariffs_once;
+  steps_once = are.steps_once;
+  meters_once = are.meters_once;
+  bases_once = bases_apart rows.bases bases same are.bases_once;
+  dated_once = subst (AllPairs AreDatedApart) none are.dated_once;
+}
+
+-- ---- what stands beside
+
+abbrev brought : List Kept
+brought = about_kept ∷ last_ids_kept ∷ month_tenths_kept ∷ shift_totals_kept ∷ bases_kept ∷ []
+
+abbrev pub brought_names : List (List ℕ)
+brought_names = kept_names brought
+
+all_brought : AllByRecursion (Member kept) brought
+all_brought = (
+    inl refl,
+    (inr (inr (inr (inr (inr (inr (inl refl)))))), (inr (inr (inr (inr (inr (inr (inr (inl refl))))))), (inr (inr (inr (inr (inr (inr (inr (inr (inl refl)))))))), (inr (inr (inr (inr (inr (inr (inr (inr (inr (inl refl))))))))), tt)))),
+)
+
+pub about_brought : (old new : State) → WritesOnly (codes "about" ∷ []) old new → WritesOnly brought_names old new
+about_brought old new only = only_among (codes "about" ∷ []) brought_names (λ s tree none. (none.0, tt)) old new only
+
+pub totals_brought : (old new : State) → WritesOnly totals_names old new → WritesOnly brought_names old new
+totals_brought old new only = only_among totals_names brought_names (λ s tree none. (none.1.0, (none.1.1.0, (none.1.1.1.0, tt)))) old new only
+
+pub bases_brought : (old new : State) → WritesOnly (codes "meter_bases" ∷ []) old new → WritesOnly brought_names old new
+bases_brought old new only = only_among (codes "meter_bases" ∷ []) brought_names (λ s tree none. (none.1.1.1.1.0, tt)) old new only
+
+-- ---- an older format, once its missing tables are made
+
+-- what is brought, by what is made of the office's rows
+brings : (from : ℕ) → from ≤ present_format → 1 ≤ from → (old mid new : State) → StaysInside old mid → MakesMissing from old.now mid.now → WritesOnly brought_names mid new
+    → ((o : Office) (rows : Rows) → IsOffice o → HoldsOf from from old.now rows → AreMembersOf rows o → HoldsOf present_format from mid.now (rows_upto from rows) → HoldsMembers new.now o) → Brings from old new
+brings from known some old mid new inside made only members = record {
+  inside = stays_then old mid new inside only.inside;
+  brings = record {
+    had = made.had;
+    has = subst HasOffice (sym only.schema) made.has;
+    members = λ o stands.
+        let held = (held_as old.now o from stands known made.had).0 in
+        members o held.0 stands.office held.1 held.2 (made.rows held.0 held.1);
+    beside = still_beside from old.now made.had mid new made.beside made.has brought all_brought only;
+  };
+}
+
+-- from format 3
+pub brings_third : (old mid new : State) → StaysInside old mid → MakesMissing 3 old.now mid.now → TellsPresent 3 mid new → Brings 3 old new
+brings_third old mid new inside made tells =
+    brings 3 (omega arith) (omega arith) old mid new inside made (about_brought mid new tells.only) (λ o rows office held are here.
+    (record rows { dated_steps = [] }, tells.rows (rows_upto 3 rows) here, members_brought rows rows rows.bases o are (held.of_format.dated_steps (omega arith)) (IsPermutation-refl rows.bases) are.totals))
+
+-- from format 2
+pub awaits_bases : (rows some : Rows) (o : Office) → IsOffice o → AreMembersOf rows o → some.meters ≡ rows.meters → some.bases ≡ [] → AwaitsBases rows some
+awaits_bases rows some o office are same none = record { office = (o, office, are); same = same; none = none }
+
+pub brings_second : (old mid filled new : State) → StaysInside old mid → MakesMissing 2 old.now mid.now → FillsBases mid filled → TellsPresent 2 filled new → Brings 2 old new
+brings_second old mid filled new inside made fills tells =
+    brings 2 (omega arith) (omega arith) old mid new inside made (only_both brought_names mid filled new (bases_brought mid filled (fills.others.only made.beside.sound)) (about_brought filled new tells.only)) (λ o rows office held are here.
+    let it = fills.rows 2 (rows_upto 2 rows) rows here (awaits_bases rows (rows_upto 2 rows) o office are refl refl) in
+    let same = subst (λ (l : List (List ℕ × Base)). IsPermutation l it.0) (sym (held.of_format.bases (omega arith))) it.1 in
+    (record rows { bases = it.0; dated_steps = [] }, tells.rows (record rows { bases = it.0; dated_steps = [] }) it.2, members_brought rows rows it.0 o are (held.of_format.dated_steps (omega arith)) same are.totals))
+
+-- from format 1
+pub awaits_totals : (rows : Rows) (o : Office) → IsOffice o → AreMembersOf rows o → HasTotalsUpto 0 rows (rows_upto 1 rows)
+awaits_totals rows o office are = record {
+  office = (o, office, are);
+  same = refl;
+  within = omega arith;
+  totals = let none = no_members.totals in record { last_ids = none.last_ids; month_tenths = none.month_tenths; shift_totals = none.shift_totals; by_shift = none.by_shift };
+}
+
+pub brings_with_totals : (old mid totalled filled new : State) → StaysInside old mid → MakesMissing 1 old.now mid.now → FillsTotals mid totalled → FillsBases totalled filled → TellsPresent 1 filled new → Brings 1 old new
+brings_with_totals old mid totalled filled new inside made totals fills tells =
+    let first = totals.others.only made.beside.sound in
+    let second = fills.others.only first.sound in
+    let only = only_both brought_names mid totalled new (totals_brought mid totalled first) (only_both brought_names totalled filled new (bases_brought totalled filled second) (about_brought filled new tells.only)) in
+    brings 1 (omega arith) (omega arith) old mid new inside made only (λ o rows office held are here.
+    let sums = totals.rows 1 (rows_upto 1 rows) rows here (awaits_totals rows o office are) in
+    let some : Rows = with_totals_of sums.0 (rows_upto 1 rows) in
+    let it = fills.rows 1 some rows sums.1 (awaits_bases rows some o office are refl refl) in
+    let same = subst (λ (l : List (List ℕ × Base)). IsPermutation l it.0) (sym (held.of_format.bases (omega arith))) it.1 in
+    let they = subst (λ l. AreTotalsOf l sums.0) are.sales sums.2 in
+    (record some { bases = it.0 }, tells.rows (record some { bases = it.0 }) it.2, members_brought rows sums.0 it.0 o are (held.of_format.dated_steps (omega arith)) same they))
+
+-- ---- why it fails
+
+-- an error of a step that is not told of an office's rows
+pub tells_unless : {A : Type 0} (from : ℕ) (db : Database) (r : Result A TableError) → ((o : Office) → IsDatabase db → HasOfficeOf from db.schema → StandsFor db o → r ≢ Err fails.RowOfNoOffice) → IfErr r (TellsOf from db)
+tells_unless from db (Ok x) none = tt
+tells_unless from db (Err (fails.Database e)) none = tt
+tells_unless from db (Err fails.RowOfNoOffice) none = λ sound has o stands. none o sound has stands refl
