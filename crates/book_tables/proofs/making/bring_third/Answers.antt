@@ -1,0 +1,35 @@
+use Rattle.std.proofs.Common.{arith}
+use Rattle.sqlite.specs.Held.{state}
+use Rattle.sqlite.specs.State.{HasCleanDisk}
+use Rattle.one_table.proofs.ChangeLemmas.{on_ok, told_as, transaction_off, transaction_then}
+use Rattle.book_tables.specs.Making.{TellsOf}
+use Rattle.book_tables.proofs.BringingLemmas.{brings_third}
+use Rattle.book_tables.proofs.MakingLemmas.{tells_error, tells_none}
+use Rattle.book_tables.proofs.making.bring_third.Goals as goal
+
+pub returns-in_err-make_missing-clause-told : goal.returns-in_err-make_missing-clause-told
+returns-in_err-make_missing-clause-told g c clean =
+    let old = state g.S.Store c.args.tx.now.conn.now in
+    let e = c.in_err-make_missing.field-0.0 in
+    told_as (TellsOf 3 old.now) c.from_residual.result e c.from_residual.ensures.1 (tells_error 3 old.now e c.in_err-make_missing.ensures.database)
+
+pub returns-in_err-make_missing-clause-transaction : goal.returns-in_err-make_missing-clause-transaction
+returns-in_err-make_missing-clause-transaction g c =
+    transaction_off _ c.from_residual.result c.from_residual.ensures.1 c.in_err-make_missing.ensures.transaction.kept c.in_err-make_missing.ensures.transaction.survives
+
+pub returns-clause-brings : goal.returns-clause-brings
+returns-clause-brings g c clean has =
+    let old = state g.S.Store c.args.tx.now.conn.now in
+    let mid = state g.S.Store c.make_missing.new.tx.conn.now in
+    let new = state g.S.Store c.tell_present.new.tx.conn.now in
+    let tells = c.tell_present.ensures.writes 2 in
+    let early : HasCleanDisk mid = omega (arith, tells.transaction.survives.clean) in
+    let made = c.in_ok-make_missing.ensures.made early has in
+    on_ok c.tell_present.result (brings_third old mid new (c.in_ok-make_missing.ensures.inside early) made) (tells.made clean (λ _. made.has))
+
+pub returns-clause-told : goal.returns-clause-told
+returns-clause-told g c clean = tells_none 3 (state g.S.Store c.args.tx.now.conn.now).now c.tell_present.result c.tell_present.ensures.database
+
+pub returns-clause-transaction : goal.returns-clause-transaction
+returns-clause-transaction g c =
+    transaction_then (state g.S.Store c.args.tx.now.conn.now) (state g.S.Store c.make_missing.new.tx.conn.now) (state g.S.Store c.tell_present.new.tx.conn.now) c.tell_present.result c.in_ok-make_missing.ensures.transaction (c.tell_present.ensures.writes 2).transaction
