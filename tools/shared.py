@@ -1,0 +1,80 @@
+"""What the scripts beside this file share: the crates of the repository, copies of them in which the
+kit works, and what a machine has to have installed. It is no script of its own."""
+import importlib.util
+import os
+import re
+import shutil
+import sys
+
+TOP = os.path.dirname(os.path.dirname(os.path.abspath(__file__)))
+# A check takes 1 to 7 GB, and seldom more than this.
+GB_OF_A_CHECK = 5
+# Debian's packages of the commands that the scripts call, and of the modules that they import.
+COMMANDS = {"cc": "gcc and libc6-dev", "curl": "curl", "sqlite3": "sqlite3"}
+MODULES = {"yaml": "python3-yaml"}
+
+
+def lacking(*names):
+    """A sentence for each of these commands and modules that this machine lacks."""
+    found = lambda name: importlib.util.find_spec(name) if name in MODULES else shutil.which(name)
+    packages = {**COMMANDS, **MODULES}
+    return [f"{name} is missing: install Debian's {packages[name]}" for name in names
+            if not found(name)]
+
+
+def stop_without(*names):
+    """Tells which of these commands and modules this machine lacks, and ends the script if any."""
+    missing = lacking(*names)
+    if missing:
+        print("\n".join(missing), flush=True)
+        sys.exit(1)
+
+
+def lines_of_crates():
+    """The lines of crates.txt by the names of their crates, in its order."""
+    lines = {}
+    with open(f"{TOP}/crates.txt", encoding="utf-8") as file:
+        for line in file:
+            if line.partition("#")[0].strip():
+                lines[line.partition(":")[0].split()[0]] = line
+    return lines
+
+
+def names_in(line):
+    """The libraries that a line of crates.txt names."""
+    return line.partition("#")[0].partition(":")[2].split()
+
+
+def with_those_below(names, lines):
+    """These crates and those of the repository that they are made of, lowest first."""
+    found, unread = {*names}, [*names]
+    while unread:
+        new = [it for it in names_in(lines[unread.pop()]) if it in lines and it not in found]
+        found.update(new)
+        unread += new
+    return [name for name in lines if name in found]
+
+
+def copy_to(room, names, lines):
+    """Copies what the proof and the run of these crates read, without their wrong bodies."""
+    # rt takes a folder for the top of a repository where git's folder stands.
+    os.makedirs(f"{room}/.git")
+    shutil.copyfile(f"{TOP}/HANDLES", f"{room}/HANDLES")
+    with open(f"{room}/crates.txt", "w", encoding="utf-8") as file:
+        file.writelines(lines[name] for name in names)
+    left_out = shutil.ignore_patterns("out", "must-fail", "attacks")
+    for name in names:
+        shutil.copytree(f"{TOP}/crates/{name}", f"{room}/crates/{name}", ignore=left_out)
+
+
+def at_once():
+    """How many checks may run at a time: one a processor, as many as memory holds."""
+    with open("/proc/meminfo", encoding="utf-8") as file:
+        kilobytes = int(re.search(r"MemAvailable:\s+(\d+)", file.read())[1])
+    return max(1, min(len(os.sched_getaffinity(0)), (kilobytes >> 20) // GB_OF_A_CHECK))
+
+
+def most_at_once():
+    """What RT_JOBS says, or else how many checks may run at a time."""
+    given = os.environ.get("RT_JOBS", "")
+    return int(given) if given.isdigit() and int(given) else at_once()
