@@ -3,8 +3,10 @@
 
 mod bases;
 mod dated;
+mod formats;
 mod lists;
 mod look_ups;
+mod made;
 mod openings;
 mod rows;
 mod totals;

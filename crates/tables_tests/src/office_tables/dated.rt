@@ -41,7 +41,8 @@ fn write(tx: &mut Transaction<'_, MemStore>) -> Result<(), Fail> {
     add_steps(tx, &home, day(10)?, &[step(Some(500), 10), step(None, 20)])?;
     add_dated_step(tx, &shop, day(39_080)?, 1, step(None, 1_000_000))?;
     add_dated_step(tx, &shop, day(39_080)?, 0, step(Some(1), 1))?;
-    add_steps(tx, &shop, day(0)?, &[step(None, 7)])
+    add_steps(tx, &shop, day(0)?, &[step(None, 7)])?;
+    Ok(())
 }
 
 // Each of these is refused.

@@ -1,13 +1,12 @@
 //! The statements that read many rows, over memory, beside other tables.
 
-use crate::office_tables::look_ups::{ROWS, TABLES, batch, meter_no, second_sale};
-use book_tables::{TableError, sale_lists, sold, tariffs};
+use crate::office_tables::look_ups::{ROWS, TABLES, batch, second_sale};
+use book_tables::{TableError, sale_lists, tariffs};
 use sqlite::{Alter, Connection};
 use std::alloc::Global;
 use std::test::Fail;
-use sts_fields::Base;
 use tariff::{Step, Steps};
-use vend_core::{MeterNo, Sale, TariffName};
+use vend_core::{Sale, TariffName};
 
 const STEP_TABLE: &str = "\
     CREATE TABLE tariff_steps (tariff TEXT NOT NULL REFERENCES tariffs (name), \
@@ -59,24 +58,6 @@ fn lists_sales(rt: HostRuntime) -> Result<(), Fail> {
     assert_eq!(rt; page(rt.alloc(), &mut conn, 2, 10)?, (0, None));
     assert_eq!(rt; of_shift(rt.alloc(), &mut conn, 3)?, (1, Some(second)));
     assert_eq!(rt; of_shift(rt.alloc(), &mut conn, 2)?, (0, None));
-    Ok(())
-}
-
-#[test]
-fn gathers_what_was_sold(rt: HostRuntime) -> Result<(), Fail> {
-    let mut conn = Connection::open_in_memory(rt.alloc())?;
-    batch(&mut conn, TABLES)?;
-    batch(&mut conn, ROWS)?;
-    let meter = meter_no()?;
-    let other = MeterNo::read(b"12345678903").ok_or("a meter's number")?;
-    assert_eq!(rt;
-        sold::greatest_tid(&mut conn, &meter, Base::Y2014)?,
-        Some(5001)
-    );
-    assert_eq!(rt; sold::greatest_tid(&mut conn, &meter, Base::Y1993)?, None);
-    assert_eq!(rt; sold::greatest_tid(&mut conn, &other, Base::Y2014)?, None);
-    assert_eq!(rt; sold::tenths_in_month(&mut conn, &meter, 370)?, 250);
-    assert_eq!(rt; sold::tenths_in_month(&mut conn, &meter, 371)?, 0);
     Ok(())
 }
 

@@ -1,6 +1,6 @@
 //! Rows whose values are outside their rules or at the ends of them, beside other tables.
 use crate::office_tables::look_ups::{ROWS, TABLES, batch, meter_no};
-use book_tables::{TableError, meters, sales, shifts, sold};
+use book_tables::{TableError, meters, sales, shifts};
 use sqlite::{Connection, Error, ErrorCode, MemStore};
 use std::alloc::Global;
 use std::test::Fail;
@@ -62,10 +62,6 @@ fn the_greatest_sale(rt: HostRuntime) -> Result<(), Fail> {
     assert_eq!(rt; sales::sale_numbered(&mut conn, 1_000_000_000)?, Some(sale));
     assert_eq!(rt; sales::last_sale_number(&mut conn)?, Some(1_000_000_000));
     assert_eq!(rt; shifts::last_shift_number(&mut conn)?, Some(1_000_000_000));
-    assert_eq!(rt;
-        sold::greatest_tid(&mut conn, &sale.meter, Base::Y2035)?,
-        Some(16_777_215)
-    );
     Ok(())
 }
 
@@ -131,7 +127,6 @@ fn meters_outside_their_rules(rt: HostRuntime) -> Result<(), Fail> {
 // What is read of one column has its rule too.
 #[test]
 fn columns_outside_their_rules(rt: HostRuntime) -> Result<(), Fail> {
-    let meter = meter_no()?;
     let mut conn = changed(
         rt.alloc(),
         "UPDATE sales SET number = 1000000001 WHERE number = 2",
@@ -148,18 +143,6 @@ fn columns_outside_their_rules(rt: HostRuntime) -> Result<(), Fail> {
         shifts::last_shift_number(&mut conn),
         Err(TableError::RowOfNoOffice)
     );
-    let mut conn = changed(
-        rt.alloc(),
-        "UPDATE sales SET tid = 16777216 WHERE number = 1",
-    )?;
-    let found = sold::greatest_tid(&mut conn, &meter, Base::Y2014);
-    assert_eq!(rt; found, Err(TableError::RowOfNoOffice));
-    let mut conn = changed(
-        rt.alloc(),
-        "UPDATE sales SET tenths = 16385 WHERE number = 1",
-    )?;
-    let found = sold::tenths_in_month(&mut conn, &meter, 370);
-    assert_eq!(rt; found, Err(TableError::RowOfNoOffice));
     Ok(())
 }
 

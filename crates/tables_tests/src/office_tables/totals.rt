@@ -30,6 +30,8 @@ const TABLES: &str = "CREATE TABLE before (id INTEGER PRIMARY KEY, word TEXT); \
     UNIQUE (operator, ref), UNIQUE (meter, base, tid)) STRICT; \
     CREATE TABLE shift_totals (shift INTEGER PRIMARY KEY, sales INTEGER NOT NULL, \
     tenths INTEGER NOT NULL, cash INTEGER NOT NULL) STRICT; \
+    CREATE TABLE meter_bases (meter TEXT NOT NULL REFERENCES meters (meter), \
+    base INTEGER NOT NULL, UNIQUE (meter, base)) STRICT; \
     CREATE TABLE after (id INTEGER PRIMARY KEY, word TEXT); INSERT INTO after VALUES (8, 'b')";
 
 // The greatest number that a row of an office has.
@@ -209,11 +211,17 @@ fn the_greatest_totals(rt: HostRuntime) -> Result<(), Fail> {
     let want = totals(GREATEST, GREATEST, GREATEST);
     assert_eq!(rt; counted(&mut conn, 4, 7, 10)?, Ok(want));
     assert_eq!(rt; sold::totals_of_shift(&mut conn, 4)?, want);
-    assert_eq!(rt; counted(&mut conn, 4, 0, 0)?, Err(TableError::RowOfNoOffice));
+    assert_eq!(rt;
+        counted(&mut conn, 4, 0, 0)?,
+        Err(TableError::RowOfNoOffice)
+    );
     for (shift, row) in [
         (5, "INSERT INTO shift_totals VALUES (5, -1, 1, 1)"),
         (6, "INSERT INTO shift_totals VALUES (6, 1, -1, 1)"),
-        (7, "INSERT INTO shift_totals VALUES (7, 1, 1, 1000000000000000001)"),
+        (
+            7,
+            "INSERT INTO shift_totals VALUES (7, 1, 1, 1000000000000000001)",
+        ),
     ] {
         batch(&mut conn, row)?;
         let found = sold::totals_of_shift(&mut conn, shift);

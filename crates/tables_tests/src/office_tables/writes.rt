@@ -23,6 +23,8 @@ const TABLES: &str = "CREATE TABLE before (id INTEGER PRIMARY KEY, word TEXT); \
     base INTEGER NOT NULL, tid INTEGER NOT NULL, rnd INTEGER NOT NULL, tenths INTEGER NOT NULL, \
     price INTEGER NOT NULL, tender INTEGER NOT NULL, digits TEXT NOT NULL, \
     UNIQUE (operator, ref), UNIQUE (meter, base, tid)) STRICT; \
+    CREATE TABLE meter_bases (meter TEXT NOT NULL REFERENCES meters (meter), \
+    base INTEGER NOT NULL, UNIQUE (meter, base)) STRICT; \
     CREATE TABLE after (id INTEGER PRIMARY KEY, word TEXT); INSERT INTO after VALUES (8, 'b')";
 
 // A connection with the tables between others. It has no clause, so that the proof of a test does
@@ -147,6 +149,7 @@ fn each_write_puts_its_columns_in_their_places(rt: HostRuntime) -> Result<(), Fa
         ("SELECT count(*) FROM tariffs", 2),
         ("SELECT count(*) FROM tariff_steps", 3),
         ("SELECT count(*) FROM meters", 2),
+        ("SELECT count(*) FROM meter_bases WHERE base = 2035", 2),
         ("SELECT count(*) FROM shifts", 2),
         ("SELECT count(*) FROM sales", 2),
         ("SELECT count(*) FROM before WHERE id = 7 AND word = 'a'", 1),

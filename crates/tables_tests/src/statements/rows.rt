@@ -76,6 +76,8 @@ impl<S: Alter> Change<S> for Edit {
 
     ghost makes = { λ _ _ _. Unit {0} };
 
+    ghost tells = { λ _ _ _. Unit {0} };
+
     fn make(&self, tx: &mut Transaction<'_, S>) -> Result<(), Error> {
         insert(tx, PUT, params![self.number, 7u32])?;
         update(tx, RESIZE, params![self.resized, self.size])
