@@ -23,7 +23,7 @@ use sqlite::types::ValueRef;
 use sts_fields::{Amount, Base, Day, Moment, amount_law};
 use sts_token::read_key;
 use tariff::Tender;
-use vend_core::{MeterNo, Operator, Ref, TariffName};
+use vend_core::{GREATEST_COUNT, MeterNo, Operator, Ref, TariffName};
 
 // The value in a column, or NULL past the last one.
 fn value_at(row: &Row, at: usize) -> ValueRef<'_>
@@ -74,7 +74,7 @@ pub(crate) fn between_at(row: &Row, at: usize, least: u32, greatest: u32) -> Opt
 pub(crate) fn number_at(row: &Row, at: usize) -> Option<u32>
     ensures { ReadsBack number IsNumber (column row.now at) result }
 {
-    between_at(row, at, 1, 1_000_000_000)
+    between_at(row, at, 1, GREATEST_COUNT as u32)
 }
 
 /// An identifier of 24 bits.

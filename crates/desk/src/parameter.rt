@@ -4,10 +4,10 @@ ghost use Rattle.desk.specs.Route.{IsTargetNumber};
 ghost use Rattle.vend_core.specs.Names.{IsMeterNo, IsName};
 
 use std::str;
-use vend_core::{MeterNo, TariffName};
+use vend_core::{GREATEST_COUNT, MeterNo, TariffName};
 
 // The greatest number that a target may name.
-const GREATEST: u32 = 1_000_000_000;
+const GREATEST: u32 = GREATEST_COUNT as u32;
 
 // The number that stands behind this front.
 pub(crate) fn number_after(text: &[u8], front: &[u8]) -> Option<u32>
