@@ -48,8 +48,8 @@ members_brought rows totals bases o are none same they = record {
   steps = are.steps;
   meters = are.meters;
   bases = λ number base. (
-      λ has. Contains-permutation rows.bases bases (number, base) same ((are.bases number base).0 has),
-      λ there. (are.bases number base).1 (Contains-permutation bases rows.bases (number, base) (IsPermutation-sym rows.bases bases same) there),
+    λ has. Contains-permutation rows.bases bases (number, base) same ((are.bases number base).0 has),
+    λ there. (are.bases number base).1 (Contains-permutation bases rows.bases (number, base) (IsPermutation-sym rows.bases bases same) there),
   );
   dated_steps = λ r. subst (λ (l : List DatedStepRow). HasDatedStep o r ↔ Contains l r) none (are.dated_steps r);
   shifts = are.shifts;
@@ -72,8 +72,8 @@ brought_names = kept_names brought
 
 all_brought : AllByRecursion (Member kept) brought
 all_brought = (
-    inl refl,
-    (inr (inr (inr (inr (inr (inr (inl refl)))))), (inr (inr (inr (inr (inr (inr (inr (inl refl))))))), (inr (inr (inr (inr (inr (inr (inr (inr (inl refl)))))))), (inr (inr (inr (inr (inr (inr (inr (inr (inr (inl refl))))))))), tt)))),
+  inl refl,
+  (inr (inr (inr (inr (inr (inr (inl refl)))))), (inr (inr (inr (inr (inr (inr (inr (inl refl))))))), (inr (inr (inr (inr (inr (inr (inr (inr (inl refl)))))))), (inr (inr (inr (inr (inr (inr (inr (inr (inr (inl refl))))))))), tt)))),
 )
 
 pub about_brought : (old new : State) → WritesOnly (codes "about" ∷ []) old new → WritesOnly brought_names old new
@@ -109,13 +109,13 @@ brings_third old mid new inside made tells =
     (record rows { dated_steps = [] }, tells.rows (rows_upto 3 rows) here, members_brought rows rows rows.bases o are (held.of_format.dated_steps (omega arith)) (IsPermutation-refl rows.bases) are.totals))
 
 -- from format 2
-pub awaits_bases : (rows some : Rows) (o : Office) → IsOffice o → AreMembersOf rows o → some.meters ≡ rows.meters → some.bases ≡ [] → AwaitsBases rows some
-awaits_bases rows some o office are same none = record { office = (o, office, are); same = same; none = none }
+pub awaits_bases : (rows : Rows) (o : Office) → IsOffice o → AreMembersOf rows o → AwaitsBases rows (rows_upto 2 rows)
+awaits_bases rows o office are = record { office = (o, office, are); same = refl; none = refl }
 
 pub brings_second : (old mid filled new : State) → StaysInside old mid → MakesMissing 2 old.now mid.now → FillsBases mid filled → TellsPresent 2 filled new → Brings 2 old new
 brings_second old mid filled new inside made fills tells =
     brings 2 (omega arith) (omega arith) old mid new inside made (only_both brought_names mid filled new (bases_brought mid filled (fills.others.only made.beside.sound)) (about_brought filled new tells.only)) (λ o rows office held are here.
-    let it = fills.rows 2 (rows_upto 2 rows) rows here (awaits_bases rows (rows_upto 2 rows) o office are refl refl) in
+    let it = fills.rows 2 (rows_upto 2 rows) rows here (awaits_bases rows o office are) in
     let same = subst (λ (l : List (List ℕ × Base)). IsPermutation l it.0) (sym (held.of_format.bases (omega arith))) it.1 in
     (record rows { bases = it.0; dated_steps = [] }, tells.rows (record rows { bases = it.0; dated_steps = [] }) it.2, members_brought rows rows it.0 o are (held.of_format.dated_steps (omega arith)) same are.totals))
 
@@ -128,6 +128,10 @@ awaits_totals rows o office are = record {
   totals = let none = no_members.totals in record { last_ids = none.last_ids; month_tenths = none.month_tenths; shift_totals = none.shift_totals; by_shift = none.by_shift };
 }
 
+-- once they have totals
+pub awaits_later : (rows totals : Rows) (o : Office) → IsOffice o → AreMembersOf rows o → AwaitsBases rows (with_totals_of totals (rows_upto 1 rows))
+awaits_later rows totals o office are = record { office = (o, office, are); same = refl; none = refl }
+
 pub brings_with_totals : (old mid totalled filled new : State) → StaysInside old mid → MakesMissing 1 old.now mid.now → FillsTotals mid totalled → FillsBases totalled filled → TellsPresent 1 filled new → Brings 1 old new
 brings_with_totals old mid totalled filled new inside made totals fills tells =
     let first = totals.others.only made.beside.sound in
@@ -136,7 +140,7 @@ brings_with_totals old mid totalled filled new inside made totals fills tells =
     brings 1 (omega arith) (omega arith) old mid new inside made only (λ o rows office held are here.
     let sums = totals.rows 1 (rows_upto 1 rows) rows here (awaits_totals rows o office are) in
     let some : Rows = with_totals_of sums.0 (rows_upto 1 rows) in
-    let it = fills.rows 1 some rows sums.1 (awaits_bases rows some o office are refl refl) in
+    let it = fills.rows 1 some rows sums.1 (awaits_later rows sums.0 o office are) in
     let same = subst (λ (l : List (List ℕ × Base)). IsPermutation l it.0) (sym (held.of_format.bases (omega arith))) it.1 in
     let they = subst (λ l. AreTotalsOf l sums.0) are.sales sums.2 in
     (record some { bases = it.0 }, tells.rows (record some { bases = it.0 }) it.2, members_brought rows sums.0 it.0 o are (held.of_format.dated_steps (omega arith)) same they))

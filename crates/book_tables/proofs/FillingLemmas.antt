@@ -227,13 +227,16 @@ module _ (page : List Sale) (done i : ℕ) (s : Sale) (at : slice_get page i ≡
         let known = follows told (with_totals_of one.0 rows) full one.2 it in
         let two = second.rows told (with_totals_of one.0 rows) one.1 known in
         let within = slice_get_within full.sales (done + i) s known.stands in
-        let next : suc (done + i) ≡ done + (i + 1) = omega arith in
-        (two.0, two.1, record {
-          office = upto.office;
-          same = upto.same;
-          within = omega (arith, within);
-          totals = let are = subst (λ n. AreTotalsOf (take n full.sales) two.0) next two.2 in record { last_ids = are.last_ids; month_tenths = are.month_tenths; shift_totals = are.shift_totals; by_shift = are.by_shift };
-        });
+        let next : suc (done + i) ≡ done + (i + 1) = omega arith in (
+          two.0,
+          two.1,
+          record {
+            office = upto.office;
+            same = upto.same;
+            within = omega (arith, within);
+            totals = let are = subst (λ n. AreTotalsOf (take n full.sales) two.0) next two.2 in record { last_ids = are.last_ids; month_tenths = are.month_tenths; shift_totals = are.shift_totals; by_shift = are.by_shift };
+          },
+        );
   }
 
 -- the sales of the office are there

@@ -1,4 +1,4 @@
-use Rattle.std.proofs.Common.{arith, refl, subst, sym}
+use Rattle.std.proofs.Common.{arith, subst, sym}
 use Rattle.sqlite.specs.Held.{state}
 use Rattle.sqlite.specs.State.{HasCleanDisk}
 use Rattle.one_table.proofs.ChangeLemmas.{on_ok, told_as, transaction_off, transaction_then}
@@ -6,7 +6,7 @@ use Rattle.book_tables.specs.Holds.{HasOffice}
 use Rattle.book_tables.specs.Making.{TellsOf, rows_upto}
 use Rattle.book_tables.specs.Writing.{with_totals_of}
 use Rattle.book_tables.specs.declared.error.TableError.TheVariants.{RowOfNoOffice}
-use Rattle.book_tables.proofs.BringingLemmas.{awaits_bases, awaits_totals, brings_with_totals, tells_unless}
+use Rattle.book_tables.proofs.BringingLemmas.{awaits_later, awaits_totals, brings_with_totals, tells_unless}
 use Rattle.book_tables.proofs.HoldsLemmas.{held_as}
 use Rattle.book_tables.proofs.MakingLemmas.{tells_error, tells_none}
 use Rattle.book_tables.proofs.RefusalLemmas.{handed_on}
@@ -57,7 +57,7 @@ returns-in_err-fill_bases-clause-told g c clean =
     let then = c.in_ok-fill_totals.ensures.transaction.inside late inside.mode in
     let totals = c.in_ok-fill_totals.ensures.fills late inside.mode (λ _. made.has) in
     let sums = totals.rows 1 (rows_upto 1 held.0) held.0 (made.rows held.0 held.1) (awaits_totals held.0 o stands.office held.2) in
-    c.in_err-fill_bases.ensures.no_false_row clean then.mode 1 (with_totals_of sums.0 (rows_upto 1 held.0)) (λ _. sums.1) (held.0, awaits_bases held.0 (with_totals_of sums.0 (rows_upto 1 held.0)) o stands.office held.2 refl refl)
+    c.in_err-fill_bases.ensures.no_false_row clean then.mode 1 (with_totals_of sums.0 (rows_upto 1 held.0)) (λ _. sums.1) (held.0, awaits_later held.0 sums.0 o stands.office held.2)
     (handed_on c.in_err-fill_bases.field-0.0 RowOfNoOffice r c.from_residual-in_err-fill_bases.ensures.1 told_so))
 
 pub returns-in_err-fill_bases-clause-transaction : goal.returns-in_err-fill_bases-clause-transaction

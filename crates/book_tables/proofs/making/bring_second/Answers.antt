@@ -1,4 +1,4 @@
-use Rattle.std.proofs.Common.{arith, refl, subst, sym}
+use Rattle.std.proofs.Common.{arith, subst, sym}
 use Rattle.sqlite.specs.Held.{state}
 use Rattle.sqlite.specs.State.{HasCleanDisk}
 use Rattle.one_table.proofs.ChangeLemmas.{on_ok, told_as, transaction_off, transaction_then}
@@ -31,7 +31,7 @@ returns-in_err-fill_bases-clause-told g c clean =
     let held = (held_as old.now o 2 stands (omega arith) has).0 in
     let made = c.in_ok-make_missing.ensures.made early (λ _. (sound, has)) in
     let inside = c.in_ok-make_missing.ensures.inside early in
-    c.in_err-fill_bases.ensures.no_false_row clean inside.mode 2 (rows_upto 2 held.0) (λ _. made.rows held.0 held.1) (held.0, awaits_bases held.0 (rows_upto 2 held.0) o stands.office held.2 refl refl)
+    c.in_err-fill_bases.ensures.no_false_row clean inside.mode 2 (rows_upto 2 held.0) (λ _. made.rows held.0 held.1) (held.0, awaits_bases held.0 o stands.office held.2)
     (handed_on c.in_err-fill_bases.field-0.0 RowOfNoOffice r c.from_residual-in_err-fill_bases.ensures.1 told_so))
 
 pub returns-in_err-fill_bases-clause-transaction : goal.returns-in_err-fill_bases-clause-transaction
