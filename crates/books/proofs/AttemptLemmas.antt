@@ -1,6 +1,7 @@
 -- A request that was decided, and how its commit ends.
 use Rattle.std.proofs.Common.{◌≡◌, ◌+◌, List, [], ◌∷◌, length, Option, Some, None, Result, Ok, Err, refl, sym, ap, subst, ◌∙◌, inl, inr}
 use Rattle.std.specs.Option.{option_map_or}
+use Rattle.std.specs.Prelude.{IsErrAnd}
 use Rattle.sqlite.specs.State.{HasCleanDisk, State}
 use Rattle.sts_token.specs.Token.{BlockFunction}
 use Rattle.vend_core.specs.Decision.{decision}
@@ -21,6 +22,11 @@ use Rattle.books.specs.Same.{ChangesNothing}
 use Rattle.books.specs.Serving.{Commits, HoldsOffice, ServingEnds, IsDecided, MayBeLeft}
 use Rattle.books.proofs.CommitLemmas.{edit_doubted, edit_held}
 use Rattle.books.proofs.StayLemmas.{still_held}
+
+-- the error of a call, which is handed on
+pub handed_on : {A E : Type 0} (r : Result A E) (e : E) → IsErrAnd r (λ x. x ≡ e) → r ≡ Err e
+handed_on (Ok x) e failed = absurd failed
+handed_on (Err x) e failed = ap (λ e. Err e) failed
 
 -- the sales stand as they are after every edit but a new sale
 rows_add_no_sale : (rows : List Row) (o : Office) → (with_rows rows o).sales ≡ o.sales

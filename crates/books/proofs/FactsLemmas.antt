@@ -28,6 +28,7 @@ use Rattle.book_tables.specs.Kept.{Kept, meters_kept, shifts_kept, tariffs_kept}
 use Rattle.book_tables.proofs.OfficeTableLemmas.{IsInOffice, has_table_rows, meters_in, shifts_in, tariffs_in}
 use Rattle.book_tables.specs.Rows.{Rows}
 use Rattle.book_tables.specs.Stands.{AreMembersOf}
+use Rattle.book_tables.specs.declared.error.TableError.{TableError}
 use Rattle.book_tables.specs.declared.error.TableError.TheVariants.{RowOfNoOffice}
 use Rattle.books.specs.Members.{HasMembers}
 use Rattle.books.proofs.PassedLemmas.{HasPassed, clean_before, earlier, tables_after}
@@ -58,6 +59,15 @@ test_is false (Some x) P b_is o_is = b_is.1 (o_is.0 refl)
 pub none_is : {X : Type 0} (o : Option X) → is_some o ≡ false → None ≡ o
 none_is None none = refl
 none_is (Some x) none = absurd (false≢true (sym none))
+
+pub none_if : {X : Type 0} (o : Option X) → is_none o ≡ true → None ≡ o
+none_if None none = refl
+none_if (Some x) none = absurd (false≢true none)
+
+-- what is told where something is there
+pub told_there : {X Y : Type 0} (there : Option X) (y : Y) → is_none there ≡ false → Some y ≡ option_map (λ _. y) there
+told_there None y some = absurd (false≢true (sym some))
+told_there (Some x) y some = refl
 
 -- reads leave an open connection its members
 pub members_after : (o : Office) {old mid new : State} → HasMembers old o → HasPassed old mid → (HasTables mid → Survives mid new (λ _. ⊥)) → HasCleanDisk new → HasMembers mid o
@@ -105,6 +115,12 @@ module _ {T : Type 0} {value : T} {o : Office} {old mid new : State} (office : I
   office_told in_office f x given =
       let it = told in_office (λ rows. (o : Office) → IsOffice o → AreMembersOf rows o → x ≡ f o) (λ rows has _ p office_p members_p. given rows p has office_p members_p) in
       it.2 o office it.1
+
+-- the same of the last read, whatever it answers
+pub office_told_of : {T : Type 0} (r : Result T TableError) (o : Office) {old mid new : State} → IsOffice o → HasMembers old o → HasPassed old mid → OnlyReads IsUnchanged mid new r → HasCleanDisk new → {k : Kept} (in_office : IsInOffice k) (f : Office → T)
+    → ((rows : Rows) (o : Office) → HasTableRows k mid rows → IsOffice o → AreMembersOf rows o → IfOk r (λ x. x ≡ f o)) → IfOk r (λ x. x ≡ f o)
+office_told_of (Ok x) o office members before this clean in_office f given = office_told office members before this clean in_office f x given
+office_told_of (Err e) o office members before this clean in_office f given = tt
 
 -- what was read, and is that of no office
 pub of_no_office : {T : Type 0} {x : T} {old new : State} → OnlyReads IsUnchanged old new (Ok x) → HasCleanDisk new → HasTables old → ((o : Office) → IsOffice o → HasMembers old o → ⊥) → FailsToRead old new RowOfNoOffice

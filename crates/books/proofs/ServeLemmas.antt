@@ -1,5 +1,5 @@
 -- What a request at books makes of the life that they keep.
-use Rattle.std.proofs.Common.{◌≡◌, ◌⊎◌, ◌↔◌, Bool, true, Result, Err, refl, sym, subst, ◌∙◌, inl, inr}
+use Rattle.std.proofs.Common.{◌≡◌, ◌≢◌, ◌⊎◌, ◌↔◌, Bool, true, IsTrue, Result, Err, refl, sym, subst, ◌∙◌, inl, inr}
 use Rattle.std.proofs.lemmas.Bool.{false≢true}
 use Rattle.sts_token.specs.Token.{BlockFunction}
 use Rattle.vend_core.specs.Fold.{reply, step}
@@ -12,6 +12,10 @@ use Rattle.vend_core.specs.declared.refusal.Refusal.TheVariants.{Memory, Store, 
 use Rattle.vend_core.specs.declared.request.Stamped.{Stamped}
 use Rattle.books.specs.Keeps.{IsRepresented, Seen}
 use Rattle.books.specs.Serving.{HoldsOffice, ServingEnds, MayBeLeft}
+
+-- books are stopped where the store failed, which answer none as stopped
+pub stops_on : {A : Type 0} (stopped : Bool) (answer : Result A Refusal) → (IsTrue stopped ↔ (answer ≡ Err Store)) → answer ≢ Err Stopped → (stopped ≡ true) ↔ ((answer ≡ Err Store) ⊎ (answer ≡ Err Stopped))
+stops_on stopped answer failed never = (λ is. inl (failed.0 is), λ either. elim either [ inl store ↦ failed.1 store | inr was ↦ absurd (never was) ])
 
 -- the life goes on with this office, which the books hold
 pub kept_on : (life : Life) (o : Office) (books : Seen) → IsOffice life.opening → life.forward ≡ books.forward → IsRunning life o → ((p : Office) → MayLeave life p ↔ (p ≡ o)) → HoldsOffice o books → IsRepresented life books

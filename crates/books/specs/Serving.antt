@@ -1,5 +1,5 @@
 -- How a request ends at books.
-use Rattle.std.specs.Prelude.{◌≡◌, ◌⊎◌, ◌+◌, Result, Err, IfErr, OnOk, IsTrue, length}
+use Rattle.std.specs.Prelude.{◌≡◌, ◌⊎◌, ◌+◌, Result, Ok, Err, IfErr, OnOk, IsTrue, length}
 use Rattle.sqlite.specs.State.{State, Survives}
 use Rattle.sqlite_trees.specs.Tree.{Trees}
 use Rattle.sts_token.specs.Token.{BlockFunction}
@@ -18,6 +18,7 @@ use Rattle.books.specs.Changing.{MakesEdit}
 use Rattle.books.specs.Failing.{RefusesUnchanged, refusal_for}
 use Rattle.books.specs.Keeps.{Stores, RecoversTo, Seen}
 use Rattle.books.specs.Same.{ChangesNothing, IsSame}
+use Rattle.books.specs.declared.decided.Decided.{Decided}
 
 -- all that a crash may leave stands for one of the two offices
 abbrev pub MayBeLeft : State → Office → Office → Type 0
@@ -27,6 +28,11 @@ MayBeLeft s o p = (trees : Trees) → s.may_leave trees → RecoversTo trees o �
 abbrev pub IsDecided : BlockFunction → Office → Stamped → Result Change Refusal → Type 0
 IsDecided forward o at result =
     (result ≡ decision forward o at) ⊎ ((result ≡ Err Memory) ⊎ (result ≡ Err Store))
+
+-- the change of what was decided
+abbrev pub change_in : Result Decided Refusal → Result Change Refusal
+change_in (Ok decided) = Ok decided.change
+change_in (Err refusal) = Err refusal
 
 -- an open connection has the edit, which is committed: a crash leaves nothing else
 pub record HasEdit (edit : Edit) (old new : State) : Type 0 where

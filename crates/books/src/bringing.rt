@@ -17,6 +17,7 @@ use sqlite::{Alter, Connection, Transaction};
 use std::alloc::Global;
 
 /// The tables of a format, or none, are brought to the present one.
+#[derive(Drop)]
 struct Bringing {
     alloc: Global,
     from: u32,

@@ -11,9 +11,10 @@ pub use fault::OpenFault;
 pub use headline::headline_law;
 pub use reopening::opening_law;
 
-mod bringing;
 mod books;
+mod bringing;
 mod changing;
+mod decided;
 mod facts;
 mod fault;
 mod headline;

@@ -4,7 +4,9 @@
 ghost use Rattle.std.specs.Prelude.{◌≡◌, ◌≢◌, ◌+◌, Err, IfErr, false, length};
 ghost use Rattle.sqlite.specs.State.{HasCleanDisk};
 ghost use Rattle.sqlite.specs.Held.{state};
+ghost use Rattle.vend_core.specs.Decision.{decision};
 ghost use Rattle.vend_core.specs.Edits.{applied};
+ghost use Rattle.vend_core.specs.Facts.{AreFacts, IsUnlessMemory};
 ghost use Rattle.vend_core.specs.Office.{Office};
 ghost use Rattle.vend_core.specs.Request.{IsStamped};
 ghost use Rattle.vend_core.specs.Store.{Meets};
@@ -13,16 +15,17 @@ ghost use Rattle.books.specs.Failing.{RefusesUnchanged};
 ghost use Rattle.books.specs.Keeps.{Stores, seen};
 ghost use Rattle.books.specs.Others.{LeavesOthers};
 ghost use Rattle.books.specs.Same.{ChangesNothing};
-ghost use Rattle.books.specs.Serving.{FailsToServe, HoldsOffice, ServingEnds, IsDecided};
+ghost use Rattle.books.specs.Serving.{FailsToServe, HoldsOffice, ServingEnds, IsDecided, change_in};
 
 use super::Books;
 use super::commit::commit;
 use super::failing::refusal_of;
+use crate::decided::{Decided, prior_of};
 use crate::facts::facts_of;
 use sqlite::{Alter, Connection};
 use std::alloc::Global;
 use sts_token::BlockTransform;
-use vend_core::{Change, Edit, Refusal, Reply, Stamped, decide, office_law, store_law};
+use vend_core::{Change, Edit, Facts, Refusal, Reply, Stamped, decide, office_law, store_law};
 
 impl<S: Alter, T: BlockTransform> Books<S, T> {
     // Serves a request at books that are not stopped.
@@ -48,15 +51,16 @@ impl<S: Alter, T: BlockTransform> Books<S, T> {
     {
         office_law();
         store_law();
-        let Change { edit, answer } = decided(
+        let Decided { change, prior } = decided(
             self.alloc,
             &mut self.conn,
             &self.transform,
             at,
             self.next_number,
         )?;
+        let Change { edit, answer } = change;
         if let Some(edit) = &edit {
-            commit(&mut self.conn, edit)?;
+            commit(&mut self.conn, edit, prior)?;
             self.next_number = next_after(edit, self.next_number);
         }
         Ok(answer)
@@ -81,11 +85,11 @@ fn decided<S: Alter, T: BlockTransform>(
     transform: &T,
     at: &Stamped,
     next_number: u64,
-) -> Result<Change, Refusal>
+) -> Result<Decided, Refusal>
     requires { conn.old.in_transaction ≡ false }
     ensures decides { HasCleanDisk (state S.Store conn.new)
         → (o : Office) → Stores (state S.Store conn.old) o → next_number ≡ length o.sales + 1
-        → IsDecided (T.forwards transform.now) o at.now result }
+        → IsDecided (T.forwards transform.now) o at.now (change_in result) }
     ensures nothing { HasCleanDisk (state S.Store conn.new)
         → HasTables (state S.Store conn.old)
         → ChangesNothing (state S.Store conn.old) (state S.Store conn.new) }
@@ -100,7 +104,25 @@ fn decided<S: Alter, T: BlockTransform>(
     // Outside a transaction an open connection has what was committed last.
     let _settled = conn.is_autocommit();
     match facts_of(alloc, conn, at, next_number.saturating_sub(1)) {
-        Ok(facts) => decide(alloc, transform, &facts, at),
+        Ok(facts) => decided_by(alloc, transform, &facts, at),
         Err(error) => Err(refusal_of(error)),
     }
+}
+
+// What the facts decide.
+fn decided_by<T: BlockTransform>(
+    alloc: Global,
+    transform: &T,
+    facts: &Facts,
+    at: &Stamped,
+) -> Result<Decided, Refusal>
+    ensures decided { (o : Office) → AreFacts o at.now facts.now
+        → IsUnlessMemory (change_in result) (decision (T.forwards transform.now) o at.now) }
+    ensures no_store { (result ≢ Err Refusal.Store) × (result ≢ Err Refusal.Stopped) }
+{
+    let change = decide(alloc, transform, facts, at)?;
+    Ok(Decided {
+        change,
+        prior: prior_of(facts),
+    })
 }

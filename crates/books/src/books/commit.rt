@@ -12,10 +12,15 @@ use one_table::{CommitFault, change_once};
 use sqlite::{Alter, Connection};
 use vend_core::{Edit, Refusal};
 
-/// Makes an edit in a transaction of its own, and commits it once.
+/// Makes an edit in a transaction of its own, and commits it once. `prior` are the tenths that the
+/// meter of a sale had in its month before it.
 ///
 /// A commit that fails may be there after a crash, whatever it failed of.
-pub(crate) fn commit<S: Alter>(conn: &mut Connection<S>, edit: &Edit) -> Result<(), Refusal>
+pub(crate) fn commit<S: Alter>(
+    conn: &mut Connection<S>,
+    edit: &Edit,
+    prior: u64,
+) -> Result<(), Refusal>
     requires { conn.old.in_transaction ≡ false }
     ensures commits { HasCleanDisk (state S.Store conn.new)
         → HasTables (state S.Store conn.old)
@@ -26,7 +31,7 @@ pub(crate) fn commit<S: Alter>(conn: &mut Connection<S>, edit: &Edit) -> Result<
 {
     // Outside a transaction an open connection has what was committed last.
     let _settled = conn.is_autocommit();
-    match change_once(conn, &Editing { edit }) {
+    match change_once(conn, &Editing { edit, prior }) {
         Ok(()) => Ok(()),
         Err(CommitFault::Unmade(error)) => Err(refusal_of(error)),
         Err(CommitFault::InDoubt(_)) => Err(Refusal::Store),

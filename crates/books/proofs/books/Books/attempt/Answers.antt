@@ -1,38 +1,38 @@
-use Rattle.std.proofs.Common.{◌≡◌, Err, inl, inr, refl, subst, rules, ◌∙◌}
+use Rattle.std.proofs.Common.{inl, inr, refl, subst, ◌∙◌}
 use Rattle.sqlite.specs.Held.{state}
 use Rattle.vend_core.specs.Office.{IsOffice}
 use Rattle.books.specs.Keeps.{seen}
-use Rattle.books.proofs.AttemptLemmas.{committed_ends, failed_ends, is_applied, is_decision, none_of, refused_ends, unchanged_ends}
+use Rattle.books.proofs.AttemptLemmas.{committed_ends, failed_ends, handed_on, is_applied, is_decision, none_of, refused_ends, unchanged_ends}
 use Rattle.books.proofs.CommitLemmas.{commits_others, fails_after}
 use Rattle.books.proofs.OthersLemmas.{nothing_others, others_then, tables_stay}
 use Rattle.books.proofs.StayLemmas.{has_tables, still_held}
 use Rattle.books.proofs.books.Books.attempt.Goals as goal
 use Rattle.books.proofs.books.Books.attempt.Goals.{in-Some+in_ok-commit, in_default}
 
-pub returns-in_err-edit-clause-attempts : goal.returns-in_err-edit-clause-attempts
-returns-in_err-edit-clause-attempts g c clean o held =
+pub returns-in_err-change-clause-attempts : goal.returns-in_err-change-clause-attempts
+returns-in_err-change-clause-attempts g c clean o held =
     let now = c.args.self.now in
     let forward = g.T.BlockTransform.forwards now.transform in
     let old = seen g.S.Store g.T.BlockTransform.forwards now in
     let new = record old { state = state g.S.Store c.decided.new.conn } in
     let nothing = c.decided.ensures.nothing clean (has_tables o old.state held.at) in
-    let same : c.from_residual.result ≡ Err c.in_err-edit.field-0.0 = search rules in
-    rw same (refused_ends forward o c.args.at.now c.in_err-edit.field-0.0 old new held (c.in_err-edit.ensures.decides clean o held.at held.next) clean nothing refl)
+    let same = handed_on c.from_residual.result c.in_err-change.field-0.0 c.from_residual.ensures.1 in
+    rw same (refused_ends forward o c.args.at.now c.in_err-change.field-0.0 old new held (c.in_err-change.ensures.decides clean o held.at held.next) clean nothing refl)
 
-pub returns-in_err-edit-clause-others : goal.returns-in_err-edit-clause-others
-returns-in_err-edit-clause-others g c clean tables = nothing_others (state g.S.Store c.args.self.now.conn) (state g.S.Store c.decided.new.conn) clean (c.decided.ensures.nothing clean tables)
+pub returns-in_err-change-clause-others : goal.returns-in_err-change-clause-others
+returns-in_err-change-clause-others g c clean tables = nothing_others (state g.S.Store c.args.self.now.conn) (state g.S.Store c.decided.new.conn) clean (c.decided.ensures.nothing clean tables)
 
 pub returns-in_err-commit-clause-attempts : goal.returns-in_err-commit-clause-attempts
 returns-in_err-commit-clause-attempts g c clean o held =
-    let same : c.from_residual-in_err-commit.result ≡ Err c.in_err-commit.field-0.0 = search rules in
+    let same = handed_on c.from_residual-in_err-commit.result c.in_err-commit.field-0.0 c.from_residual-in_err-commit.ensures.1 in
     let now = c.args.self.now in
     let forward = g.T.BlockTransform.forwards now.transform in
     let range = g.met.T.BlockTransform.forward_range now.transform in
     let at = c.args.at.now in
-    let change = c.in_ok-edit.field-0 in
+    let change = c.in_ok-change.field-0.change in
     let mid = state g.S.Store c.decided.new.conn in
     let early = c.commit.ensures.clean clean in
-    let decided = c.in_ok-edit.ensures.decides early o held.at held.next in
+    let decided = c.in_ok-change.ensures.decides early o held.at held.next in
     let is = is_decision forward o at change decided in
     let old = seen g.S.Store g.T.BlockTransform.forwards now in
     let new = record old { state = state g.S.Store c.commit.new.conn } in
@@ -59,7 +59,7 @@ returns-clause-attempts g c clean o held =
     let forward = g.T.BlockTransform.forwards now.transform in
     let range = g.met.T.BlockTransform.forward_range now.transform in
     let at = c.args.at.now in
-    let change = c.in_ok-edit.field-0 in
+    let change = c.in_ok-change.field-0.change in
     let mid = state g.S.Store c.decided.new.conn in
     let old = seen g.S.Store g.T.BlockTransform.forwards now in
     let tables = has_tables o old.state held.at in
@@ -68,7 +68,7 @@ returns-clause-attempts g c clean o held =
           let late = rw w.self-is at clean in
           let early = w.commit.ensures.clean late in
           let new = record old { state = state g.S.Store w.commit.new.conn; next_number = w.next_after-self.result } in
-          let decided = c.in_ok-edit.ensures.decides early o held.at held.next in
+          let decided = c.in_ok-change.ensures.decides early o held.at held.next in
           let is = is_decision forward o at change decided in
           let edit = w.in-Some.edit in
           let here = still_held o old.state mid early held.at (c.decided.ensures.nothing early tables) in
@@ -81,7 +81,7 @@ returns-clause-attempts g c clean o held =
       | in_default w ↦
           let late = rw w.self-is at clean in
           let new = record old { state = mid } in
-          let decided = c.in_ok-edit.ensures.decides late o held.at held.next in
+          let decided = c.in_ok-change.ensures.decides late o held.at held.next in
           let here = still_held o old.state mid late held.at (c.decided.ensures.nothing late tables) in
           rw w.self-is (unchanged_ends forward o at change decided new (none_of change.edit w.in_default.not-Some) (record { at = here; next = held.next }))
     ]
@@ -102,14 +102,14 @@ returns-clause-others g c clean tables =
           rw w.self-is (nothing_others old mid late (c.decided.ensures.nothing late tables))
     ]
 
-pub returns-in_err-edit-clause-failures : goal.returns-in_err-edit-clause-failures
-returns-in_err-edit-clause-failures g c clean tables =
-    let same : c.from_residual.result ≡ Err c.in_err-edit.field-0.0 = search rules in
-    rw same (inl (c.decided.ensures.nothing clean tables, c.in_err-edit.ensures.failures clean tables))
+pub returns-in_err-change-clause-failures : goal.returns-in_err-change-clause-failures
+returns-in_err-change-clause-failures g c clean tables =
+    let same = handed_on c.from_residual.result c.in_err-change.field-0.0 c.from_residual.ensures.1 in
+    rw same (inl (c.decided.ensures.nothing clean tables, c.in_err-change.ensures.failures clean tables))
 
 pub returns-in_err-commit-clause-failures : goal.returns-in_err-commit-clause-failures
 returns-in_err-commit-clause-failures g c clean tables =
-    let same : c.from_residual-in_err-commit.result ≡ Err c.in_err-commit.field-0.0 = search rules in
+    let same = handed_on c.from_residual-in_err-commit.result c.in_err-commit.field-0.0 c.from_residual-in_err-commit.ensures.1 in
     let old = state g.S.Store c.args.self.now.conn in
     let mid = state g.S.Store c.decided.new.conn in
     let new = state g.S.Store c.commit.new.conn in

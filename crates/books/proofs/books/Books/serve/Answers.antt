@@ -2,7 +2,7 @@ use Rattle.std.proofs.Common.{rules, ap, sym, subst, ◌∙◌}
 use Rattle.books.specs.Keeps.{seen}
 use Rattle.books.specs.Serving.{ServingEnds}
 use Rattle.books.proofs.OthersLemmas.{others_same, tables_stay}
-use Rattle.books.proofs.ServeLemmas.{GoesOnWith, kept_attempted, kept_stopped, with_stopped}
+use Rattle.books.proofs.ServeLemmas.{GoesOnWith, kept_attempted, kept_stopped, stops_on, with_stopped}
 use Rattle.books.proofs.books.Books.serve.Goals as goal
 
 pub returns-then-self-clause-replies : goal.returns-then-self-clause-replies
@@ -54,5 +54,5 @@ returns-clause-replies g c =
       clean = tried.clean;
       failures = λ clean has runs. tried.failures clean (has (tried.clean clean) runs);
       stopped = search rules;
-      stops = search rules;
+      stops = stops_on c.has_failed-self.result answer c.has_failed-self.ensures tried.never_stopped;
     }

@@ -7,7 +7,7 @@ use Rattle.books.proofs.books.attempt.decided.Goals as goal
 pub returns-in-Ok-clause-decides : goal.returns-in-Ok-clause-decides
 returns-in-Ok-clause-decides g c clean o at next =
     let count : c.saturating_sub.result ≡ length o.sales = omega (arith, c.saturating_sub.ensures, next) in
-    let decided = c.decide.ensures.decided o (c.in-Ok.ensures.facts clean o at.office at.members count) in
+    let decided = c.decided_by.ensures.decided o (c.in-Ok.ensures.facts clean o at.office at.members count) in
     elim decided [ inl is ↦ inl is | inr none ↦ inr (inl none) ]
 
 pub returns-in-Ok-clause-nothing : goal.returns-in-Ok-clause-nothing
@@ -34,7 +34,7 @@ returns-in-Err-clause-clean g c = clean_before (state g.S.Store c.args.conn.now)
 
 pub returns-in-Ok-clause-failures : goal.returns-in-Ok-clause-failures
 returns-in-Ok-clause-failures g c clean tables =
-    refused_after c.args.at.now c.args.next_number (state g.S.Store c.args.conn.now) (state g.S.Store c.facts_of.new.conn) c.decide.result c.decide.ensures.no_store.0
+    refused_after c.args.at.now c.args.next_number (state g.S.Store c.args.conn.now) (state g.S.Store c.facts_of.new.conn) c.decided_by.result c.decided_by.ensures.no_store.0
     (c.in-Ok.facts, λ o office members next. c.in-Ok.ensures.facts clean o office members (omega (arith, c.saturating_sub.ensures, next)))
 
 pub returns-in-Err-clause-failures : goal.returns-in-Err-clause-failures

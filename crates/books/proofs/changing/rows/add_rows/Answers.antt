@@ -34,3 +34,12 @@ returns-in_default-clause-transaction g c = record { inside = λ _ _. tt; kept =
 pub returns-in_err-add_row-clause-transaction : goal.returns-in_err-add_row-clause-transaction
 returns-in_err-add_row-clause-transaction g c =
     transaction_off _ c.from_residual.result c.from_residual.ensures.1 c.in_err-add_row.ensures.transaction.kept c.in_err-add_row.ensures.transaction.survives
+
+pub returns-in_err-add_row-2-clause-transaction : goal.returns-in_err-add_row-2-clause-transaction
+returns-in_err-add_row-2-clause-transaction g c =
+    let old = state g.S.Store c.args.tx.now.conn.now in
+    let mid = state g.S.Store c.others.tx.conn.now in
+    let new = state g.S.Store c.add_row-in-others.new.tx.conn.now in
+    let r = c.from_residual-in_err-add_row-2.result in
+    let failed = c.in_err-add_row-2.ensures.transaction in
+    transaction_then old mid new r c.others.invariant.transaction (transaction_off _ r c.from_residual-in_err-add_row-2.ensures.1 failed.kept failed.survives)

@@ -1,5 +1,5 @@
 use Rattle.one_table.proofs.ReadsOnlyLemmas.{fail_on, read_on}
-use Rattle.std.proofs.Common.{rules, sym, ◌∙◌}
+use Rattle.std.proofs.Common.{rules, sym, ◌∙◌, ◌≡◌}
 use Rattle.sqlite.specs.Held.{state}
 use Rattle.sts_fields.specs.Day.{day_at}
 use Rattle.book_tables.specs.declared.error.TableError.TheVariants.{RowOfNoOffice}
@@ -37,7 +37,8 @@ returns-in_default-found-clause-reads g c =
     let was = was_clean office members first read_2 clean in
     let meter_is = meter_told office members none read_1 was c.members_law.ensures.meter c.args.number.now c.in_ok-there.there (c.in_ok-there.ensures.given was) in
     let steps_are = c.in_ok-found.ensures.facts clean o office (members_after o members first read_2.survives clean) in
-    has_steps o office c.args.number.now (day_at c.args.moment) c.in_ok-there.there c.in-Some.meter c.in_ok-found.found meter_is c.in-Some.is steps_are c.in_default-found.is))
+    let day_is : c.day_of.result ≡ day_at c.args.moment = search rules in
+    has_steps o office c.args.number.now (day_at c.args.moment) c.in_ok-there.there c.in-Some.meter c.in_ok-found.found meter_is c.in-Some.is (rw day_is at steps_are) c.in_default-found.is))
 
 pub returns-in_err-account-clause-reads : goal.returns-in_err-account-clause-reads
 returns-in_err-account-clause-reads g c =
@@ -58,7 +59,8 @@ returns-clause-facts g c clean o office members =
     let meter_is = meter_told office members none read_1 was_1 c.members_law.ensures.meter c.args.number.now c.in_ok-there.there (c.in_ok-there.ensures.given was_1) in
     let steps_are = c.in_ok-found.ensures.facts was_2 o office (members_after o members first read_2.survives was_2) in
     let sold = c.in_ok-account.ensures.facts clean o office (members_after o members second c.in_ok-account.ensures.reads.survives clean) in
-    account_is o c.args.number.now c.args.moment c.in_ok-there.there c.in-Some.meter c.in_ok-found.found c.in-Some-found.steps c.in_ok-account.account meter_is c.in-Some.is steps_are c.in-Some-found.is sold
+    let day_is : c.day_of.result ≡ day_at c.args.moment = search rules in
+    account_is o c.args.number.now c.args.moment c.in_ok-there.there c.in-Some.meter c.in_ok-found.found c.in-Some-found.steps c.in_ok-account.account meter_is c.in-Some.is (rw day_is at steps_are) c.in-Some-found.is sold
 
 pub returns-clause-reads : goal.returns-clause-reads
 returns-clause-reads g c =

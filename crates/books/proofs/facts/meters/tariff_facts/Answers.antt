@@ -1,4 +1,5 @@
 use Rattle.sqlite.specs.Held.{state}
+use Rattle.vend_core.specs.Office.{Office}
 use Rattle.books.proofs.FactsLemmas.{office_told}
 use Rattle.books.proofs.PassedLemmas.{passed_none}
 use Rattle.one_table.proofs.ReadsOnlyLemmas.{fail_on, read_on}
