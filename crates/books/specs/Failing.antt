@@ -14,7 +14,7 @@ use Rattle.book_tables.specs.Holds.{Holds}
 use Rattle.book_tables.specs.Reading.{AreOfOffice, FailsToRead}
 use Rattle.book_tables.specs.Rows.{Rows}
 use Rattle.book_tables.specs.declared.error.TableError.{TableError}
-use Rattle.book_tables.specs.declared.error.TableError.TheVariants.{Database, RowOfNoOffice}
+use Rattle.book_tables.specs.declared.error.TableError.TheVariants.{Database}
 use Rattle.books.specs.Members.{HasMembers}
 
 -- what is answered where the tables tell of this error: the store failed, unless they only found no

@@ -1,9 +1,5 @@
-use Rattle.std.proofs.Common.{◌≡◌, Bool, List, Option, ap, ◌∙◌}
 use Rattle.sqlite.specs.Held.{state}
-use Rattle.tariff.specs.declared.step.Step.{Step}
 use Rattle.vend_core.specs.Office.{Office}
-use Rattle.vend_core.specs.declared.row_facts.RowFacts.{RowFacts}
-use Rattle.vend_core.specs.declared.row_facts.RowFacts.TheVariants as found
 use Rattle.books.proofs.FactsLemmas.{office_told, tariff_told, was_clean}
 use Rattle.books.proofs.PassedLemmas.{passed, passed_none, read_after}
 use Rattle.one_table.proofs.ReadsOnlyLemmas.{fail_on, read_on}
