@@ -12,6 +12,7 @@ use Rattle.book_tables.proofs.HoldsLemmas.{held_as, stands_present}
 use Rattle.book_tables.specs.Holds.{HasOffice, HasOfficeOf, HoldsMembers, StandsFor}
 use Rattle.book_tables.specs.Format.{HasFormat}
 use Rattle.books.specs.Keeps.{RecoversTo, StoreStandsFor}
+use Rattle.book_tables.specs.Making.{BringsOffice}
 use Rattle.book_tables.specs.Reading.{HasTables}
 use Rattle.book_tables.specs.Rows.{present_format}
 use Rattle.books.specs.Opening.{BringsAny, EndsOpening, HasSoundDatabase, HasTablesOf, IsBrought, IsNextSale, LeavesBrought, LeavesRefused, LooksAt, OpensAs, OpensAt, Refuses, ShowsNoOffice, TellsNoOffice}
@@ -85,6 +86,13 @@ module _ (old mid new : State) (same : HasCleanDisk mid → IsUnchanged old mid)
       let it = look clean in
       (it.0.was_open, subst (λ (db : Database). LeavesMade BringsAny db trees) it.0.now_is begun.1)) one two
 
+  pub brought_after : (from : ℕ) → HasCleanDisk new → IsBrought from mid new → IsBrought from old new
+  brought_after from clean h = let it = look clean in record {
+    was_open = it.0.was_open;
+    is_open = h.is_open;
+    brings = subst (λ (db : Database). BringsOffice from db new.now) it.0.now_is h.brings;
+  }
+
   pub finds_after : HasCleanDisk new → OpensAs mid new → OpensAs old new
   finds_after clean h = let it = look clean in record {
     was_open = it.0.was_open;
@@ -157,7 +165,7 @@ module _ (old new : State) where
 
   -- a look at the tables of an older format failed
   pub ends_looked : {T : Type 0} {Says : T → Type 0} (n : ℕ) (fault : OpenFault) (r : Result ℕ OpenFault) → IsErrAnd r (λ x. x ≡ fault) → HasTablesOf n old → HasSoundDatabase old → (IsTrue old.is_open → old.now ≡ old.committed)
-      → LooksAt {T} n Says old new (Err fault) → EndsOpening old new r
+      → LooksAt n Says old new (Err fault) → EndsOpening old new r
   ends_looked n fault (Ok x) is has sound settled looks = absurd is
   ends_looked n fault (Err x) is has sound settled looks =
       subst (λ (f : OpenFault). EndsOpening old new (Err f)) (sym is) (refuses_nothing fault (λ clean. left_same old new settled (looks.kept clean has)) (looks.survives has) (λ clean. looks.other clean has sound))

@@ -1,5 +1,6 @@
 mod AlongLemmas
 mod AttemptLemmas
+mod BringingLemmas
 mod BroughtLemmas
 mod ChangeLemmas
 mod CommitLemmas
@@ -8,6 +9,7 @@ mod FailingLemmas
 mod FreshLemmas
 mod HeadlineLemmas
 mod NothingLemmas
+mod OlderLemmas
 mod OpenedLemmas
 mod OpeningLemmas
 pub mod OthersLemmas

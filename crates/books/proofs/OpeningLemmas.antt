@@ -1,5 +1,5 @@
 -- What looks at the store leave, and what they tell of it.
-use Rattle.std.proofs.Common.{◌≡◌, ◌≤◌, ◌⊎◌, ℕ, zero, suc, false, true, OnOk, OnErr, IfErr, None, Some, Option, Result, Ok, Err, ◌∙◌, refl, sym, ap, subst, inl, inr, arith, nat_eq}
+use Rattle.std.proofs.Common.{◌≡◌, ◌≢◌, ◌≤◌, ◌⊎◌, ℕ, zero, suc, false, true, OnOk, OnErr, IfErr, None, Some, Option, Result, Ok, Err, ◌∙◌, refl, sym, ap, subst, inl, inr, arith, nat_eq}
 use Rattle.std.proofs.lemmas.Bool.{both_ways, cases_Bool, le-leb}
 use Rattle.std.proofs.lemmas.Bool.Decides.{nat_tests}
 use Rattle.std.specs.Option.{option_eq}
@@ -17,6 +17,7 @@ use Rattle.book_tables.specs.Format.{HasFormat, IsFormatOf}
 use Rattle.book_tables.specs.Holds.{HasOfficeOf, HoldsMembersOf, HoldsOf, HoldsRows, IsKept, StandsFor}
 use Rattle.book_tables.specs.Kept.{Kept, about_kept, kept, sales_kept}
 use Rattle.book_tables.proofs.HoldsLemmas.{held_as, of_upto}
+use Rattle.book_tables.specs.Making.{HasFormatTables}
 use Rattle.book_tables.specs.Reading.{FailsToReadOf, HasTable, TableHolds}
 use Rattle.book_tables.specs.Rows.{Rows, present_format}
 use Rattle.book_tables.specs.declared.error.TableError.{TableError}
@@ -87,6 +88,10 @@ has_format n known db found same is = (is n (omega (arith, known))).0 (some_one 
     some_one None h = absurd (let e = h in cc)
     some_one (Some m) h = (let e : m ≡ n = grind (arith, nat_tests) in ap Some e)
 
+-- a database that tells another format, or none, does not have this one
+pub another_format : (n : ℕ) (found : Option ℕ) → option_eq nat_eq found (Some n) ≡ false → found ≡ Some n → ⊥
+another_format n found other is = let same : nat_eq n n ≡ false = subst (λ (o : Option ℕ). option_eq nat_eq o (Some n) ≡ false) is other in absurd (let e : n ≢ n = grind (arith, nat_tests) in e refl)
+
 -- a fault that names the file is true of the store as it was before a look
 pub shown_before : (old mid : State) (fault : OpenFault) → ((o : Office) → StoreStandsFor old o → StoreStandsFor mid o) → ShowsNoOffice mid fault → ShowsNoOffice old fault
 shown_before old mid NotAnOffice after none = λ o at. none o (after o at)
@@ -97,6 +102,13 @@ shown_before old mid Memory after none = tt
 pub tables_after : (n : ℕ) (old mid : State) → (mid.is_clean ≡ false → mid.is_open ≡ false) → (HasCleanDisk mid → IsUnchanged old mid) → HasTablesOf n old → HasTablesOf n mid
 tables_after n old mid shut same has = λ is_open. elim (cases_Bool mid.is_clean) [
   | inl is ↦ (let it = same (no_doubt mid.is_clean is) in subst (λ (db : Database). HasOfficeOf n db.schema) (sym it.0.now_is) (has it.0.was_open))
+  | inr dirty ↦ absurd (both_ways mid.is_open (shut dirty) is_open)
+]
+
+-- and so is its sound database
+pub format_after : (n : ℕ) (old mid : State) → (mid.is_clean ≡ false → mid.is_open ≡ false) → (HasCleanDisk mid → IsUnchanged old mid) → HasFormatTables n old → HasFormatTables n mid
+format_after n old mid shut same has = λ is_open. elim (cases_Bool mid.is_clean) [
+  | inl is ↦ (let it = same (no_doubt mid.is_clean is) in subst (λ (db : Database). IsDatabase db × HasOfficeOf n db.schema) (sym it.0.now_is) (has it.0.was_open))
   | inr dirty ↦ absurd (both_ways mid.is_open (shut dirty) is_open)
 ]
 

@@ -9,7 +9,7 @@ use Rattle.sqlite_store.specs.declared.store.FileStore.{FileStore}
 use Rattle.sqlite_wal.specs.Recovery.{Image}
 use Rattle.vend_core.specs.Office.{Office}
 use Rattle.books.specs.Keeps.{RecoversTo, StoreStandsFor}
-use Rattle.books.specs.Opening.{LeavesBegun, LeavesRefused, OpensAs}
+use Rattle.books.specs.Opening.{LeavesBrought, LeavesRefused, OpensAs}
 use Rattle.books.specs.Path.{IsConnected, OpensFiles, RefusesConnection, StandsIn}
 use Rattle.books.specs.Same.{IsSame}
 use Rattle.books.specs.declared.fault.OpenFault.{OpenFault}
@@ -29,7 +29,7 @@ module _ {D : Type 0} {g : Ghosts D} where
         record { opens = open_is.0; live = open_is.1; found = record { holds = it.holds; reads = it.reads } }
 
     pub opens_files : (HasCleanDisk (file_state last) → OpensAs (file_state first) (file_state last))
-        → Survives (file_state first) (file_state last) (LeavesBegun (file_state first)) → OpensFiles image last
+        → Survives (file_state first) (file_state last) (LeavesBrought (file_state first)) → OpensFiles image last
     opens_files finds survives = record { first = first; connected = connected; finds = finds; survives = survives }
 
     module _ (again : OpensAgain D g) where

@@ -48,7 +48,7 @@ pub(crate) fn bring_office<S: Alter>(
         → HasFormatTables from (state S.Store conn.old)
         → OnOk result (IsBrought from (state S.Store conn.old) (state S.Store conn.new)) }
     ensures told { HasCleanDisk (state S.Store conn.new)
-        → HasFormatTables from (state S.Store conn.old)
+        → IsTrue (state S.Store conn.old).is_open → HasFormatTables from (state S.Store conn.old)
         → IfErr result (TellsNoOffice (state S.Store conn.old)) }
     ensures undone { HasCleanDisk (state S.Store conn.new)
         → OnErr result (IsSame (state S.Store conn.old) (state S.Store conn.new)) }

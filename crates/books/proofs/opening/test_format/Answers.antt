@@ -2,7 +2,7 @@ use Rattle.std.proofs.Common.{rules, inl, sym, ◌∙◌, arith}
 use Rattle.sqlite.specs.Held.{state}
 use Rattle.book_tables.specs.Kept.{about_kept}
 use Rattle.book_tables.proofs.HoldsLemmas.{held_as}
-use Rattle.books.proofs.OpeningLemmas.{at_about, has_format, has_kept, is_format, shows_fault}
+use Rattle.books.proofs.OpeningLemmas.{another_format, at_about, has_format, has_kept, is_format, shows_fault}
 use Rattle.books.proofs.opening.test_format.Goals as goal
 
 pub returns-then-eq-clause-looks : goal.returns-then-eq-clause-looks
@@ -29,8 +29,7 @@ returns-else-eq-clause-looks g c =
           let is_open = (reads.same clean (has_kept c.args.format about_kept at_about c.requires.some old tables)).0.was_open in
           let held = held_as old.now o c.args.format (at.now is_open) c.requires.known (tables is_open) in
           let is = is_format c.args.format c.requires.some c.requires.known old.now o c.in-Ok.told held.0 (c.in-Ok.ensures.given clean (has_kept c.args.format about_kept at_about c.requires.some old tables) sound) in
-          let told = rw is at c.eq.ensures in
-          let not = c.if-eq.false in cc;
+          another_format c.args.format c.in-Ok.told (sym c.eq.ensures ∙ c.if-eq.false) is;
       survives = λ tables. reads.survives (has_kept c.args.format about_kept at_about c.requires.some old tables);
     }
 
