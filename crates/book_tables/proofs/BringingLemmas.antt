@@ -1,5 +1,5 @@
 -- The tables of an older format are brought up to the present one, step after step: the same office.
-use Rattle.std.proofs.Common.{◌≡◌, ◌≢◌, ◌≤◌, ◌<◌, ◌↔◌, ℕ, zero, suc, true, Bool, List, [], ◌∷◌, codes, map, take, refl, sym, ap, subst, ◌∙◌, inl, inr, arith, IsPermutation, IsTrue, Result, Ok, Err, IfErr, IsErrAnd}
+use Rattle.std.proofs.Common.{◌≡◌, ◌≢◌, ◌≤◌, ◌↔◌, ℕ, Bool, List, [], ◌∷◌, codes, refl, sym, subst, inl, inr, arith, IsPermutation, Result, Ok, Err, IfErr}
 use Rattle.std.specs.Prelude.{AllPairs, Contains}
 use Rattle.std.specs.List.{AllByRecursion}
 use Rattle.std.proofs.lemmas.List.Sorted.{Contains-permutation, IsPermutation-refl, IsPermutation-sym}
@@ -8,20 +8,17 @@ use Rattle.std.proofs.lemmas.Map.Made.{AllPairs-from_IsDistinct, IsDistinct-from
 use Rattle.sqlite.specs.Effect.{Database, IsDatabase}
 use Rattle.sqlite.specs.State.{State}
 use Rattle.sqlite_rules.specs.Lists.{Has as Member}
-use Rattle.sqlite_schema.specs.declared.schema.Schema.{Schema}
 use Rattle.sts_fields.specs.declared.base.Base.{Base}
 use Rattle.vend_core.specs.Office.{IsOffice, Office}
-use Rattle.vend_core.specs.declared.meter.Meter.{Meter}
 use Rattle.one_table.specs.InTransaction.{StaysInside}
 use Rattle.one_table.proofs.ChangeLemmas.{stays_then}
-use Rattle.book_tables.specs.Edited.{no_rows}
-use Rattle.book_tables.specs.Filling.{AwaitsBases, AwaitsSomeBases, FillsBases, FillsTotals, HasSomeTotals, HasTotalsUpto, base_row}
+use Rattle.book_tables.specs.Filling.{AwaitsBases, FillsBases, FillsTotals, HasTotalsUpto}
 use Rattle.book_tables.specs.Holds.{HasOffice, HasOfficeOf, HoldsMembers, HoldsOf, StandsFor}
 use Rattle.book_tables.specs.Kept.{Kept, about_kept, bases_kept, kept, kept_names, last_ids_kept, month_tenths_kept, shift_totals_kept}
 use Rattle.book_tables.specs.Making.{Brings, MakesMissing, TellsOf, TellsPresent, rows_upto}
 use Rattle.book_tables.specs.Rows.{DatedStepRow, Rows, present_format}
 use Rattle.book_tables.specs.Stands.{AreDatedApart, AreMembersOf, AreTotalsOf, HasDatedStep}
-use Rattle.book_tables.specs.Writing.{IsOfNone, WritesOnly, is_under, totals_names, with_totals_of}
+use Rattle.book_tables.specs.Writing.{WritesOnly, is_under, totals_names, with_totals_of}
 use Rattle.book_tables.specs.declared.error.TableError.{TableError}
 use Rattle.book_tables.specs.declared.error.TableError.TheVariants as fails
 use Rattle.book_tables.proofs.EditLemmas.{no_members}

@@ -1,5 +1,5 @@
 -- What a step leaves that fills the bases of the meters.
-use Rattle.std.proofs.Common.{◌≡◌, ℕ, false, List, [], ◌∷◌, ◌++◌, append-nil, append_assoc, codes, map, take, refl, sym, ap, subst, ◌∙◌, IsPermutation}
+use Rattle.std.proofs.Common.{◌≡◌, ℕ, false, List, [], ◌∷◌, ◌++◌, append-nil, append_assoc, codes, map, sym, ap, subst, ◌∙◌, IsPermutation}
 use Rattle.std.proofs.lemmas.List.{map-append}
 use Rattle.std.proofs.lemmas.List.Sorted.{IsPermutation-map}
 use Rattle.sqlite.specs.Effect.{Database}
@@ -8,7 +8,7 @@ use Rattle.sqlite_keyed.proofs.ListLemmas.{map-map}
 use Rattle.sts_fields.specs.declared.base.Base.{Base}
 use Rattle.vend_core.specs.declared.meter.Meter.{Meter}
 use Rattle.one_table.specs.InTransaction.{IsUnderWay}
-use Rattle.book_tables.specs.Filling.{AwaitsBases, FillsBases, LeavesOthers, base_row}
+use Rattle.book_tables.specs.Filling.{AwaitsBases, FillsBases, LeavesOthers}
 use Rattle.book_tables.specs.Holds.{AreStoredRows, HoldsOf, rows_in}
 use Rattle.book_tables.specs.Kept.{meters_kept}
 use Rattle.book_tables.specs.Reading.{TableHolds, present_base}

@@ -1,22 +1,21 @@
 -- An office with the first of its sales alone is one, and its totals are those of these sales.
-use Rattle.std.proofs.Common.{◌≡◌, ◌≤◌, ◌<◌, ◌+◌, ℕ, zero, suc, List, [], ◌∷◌, ◌++◌, length, map, filter, get_or, take, max, unwrap_or, slice_get, sum_by, Option, Some, None, refl, sym, ap, subst, ◌∙◌, arith}
-use Rattle.std.specs.Prelude.{All, AllPairs, IfSome}
+use Rattle.std.proofs.Common.{◌≡◌, ◌≤◌, ◌<◌, ℕ, zero, suc, List, [], ◌∷◌, ◌++◌, length, map, get_or, take, max, unwrap_or, slice_get, Option, Some, refl, sym, ap, subst, ◌∙◌, arith}
+use Rattle.std.specs.Prelude.{AllPairs, IfSome}
 use Rattle.std.proofs.Math.Seq.{take-suc}
-use Rattle.std.proofs.lemmas.List.{get_or-take, length-append, length-take-le, take_all}
+use Rattle.std.proofs.lemmas.List.{get_or-take, take_all}
 use Rattle.std.proofs.lemmas.List.Elements.{All-filter, All-map, All-same, All-take, All-weaker}
 use Rattle.std.proofs.lemmas.List.Sums.{sum_by-le}
 use Rattle.std.proofs.lemmas.Option.{same_Some, slice_get-get_or, slice_get_within}
 use Rattle.sts_fields.specs.Amount.{IsRepresentable}
 use Rattle.sts_fields.specs.Tid.{last_tid}
 use Rattle.sts_fields.specs.declared.base.Base.{Base}
-use Rattle.vend_core.specs.Cash.{cash_of}
 use Rattle.vend_core.specs.Lookup.{greatest_of}
-use Rattle.vend_core.specs.Office.{AreNumbered, IsBaseRow, IsBefore, IsDatedRow, IsMeterRow, IsOffice, IsSaleRow, Office, greatest_count}
+use Rattle.vend_core.specs.Office.{AreNumbered, IsBefore, IsOffice, IsSaleRow, Office, greatest_count}
 use Rattle.vend_core.specs.declared.sale.Sale.{Sale}
 use Rattle.book_tables.specs.Reading.{AreOfOffice}
 use Rattle.book_tables.specs.Rows.{Rows}
 use Rattle.book_tables.specs.Stands.{AreMembersOf, AreTotalsOf, sales_under}
-use Rattle.book_tables.specs.Values.{IsTid, IsTotal}
+use Rattle.book_tables.specs.Values.{IsTid}
 use Rattle.book_tables.specs.Writing.{AreWithinTotals, is_under, with_totals_of}
 use Rattle.book_tables.proofs.SalesOfLemmas.{greatest_within, kept_last, tells_under}
 

@@ -1,7 +1,7 @@
 -- The tables that an older format lacks are made, and `about` tells the present format: the same office.
 use Rattle.std.proofs.Common.{◌≡◌, ◌≢◌, ◌<◌, ℕ, zero, suc, ◌+◌, ◌==◌, arith, Bool, true, false, not, cond, List, [], ◌∷◌, drop, filter, find, length, map, nat_le, Option, None, Some, refl, sym, ap, subst, ◌∙◌, inl, inr, IfErr, Result, Ok, Err}
 use Rattle.std.specs.Prelude.{codes, pos}
-use Rattle.std.specs.List.{AllByRecursion, list_all, position_from}
+use Rattle.std.specs.List.{AllByRecursion, position_from}
 use Rattle.std.proofs.lemmas.Bool.{cases_Bool, eq-eqb, false≢true}
 use Rattle.std.proofs.lemmas.Option.{same_Some}
 use Rattle.sqlite.specs.Effect.{Database}

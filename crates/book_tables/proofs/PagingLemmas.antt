@@ -1,5 +1,5 @@
 -- What reads inside a transaction give, and what they leave.
-use Rattle.std.proofs.Common.{◌≡◌, ◌∙◌, ℕ, true, List, [], ◌∷◌, map, Result, Ok, Err, IfErr, IfSome, IsErrAnd, Option, None, Some, slice_get, inl, get_or, refl, sym, subst, IsPermutation}
+use Rattle.std.proofs.Common.{◌≡◌, ◌∙◌, ℕ, true, List, [], map, Result, Ok, Err, IfErr, IfSome, IsErrAnd, Option, None, Some, slice_get, inl, get_or, refl, sym, subst, IsPermutation}
 use Rattle.std.specs.Prelude.{All}
 use Rattle.std.proofs.lemmas.List.Elements.{All-cons, All-map, All-nil, All-same, Contains-get_or}
 use Rattle.std.specs.Option.{option_to_list}

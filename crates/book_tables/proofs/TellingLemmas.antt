@@ -23,7 +23,6 @@ use Rattle.one_table.proofs.UpdateLemmas.{sets_listed}
 use Rattle.book_tables.specs.Making.{TellsPresent}
 use Rattle.book_tables.specs.Rows.{about_row, number, present_format}
 use Rattle.book_tables.specs.Tables.{about_table}
-use Rattle.book_tables.specs.Writing.{WritesOnly}
 use Rattle.book_tables.proofs.KeptLemmas.{about_changed}
 use Rattle.book_tables.proofs.WriteLemmas.{changes_only, only_one}
 

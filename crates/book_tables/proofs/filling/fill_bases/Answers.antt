@@ -1,4 +1,4 @@
-use Rattle.std.proofs.Common.{◌≡◌, ◌∙◌, rules, arith, List, [], ◌∷◌, ◌++◌, ap, map, subst, sym, take, IsPermutation, Ok}
+use Rattle.std.proofs.Common.{◌∙◌, rules, arith, List, [], ◌∷◌, ◌++◌, ap, map, subst, sym, take, IsPermutation, Ok}
 use Rattle.std.proofs.lemmas.List.{take_all, take_more}
 use Rattle.sqlite.specs.Held.{state}
 use Rattle.sqlite.specs.State.{HasCleanDisk}

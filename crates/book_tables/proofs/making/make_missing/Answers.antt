@@ -1,9 +1,9 @@
-use Rattle.std.proofs.Common.{◌≡◌, ◌∙◌, ◌<◌, Bor, ℕ, List, length, map, ap, subst, sym}
+use Rattle.std.proofs.Common.{◌≡◌, ◌∙◌, ◌<◌, Bor, ℕ, List, length, ap, subst, sym}
 use Rattle.std.proofs.lemmas.List.{length-map}
 use Rattle.std.proofs.lemmas.List.Folds.{list_all-map}
 use Rattle.std.specs.List.{list_all}
 use Rattle.sqlite.specs.Held.{state}
-use Rattle.one_table.proofs.ChangeLemmas.{on_ok, transaction_off, transaction_on}
+use Rattle.one_table.proofs.ChangeLemmas.{transaction_off, transaction_on}
 use Rattle.one_table.specs.Making.{AreDefined, is_creation}
 use Rattle.book_tables.specs.Kept.{kept_tables, kept_texts, later}
 use Rattle.book_tables.proofs.MakingLemmas.{lacks_some, makes_missing}

@@ -1,4 +1,3 @@
-use Rattle.std.proofs.Common.{suc}
 use Rattle.std.specs.Prelude.{codes}
 use Rattle.sqlite.specs.Held.{state}
 use Rattle.one_table.proofs.ChangeLemmas.{on_ok}
