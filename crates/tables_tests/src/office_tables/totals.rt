@@ -1,8 +1,9 @@
 //! The running totals: each is put in and merged, read by its key, and told where it is no office's.
 
 use book_tables::adding::{add_meter, add_name, add_shift};
+use book_tables::sold::{greatest_tid, tenths_in_month, totals_of_shift};
 use book_tables::totalling::{add_sold, add_tenths, add_to_shift, add_totals, set_last_id};
-use book_tables::{SaleTotals, TableError, Totals, sold};
+use book_tables::{SaleTotals, TableError, Totals};
 use sqlite::{Connection, Error, ErrorCode, MemStore, Transaction};
 use std::alloc::Global;
 use std::test::Fail;
@@ -51,14 +52,6 @@ fn count(conn: &mut Connection<MemStore>, sql: &str) -> Result<i64, Error> {
     conn.query_row(sql, &[])?.get(0)
 }
 
-fn is_outside(conn: &mut Connection<MemStore>) -> Result<(), Error> {
-    if conn.is_autocommit() {
-        Ok(())
-    } else {
-        Err(Error::SqliteFailure(ErrorCode::TransactionState))
-    }
-}
-
 fn meter_no(text: &[u8]) -> Result<MeterNo, Fail> {
     Ok(MeterNo::read(text).ok_or("a meter's number")?)
 }
@@ -81,13 +74,20 @@ fn set_ids(tx: &mut Transaction<'_, MemStore>) -> Result<(), Fail> {
     Ok(())
 }
 
-#[test]
-fn last_identifiers_are_set(rt: HostRuntime) -> Result<(), Fail> {
-    let mut conn = tables(rt.alloc())?;
-    is_outside(&mut conn)?;
+fn with_ids(alloc: Global) -> Result<Connection<MemStore>, Fail> {
+    let mut conn = tables(alloc)?;
+    if !conn.is_autocommit() {
+        return Err(Error::SqliteFailure(ErrorCode::TransactionState).into());
+    }
     let mut tx = conn.transaction();
     set_ids(&mut tx)?;
     tx.commit()?;
+    Ok(conn)
+}
+
+#[test]
+fn last_identifiers_are_set(rt: HostRuntime) -> Result<(), Fail> {
+    let mut conn = with_ids(rt.alloc())?;
     let meter = meter_no(b"12345678903")?;
     let other = meter_no(b"79927398713")?;
     let cases = [
@@ -98,11 +98,11 @@ fn last_identifiers_are_set(rt: HostRuntime) -> Result<(), Fail> {
         (other, Base::Y2035, None),
     ];
     for (number, base, want) in cases {
-        assert_eq!(rt; sold::greatest_tid(&mut conn, &number, base)?, want);
+        assert_eq!(rt; greatest_tid(&mut conn, &number, base)?, want);
     }
     assert_eq!(rt; count(&mut conn, "SELECT count(*) FROM last_ids")?, 3);
     batch(&mut conn, "UPDATE last_ids SET tid = 16777216")?;
-    let found = sold::greatest_tid(&mut conn, &meter, Base::Y2014);
+    let found = greatest_tid(&mut conn, &meter, Base::Y2014);
     assert_eq!(rt; found, Err(TableError::RowOfNoOffice));
     Ok(())
 }
@@ -113,7 +113,9 @@ fn added(
     month: u32,
     tenths: u32,
 ) -> Result<Result<u64, TableError>, Error> {
-    is_outside(conn)?;
+    if !conn.is_autocommit() {
+        return Err(Error::SqliteFailure(ErrorCode::TransactionState));
+    }
     let mut tx = conn.transaction();
     let sum = add_tenths(&mut tx, meter, month, tenths);
     tx.commit()?;
@@ -134,9 +136,9 @@ fn tenths_are_added(rt: HostRuntime) -> Result<(), Fail> {
     ];
     for (number, month, tenths, want) in cases {
         assert_eq!(rt; added(&mut conn, &number, month, tenths)?, Ok(want));
-        assert_eq!(rt; sold::tenths_in_month(&mut conn, &number, month)?, want);
+        assert_eq!(rt; tenths_in_month(&mut conn, &number, month)?, want);
     }
-    assert_eq!(rt; sold::tenths_in_month(&mut conn, &other, 253)?, 0);
+    assert_eq!(rt; tenths_in_month(&mut conn, &other, 253)?, 0);
     assert_eq!(rt; count(&mut conn, "SELECT count(*) FROM month_tenths")?, 3);
     Ok(())
 }
@@ -150,15 +152,15 @@ fn the_greatest_tenths(rt: HostRuntime) -> Result<(), Fail> {
         "INSERT INTO month_tenths VALUES ('12345678903', 252, 999999999999999999)",
     )?;
     assert_eq!(rt; added(&mut conn, &meter, 252, 1)?, Ok(GREATEST));
-    assert_eq!(rt; sold::tenths_in_month(&mut conn, &meter, 252)?, GREATEST);
+    assert_eq!(rt; tenths_in_month(&mut conn, &meter, 252)?, GREATEST);
     assert_eq!(rt;
         added(&mut conn, &meter, 252, 1)?,
         Err(TableError::RowOfNoOffice)
     );
-    let found = sold::tenths_in_month(&mut conn, &meter, 252);
+    let found = tenths_in_month(&mut conn, &meter, 252);
     assert_eq!(rt; found, Err(TableError::RowOfNoOffice));
     batch(&mut conn, "UPDATE month_tenths SET tenths = -1")?;
-    let found = sold::tenths_in_month(&mut conn, &meter, 252);
+    let found = tenths_in_month(&mut conn, &meter, 252);
     assert_eq!(rt; found, Err(TableError::RowOfNoOffice));
     Ok(())
 }
@@ -169,7 +171,9 @@ fn counted(
     tenths: u32,
     price: u32,
 ) -> Result<Result<Totals, TableError>, Error> {
-    is_outside(conn)?;
+    if !conn.is_autocommit() {
+        return Err(Error::SqliteFailure(ErrorCode::TransactionState));
+    }
     let mut tx = conn.transaction();
     let all = add_to_shift(&mut tx, shift, tenths, price);
     tx.commit()?;
@@ -193,9 +197,9 @@ fn sales_are_counted(rt: HostRuntime) -> Result<(), Fail> {
     ];
     for (shift, tenths, price, want) in cases {
         assert_eq!(rt; counted(&mut conn, shift, tenths, price)?, Ok(want));
-        assert_eq!(rt; sold::totals_of_shift(&mut conn, shift)?, want);
+        assert_eq!(rt; totals_of_shift(&mut conn, shift)?, want);
     }
-    assert_eq!(rt; sold::totals_of_shift(&mut conn, 3)?, totals(0, 0, 0));
+    assert_eq!(rt; totals_of_shift(&mut conn, 3)?, totals(0, 0, 0));
     assert_eq!(rt; count(&mut conn, "SELECT count(*) FROM shift_totals")?, 3);
     Ok(())
 }
@@ -210,7 +214,7 @@ fn the_greatest_totals(rt: HostRuntime) -> Result<(), Fail> {
     )?;
     let want = totals(GREATEST, GREATEST, GREATEST);
     assert_eq!(rt; counted(&mut conn, 4, 7, 10)?, Ok(want));
-    assert_eq!(rt; sold::totals_of_shift(&mut conn, 4)?, want);
+    assert_eq!(rt; totals_of_shift(&mut conn, 4)?, want);
     assert_eq!(rt;
         counted(&mut conn, 4, 0, 0)?,
         Err(TableError::RowOfNoOffice)
@@ -224,7 +228,7 @@ fn the_greatest_totals(rt: HostRuntime) -> Result<(), Fail> {
         ),
     ] {
         batch(&mut conn, row)?;
-        let found = sold::totals_of_shift(&mut conn, shift);
+        let found = totals_of_shift(&mut conn, shift);
         assert_eq!(rt; found, Err(TableError::RowOfNoOffice));
     }
     Ok(())
@@ -267,28 +271,35 @@ fn begin(tx: &mut Transaction<'_, MemStore>) -> Result<(), Fail> {
     Ok(())
 }
 
-fn sell(tx: &mut Transaction<'_, MemStore>) -> Result<[SaleTotals; 2], Fail> {
+fn sell(tx: &mut Transaction<'_, MemStore>) -> Result<[SaleTotals; 3], Fail> {
     begin(tx)?;
     let first = add_sold(tx, &sale(1, 2, b"r-1")?)?;
     let second = add_sold(tx, &sale(2, 3, b"r-2")?)?;
-    Ok([first, second])
+    // A sale of an earlier file, whose meter has a later identifier by now.
+    let brought = add_totals(tx, &sale(3, 1, b"r-3")?, 3)?;
+    Ok([first, second, brought])
+}
+
+fn sold(conn: &mut Connection<MemStore>) -> Result<[SaleTotals; 3], Fail> {
+    if !conn.is_autocommit() {
+        return Err(Error::SqliteFailure(ErrorCode::TransactionState).into());
+    }
+    let mut tx = conn.transaction();
+    let told = sell(&mut tx)?;
+    tx.commit()?;
+    Ok(told)
 }
 
 #[test]
 fn a_sale_brings_its_totals(rt: HostRuntime) -> Result<(), Fail> {
     let mut conn = tables(rt.alloc())?;
-    is_outside(&mut conn)?;
-    let mut tx = conn.transaction();
-    let told = sell(&mut tx)?;
-    // A sale of an earlier file, whose meter has a later identifier by now.
-    let brought = add_totals(&mut tx, &sale(3, 1, b"r-3")?, 3)?;
-    tx.commit()?;
+    let told = sold(&mut conn)?;
     let want = [
         (1, totals(1, 1, 10)),
         (2, totals(2, 2, 20)),
         (3, totals(3, 3, 30)),
     ];
-    for (told, (month_tenths, shift)) in [told[0], told[1], brought].iter().zip(want.iter()) {
+    for (told, (month_tenths, shift)) in told.iter().zip(want.iter()) {
         assert_eq!(rt; told.month_tenths, *month_tenths);
         assert_eq!(rt; told.shift, *shift);
     }
