@@ -16,12 +16,16 @@ const AUDIT: &str = "CREATE TABLE audit (sale INTEGER REFERENCES sales (number))
 // The rows of an office with two sales.
 const TWO_SALES: &str = "INSERT INTO tariffs VALUES ('home'); \
     INSERT INTO tariff_steps VALUES ('home', 0, NULL, 100); \
-    INSERT INTO meters VALUES ('12345678903', 2014, 'home', '0123456789abcdef'); \
+    INSERT INTO meters VALUES ('12345678903', 2014, 'home', '0000000000000000'); \
+    INSERT INTO meter_bases VALUES ('12345678903', 2014); \
     INSERT INTO shifts VALUES (1, 'ann', 1388534400, NULL); \
-    INSERT INTO sales VALUES (1, 1388534430, 252, 1, 'ann', 'a', '12345678903', 2014, 1, 5, 1, 10, \
+    INSERT INTO sales VALUES (1, 1388534430, 252, 1, 'ann', 'a', '12345678903', 2014, 2, 1, 1, 10, \
     10, '00072057602627981690'); \
-    INSERT INTO sales VALUES (2, 1388534490, 252, 1, 'ann', 'b', '12345678903', 2014, 2, 5, 1, 10, \
-    10, '00072057602627981691')";
+    INSERT INTO sales VALUES (2, 1388534430, 252, 1, 'ann', 'b', '12345678903', 2014, 3, 2, 1, 10, \
+    10, '00144115200960832043'); \
+    INSERT INTO last_ids VALUES ('12345678903', 2014, 3); \
+    INSERT INTO month_tenths VALUES ('12345678903', 252, 2); \
+    INSERT INTO shift_totals VALUES (1, 2, 2, 20)";
 
 // A database that these texts make. It has no clause, so that the proof of a test does not carry
 // the state of the database.
@@ -44,10 +48,10 @@ fn empty_office(alloc: Global) -> Result<Connection<MemStore>, OpenFault> {
     Ok(Books::in_memory(alloc, Plain)?.into_connection())
 }
 
-type Opened = (Result<u64, OpenFault>, Connection<MemStore>);
+pub(crate) type Opened = (Result<u64, OpenFault>, Connection<MemStore>);
 
 // The number of the next sale, and the connection that comes back from the books or the refusal.
-fn opened(alloc: Global, conn: Connection<MemStore>) -> Result<Opened, Fail> {
+pub(crate) fn opened(alloc: Global, conn: Connection<MemStore>) -> Result<Opened, Fail> {
     if !conn.is_autocommit() {
         return Err("a transaction is open".into());
     }
@@ -78,7 +82,7 @@ fn a_new_office_stands_beside_other_tables(rt: HostRuntime) -> Result<(), Fail> 
         ("SELECT id FROM after", 8),
         ("SELECT one FROM seen", 1),
         ("SELECT count(*) FROM sales", 0),
-        ("SELECT format FROM about WHERE id = 1", 1),
+        ("SELECT format FROM about WHERE id = 1", 4),
     ];
     for (sql, want) in rows {
         assert_eq!(rt; number(&mut conn, sql)?, want, "{sql}");
@@ -97,7 +101,7 @@ fn an_office_that_is_opened_again_has_its_sales(rt: HostRuntime) -> Result<(), F
     let refused = Err(OpenFault::NotAnOffice);
     assert_eq!(rt; next, refused, "a number of more than 32 bits");
     let last = "SELECT tid FROM sales WHERE number = 5000000000";
-    assert_eq!(rt; number(&mut conn, last)?, 2);
+    assert_eq!(rt; number(&mut conn, last)?, 3);
     Ok(())
 }
 
@@ -126,13 +130,18 @@ fn an_office_that_was_spoiled_is_refused(rt: HostRuntime) -> Result<(), Fail> {
     let texts = [
         AUDIT,
         "UPDATE about SET format = 0",
+        "UPDATE about SET format = 1",
         "UPDATE about SET format = 2",
+        "UPDATE about SET format = 3",
+        "UPDATE about SET format = 5",
         "UPDATE about SET format = -1",
         "UPDATE about SET id = 2",
         "INSERT INTO about VALUES (2, 1)",
         "DELETE FROM about",
         "DROP TABLE about",
         "DROP TABLE sales",
+        "DROP TABLE shift_totals",
+        "DROP TABLE meter_bases",
         "DROP TABLE about; CREATE TABLE about (id INTEGER PRIMARY KEY, word TEXT) STRICT",
         "DROP TABLE tariff_steps; CREATE TABLE tariff_steps (tariff TEXT NOT NULL, \
             place INTEGER NOT NULL, ends INTEGER, price INTEGER NOT NULL) STRICT",

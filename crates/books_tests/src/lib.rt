@@ -15,8 +15,12 @@ mod imports;
 #[cfg(test)]
 mod listed;
 #[cfg(test)]
+mod older;
+#[cfg(test)]
 mod pages;
 #[cfg(test)]
 mod paths;
+#[cfg(test)]
+mod shown;
 #[cfg(test)]
 mod stops;

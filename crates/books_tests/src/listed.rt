@@ -1,63 +1,51 @@
-//! Lists of requests with the replies that the rules ask for: worked by hand, and drawn.
+//! Lists of requests with the replies that the rules ask for: worked by hand, and drawn. Books give
+//! them in memory, in a file that is opened again, and where an opening finds tables of an older format.
 
-use crate::drawn::{
-    lives_1_to_6, lives_7_to_15, lives_16_to_19, lives_20_to_26, lives_27_to_34, lives_35_to_40,
-    seed_3, seed_5, seed_7,
+use crate::drawn::{seed_3, seed_5, seed_7, seed_37};
+use office_lines::lists::{
+    dated_steps, each_new_year, forty_lives, imported_steps, later_bases, worked,
 };
-use office_lines::lists::worked;
-use office_testing::listed::ask_texts;
+use office_testing::listed::{OLDER, OLDER_WITH_BASES, ask_texts, ask_texts_of_older};
 use std::test::Fail;
 
 #[test]
 fn worked_requests(rt: HostRuntime) -> Result<(), Fail> {
-    ask_texts(&rt, "worked.db", &worked::texts())
+    ask_texts_of_older(&rt, "worked.db", &worked::texts(), &OLDER)?;
+    ask_texts_of_older(&rt, "bases.db", &later_bases::texts(), &OLDER_WITH_BASES)?;
+    ask_texts(&rt, "steps.db", &dated_steps::texts())?;
+    ask_texts(&rt, "imported.db", &imported_steps::texts())
 }
 
-// Three lists, each with an office of its own: a test has a minute.
+#[test]
+fn days_of_each_new_year(rt: HostRuntime) -> Result<(), Fail> {
+    ask_texts(&rt, "years.db", &each_new_year::texts())
+}
+
+// Four lists, each with an office of its own: a test has a minute.
 #[test]
 fn drawn_requests(rt: HostRuntime) -> Result<(), Fail> {
-    ask_texts(&rt, "drawn_3.db", &seed_3::texts())
+    ask_texts_of_older(&rt, "drawn_3.db", &seed_3::texts(), &OLDER)
 }
 
 #[test]
 fn other_drawn_requests(rt: HostRuntime) -> Result<(), Fail> {
-    ask_texts(&rt, "drawn_5.db", &seed_5::texts())
+    ask_texts_of_older(&rt, "drawn_5.db", &seed_5::texts(), &OLDER)
 }
 
 #[test]
 fn further_drawn_requests(rt: HostRuntime) -> Result<(), Fail> {
-    ask_texts(&rt, "drawn_7.db", &seed_7::texts())
-}
-
-// Forty lives, also cut so.
-#[test]
-fn first_lives(rt: HostRuntime) -> Result<(), Fail> {
-    ask_texts(&rt, "lives_1_to_6.db", &lives_1_to_6::texts())
+    ask_texts_of_older(&rt, "drawn_7.db", &seed_7::texts(), &OLDER)
 }
 
 #[test]
-fn second_lives(rt: HostRuntime) -> Result<(), Fail> {
-    ask_texts(&rt, "lives_7_to_15.db", &lives_7_to_15::texts())
+fn drawn_requests_with_later_bases(rt: HostRuntime) -> Result<(), Fail> {
+    ask_texts_of_older(&rt, "drawn_37.db", &seed_37::texts(), &OLDER_WITH_BASES)
 }
 
+// Three thousand requests, with later bases and dated steps.
 #[test]
-fn third_lives(rt: HostRuntime) -> Result<(), Fail> {
-    ask_texts(&rt, "lives_16_to_19.db", &lives_16_to_19::texts())
-}
-
-#[test]
-fn fourth_lives(rt: HostRuntime) -> Result<(), Fail> {
-    ask_texts(&rt, "lives_20_to_26.db", &lives_20_to_26::texts())
-}
-
-#[test]
-fn fifth_lives(rt: HostRuntime) -> Result<(), Fail> {
-    ask_texts(&rt, "lives_27_to_34.db", &lives_27_to_34::texts())
-}
-
-#[test]
-fn last_lives(rt: HostRuntime) -> Result<(), Fail> {
-    ask_texts(&rt, "lives_35_to_40.db", &lives_35_to_40::texts())
+fn forty_drawn_lives(rt: HostRuntime) -> Result<(), Fail> {
+    ask_texts(&rt, "lives.db", &forty_lives::texts())
 }
 
 // How each answer begins, and each refusal that an office of a few sales can give.
@@ -88,6 +76,8 @@ fn has(texts: &[&str], reply: &str) -> bool {
     texts.iter().any(|text| text.contains(reply))
 }
 
+const LATER_REPLIES: [&str; 2] = ["\n  refused 18 ", "\n  refused 19 "];
+
 // So memory and a store are enough for each, and books that give up would be seen.
 #[test]
 fn each_reply_is_in_each_list(rt: HostRuntime) {
@@ -96,5 +86,10 @@ fn each_reply_is_in_each_list(rt: HostRuntime) {
         assert!(rt; has(&seed_3::texts(), reply), "{reply}");
         assert!(rt; has(&seed_5::texts(), reply), "{reply}");
         assert!(rt; has(&seed_7::texts(), reply), "{reply}");
+        assert!(rt; has(&seed_37::texts(), reply), "{reply}");
+        assert!(rt; has(&forty_lives::texts(), reply), "{reply}");
+    }
+    for reply in LATER_REPLIES {
+        assert!(rt; has(&forty_lives::texts(), reply), "{reply}");
     }
 }

@@ -1,5 +1,6 @@
 //! Many requests at once, the sales a page at a time, and books whose connection is given back.
 
+use crate::shown::all_shown;
 use books::{Books, OpenFault};
 use office_testing::both::{Both, agree, in_memory, is_same, office, serve, serve_all, sold};
 use office_testing::values::{FIRST_DAY, METER, OTHER_METER, flat, order, stamped};
@@ -12,7 +13,7 @@ use sts_fields::Base;
 use sts_token::Plain;
 use vend_core::{Refusal, Sale, Stamped};
 
-type Office = Both<MemStore, Plain>;
+pub(crate) type Office = Both<MemStore, Plain>;
 
 // So many orders of a tenth, by turns for one of two meters.
 fn orders(alloc: Global, many: u32) -> Result<Vec<Stamped>, Fail> {
@@ -91,7 +92,7 @@ fn put_page(
 }
 
 // All sales a page at a time, up to one that is not full, with the header in front of the first.
-fn export_in_pages(alloc: Global, both: &mut Office) -> Result<Vec<u8>, Fail> {
+pub(crate) fn export_in_pages(alloc: Global, both: &mut Office) -> Result<Vec<u8>, Fail> {
     let mut text = Vec::new(alloc);
     for number in [0, 1_000, 2_000, 3_000] {
         let sales = page(both, number, false)?;
@@ -168,30 +169,61 @@ fn books_over_the_same_connection(rt: HostRuntime) -> Result<(), Fail> {
     agree(&mut both)
 }
 
-// A request that meets a row which is no office's: the books stop, until they are opened again.
-#[test]
-fn a_row_that_is_no_offices(rt: HostRuntime) -> Result<(), Fail> {
+// Rows that are no office's, which a sale to the other meter meets.
+static SPOILS: [&str; 8] = [
+    "UPDATE meters SET secret = 'xyz' WHERE meter = '10000000009'",
+    "UPDATE meters SET base = 2015 WHERE meter = '10000000009'",
+    "UPDATE tariff_steps SET price = 0",
+    "INSERT INTO last_ids VALUES ('10000000009', 2014, 16777216)",
+    "INSERT INTO month_tenths VALUES ('10000000009', 252, -1)",
+    "UPDATE shift_totals SET sales = -7",
+    "UPDATE shift_totals SET tenths = -7",
+    "UPDATE shift_totals SET cash = -70",
+];
+
+fn spoils() -> &'static [&'static str] {
+    &SPOILS
+}
+
+fn is_stopped_answer<T>(answer: &Result<T, Refusal>) -> bool {
+    matches!(answer, Err(Refusal::Stopped))
+}
+
+// A sale that meets such a row is answered Store, and leaves nothing. The books stop, until they are
+// opened again.
+fn stops_at(rt: &(impl Abort + AllocGlobal), sql: &str) -> Result<(), Fail> {
     let alloc = rt.alloc();
-    let both = office(alloc, Base::Y2014, flat(alloc, 100)?)?;
+    let mut both = office(alloc, Base::Y2014, flat(alloc, 100)?)?;
+    let _ = sold(&mut both, FIRST_DAY, order(b"A-1", METER, 10)?)?;
     let mut conn = both.books.into_connection();
-    let spoil = "UPDATE meters SET secret = 'xyz' WHERE meter = '10000000009'";
-    conn.execute_batch(spoil)?;
-    let mut books = match reopened(alloc, conn) {
-        Ok(books) => books,
-        Err(fault) => {
-            assert_eq!(rt; fault, OpenFault::NotAnOffice);
-            return Ok(());
-        }
-    };
-    let sound = stamped(FIRST_DAY, 1, order(b"A-1", METER, 10)?)?;
-    assert!(rt; serve(&mut books, &sound).is_ok());
+    conn.execute_batch(sql)?;
+    let before = all_shown(alloc, &mut conn)?;
+    let mut books = reopened(alloc, conn)?;
+    assert!(rt; !books.is_stopped(), "{sql}");
     let spoiled = stamped(FIRST_DAY, 2, order(b"A-2", OTHER_METER, 10)?)?;
     let store = serve(&mut books, &spoiled);
-    assert!(rt; matches!(&store, Err(Refusal::Store)));
-    let stopped = serve(&mut books, &sound);
-    assert!(rt; matches!(&stopped, Err(Refusal::Stopped)));
-    let mut books = reopened(alloc, books.into_connection())?;
-    assert!(rt; serve(&mut books, &sound).is_ok());
-    assert_eq!(rt; books.next_number(), 2);
+    assert!(rt; matches!(&store, Err(Refusal::Store)), "{sql}: {store:?}");
+    assert!(rt; books.is_stopped(), "{sql}");
+    let sound = stamped(FIRST_DAY, 1, order(b"A-1", METER, 10)?)?;
+    assert!(rt; is_stopped_answer(&serve(&mut books, &sound)), "{sql}");
+    assert!(rt; is_stopped_answer(&books.shift_totals(1)), "{sql}");
+    assert!(rt; is_stopped_answer(&books.sales_after(0, 1000)), "{sql}");
+    let mut conn = books.into_connection();
+    assert_eq!(rt;
+        all_shown(alloc, &mut conn)?.as_str(),
+        before.as_str(),
+        "{sql}"
+    );
+    let mut books = reopened(alloc, conn)?;
+    assert!(rt; serve(&mut books, &sound).is_ok(), "{sql}");
+    assert_eq!(rt; books.next_number(), 2, "{sql}");
+    Ok(())
+}
+
+#[test]
+fn a_row_that_is_no_offices(rt: HostRuntime) -> Result<(), Fail> {
+    for sql in spoils() {
+        stops_at(&rt, sql)?;
+    }
     Ok(())
 }

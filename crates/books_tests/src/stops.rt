@@ -2,5 +2,8 @@
 //! what the disks hold, and what was acknowledged has to stand there.
 
 mod disks;
+mod doubts;
 mod imports;
+mod openings;
 mod sales;
+pub(crate) mod scripts;

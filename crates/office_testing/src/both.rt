@@ -1,10 +1,10 @@
 //! The office in its tables beside the office over plain lists, which has to answer the same.
 
-use books::Books;
+use books::{Books, Totals};
 use office_lines::values::{
     FIRST_DAY, METER, OTHER_METER, meter, meter_no, operator, stamped, tariff_name,
 };
-use sqlite::{Alter, MemStore};
+use sqlite::{Alter, Connection, MemStore};
 use std::alloc::Global;
 use std::test::Fail;
 use sts_fields::Base;
@@ -52,6 +52,21 @@ fn furnish<S: Alter, T: BlockTransform>(
     Ok(())
 }
 
+/// Books over a connection to an office in memory, or to nothing.
+pub fn opened_again<T: BlockTransform + Drop>(
+    alloc: Global,
+    memory: Connection<MemStore>,
+    transform: T,
+) -> Result<Books<MemStore, T>, Fail> {
+    if !memory.is_autocommit() {
+        return Err("a transaction is open".into());
+    }
+    match Books::open_from(alloc, memory, transform) {
+        Ok(books) => Ok(books),
+        Err((fault, _)) => Err(fault.into()),
+    }
+}
+
 /// Ends a life as a program that stops: the books are not closed. The lists stay.
 pub fn stop<S: Alter + Drop, T: Drop>(both: Both<S, T>) -> Lists<T> {
     let Both { books, lists } = both;
@@ -76,6 +91,13 @@ fn page<S: Alter, T: BlockTransform>(
     number: u32,
 ) -> Result<Vec<Sale>, Refusal> {
     books.sales_after(number, 1000)
+}
+
+fn totals<S: Alter, T: BlockTransform>(
+    books: &mut Books<S, T>,
+    number: u32,
+) -> Result<Totals, Refusal> {
+    books.shift_totals(number)
 }
 
 /// The number of the next sale.
@@ -131,7 +153,8 @@ pub fn refuses<S: Alter, T: BlockTransform>(
     agree(both)
 }
 
-/// Both have the same sales and the same shifts, which they show by number.
+/// Both have the same sales and the same shifts, which they show by number, and the books have the
+/// totals of these.
 pub fn agree<S: Alter, T: BlockTransform>(both: &mut Both<S, T>) -> Result<(), Fail> {
     let mut first = 0;
     for expected in both.lists.sales().chunks(1000) {
@@ -147,7 +170,8 @@ pub fn agree<S: Alter, T: BlockTransform>(both: &mut Both<S, T>) -> Result<(), F
     if next_number(&both.books) != u64::from(first).saturating_add(1) {
         return Err(Fail::new(format_args!("another number after {first}")));
     }
-    agree_on_shifts(both)
+    agree_on_shifts(both)?;
+    agree_on_totals(&mut both.books, &both.lists)
 }
 
 // One shift more than there are, which both refuse.
@@ -160,6 +184,42 @@ fn agree_on_shifts<S: Alter, T: BlockTransform>(both: &mut Both<S, T>) -> Result
         }
     }
     Ok(())
+}
+
+/// The totals of each shift are the count and the sums of the sales that the lists have of it. No other
+/// number has any.
+pub fn agree_on_totals<S: Alter, T: BlockTransform>(
+    books: &mut Books<S, T>,
+    lists: &Lists<T>,
+) -> Result<(), Fail> {
+    let last = u32::try_from(lists.shifts().len())?.saturating_add(1);
+    for number in 0..=last {
+        let is_there = number > 0 && number < last;
+        let is_right = match totals(books, number) {
+            Ok(totals) => is_there && totals == totals_of(lists.sales(), number),
+            Err(refusal) => !is_there && refusal == Refusal::NoSuchShift,
+        };
+        if !is_right {
+            return Err(Fail::new(format_args!("the totals of shift {number}")));
+        }
+    }
+    Ok(())
+}
+
+fn totals_of(sales: &[Sale], shift: u32) -> Totals {
+    let (mut count, mut tenths, mut cash) = (0u64, 0u64, 0u64);
+    for sale in sales {
+        if sale.shift == shift {
+            count = count.saturating_add(1);
+            tenths = tenths.saturating_add(u64::from(sale.tenths.tenths()));
+            cash = cash.saturating_add(u64::from(sale.price));
+        }
+    }
+    Totals {
+        sales: count,
+        tenths,
+        cash,
+    }
 }
 
 /// Whether two replies are the same to the last field.

@@ -2,7 +2,7 @@
 
 use crate::both::{Both, next_number, stop};
 use books::{Books, OpenFault};
-use sqlite::{Alter, FileFrom, FileStore, Unknown};
+use sqlite::{Alter, Connection, Error, FileFrom, FileStore, Unknown};
 use std::alloc::Global;
 use std::fs;
 use std::rt::Files;
@@ -32,10 +32,20 @@ fn open<T: BlockTransform + Drop>(
     })
 }
 
-// What stays is in the file, and in the lists.
-fn close<T: BlockTransform + Drop>(both: InFile<T>) -> Result<Lists<T>, Fail> {
+/// Changes the tables by these statements, if there are any.
+pub fn change_tables<S: Alter>(conn: &mut Connection<S>, sql: &str) -> Result<(), Error> {
+    if sql.is_empty() {
+        return Ok(());
+    }
+    conn.execute_batch(sql)
+}
+
+// What stays is in the file, which is changed by these statements, and in the lists.
+fn close<T: BlockTransform + Drop>(both: InFile<T>, sql: &str) -> Result<Lists<T>, Fail> {
     let Both { books, lists } = both;
-    books.into_connection().close()?;
+    let mut conn = books.into_connection();
+    change_tables(&mut conn, sql)?;
+    conn.close()?;
     Ok(lists)
 }
 
@@ -48,9 +58,21 @@ pub fn live<T: BlockTransform + Drop, R: Drop, L: Life<T, R> + Drop>(
     lists: Lists<T>,
     life: L,
 ) -> Result<(Lists<T>, R), Fail> {
+    live_and_change(host, path, transform, lists, life, "")
+}
+
+/// The same; at the end the tables are changed by these statements.
+pub fn live_and_change<T: BlockTransform + Drop, R: Drop, L: Life<T, R> + Drop>(
+    host: &HostRuntime,
+    path: &str,
+    transform: T,
+    lists: Lists<T>,
+    life: L,
+    sql: &str,
+) -> Result<(Lists<T>, R), Fail> {
     let mut both = open(host, path, transform, lists)?;
     match life.live(&mut both) {
-        Ok(result) => Ok((close(both)?, result)),
+        Ok(result) => Ok((close(both, sql)?, result)),
         Err(fail) => {
             let _ = stop(both);
             Err(fail)

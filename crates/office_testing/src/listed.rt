@@ -1,8 +1,9 @@
 //! Lives of requests as lines of text, asked of three offices: of plain lists, of books in memory,
-//! and of books in a file, which are opened again where a line says so.
+//! and of books in a file, which are opened again where a line says so. Before that their tables may be
+//! taken back to an older format.
 
-use crate::both::{Both, agree, is_same, serve};
-use crate::in_file::{Life, live, live_and_stop, remove};
+use crate::both::{Both, agree, agree_on_totals, is_same, opened_again, serve};
+use crate::in_file::{Life, change_tables, live_and_change, live_and_stop, remove};
 use books::Books;
 use office_lines::differences::Differences;
 use office_lines::lines::{stamped_of, told};
@@ -12,22 +13,52 @@ use std::test::Fail;
 use sts_token::{BlockTransform, Demo, Plain};
 use vend_core::{Lists, Reply};
 
+const THIRD: &str = "DROP TABLE dated_steps; UPDATE about SET format = 3";
+
+/// What takes tables of the present format back to an older one, where no meter had another base date
+/// and no tariff has further steps.
+pub static OLDER: [&str; 3] = [
+    "DROP TABLE dated_steps; DROP TABLE meter_bases; DROP TABLE shift_totals; \
+    DROP TABLE month_tenths; DROP TABLE last_ids; UPDATE about SET format = 1",
+    "DROP TABLE dated_steps; DROP TABLE meter_bases; UPDATE about SET format = 2",
+    THIRD,
+];
+
+/// The same, where meters may have had other base dates.
+pub static OLDER_WITH_BASES: [&str; 1] = [THIRD];
+
 /// What stays of the offices from life to life, but for the one that is in the file.
 #[derive(Drop)]
 struct Staying {
     lists: Lists<Plain>,
     memory: Connection<MemStore>,
+    /// What the tables are taken back by.
+    older: &'static [&'static str],
+    lives: usize,
     differences: Differences,
 }
 
 /// Asks the requests of these texts, and fails with each reply that is not the one that stands behind
 /// its request. A text is of whole lives, and the file is removed before and afterwards.
 pub fn ask_texts(host: &HostRuntime, path: &str, texts: &[&str]) -> Result<(), Fail> {
+    ask_texts_of_older(host, path, texts, &[])
+}
+
+/// The same, where the tables are taken back by one of these, by turns: those in memory before each
+/// opening but the first, and those in the file at the end of each life in which it is closed.
+pub fn ask_texts_of_older(
+    host: &HostRuntime,
+    path: &str,
+    texts: &[&str],
+    older: &'static [&'static str],
+) -> Result<(), Fail> {
     let alloc = host.alloc();
     remove(alloc, host, path)?;
     let mut staying = Staying {
         lists: Lists::new(alloc, Plain),
         memory: Connection::open_in_memory(alloc)?,
+        older,
+        lives: 0,
         differences: Differences::new(alloc),
     };
     for text in texts {
@@ -64,9 +95,15 @@ fn live_through<T: BlockTransform + Copy + Drop>(
     let alloc = host.alloc();
     let Staying {
         lists,
-        memory,
+        mut memory,
+        older,
+        lives,
         differences,
     } = staying;
+    // Before the first life there are no tables.
+    if lives > 0 {
+        change_tables(&mut memory, older_after(older, lives))?;
+    }
     let life = Listed {
         alloc,
         memory: opened_again(alloc, memory, transform)?,
@@ -77,27 +114,24 @@ fn live_through<T: BlockTransform + Copy + Drop>(
     let (lists, (memory, differences)) = if is_stopped {
         live_and_stop(host, path, transform, lists, life)?
     } else {
-        live(host, path, transform, lists, life)?
+        let sql = older_after(older, lives);
+        live_and_change(host, path, transform, lists, life, sql)?
     };
     Ok(Staying {
         lists: lists.with_transform(Plain),
         memory,
+        older,
+        lives: lives.saturating_add(1),
         differences,
     })
 }
 
-fn opened_again<T: BlockTransform + Drop>(
-    alloc: Global,
-    memory: Connection<MemStore>,
-    transform: T,
-) -> Result<Books<MemStore, T>, Fail> {
-    if !memory.is_autocommit() {
-        return Err("a transaction is open".into());
+// What takes tables back after so many lives.
+fn older_after(older: &'static [&'static str], lives: usize) -> &'static str {
+    if older.is_empty() {
+        return "";
     }
-    match Books::open_from(alloc, memory, transform) {
-        Ok(books) => Ok(books),
-        Err((fault, _)) => Err(fault.into()),
-    }
+    older.get(lives % older.len()).copied().unwrap_or("")
 }
 
 // The lines of a life, beside the office in memory.
@@ -129,6 +163,7 @@ impl<T: BlockTransform + Drop> Life<T, (Connection<MemStore>, Differences)> for 
             }
         }
         agree(both)?;
+        agree_on_totals(&mut memory, &both.lists)?;
         Ok((memory.into_connection(), differences))
     }
 }

@@ -1,8 +1,9 @@
 //! Disks in memory that stop at a call, and the lives of offices on them.
 
-use books::Books;
+use crate::shown::all_shown;
+use books::{Books, OpenFault};
 use office_testing::both::serve_all;
-use sqlite::{Alter, Connection, FileStore, Files, Options};
+use sqlite::{Alter, Connection, Error, FileStore, Files, Options};
 use sqlite_disk::{Disk, Fuse, Memory};
 use std::alloc::{AllocError, Global};
 use std::io;
@@ -54,6 +55,10 @@ impl Stopping {
 pub(crate) struct Ended {
     /// `None` where the office was not opened.
     pub(crate) replies: Option<Vec<Reply>>,
+    /// Why it was not opened, where the database was.
+    pub(crate) fault: Option<OpenFault>,
+    /// Whether the books were stopped at the end.
+    pub(crate) is_stopped: bool,
     pub(crate) kept: Kept,
 }
 
@@ -108,14 +113,11 @@ fn connect(alloc: Global, kept: &Kept, stop: Stop) -> Result<Result<Stored, Kept
 fn opened<S: Alter + Drop>(
     alloc: Global,
     conn: Connection<S>,
-) -> Result<Result<Books<S, Plain>, Connection<S>>, Fail> {
+) -> Result<Result<Books<S, Plain>, (OpenFault, Connection<S>)>, Fail> {
     if !conn.is_autocommit() {
         return Err("a transaction is open".into());
     }
-    match Books::open_from(alloc, conn, Plain) {
-        Ok(books) => Ok(Ok(books)),
-        Err((_, conn)) => Ok(Err(conn)),
-    }
+    Ok(Books::open_from(alloc, conn, Plain))
 }
 
 fn store_of<S: Alter + Drop>(conn: Connection<S>) -> S {
@@ -126,18 +128,37 @@ fn store_of_books<S: Alter + Drop>(books: Books<S, Plain>) -> S {
     store_of(books.into_connection())
 }
 
+// What a life on a store ends with, but for what is kept.
+#[derive(Drop)]
+struct Lived {
+    replies: Option<Vec<Reply>>,
+    fault: Option<OpenFault>,
+    is_stopped: bool,
+}
+
 // The replies to these requests, and the store: no replies where it holds no office.
 fn live<S: Alter + Drop>(
     alloc: Global,
     conn: Connection<S>,
     script: &[Stamped],
-) -> Result<(Option<Vec<Reply>>, S), Fail> {
+) -> Result<(Lived, S), Fail> {
     match opened(alloc, conn)? {
         Ok(mut books) => {
-            let replies = serve_all(&mut books, script)?;
-            Ok((Some(replies), store_of_books(books)))
+            let lived = Lived {
+                replies: Some(serve_all(&mut books, script)?),
+                fault: None,
+                is_stopped: books.is_stopped(),
+            };
+            Ok((lived, store_of_books(books)))
         }
-        Err(conn) => Ok((None, store_of(conn))),
+        Err((fault, conn)) => {
+            let lived = Lived {
+                replies: None,
+                fault: Some(fault),
+                is_stopped: false,
+            };
+            Ok((lived, store_of(conn)))
+        }
     }
 }
 
@@ -155,15 +176,64 @@ pub(crate) fn life(
 ) -> Result<Ended, Fail> {
     match connect(alloc, kept, stop)? {
         Ok(conn) => {
-            let (replies, store) = live(alloc, conn, script)?;
-            let kept = keep(alloc, &store.close())?;
-            Ok(Ended { replies, kept })
+            let (lived, store) = live(alloc, conn, script)?;
+            let Lived {
+                replies,
+                fault,
+                is_stopped,
+            } = lived;
+            Ok(Ended {
+                replies,
+                fault,
+                is_stopped,
+                kept: keep(alloc, &store.close())?,
+            })
         }
         Err(kept) => Ok(Ended {
             replies: None,
+            fault: None,
+            is_stopped: false,
             kept,
         }),
     }
+}
+
+fn shown_of<S: Alter + Drop>(alloc: Global, conn: Connection<S>) -> Result<String, Fail> {
+    let mut conn = conn;
+    all_shown(alloc, &mut conn)
+}
+
+/// What the tables of what was kept show.
+pub(crate) fn kept_tables(alloc: Global, kept: &Kept) -> Result<String, Fail> {
+    match connect(alloc, kept, SOUND)? {
+        Ok(conn) => shown_of(alloc, conn),
+        Err(_) => Err("not opened on sound disks".into()),
+    }
+}
+
+fn batch<S: Alter>(conn: &mut Connection<S>, parts: &[&str]) -> Result<(), Error> {
+    for sql in parts {
+        conn.execute_batch(sql)?;
+    }
+    Ok(())
+}
+
+/// A file that these statements make. What they write stands in its log, or in the database.
+pub(crate) fn made(alloc: Global, parts: &[&str], in_log: bool) -> Result<Kept, Fail> {
+    let mut conn = match connect(alloc, &nothing(alloc), SOUND)? {
+        Ok(conn) => conn,
+        Err(_) => return Err("not opened on sound disks".into()),
+    };
+    batch(&mut conn, parts)?;
+    let files = if in_log {
+        store_of(conn).close()
+    } else {
+        match conn.close_files() {
+            Ok(files) => files,
+            Err(_) => return Err("not closed on sound disks".into()),
+        }
+    };
+    Ok(keep(alloc, &files)?)
 }
 
 /// How many rows a table of what was kept has.

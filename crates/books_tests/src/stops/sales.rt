@@ -1,168 +1,250 @@
-//! A store that stops at each of its calls: nothing that was acknowledged is lost, and a ref that
-//! comes again gives one sale.
+//! A store that stops at each of its calls, in two lives one after another: nothing that was
+//! acknowledged is lost, and what comes again is there once.
 
-use crate::stops::disks::{Ended, Kept, SOUND, Stopping, count, life, nothing};
-use office_testing::values::{
-    FIRST_DAY, METER, flat, meter, meter_no, moment, operator, order, stamped, tariff_name,
-};
+use crate::older::tables::FIRST_TABLES;
+use crate::shown::ALL_TABLES;
+use crate::stops::disks::{Ended, Kept, SOUND, Stop, Stopping, kept_tables, life, made, nothing};
+use crate::stops::scripts::{Script, script};
+use books::OpenFault;
 use std::alloc::Global;
 use std::process::Abort;
 use std::test::Fail;
-use sts_fields::{Amount, Base};
-use vend_core::{Answer, Ref, Refusal, Reply, Request, Sale, Stamped, Tender};
+
+// What is sent in each life, and what the tables have at the end.
+#[derive(Clone, Copy)]
+struct Sending {
+    // The statements that make the file of the first life; none, and there is no file.
+    begin: &'static [&'static str],
+    script: &'static str,
+    end: &'static str,
+}
 
 // A tariff, a meter, a shift, and three orders.
-fn script(alloc: Global) -> Result<Vec<Stamped>, Fail> {
-    let added = Request::AddTariff(tariff_name(b"flat")?, flat(alloc, 100)?);
-    let on_flat = Request::AddMeter(meter_no(METER)?, meter(Base::Y2014, b"flat")?);
-    Ok(vec![in alloc;
-        stamped(FIRST_DAY, 0, added)?,
-        stamped(FIRST_DAY, 0, on_flat)?,
-        stamped(FIRST_DAY, 0, Request::OpenShift(operator(b"ann")?))?,
-        stamped(FIRST_DAY, 1, order(b"A-1", METER, 10)?)?,
-        stamped(FIRST_DAY, 2, order(b"A-2", METER, 10)?)?,
-        stamped(FIRST_DAY, 3, order(b"A-3", METER, 10)?)?,
-    ]?)
-}
+const THREE_SALES: Sending = Sending {
+    begin: &[],
+    script: "
+> 1388534430 add-tariff flat :100
+  done
+> 1388534430 add-meter 12345678903 2014 flat 0000000000000000
+  done
+> 1388534430 open-shift ann
+  opened 1
+  refused 3 ShiftOpen
+> 1388534430 sell ann A-1 12345678903 10
+  sold 1 1388534430 1 ann A-1 12345678903 2014 2 1 1 10 10 00072057602627981690
+> 1388534430 sell ann A-2 12345678903 10
+  sold 2 1388534430 1 ann A-2 12345678903 2014 3 2 1 10 10 00144115200960832043
+> 1388534430 sell ann A-3 12345678903 10
+  sold 3 1388534430 1 ann A-3 12345678903 2014 4 3 1 10 10 00216172799293731483
+",
+    end: "\
+about 1 4
+tariff flat
+step flat 0 - 100
+meter 12345678903 2014 flat 0000000000000000
+shift 1 ann 1388534430 -
+sale 1 1388534430 252 1 ann A-1 12345678903 2014 2 1 1 10 10 00072057602627981690
+sale 2 1388534430 252 1 ann A-2 12345678903 2014 3 2 1 10 10 00144115200960832043
+sale 3 1388534430 252 1 ann A-3 12345678903 2014 4 3 1 10 10 00216172799293731483
+last 12345678903 2014 4
+month 12345678903 252 3
+totals 1 3 3 30
+base 12345678903 2014
+",
+};
 
-fn sale(number: u32, order_ref: &[u8], digits: &[u8; 20]) -> Result<Sale, Fail> {
-    Ok(Sale {
-        number,
-        moment: moment(FIRST_DAY)?,
-        shift: 1,
-        operator: operator(b"ann")?,
-        order_ref: Ref::read(order_ref).ok_or("no ref")?,
-        meter: meter_no(METER)?,
-        base: Base::Y2014,
-        tid: number.saturating_add(1),
-        rnd: u8::try_from(number)?,
-        tenths: Amount::of_tenths(1).ok_or("no amount")?,
-        price: 10,
-        tender: Tender::read(10).ok_or("no tender")?,
-        digits: *digits,
-    })
-}
+const FIRST_ROWS: &str = "INSERT INTO about VALUES (1, 1); \
+    INSERT INTO tariffs VALUES ('flat'); \
+    INSERT INTO tariff_steps VALUES ('flat', 0, NULL, 100); \
+    INSERT INTO meters VALUES ('12345678903', 2014, 'flat', '0000000000000000'), \
+    ('10000000009', 1993, 'flat', '0000000000000000'); \
+    INSERT INTO shifts VALUES (1, 'ann', 1388534430, NULL); \
+    INSERT INTO sales VALUES (1, 1388534430, 252, 1, 'ann', 'A-1', '12345678903', 2014, 2, 1, 1, \
+    10, 10, '00072057602627981690')";
 
-fn three_sales() -> Result<[Sale; 3], Fail> {
-    Ok([
-        sale(1, b"A-1", b"00072057602627981690")?,
-        sale(2, b"A-2", b"00144115200960832043")?,
-        sale(3, b"A-3", b"00216172799293731483")?,
-    ])
-}
+// The same in a file of format 1 that has the first of the sales, with a meter that is moved, and with
+// steps of a later day for two tariffs, of which one comes with an import.
+const LATER: Sending = Sending {
+    begin: &[FIRST_TABLES, FIRST_ROWS],
+    script: "
+> 1388534430 add-tariff flat :100
+  done
+> 1388534430 add-meter 12345678903 2014 flat 0000000000000000
+  done
+> 1388534430 import t,night,:50 m,79927398713,1993,night,0000000000000000 s,night,2014-02-01,:60
+  imported 3
+  imported 0
+> 1388534430 open-shift ann
+  refused 3 ShiftOpen
+> 1388534430 sell ann A-1 12345678903 10
+  sold 1 1388534430 1 ann A-1 12345678903 2014 2 1 1 10 10 00072057602627981690
+> 1388534430 sell ann A-2 12345678903 10
+  sold 2 1388534430 1 ann A-2 12345678903 2014 3 2 1 10 10 00144115200960832043
+> 1388534430 sell ann A-3 12345678903 10
+  sold 3 1388534430 1 ann A-3 12345678903 2014 4 3 1 10 10 00216172799293731483
+> 1388534430 sell ann B-1 10000000009 10
+  sold 4 1388534430 1 ann B-1 10000000009 1993 11044800 4 1 10 10 00335667430942643346
+> 1388534430 move-base 10000000009 2014
+  done
+> 1388534430 sell ann B-2 10000000009 10
+  sold 5 1388534430 1 ann B-2 10000000009 2014 2 5 1 10 10 00360287978779661691
+> 1388534430 add-steps flat 2014-02-01 :200
+  done
+> 1391212800 sell ann C-1 12345678903 100
+  sold 6 1391212800 1 ann C-1 12345678903 2014 44640 6 5 100 100 00432537291568026619
+> 1391212800 sell ann C-2 79927398713 60
+  sold 7 1391212800 1 ann C-2 79927398713 1993 11089440 7 10 60 60 00552031940397165256
+",
+    end: "\
+about 1 4
+tariff flat
+tariff night
+step flat 0 - 100
+step night 0 - 50
+meter 10000000009 2014 flat 0000000000000000
+meter 12345678903 2014 flat 0000000000000000
+meter 79927398713 1993 night 0000000000000000
+shift 1 ann 1388534430 -
+sale 1 1388534430 252 1 ann A-1 12345678903 2014 2 1 1 10 10 00072057602627981690
+sale 2 1388534430 252 1 ann A-2 12345678903 2014 3 2 1 10 10 00144115200960832043
+sale 3 1388534430 252 1 ann A-3 12345678903 2014 4 3 1 10 10 00216172799293731483
+sale 4 1388534430 252 1 ann B-1 10000000009 1993 11044800 4 1 10 10 00335667430942643346
+sale 5 1388534430 252 1 ann B-2 10000000009 2014 2 5 1 10 10 00360287978779661691
+sale 6 1391212800 253 1 ann C-1 12345678903 2014 44640 6 5 100 100 00432537291568026619
+sale 7 1391212800 253 1 ann C-2 79927398713 1993 11089440 7 10 60 60 00552031940397165256
+last 10000000009 1993 11044800
+last 10000000009 2014 2
+last 12345678903 2014 44640
+last 79927398713 1993 11089440
+month 10000000009 252 2
+month 12345678903 252 3
+month 12345678903 253 5
+month 79927398713 253 10
+totals 1 7 20 210
+base 10000000009 1993
+base 10000000009 2014
+base 12345678903 2014
+base 79927398713 1993
+from flat 7701 0 - 200
+from night 7701 0 - 60
+",
+};
 
-// Whether this is the reply to the request at this place of the script. The shift may stand.
-fn is_right(at: usize, reply: &Reply, sales: &[Sale]) -> bool {
-    match reply {
-        Ok(Answer::Done) => at < 2,
-        Ok(Answer::Opened(number)) => at == 2 && *number == 1,
-        Err(refusal) => at == 2 && *refusal == Refusal::ShiftOpen,
-        Ok(Answer::Sold(sale)) => at
-            .checked_sub(3)
-            .is_some_and(|place| sales.get(place) == Some(sale)),
-        _ => false,
+// The file of the first life.
+fn begun(alloc: Global, begin: &[&str]) -> Result<Kept, Fail> {
+    if begin.is_empty() {
+        return Ok(nothing(alloc));
     }
-}
-
-// How many of the replies are right, up to a failure of the store. After it each has to be Stopped;
-// `None` where a reply is another.
-fn answered(replies: &[Reply], sales: &[Sale]) -> Option<usize> {
-    let mut right = 0;
-    let mut stopped = false;
-    for (at, reply) in replies.iter().enumerate() {
-        match reply {
-            Err(Refusal::Stopped) if stopped => {}
-            Err(Refusal::Store) if !stopped => stopped = true,
-            _ if !stopped && is_right(at, reply, sales) => right = at.saturating_add(1),
-            _ => return None,
-        }
-    }
-    Some(right)
+    made(alloc, begin, false)
 }
 
 // The script in a life on disks that stop; where the office is not opened, in one on sound disks.
 // What is kept, and whether the store failed.
 fn sent(
     rt: &(impl Abort + AllocGlobal),
+    script: &Script,
     kept: &Kept,
-    stopping: Stopping,
-    calls: u64,
+    stop: Stop,
 ) -> Result<(Kept, bool), Fail> {
-    let (script, sales) = (script(rt.alloc())?, three_sales()?);
-    let Ended { replies, kept } = life(rt.alloc(), kept, stopping.after(calls), &script)?;
+    let Ended {
+        replies,
+        fault,
+        is_stopped,
+        kept,
+    } = life(rt.alloc(), kept, stop, &script.sent)?;
     match &replies {
         Some(replies) => {
-            let right = answered(replies, &sales);
-            assert!(rt; right.is_some(), "{replies:?} with {calls} calls");
-            Ok((kept, right != Some(script.len())))
+            let right = script.answered(rt.alloc(), replies)?;
+            assert!(rt; right.is_some(), "{replies:?}");
+            let has_failed = right != Some(script.sent.len());
+            assert_eq!(rt; is_stopped, has_failed, "{replies:?}");
+            Ok((kept, has_failed))
         }
-        None => Ok((finished(rt, &kept)?, true)),
+        None => {
+            assert!(rt; fault.is_none_or(|fault| fault == OpenFault::Store));
+            Ok((finished(rt, script, &kept)?, true))
+        }
     }
 }
 
 // The script in a life on sound disks, in which each request is granted.
-fn finished(rt: &(impl Abort + AllocGlobal), kept: &Kept) -> Result<Kept, Fail> {
-    let (script, sales) = (script(rt.alloc())?, three_sales()?);
-    let Ended { replies, kept } = life(rt.alloc(), kept, SOUND, &script)?;
-    match &replies {
-        Some(replies) => {
-            let right = answered(replies, &sales);
-            assert_eq!(rt; right, Some(script.len()), "{replies:?}");
-        }
-        None => assert!(rt; false, "not opened on sound disks"),
-    }
+fn finished(rt: &(impl Abort + AllocGlobal), script: &Script, kept: &Kept) -> Result<Kept, Fail> {
+    let Ended { replies, kept, .. } = life(rt.alloc(), kept, SOUND, &script.sent)?;
+    let replies = replies.ok_or("not opened on sound disks")?;
+    let right = script.answered(rt.alloc(), &replies)?;
+    assert_eq!(rt; right, Some(script.sent.len()), "{replies:?}");
     Ok(kept)
 }
 
-// One tariff, one meter, one shift and three sales.
-fn is_whole(rt: &(impl Abort + AllocGlobal), kept: &Kept) -> Result<(), Fail> {
-    let sql = "SELECT (SELECT count(*) FROM tariffs) * 10000 \
-        + (SELECT count(*) FROM tariff_steps) * 1000 + (SELECT count(*) FROM meters) * 100 \
-        + (SELECT count(*) FROM shifts) * 10 + (SELECT count(*) FROM sales)";
-    assert_eq!(rt; count(rt.alloc(), kept, sql)?, 11_113);
+// The second life stops within its first calls, or not at all.
+const SECOND: [u64; 12] = [0, 1, 2, 3, 4, 5, 6, 7, 8, 9, 10, u64::MAX];
+
+// After a first life, each second one and a third that is sound.
+fn second_lives(
+    rt: &(impl Abort + AllocGlobal),
+    script: &Script,
+    stopping: Stopping,
+    kept: &Kept,
+    end: &str,
+) -> Result<(), Fail> {
+    for calls in SECOND {
+        let (kept, _) = sent(rt, script, kept, stopping.after(calls))?;
+        let kept = finished(rt, script, &kept)?;
+        let tables = kept_tables(rt.alloc(), &kept)?;
+        let rows = tables.as_str().strip_prefix(ALL_TABLES);
+        assert!(rt; rows == Some(end), "{calls} calls: {tables}");
+    }
     Ok(())
 }
 
-// Three lives: the first two stop, the third is sound. Whether the store failed in the first.
-fn lives(
+// Each number of calls in the first life, up to the first at which no call fails.
+fn sweep(
     rt: &(impl Abort + AllocGlobal),
+    sending: Sending,
     stopping: Stopping,
-    first: u64,
-    second: u64,
-) -> Result<bool, Fail> {
-    let (kept, failed) = sent(rt, &nothing(rt.alloc()), stopping, first)?;
-    let (kept, _) = sent(rt, &kept, stopping, second)?;
-    is_whole(rt, &finished(rt, &kept)?)?;
-    Ok(failed)
-}
-
-// The second life stops within its first calls, or, after the last of these, not at all.
-const SECOND: [u64; 2] = [10, u64::MAX];
-
-// Each number of calls, up to the first at which no call fails.
-fn sweep(rt: &(impl Abort + AllocGlobal), stopping: Stopping) -> Result<u64, Fail> {
-    for first in 0..1000 {
-        let mut failed = false;
-        for second in SECOND {
-            failed = lives(rt, stopping, first, second)?;
-        }
-        if !failed {
-            return Ok(first);
+) -> Result<usize, Fail> {
+    let script = script(rt.alloc(), sending.script)?;
+    let begun = begun(rt.alloc(), sending.begin)?;
+    let mut pairs = 0usize;
+    for calls in 0..2000 {
+        let (kept, has_failed) = sent(rt, &script, &begun, stopping.after(calls))?;
+        second_lives(rt, &script, stopping, &kept, sending.end)?;
+        pairs = pairs.saturating_add(SECOND.len());
+        if !has_failed {
+            return Ok(pairs);
         }
     }
     Err("each number of calls was too small".into())
 }
 
 #[test]
-fn a_log_that_stops(rt: HostRuntime) -> Result<(), Fail> {
-    let calls = sweep(&rt, Stopping::Log)?;
-    assert!(rt; calls > 10, "{calls} calls");
+fn sales_that_the_log_stops(rt: HostRuntime) -> Result<(), Fail> {
+    let pairs = sweep(&rt, THREE_SALES, Stopping::Log)?;
+    println!(rt; "{pairs} pairs of lives")?;
+    assert!(rt; pairs > 120, "{pairs} pairs");
     Ok(())
 }
 
 #[test]
-fn a_database_that_stops(rt: HostRuntime) -> Result<(), Fail> {
-    let calls = sweep(&rt, Stopping::Database)?;
-    assert!(rt; calls > 1, "{calls} calls");
+fn sales_that_the_database_stops(rt: HostRuntime) -> Result<(), Fail> {
+    let pairs = sweep(&rt, THREE_SALES, Stopping::Database)?;
+    println!(rt; "{pairs} pairs of lives")?;
+    assert!(rt; pairs > 12, "{pairs} pairs");
+    Ok(())
+}
+
+#[test]
+fn later_requests_that_the_log_stops(rt: HostRuntime) -> Result<(), Fail> {
+    let pairs = sweep(&rt, LATER, Stopping::Log)?;
+    println!(rt; "{pairs} pairs of lives")?;
+    assert!(rt; pairs > 120, "{pairs} pairs");
+    Ok(())
+}
+
+#[test]
+fn later_requests_that_the_database_stops(rt: HostRuntime) -> Result<(), Fail> {
+    let pairs = sweep(&rt, LATER, Stopping::Database)?;
+    println!(rt; "{pairs} pairs of lives")?;
+    assert!(rt; pairs > 12, "{pairs} pairs");
     Ok(())
 }
