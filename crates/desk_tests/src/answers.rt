@@ -19,7 +19,7 @@ const ANN: &str = "{\"operator\":\"ann\"}";
 
 // Messages, and what their replies say: a method with its target and a body, and a status with its
 // phrase and a body.
-const ROWS: [(&str, &str, &str, &str); 29] = [
+const ROWS: [(&str, &str, &str, &str); 36] = [
     (
         "POST /tariffs",
         "{\"name\":\"flat\",\"steps\":\":100\"}",
@@ -79,6 +79,24 @@ const ROWS: [(&str, &str, &str, &str); 29] = [
         "{\"error\":\"Body\"}",
     ),
     (
+        "POST /meters",
+        "{\"base\":1993,\"key\":\"0000000000000000\",\"meter\":\"79927398713\",\"tariff\":\"flat\"}",
+        "200 OK",
+        DONE,
+    ),
+    (
+        "POST /meters/79927398713/base",
+        "{\"base\":2014}",
+        "200 OK",
+        DONE,
+    ),
+    (
+        "POST /meters",
+        "{\"base\":1993,\"key\":\"0000000000000000\",\"meter\":\"79927398713\",\"tariff\":\"flat\"}",
+        "409 Conflict",
+        "{\"error\":\"Differs\",\"refusal\":6}",
+    ),
+    (
         "POST /meters/00000000000/base",
         "{\"base\":2014}",
         "404 Not Found",
@@ -89,6 +107,30 @@ const ROWS: [(&str, &str, &str, &str); 29] = [
         "{\"base\":2014}",
         "404 Not Found",
         "{\"error\":\"NoRoute\"}",
+    ),
+    (
+        "POST /tariffs/flat/steps",
+        "{\"from\":\"2014-01-02\",\"steps\":\":200\"}",
+        "200 OK",
+        DONE,
+    ),
+    (
+        "POST /tariffs/flat/steps",
+        "{\"from\":\"2014-01-02\",\"steps\":\":200\"}",
+        "200 OK",
+        DONE,
+    ),
+    (
+        "POST /tariffs/flat/steps",
+        "{\"from\":\"2014-01-02\",\"steps\":\":300\"}",
+        "409 Conflict",
+        "{\"error\":\"Differs\",\"refusal\":6}",
+    ),
+    (
+        "POST /tariffs/flat/steps",
+        "{\"from\":\"2013-12-31\",\"steps\":\":300\"}",
+        "409 Conflict",
+        "{\"error\":\"DayPast\",\"refusal\":19}",
     ),
     (
         "POST /tariffs/flat/steps",

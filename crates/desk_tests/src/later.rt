@@ -1,13 +1,13 @@
 //! Later base dates and dated steps, message by message: what each asks of the office over plain lists,
-//! and that the desk tells what the books answer.
+//! and that a desk tells the same of books in memory and in a file.
 
 use crate::asked::{message, reply_bytes};
-use crate::offices::{listed, messages, moments, talk};
-use books::Books;
-use desk::{End, Form, Next, Outcome, Routes, next_of, request_of};
-use office_testing::asks::{Ask, Wanted, is_wanted, request};
-use office_testing::values::{FIRST_DAY, LAST_SECOND, moment};
-use sqlite::MemStore;
+use crate::offices::{Conversation, converse, listed};
+use desk::{Form, Next, Outcome, Routes, next_of, request_of};
+use office_testing::asks::{Ask, Wanted, is_wanted};
+use office_testing::both::in_memory;
+use office_testing::in_file::{live, remove};
+use office_testing::values::{FIRST_DAY, LAST_SECOND};
 use std::alloc::Global;
 use std::test::Fail;
 use sts_fields::Base;
@@ -130,9 +130,45 @@ static LATER: [(i64, Ask, Wanted); 25] = [
     ),
 ];
 
-// It has no clause: a proof takes much longer over a list that it knows item by item.
+// What is asked after it, of an office that was opened again or not. The minute after the last identifier
+// is reserved.
+static AGAIN: [(i64, Ask, Wanted); 7] = [
+    (
+        FEBRUARY,
+        Ask::AddSteps("flat", "2014-02-01", ":200"),
+        Wanted::Done,
+    ),
+    (
+        FEBRUARY,
+        Ask::AddSteps("flat", "2014-02-01", ":300"),
+        Wanted::Refused(Refusal::Differs),
+    ),
+    (FEBRUARY, Ask::MoveBase(M1993, Base::Y2014), Wanted::Done),
+    (
+        FEBRUARY,
+        Ask::MoveBase(M1993, Base::Y1993),
+        Wanted::Refused(Refusal::NotLater),
+    ),
+    (
+        FEBRUARY,
+        Ask::Sell("B-3", M2014, 100),
+        Wanted::Sold(5, 44_642),
+    ),
+    (
+        LAST_SECOND,
+        Ask::Sell("A-3", M1993, 100),
+        Wanted::Sold(6, 5_732_416),
+    ),
+    (LAST_SECOND, Ask::Receipt(1), Wanted::Reprinted(1)),
+];
+
+// They have no clause: a proof takes much longer over a list that it knows item by item.
 fn later() -> &'static [(i64, Ask, Wanted)] {
     &LATER
+}
+
+fn again() -> &'static [(i64, Ask, Wanted)] {
+    &AGAIN
 }
 
 // What the desk has a message ask. It has no clause either.
@@ -176,31 +212,22 @@ fn over_lists(rt: HostRuntime) -> Result<(), Fail> {
     Ok(())
 }
 
-// What books answer that are asked without a desk.
-fn answered(
-    alloc: Global,
-    books: &mut Books<MemStore, Plain>,
-    seconds: i64,
-    ask: Ask,
-) -> Result<Reply, Fail> {
-    Ok(books.ask(moment(seconds)?, request(alloc, ask)?))
+#[test]
+fn at_a_desk_in_memory(rt: HostRuntime) -> Result<(), Fail> {
+    let mut both = in_memory(rt.alloc())?;
+    converse(&rt, &mut both, later())?;
+    converse(&rt, &mut both, again())
 }
 
 #[test]
-fn as_the_books_answer(rt: HostRuntime) -> Result<(), Fail> {
-    let alloc = rt.alloc();
-    let mut books = Books::in_memory(alloc, Plain)?;
-    let input = messages(alloc, later())?;
-    let told = talk(alloc, &mut books, &input, &moments(alloc, later())?)?;
-    assert_eq!(rt; told.end, End::Closed);
-    let mut rest = told.text.as_slice();
-    let mut others = Books::in_memory(alloc, Plain)?;
-    for (seconds, ask, _) in later() {
-        let reply = answered(alloc, &mut others, *seconds, *ask)?;
-        let bytes = reply_bytes(alloc, false, &reply)?;
-        assert!(rt; rest.starts_with(&bytes), "{reply:?}");
-        rest = rest.get(bytes.len()..).unwrap_or(b"");
+fn at_a_desk_over_a_file(rt: HostRuntime) -> Result<(), Fail> {
+    let path = "later.db";
+    remove(rt.alloc(), &rt, path)?;
+    let mut lists = Lists::new(rt.alloc(), Plain);
+    for asks in [later(), again()] {
+        let life = Conversation { rt: &rt, asks };
+        (lists, ()) = live(&rt, path, Plain, lists, life)?;
     }
-    assert!(rt; rest.is_empty());
-    Ok(())
+    drop(lists);
+    remove(rt.alloc(), &rt, path)
 }

@@ -15,16 +15,16 @@ use std::test::Fail;
 use sts_token::{BlockTransform, Plain};
 use vend_core::{Lists, Reply, Request};
 
-/// What a conversation came to: its end, and what was written.
+// What a conversation came to: its end, and what was written.
 #[derive(Drop)]
-pub(crate) struct Told {
-    pub(crate) end: End,
-    pub(crate) text: Vec<u8>,
+struct Told {
+    end: End,
+    text: Vec<u8>,
 }
 
-/// The conversation of these bytes, whose clock gives these moments. It has no clause, so that the
-/// proof of a test does not carry what the desk promises.
-pub(crate) fn talk<S: Alter, T: BlockTransform>(
+// The conversation of these bytes, whose clock gives these moments. It has no clause, so that the
+// proof of a test does not carry what the desk promises.
+fn talk<S: Alter, T: BlockTransform>(
     alloc: Global,
     books: &mut Books<S, T>,
     input: &[u8],
@@ -39,8 +39,8 @@ pub(crate) fn talk<S: Alter, T: BlockTransform>(
     Ok(Told { end, text })
 }
 
-/// All messages of a list.
-pub(crate) fn messages(alloc: Global, asks: &[(i64, Ask, Wanted)]) -> Result<Vec<u8>, Fail> {
+// All messages of a list.
+fn messages(alloc: Global, asks: &[(i64, Ask, Wanted)]) -> Result<Vec<u8>, Fail> {
     let mut input = Vec::new(alloc);
     for (_, ask, _) in asks {
         input.extend_from_slice(message(alloc, *ask)?.as_bytes())?;
@@ -48,8 +48,8 @@ pub(crate) fn messages(alloc: Global, asks: &[(i64, Ask, Wanted)]) -> Result<Vec
     Ok(input)
 }
 
-/// The moments of a list.
-pub(crate) fn moments(alloc: Global, asks: &[(i64, Ask, Wanted)]) -> Result<Vec<i64>, Fail> {
+// The moments of a list.
+fn moments(alloc: Global, asks: &[(i64, Ask, Wanted)]) -> Result<Vec<i64>, Fail> {
     let mut moments = Vec::new(alloc);
     for (seconds, _, _) in asks {
         moments.push(*seconds)?;
@@ -83,8 +83,8 @@ fn after_reply<'text, T: BlockTransform>(
     Ok(text.get(bytes.len()..).unwrap_or(b""))
 }
 
-// The list in one conversation.
-fn converse<S: Alter, T: BlockTransform>(
+/// A list in one conversation.
+pub(crate) fn converse<S: Alter, T: BlockTransform>(
     rt: &(impl Abort + AllocGlobal),
     both: &mut Both<S, T>,
     asks: &[(i64, Ask, Wanted)],
@@ -302,15 +302,16 @@ fn the_list_at_a_desk_in_memory(rt: HostRuntime) -> Result<(), Fail> {
     converse_on(&rt, &mut both)
 }
 
-// A life in which the list is one conversation.
+/// A life in which a list is one conversation.
 #[derive(Drop)]
-struct FirstConversation<'a, A> {
-    rt: &'a A,
+pub(crate) struct Conversation<'a, A> {
+    pub(crate) rt: &'a A,
+    pub(crate) asks: &'static [(i64, Ask, Wanted)],
 }
 
-impl<T: BlockTransform, A: Abort + AllocGlobal> Life<T, ()> for FirstConversation<'_, A> {
+impl<T: BlockTransform, A: Abort + AllocGlobal> Life<T, ()> for Conversation<'_, A> {
     fn live<S: Alter>(self, both: &mut Both<S, T>) -> Result<(), Fail> {
-        converse(self.rt, both, asks())
+        converse(self.rt, both, self.asks)
     }
 }
 
@@ -331,7 +332,11 @@ fn the_list_at_a_desk_over_a_file(rt: HostRuntime) -> Result<(), Fail> {
     let path = "desk.db";
     remove(rt.alloc(), &rt, path)?;
     let lists = Lists::new(rt.alloc(), Plain);
-    let (lists, ()) = live(&rt, path, Plain, lists, FirstConversation { rt: &rt })?;
+    let first = Conversation {
+        rt: &rt,
+        asks: asks(),
+    };
+    let (lists, ()) = live(&rt, path, Plain, lists, first)?;
     let _ = live(&rt, path, Plain, lists, NextConversation { rt: &rt })?;
     remove(rt.alloc(), &rt, path)
 }
