@@ -1,11 +1,10 @@
 -- An office that was brought to the present format is the one that the store stood for.
-use Rattle.std.proofs.Common.{◌≡◌, ◌≤◌, ◌⊎◌, ℕ, ◌+◌, length, IsTrue, IfErr, IfOk, IsErrAnd, OnErr, OnOk, Result, Ok, Err, ◌∙◌, refl, sym, ap, subst, inl, inr, arith}
+use Rattle.std.proofs.Common.{◌≡◌, ◌≤◌, ◌<◌, ◌⊎◌, ℕ, zero, suc, ◌+◌, length, IsTrue, IfErr, IsErrAnd, Result, Ok, Err, ◌∙◌, refl, sym, ap, subst, inl, inr, arith}
 use Rattle.std.proofs.lemmas.Result.{IfErr-weaker, IfOk-weaker, on_ok_weaker}
 use Rattle.sqlite_trees.specs.Tree.{Trees}
 use Rattle.sqlite.specs.Effect.{Database}
 use Rattle.sqlite.specs.State.{HasCleanDisk, IsUnchanged, State, Survives}
 use Rattle.sqlite.proofs.StateLemmas.{survives_then}
-use Rattle.one_table.specs.Answer.{IsLeft}
 use Rattle.one_table.specs.Committing.{LeavesMade}
 use Rattle.vend_core.specs.Office.{Office}
 use Rattle.book_tables.proofs.HoldsLemmas.{held_as, stands_present}
@@ -15,7 +14,7 @@ use Rattle.books.specs.Keeps.{RecoversTo, StoreStandsFor}
 use Rattle.book_tables.specs.Making.{BringsOffice}
 use Rattle.book_tables.specs.Reading.{HasTables}
 use Rattle.book_tables.specs.Rows.{present_format}
-use Rattle.books.specs.Opening.{BringsAny, EndsOpening, HasSoundDatabase, HasTablesOf, IsBrought, IsNextSale, LeavesBrought, LeavesRefused, LooksAt, OpensAs, OpensAt, Refuses, ShowsNoOffice, TellsNoOffice}
+use Rattle.books.specs.Opening.{BringsAny, BringsTold, EndsOpening, HasSoundDatabase, HasTablesOf, IsBrought, IsNextSale, LeavesBrought, LeavesRefused, LooksAt, OpensAs, OpensAt, Refuses, ShowsNoOffice, TellsFormat, TellsNoOffice}
 use Rattle.books.specs.Same.{IsSame}
 use Rattle.books.specs.declared.fault.OpenFault.{OpenFault}
 use Rattle.books.specs.declared.fault.OpenFault.TheVariants.{NotAnOffice, Store, Memory}
@@ -97,7 +96,7 @@ module _ (old mid new : State) (same : HasCleanDisk mid → IsUnchanged old mid)
   finds_after clean h = let it = look clean in record {
     was_open = it.0.was_open;
     is_open = h.is_open;
-    now = subst (λ (db : Database). BringsAny db new.now ⊎ (HasOffice db.schema × HasFormat db present_format × (new.now ≡ db))) it.0.now_is h.now;
+    now = subst (λ (db : Database). BringsTold db new.now ⊎ (HasOffice db.schema × HasFormat db present_format × (new.now ≡ db))) it.0.now_is h.now;
   }
 
   pub opens_after : (next : ℕ) → HasCleanDisk new → OpensAt mid new next → OpensAt old new next
@@ -171,10 +170,10 @@ module _ (old new : State) where
       subst (λ (f : OpenFault). EndsOpening old new (Err f)) (sym is) (refuses_nothing fault (λ clean. left_same old new settled (looks.kept clean has)) (looks.survives has) (λ clean. looks.other clean has sound))
 
   -- the office was brought to the present format
-  pub ends_brought : (from next : ℕ) → from ≤ present_format → (HasCleanDisk new → IsNextSale old next) → (HasCleanDisk new → IsBrought from old new) → Survives old new (LeavesBrought old) → EndsOpening old new (Ok next)
-  ends_brought from next known is brought survives = record {
+  pub ends_brought : (from next : ℕ) → from < present_format → (HasCleanDisk new → TellsFormat from old.now) → (HasCleanDisk new → IsNextSale old next) → (HasCleanDisk new → IsBrought from old new) → Survives old new (LeavesBrought old) → EndsOpening old new (Ok next)
+  ends_brought from next known told is brought survives = record {
     opens = λ clean. opens_brought old new clean survives from next (is clean) (brought clean);
-    finds = λ clean. let it = brought clean in record { was_open = it.was_open; is_open = it.is_open; now = inl (from, known, it.brings) };
+    finds = λ clean. let it = brought clean in record { was_open = it.was_open; is_open = it.is_open; now = inl (from, known, it.brings, told clean) };
     refused = λ _. tt;
     survives = survives;
     risks = tt;
@@ -213,6 +212,11 @@ same_none s = record { was_open = λ k. k; now_is = λ _. refl }
 -- a database that has the tables of no format stands for no office
 pub no_office : (db : Database) (o : Office) → ((n : ℕ) → n ≤ present_format → ¬ HasOfficeOf n db.schema) → ¬ StandsFor db o
 no_office db o none stands = none stands.format stands.known stands.held.1.has
+
+-- a format that is told
+pub told_format : (n : ℕ) (db : Database) → HasFormat db n → TellsFormat n db
+told_format zero db told = tt
+told_format (suc n) db told = told
 
 -- where there are no tables, the next sale is the first
 pub first_sale : (s : State) → IsTrue s.is_open → HasOfficeOf 0 s.now.schema → IsNextSale s 1

@@ -1,5 +1,5 @@
 -- What looks at the store leave, and what they tell of it.
-use Rattle.std.proofs.Common.{◌≡◌, ◌≢◌, ◌≤◌, ◌⊎◌, ℕ, zero, suc, false, true, OnOk, OnErr, IfErr, None, Some, Option, Result, Ok, Err, ◌∙◌, refl, sym, ap, subst, inl, inr, arith, nat_eq}
+use Rattle.std.proofs.Common.{◌≡◌, ◌≢◌, ◌≤◌, ◌⊎◌, ℕ, zero, suc, false, true, OnOk, OnErr, IfErr, None, Some, Option, Result, ◌∙◌, refl, sym, ap, subst, inl, inr, arith, nat_eq}
 use Rattle.std.proofs.lemmas.Bool.{both_ways, cases_Bool, le-leb}
 use Rattle.std.proofs.lemmas.Bool.Decides.{nat_tests}
 use Rattle.std.specs.Option.{option_eq}

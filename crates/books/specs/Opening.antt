@@ -1,5 +1,5 @@
 -- What the opening of an office makes of a database.
-use Rattle.std.specs.Prelude.{◌≡◌, ◌≤◌, ◌⊎◌, ℕ, ◌+◌, length, Result, IfErr, IfOk, IsTrue, OnErr, OnOk}
+use Rattle.std.specs.Prelude.{◌≡◌, ◌<◌, ◌⊎◌, ℕ, zero, suc, ◌+◌, length, Result, IfErr, IfOk, IsTrue, OnErr, OnOk}
 use Rattle.sqlite.specs.Effect.{Database, IsDatabase}
 use Rattle.sqlite.specs.State.{HasCleanDisk, IsUnchanged, State, Survives}
 use Rattle.sqlite.specs.declared.error.Error.{Error}
@@ -23,11 +23,21 @@ use Rattle.books.specs.declared.fault.OpenFault.TheVariants.{NotAnOffice, Store,
 -- The tables of a format were brought to the present one, in place of none or of those of an older
 -- format.
 abbrev pub BringsAny : Database → Database → Type 0
-BringsAny old new = (from : ℕ) × (from ≤ present_format) × BringsOffice from old new
+BringsAny old new = (from : ℕ) × (from < present_format) × BringsOffice from old new
+
+-- `about` tells the format of the tables, where there are tables
+abbrev pub TellsFormat : ℕ → Database → Type 0
+TellsFormat zero db = Unit {0}
+TellsFormat (suc n) db = HasFormat db (suc n)
+
+-- they were brought to it, and had told their format
+abbrev pub BringsTold : Database → Database → Type 0
+BringsTold old new =
+    (from : ℕ) × (from < present_format) × BringsOffice from old new × TellsFormat from old
 
 -- the office may be brought to the present format in a sound database that has the tables of a format
-abbrev pub Brings : ℕ → Database → Database → Type 0
-Brings from old new = IsDatabase old → HasOfficeOf from old.schema → BringsOffice from old new
+abbrev pub BringsSound : ℕ → Database → Database → Type 0
+BringsSound from old new = IsDatabase old → HasOfficeOf from old.schema → BringsOffice from old new
 
 -- an open connection has the office in the present format
 pub record IsBrought (from : ℕ) (old new : State) : Type 0 where
@@ -35,12 +45,12 @@ pub record IsBrought (from : ℕ) (old new : State) : Type 0 where
   pub is_open : IsTrue new.is_open
   pub brings : BringsOffice from old.now new.now
 
--- What is opened is an office of the present format, which stays as it is, or one that is brought to
--- it, as where none was.
+-- What is opened is an office of the present format, which stays as it is, or one of an older format
+-- or of none, which is brought to it. Where tables are found, `about` tells their format.
 pub record OpensAs (old new : State) : Type 0 where
   pub was_open : IsTrue old.is_open
   pub is_open : IsTrue new.is_open
-  pub now : BringsAny old.now new.now
+  pub now : BringsTold old.now new.now
       ⊎ (HasOffice old.now.schema × HasFormat old.now present_format × (new.now ≡ old.now))
 
 -- while the connection is open, it has a sound database

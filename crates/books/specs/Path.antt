@@ -40,7 +40,7 @@ module _ {D : Type 0} {g : Ghosts D} where
 
   -- None was opened over a connection that was just made to the files. A fault that names the file
   -- is true of it. The connection has what it had, and what the files stood for it stands for; a
-  -- crash leaves nothing new, but after Store maybe the empty office where nothing was.
+  -- crash leaves nothing new, but after Store maybe the office in the present format.
   pub record RefusesConnection (image : Image) (fault : OpenFault) (last : Held (FileStore D g)) :
       Type 0 where
     pub first : Held (FileStore D g)

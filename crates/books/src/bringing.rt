@@ -5,7 +5,7 @@ ghost use Rattle.sqlite.specs.State.{HasCleanDisk, Survives};
 ghost use Rattle.sqlite.specs.Held.{state};
 ghost use Rattle.book_tables.specs.Making.{HasFormatTables, TellsOf};
 ghost use Rattle.book_tables.specs.Rows.{present_format};
-ghost use Rattle.books.specs.Opening.{Brings, IsBrought, LeavesBrought, LeavesRefused, TellsNoOffice};
+ghost use Rattle.books.specs.Opening.{BringsSound, IsBrought, LeavesBrought, LeavesRefused, TellsNoOffice};
 ghost use Rattle.books.specs.Same.{IsSame};
 
 use crate::fault::OpenFault;
@@ -27,7 +27,7 @@ struct Bringing {
 impl<S: Alter> Change<S> for Bringing {
     type Fault = TableError;
 
-    ghost makes = { λ change. Brings change.from };
+    ghost makes = { λ change. BringsSound change.from };
 
     ghost tells = { λ change. TellsOf change.from };
 

@@ -19,8 +19,9 @@ use vend_core::life_law;
 
 impl<S: Alter, T: BlockTransform + Drop> Books<S, T> {
     /// Opens the office that the connection's database stands for. In a database that has none of
-    /// the office's tables it is the empty one, whose tables are made in one commit. Tables of other
-    /// names stay as they are. The connection has to be in no transaction (`is_autocommit`).
+    /// the office's tables it is the empty one, whose tables are made in one commit. One of an older
+    /// format is brought to the present one, also in one commit. Tables of other names stay as they
+    /// are. The connection has to be in no transaction (`is_autocommit`).
     ///
     /// # Errors
     /// `NotAnOffice` where the database stands for no office; `Store` and `Memory`. The connection

@@ -1,4 +1,3 @@
-use Rattle.std.proofs.Common.{arith}
 use Rattle.sqlite.specs.Held.{state}
 use Rattle.books.proofs.BringingLemmas.{leaves_brought, tells_no_office}
 use Rattle.books.proofs.bringing.bring_office.Goals as goal
@@ -10,8 +9,8 @@ returns-in-Err-Unmade-clause-told g c = λ clean is_open has.
 
 pub returns-in-Err-InDoubt-clause-survives : goal.returns-in-Err-InDoubt-clause-survives
 returns-in-Err-InDoubt-clause-survives g c = λ opens has.
-    leaves_brought c.args.from (state g.S.Store c.args.conn.now) (state g.S.Store c.change_once.new.conn) (omega (arith, c.requires.older)) opens has c.change_once.ensures.crash
+    leaves_brought c.args.from (state g.S.Store c.args.conn.now) (state g.S.Store c.change_once.new.conn) c.requires.older opens has c.change_once.ensures.crash
 
 pub returns-in-Err-InDoubt-clause-risks : goal.returns-in-Err-InDoubt-clause-risks
 returns-in-Err-InDoubt-clause-risks g c = λ opens has.
-    leaves_brought c.args.from (state g.S.Store c.args.conn.now) (state g.S.Store c.change_once.new.conn) (omega (arith, c.requires.older)) opens has c.change_once.ensures.crash
+    leaves_brought c.args.from (state g.S.Store c.args.conn.now) (state g.S.Store c.change_once.new.conn) c.requires.older opens has c.change_once.ensures.crash

@@ -1,6 +1,5 @@
 use Rattle.std.proofs.Common.{rules}
 use Rattle.sqlite.specs.Held.{state}
-use Rattle.one_table.proofs.ReadsOnlyLemmas.{read_where}
 use Rattle.book_tables.specs.Kept.{sales_kept}
 use Rattle.books.proofs.OpeningLemmas.{at_sales, has_kept, shows_fault}
 use Rattle.books.proofs.opening.next_by_sales.Goals as goal

@@ -2,7 +2,6 @@ use Rattle.std.proofs.Common.{◌≡◌, ◌≤◌, ℕ, rules, arith, ap, sym, 
 use Rattle.sqlite.specs.Held.{state}
 use Rattle.book_tables.specs.Format.{HasFormat}
 use Rattle.book_tables.specs.Holds.{HasOffice, HasOfficeOf}
-use Rattle.book_tables.specs.Making.{HasFormatTables}
 use Rattle.book_tables.specs.Reading.{HasTables}
 use Rattle.book_tables.specs.Rows.{present_format}
 use Rattle.books.specs.Opening.{HasSoundDatabase, IsNextSale, LooksAt}

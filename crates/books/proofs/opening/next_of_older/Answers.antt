@@ -1,4 +1,4 @@
-use Rattle.std.proofs.Common.{rules, IsTrue, arith}
+use Rattle.std.proofs.Common.{rules, IsTrue}
 use Rattle.sqlite.specs.Held.{state}
 use Rattle.books.specs.Opening.{HasTablesOf}
 use Rattle.books.proofs.BroughtLemmas.{ends_looked}
@@ -11,7 +11,7 @@ returns-clause-ends g c = λ opens has.
     let looks = c.in_ok-next.ensures.looks in
     let tables : HasTablesOf c.args.from old = λ is_open. (has is_open).1 in
     ends_older c.args.from old (state g.S.Store c.next_of_office.new.conn) (state g.S.Store c.bring_office.new.conn) (g.met.S.Store.shut_if_dirty c.next_of_office.new.conn.store) has (λ clean. looks.same clean tables)
-    (looks.survives tables) c.bring_office.ensures.survives c.in_ok-next.next (omega (arith, c.requires.older)) (λ clean. (looks.finds clean tables (λ is_open. (has is_open).0)).1) c.in_ok-bring_office.ensures.brought
+    (looks.survives tables) c.bring_office.ensures.survives c.in_ok-next.next c.requires.older (λ clean. looks.finds clean tables (λ is_open. (has is_open).0)) c.in_ok-bring_office.ensures.brought
 
 pub returns-in_err-bring_office-clause-ends : goal.returns-in_err-bring_office-clause-ends
 returns-in_err-bring_office-clause-ends g c = λ opens has.

@@ -1,4 +1,4 @@
-use Rattle.std.proofs.Common.{rules, inl, sym, ◌∙◌, arith}
+use Rattle.std.proofs.Common.{rules, inl, sym, ◌∙◌}
 use Rattle.sqlite.specs.Held.{state}
 use Rattle.book_tables.specs.Kept.{about_kept}
 use Rattle.book_tables.proofs.HoldsLemmas.{held_as}

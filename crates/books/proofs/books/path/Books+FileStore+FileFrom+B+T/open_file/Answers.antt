@@ -1,4 +1,3 @@
-use Rattle.sqlite_wal.specs.Files.{image_at}
 use Rattle.std.proofs.Common.{arith}
 use Rattle.sqlite.specs.Files.{file_state}
 use Rattle.sqlite.specs.State.{HasCleanDisk}
