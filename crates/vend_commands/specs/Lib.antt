@@ -2,7 +2,6 @@ pub mod Exported
 pub mod Imported
 pub mod Listening
 pub mod Metered
-pub mod Places
 pub mod Printed
 pub mod Quoted
 pub mod Run
@@ -11,9 +10,9 @@ pub mod Selling
 pub mod Served
 pub mod Status
 pub mod Tasks
-pub mod Timed
 pub mod Told
 pub mod Trial
 pub mod Tried
 pub mod Unread
 pub mod Visited
+pub mod Ways

@@ -1,10 +1,10 @@
 -- What `serve` does: where it listens is told, and connections are served one after another.
-use Rattle.std.specs.Prelude.{◌≡◌, ◌≢◌, ◌↔◌, ℕ, ℤ, zero, suc, ◌≤◌, Bool, true, false, List, [], ◌++◌, Option}
+use Rattle.std.specs.Prelude.{◌≡◌, ◌≢◌, ◌↔◌, ℕ, zero, suc, ◌≤◌, Bool, true, false, List, [], ◌++◌, Option, None}
 use Rattle.sqlite.specs.State.{HasCleanDisk}
 use Rattle.sqlite_trees.specs.declared.store.Store.{Ghosts}
+use Rattle.sqlite_wal.specs.Recovery.{Image}
 use Rattle.books.specs.Keeps.{Represents, Seen}
 use Rattle.books.specs.Others.{LeavesOthers}
-use Rattle.books.specs.declared.books.Books.{Books}
 use Rattle.books.specs.declared.fault.OpenFault.{OpenFault}
 use Rattle.books.specs.declared.fault.OpenFault.TheVariants.{OldOffice}
 use Rattle.desk.specs.Answering.{answers_by, life_serves, message_refusal_of}
@@ -14,15 +14,14 @@ use Rattle.desk.specs.declared.end.End as conversation
 use Rattle.sts_fields.specs.Text.{Text}
 use Rattle.vend_core.specs.Life.{Life}
 use Rattle.vend_core.specs.declared.refusal.Refusal.TheVariants.{Memory}
-use Rattle.vend_commands.specs.Places.{Place}
 use Rattle.vend_commands.specs.Printed.{listening_line, net_line, opening_line, refusal_line}
 use Rattle.vend_commands.specs.Told.{Outputs, IsTold}
 use Rattle.vend_commands.specs.Visited.{IsOpened, seen_in}
 use Rattle.command_line.specs.declared.address.Address.{Address}
 use Rattle.command_line.specs.declared.commands.serve.ServeWords.{ServeWords}
-use Rattle.command_line.specs.declared.transform.Shipped.{Shipped}
 use Rattle.vend_commands.specs.declared.end.End.{End}
 use Rattle.vend_commands.specs.declared.end.End.TheVariants.{Done, Refused}
+use Rattle.vend_commands.specs.declared.file_books.FileBooks.{FileBooks}
 
 -- Every life that books kept they keep as it went on so, and no table of another name has changed.
 abbrev pub GoOn : (old new : Seen) → (Life → Life → Type 0) → Type 0
@@ -62,40 +61,24 @@ serving_stop_end false = Refused
 
 -- Books were open to connections: every life that they kept they keep as it went on by what the
 -- connections asked, and by nothing beside.
-pub record WereOpen (words : ServeWords) (old new : Seen) (answers : Option (List ℤ)) (o : Outputs)
-    (end : End) : Type 0 where
+pub record WereOpen (words : ServeWords) (old new : Seen) (o : Outputs) (end : End) : Type 0 where
   pub port : ℕ
   pub is_port : IsPortFor words.listen port
   pub all : Bool
   pub told : IsTold o [] (listening_line words.listen port ++ stop_line all) (serving_stop_end all) end
-  pub lives : GoOn old new (λ life after. (left : Option (List ℤ))
-      × AreServed words.connections all (life, answers) (after, left))
+  pub lives : GoOn old new (λ life after.
+      AreServed words.connections all (life, None) (after, None))
 
--- every life that the books kept, they keep as it was
-abbrev pub KeepLives : (old new : Seen) → Type 0
-KeepLives old new = (life : Life) → Represents life old → Represents life new
-
--- There is no room for the desk, or no listener, and that is told; or where it listens cannot be
--- told; or the books were open to connections.
-pub data IsListening (words : ServeWords) (old new : Seen) (answers : Option (List ℤ)) (o : Outputs)
-    (end : End) : Type 0 where
-  no_desk : KeepLives old new → IsTold o [] (refusal_line Memory) Refused end
-      → IsListening words old new answers o end
-  no_listener : KeepLives old new → IsTold o [] net_line Refused end
-      → IsListening words old new answers o end
-  not_told : (port : ℕ) → IsPortFor words.listen port → KeepLives old new
-      → o.err_new.failed ≡ true → IsTold o [] (listening_line words.listen port) Refused end
-      → IsListening words old new answers o end
-  was_open : WereOpen words old new answers o end → IsListening words old new answers o end
-
--- The file is not opened, and that is told; or books are opened in it, connections to them are
--- awaited, and the file is closed as it was left.
-pub data IsServing {S : Type 0} (store : Ghosts S) (at : Text → Place) (answers : Option (List ℤ))
-    (words : ServeWords) (o : Outputs) (end : End) : Type 0 where
-  unopened : (fault : OpenFault) → (at words.file.now).fails fault → fault ≢ OldOffice
-      → IsTold o [] (opening_line fault) Refused end → IsServing store at answers words o end
-  opened : (old new : Books S Shipped store)
-      → IsOpened (at words.file.now).image words.transform old
-      → (at words.file.now).finds (seen_in old)
-      → IsListening words (seen_in old) (seen_in new) answers o end
-      → (at words.file.now).closes (seen_in new) → IsServing store at answers words o end
+-- The file is not opened, there is no room for the desk, or no listener, and that is told; or where it
+-- listens cannot be told; or books are opened in the file, and are open to connections.
+pub data IsServing {S : Type 0} (store : Ghosts S) (image : Image) (words : ServeWords)
+    (o : Outputs) (end : End) : Type 0 where
+  not_opened : (fault : OpenFault) → fault ≢ OldOffice
+      → IsTold o [] (opening_line fault) Refused end → IsServing store image words o end
+  no_desk : IsTold o [] (refusal_line Memory) Refused end → IsServing store image words o end
+  no_listener : IsTold o [] net_line Refused end → IsServing store image words o end
+  not_told : (port : ℕ) → IsPortFor words.listen port
+      → IsTold o [] (listening_line words.listen port) Refused end
+      → IsServing store image words o end
+  was_open : (old new : FileBooks S store) → IsOpened image words.transform old
+      → WereOpen words (seen_in old) (seen_in new) o end → IsServing store image words o end

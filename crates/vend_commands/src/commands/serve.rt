@@ -1,59 +1,54 @@
 ghost use Rattle.std.specs.Prelude.{◌≡◌, ℕ};
-ghost use Rattle.vend_commands.specs.Listening.{IsListening, IsPortFor, IsServing};
-ghost use Rattle.vend_commands.specs.Places.{places};
+ghost use Rattle.sqlite_wal.specs.Files.{image_at};
+ghost use Rattle.sqlite_wal.specs.Recovery.{Image};
+ghost use Rattle.vend_commands.specs.Listening.{IsPortFor, IsServing};
 ghost use Rattle.vend_commands.specs.Printed.{address_text, net_line, refusal_line};
-ghost use Rattle.vend_commands.specs.Told.{Sink, Takes, outputs, sink};
-ghost use Rattle.vend_commands.specs.Visited.{seen_in};
+ghost use Rattle.vend_commands.specs.Told.{HasBeginning, Held, outputs};
+ghost use Rattle.vend_commands.specs.Visited.{IsOpened};
 
 use crate::end::End;
-use crate::listening::{port_of, serve};
-use crate::ports::OfficeFile;
-use crate::printed::{address_text, put_line, put_opening, put_refusal};
-use crate::watched::Watched;
-use books::Books;
-use command_line::{ServeWords, Shipped};
-use desk::{Clock, Desk};
-use sqlite::Alter;
+use crate::file_books::FileBooks;
+use crate::listening::port_of;
+use crate::printed::{address_text, write_line};
+use crate::told::{tell, tell_opening, tell_refusal};
+use command_line::ServeWords;
+use desk::{Desk, MachineClock};
+use sqlite::{Alter, FileFrom, FileStore, Start};
+use sqlite_trees::store::Store;
 use std::io::Write;
 use std::net::TcpListener;
 use vend_core::Refusal;
 
 /// Opens the office and serves its connections.
-pub(crate) fn run<H: OfficeFile, C: Clock, E: Write>(
+pub(crate) fn run<B: Start, E: Write>(
     words: &ServeWords,
     rt: &HostRuntime,
-    office: H,
-    clock: &mut C,
-    err: &mut Watched<'_, E>,
+    start: B,
+    err: &mut E,
 ) -> End
-    ensures { (held : Sink) → IsServing H.Kept.Store (places (H.image office) (H.finds office) (H.fails office) H.closes)
-        (C.answers clock.old) words.now
-        (outputs held held (sink E.contents err.old) (sink E.contents err.new)) result }
+    ensures { (held : Held) → IsServing ⟦<FileStore<FileFrom<B>> as Store>⟧
+        (image_at B.Start) words.now
+        (outputs held held (E.contents err.old) (E.contents err.new)) result }
 {
-    match office.open(words.file, words.transform) {
-        Ok(mut books) => {
-            let end = listen(words, rt, &mut books, clock, err);
-            H::close(books);
-            end
-        }
+    match FileBooks::open(rt, start, words.file, words.transform) {
+        Ok(mut books) => listen(words, rt, &mut books, err),
         Err(fault) => {
-            put_opening(fault, err);
+            tell_opening(fault, err);
             End::Refused
         }
     }
 }
 
 // Has a desk and a listener for the books, tells where it listens, and serves.
-fn listen<S: Alter, C: Clock, E: Write>(
+fn listen<S: Alter, E: Write>(
     words: &ServeWords,
     rt: &HostRuntime,
-    books: &mut Books<S, Shipped>,
-    clock: &mut C,
-    err: &mut Watched<'_, E>,
+    books: &mut FileBooks<S>,
+    err: &mut E,
 ) -> End
-    ensures { (held : Sink) → IsListening words.now (seen_in books.old) (seen_in books.new)
-        (C.answers clock.old)
-        (outputs held held (sink E.contents err.old) (sink E.contents err.new)) result }
+    ensures { (held : Held) (image : Image)
+        → IsOpened image words.now.transform books.old → IsServing S.Store image words.now
+        (outputs held held (E.contents err.old) (E.contents err.new)) result }
 {
     let Ok(desk) = Desk::new(rt.alloc()) else {
         return no_room(err);
@@ -67,39 +62,51 @@ fn listen<S: Alter, C: Clock, E: Write>(
     let Ok(address) = address_text(rt.alloc(), words.listen, port) else {
         return no_room(err);
     };
-    put_line(&[b"listening", address.as_bytes()], err);
-    // Where that cannot be told nobody is served.
-    if err.has_failed() {
-        return End::Refused;
+    serve(words, rt, &desk, &listener, address.as_bytes(), books, err)
+}
+
+// Tells where it listens, and serves. Where that cannot be told nobody is served.
+fn serve<S: Alter, E: Write>(
+    words: &ServeWords,
+    rt: &HostRuntime,
+    desk: &Desk,
+    listener: &TcpListener,
+    address: &[u8],
+    books: &mut FileBooks<S>,
+    err: &mut E,
+) -> End
+    ensures { (held : Held) (image : Image) (port : ℕ)
+        → IsOpened image words.now.transform books.old
+        → IsPortFor words.now.listen port → address.now ≡ address_text words.now.listen port
+        → IsServing S.Store image words.now
+        (outputs held held (E.contents err.old) (E.contents err.new)) result }
+{
+    match write_line(&[b"listening", address], err) {
+        Ok(()) => {}
+        Err(_) => return End::Refused,
     }
-    if serve(
-        rt.alloc(),
-        &desk,
-        &listener,
-        words.connections,
-        books,
-        clock,
-    ) {
+    let mut clock = MachineClock::new(rt);
+    if books.serve(rt.alloc(), desk, listener, words.connections, &mut clock) {
         return End::Done;
     }
     no_listener(err)
 }
 
 // Tells that there is no room for the desk.
-fn no_room<E: Write>(err: &mut Watched<'_, E>) -> End
-    ensures told { Takes (sink E.contents err.old) (sink E.contents err.new)
+fn no_room<E: Write>(err: &mut E) -> End
+    ensures told { HasBeginning (E.contents err.old) (E.contents err.new)
         (refusal_line Refusal.Memory) }
     ensures end { result ≡ End.Refused }
 {
-    put_refusal(Refusal::Memory, err);
+    tell_refusal(Refusal::Memory, err);
     End::Refused
 }
 
 // Tells that the connections cannot be had.
-fn no_listener<E: Write>(err: &mut Watched<'_, E>) -> End
-    ensures told { Takes (sink E.contents err.old) (sink E.contents err.new) net_line }
+fn no_listener<E: Write>(err: &mut E) -> End
+    ensures told { HasBeginning (E.contents err.old) (E.contents err.new) net_line }
     ensures end { result ≡ End.Refused }
 {
-    put_line(&[b"net"], err);
+    tell(&[b"net"], err);
     End::Refused
 }

@@ -1,0 +1,11 @@
+use Rattle.std.proofs.Common.{◌≡◌, ℕ, List}
+use Rattle.books.specs.Keeps.{seen}
+use Rattle.vend_commands.proofs.ExportLemmas.{SoFar}
+use Rattle.vend_commands.proofs.exporting.export.Given as goal
+
+-- the pages before this one stand on the output, and nothing on the error output
+abbrev pub invariant-loop-page : goal.invariant-loop-page
+invariant-loop-page g l =
+    let forwards = g.T.BlockTransform.forwards in
+    (front : List ℕ) × SoFar (seen g.S.Store forwards l.fn.books) (seen g.S.Store forwards l.books) (g.O.Write.contents l.fn.out) (g.O.Write.contents l.out) l.page front
+    × (g.E.Write.contents l.err ≡ g.E.Write.contents l.fn.err)

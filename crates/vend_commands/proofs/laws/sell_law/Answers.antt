@@ -1,9 +1,0 @@
-use Rattle.vend_commands.specs.Places.{places}
-use Rattle.vend_commands.proofs.SellLemmas.{ends_sold, sale_told}
-use Rattle.vend_commands.proofs.laws.sell_law.Goals as goal
-
-pub returns : goal.returns
-returns g c = record {
-  done = λ file words moment office o stands sold. ends_sold g.H.OfficeFile.Kept.Store c.office_law.ensures.answers_stand (places (g.H.OfficeFile.image file) (g.H.OfficeFile.finds file) (g.H.OfficeFile.fails file) g.H.OfficeFile.closes) words moment office o stands sold;
-  told = sale_told;
-}
