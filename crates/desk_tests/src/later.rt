@@ -223,11 +223,16 @@ fn at_a_desk_in_memory(rt: HostRuntime) -> Result<(), Fail> {
 fn at_a_desk_over_a_file(rt: HostRuntime) -> Result<(), Fail> {
     let path = "later.db";
     remove(rt.alloc(), &rt, path)?;
-    let mut lists = Lists::new(rt.alloc(), Plain);
-    for asks in [later(), again()] {
-        let life = Conversation { rt: &rt, asks };
-        (lists, ()) = live(&rt, path, Plain, lists, life)?;
-    }
-    drop(lists);
+    let lists = Lists::new(rt.alloc(), Plain);
+    let first = Conversation {
+        rt: &rt,
+        asks: later(),
+    };
+    let (lists, ()) = live(&rt, path, Plain, lists, first)?;
+    let next = Conversation {
+        rt: &rt,
+        asks: again(),
+    };
+    let _ = live(&rt, path, Plain, lists, next)?;
     remove(rt.alloc(), &rt, path)
 }
