@@ -74,7 +74,7 @@ quote_low None = omega arith
 quote_low (Some b) = omega arith
 
 visit_ends : {S : Type 0} (store : Ghosts S) (image : Image) (transform : Shipped) (task : Task) (o : Outputs) (end : End) → IsVisited store image transform task o end → exit_status_of end ≤ 1
-visit_ends store image transform task o end (unopened fault new told) = told_ends o _ _ how.Refused end (omega arith) told
+visit_ends store image transform task o end (unopened fault told) = told_ends o _ _ how.Refused end (omega arith) told
 visit_ends store image transform (Ask moment request) o end (visited old new opened done) = reply_ends done.reply o end done.told
 visit_ends store image transform Export o end (visited old new opened done) = told_ends o _ _ (export_stop_end done.stop) end (stop_low done.stop) done.told
 
@@ -92,7 +92,7 @@ stop_is_low true = omega arith
 stop_is_low false = omega arith
 
 serving_ends : {S : Type 0} (store : Ghosts S) (image : Image) (words : ServeWords) (o : Outputs) (end : End) → IsServing store image words o end → exit_status_of end ≤ 1
-serving_ends store image words o end (not_opened fault new told) = told_ends o _ _ how.Refused end (omega arith) told
+serving_ends store image words o end (not_opened fault told) = told_ends o _ _ how.Refused end (omega arith) told
 serving_ends store image words o end (no_desk told) = told_ends o _ _ how.Refused end (omega arith) told
 serving_ends store image words o end (no_listener told) = told_ends o _ _ how.Refused end (omega arith) told
 serving_ends store image words o end (not_told port is told) = told_ends o _ _ how.Refused end (omega arith) told

@@ -105,7 +105,7 @@ sale_told sale o end (inl told) = told
 sale_told sale o end (inr (none, told)) = absurd none
 
 pub ends_sold : {S : Type 0} (store : Ghosts S) (answers_stand : (forward : BlockFunction) (o : Office) (at : Stamped) → All (Contains (step forward o at).sales) (sales_of (reply forward o at))) (image : Image) (words : SellWords) (moment : ℕ) (office : Office) (o : Outputs) → StandsIn image office → IsSold store image words moment o how.Done → EndsSold store words moment office o
-ends_sold store answers_stand image words moment office o stands (unopened fault new told) = absurd (not_refused o _ _ told)
+ends_sold store answers_stand image words moment office o stands (unopened fault told) = absurd (not_refused o _ _ told)
 ends_sold store answers_stand image words moment office o stands (visited old new begins done) =
     let forward = forward_of words.transform in
     let told = is_answered done.reply o done.told in

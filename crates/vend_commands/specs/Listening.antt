@@ -6,7 +6,6 @@ use Rattle.sqlite_wal.specs.Recovery.{Image}
 use Rattle.books.specs.Keeps.{Represents, Seen}
 use Rattle.books.specs.Others.{LeavesOthers}
 use Rattle.books.specs.declared.fault.OpenFault.{OpenFault}
-use Rattle.books.specs.declared.fault.OpenFault.TheVariants.{OldOffice}
 use Rattle.desk.specs.Answering.{answers_by, life_serves, message_refusal_of}
 use Rattle.desk.specs.Exchanges.{Timed}
 use Rattle.desk.specs.Run.{IsRun}
@@ -73,7 +72,7 @@ pub record WereOpen (words : ServeWords) (old new : Seen) (o : Outputs) (end : E
 -- listens cannot be told; or books are opened in the file, and are open to connections.
 pub data IsServing {S : Type 0} (store : Ghosts S) (image : Image) (words : ServeWords)
     (o : Outputs) (end : End) : Type 0 where
-  not_opened : (fault : OpenFault) → fault ≢ OldOffice
+  not_opened : (fault : OpenFault)
       → IsTold o [] (opening_line fault) Refused end → IsServing store image words o end
   no_desk : IsTold o [] (refusal_line Memory) Refused end → IsServing store image words o end
   no_listener : IsTold o [] net_line Refused end → IsServing store image words o end

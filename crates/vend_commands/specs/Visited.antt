@@ -6,7 +6,6 @@ use Rattle.sqlite_wal.specs.Recovery.{Image}
 use Rattle.books.specs.Keeps.{Represents, Seen, seen}
 use Rattle.books.specs.Path.{StandsIn}
 use Rattle.books.specs.declared.fault.OpenFault.{OpenFault}
-use Rattle.books.specs.declared.fault.OpenFault.TheVariants.{OldOffice}
 use Rattle.vend_core.specs.LifeLaws.{opened}
 use Rattle.vend_core.specs.Office.{Office}
 use Rattle.vend_commands.specs.Exported.{IsExported}
@@ -53,7 +52,7 @@ IsDone Export old new o end = IsExported old new o end
 -- and the task is done there.
 pub data IsVisited {S : Type 0} (store : Ghosts S) (image : Image) (transform : Shipped)
     (task : Task) (o : Outputs) (end : End) : Type 0 where
-  unopened : (fault : OpenFault) → fault ≢ OldOffice
+  unopened : (fault : OpenFault)
       → IsTold o [] (opening_line fault) Refused end → IsVisited store image transform task o end
   visited : (old new : FileBooks S store) → IsOpened image transform old
       → IsDone task (seen_in old) (seen_in new) o end → IsVisited store image transform task o end

@@ -39,7 +39,6 @@ impl<B: Start> FileBooks<FileStore<FileFrom<B>>> {
         transform: Shipped,
     ) -> Result<FileBooks<FileStore<FileFrom<B>>>, OpenFault>
         ensures opened { IfOk result (IsOpened (image_at B.Start) transform) }
-        ensures never_old { IfErr result (λ fault. fault ≢ OpenFault.OldOffice) }
     {
         match transform {
             Shipped::Plain => match Books::open_path(rt, file, start, Plain) {

@@ -7,4 +7,4 @@ pub returns-in-Ok : goal.returns-in-Ok
 returns-in-Ok g c = visited c.in-Ok.books c.carry_out.new.self c.in-Ok.ensures.opened c.carry_out.ensures
 
 pub returns-in-Err : goal.returns-in-Err
-returns-in-Err g c = unopened c.in-Err.fault c.in-Err.ensures.never_old (inl (Appends-nil (g.O.Write.contents c.args.out.now), c.tell_opening.ensures, refl))
+returns-in-Err g c = unopened c.in-Err.fault (inl (Appends-nil (g.O.Write.contents c.args.out.now), c.tell_opening.ensures, refl))

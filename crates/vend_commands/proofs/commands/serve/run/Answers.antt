@@ -8,4 +8,4 @@ pub returns-in-Ok : goal.returns-in-Ok
 returns-in-Ok g c = at_opened _ c.args.words.now c.in-Ok.books _ _ c.listen.result _ c.listen.ensures c.in-Ok.ensures.opened
 
 pub returns-in-Err : goal.returns-in-Err
-returns-in-Err g c held = not_opened c.in-Err.fault c.in-Err.ensures.never_old (inl (Appends-nil held, c.tell_opening.ensures, refl))
+returns-in-Err g c held = not_opened c.in-Err.fault (inl (Appends-nil held, c.tell_opening.ensures, refl))
