@@ -30,13 +30,22 @@ class Refused(Exception):
         self.name = name
 
 
+def read_source():
+    """The parts of the program's source of texts, each from the name of a constant on."""
+    return SOURCE.read_text().split("const ")[1:]
+
+
+def in_one_line(text):
+    return " ".join(text.replace("\\\n", " ").split())
+
+
 def read_texts():
     """The texts of the program's statements, by the names that its source gives them."""
     texts = {}
-    for part in SOURCE.read_text().split("const ")[1:]:
+    for part in read_source():
         name, is_text, rest = part.partition(": &str")
         if is_text:
-            texts[name] = " ".join(rest.split('"')[1].replace("\\\n", " ").split())
+            texts[name] = in_one_line(rest.split('"')[1])
     return texts
 
 
@@ -44,6 +53,11 @@ def month_of(moment):
     """Months since January 1993."""
     date = time.gmtime(moment)
     return (date.tm_year - 1993) * 12 + date.tm_mon - 1
+
+
+def day_of(moment):
+    """Days since 1993-01-01."""
+    return (moment - BASES[1993]) // 86400
 
 
 def fresh_tid(base, moment, last):
@@ -123,8 +137,9 @@ class Office:
         self.conn = sqlite3.connect(file, isolation_level=None)
         for setting in ("journal_mode = WAL", "synchronous = FULL", "foreign_keys = ON"):
             self.conn.execute(f"PRAGMA {setting}")
-        if self.rows("FORMAT") != [(1, 1)]:
+        if self.rows("FORMAT") != [(1, 4)]:
             raise SystemExit("open 1 NotAnOffice")
+        self.sold = (self.row("LAST_SALE_NUMBER") or (0,))[0]
 
     def close(self):
         self.conn.close()
@@ -135,13 +150,19 @@ class Office:
     def row(self, name, *values):
         return self.conn.execute(self.texts[name], values).fetchone()
 
-    def write(self, name, rows):
-        """Runs a statement once a row, in one transaction."""
-        text = self.texts[name]
+    def write(self, *statements):
+        """Runs statements with their values in one transaction. What they answer."""
         self.conn.execute("BEGIN")
-        for row in rows:
-            self.conn.execute(text, row)
+        answers = [self.row(name, *values) for name, *values in statements]
         self.conn.execute("COMMIT")
+        return answers
+
+    def steps_on(self, tariff, day):
+        """The steps of a tariff on a day."""
+        begun = self.row("FIRST_DAY_UNTIL", tariff, day)
+        if begun:
+            return self.rows("STEPS_FROM", tariff, *begun)
+        return self.rows("STEPS_OF", tariff)
 
     def sell(self, operator, ref, meter, tender, moment):
         there = self.row("SALE_OF_REF", operator, ref)
@@ -156,17 +177,24 @@ class Office:
         if not buyer:
             raise Refused(4, "NoMeter")
         base, tariff, _ = buyer
-        steps = self.rows("STEPS_OF", tariff)
+        steps = self.steps_on(tariff, day_of(moment))
         month = month_of(moment)
-        last = max((tid for (tid,) in self.rows("TIDS_SOLD", meter, base)), default=0)
-        prior = sum(tenths for (tenths,) in self.rows("TENTHS_SOLD", meter, month))
-        number = (self.row("LAST_SALE_NUMBER") or (0,))[0] + 1
+        [last] = self.row("LAST_ID", meter, base) or [0]
+        [prior] = self.row("MONTH_TENTHS", meter, month) or [0]
+        number = self.sold + 1
         tid = fresh_tid(base, moment, last)
         tenths, price, code = purchase(steps, prior, tender)
         rnd = number % 16
         digits = token(rnd, tid, code)
-        self.write("NEW_SALE", [(number, moment, month, shift[0], operator, ref, meter, base, tid,
-                                 rnd, tenths, price, tender, digits)])
+        _, told, all_tenths, _ = self.write(
+            ("NEW_SALE", number, moment, month, shift[0], operator, ref, meter, base, tid, rnd,
+             tenths, price, tender, digits),
+            ("LAST_ID_SET", meter, base, tid),
+            ("TENTHS_ADDED", meter, month, tenths),
+            ("SALE_COUNTED", shift[0], tenths, price))
+        if (told, all_tenths) != ((tid,), (prior + tenths,)):
+            raise SystemExit("the totals are not those of the sales")
+        self.sold = number
         return (number, moment, shift[0], operator, ref, meter, base, tid, rnd, tenths, price,
                 tender, digits)
 
@@ -199,5 +227,7 @@ class Office:
             else:
                 new[meter[0]] = meter[1:]
         if new:
-            self.write("NEW_METER", [(meter, *rest) for meter, rest in new.items()])
+            rows = [(("NEW_METER", meter, *rest), ("NEW_BASE", meter, rest[0]))
+                    for meter, rest in new.items()]
+            self.write(*(row for both in rows for row in both))
         return len(new)
