@@ -1,0 +1,10 @@
+use Rattle.std.proofs.Common.{◌∙◌, Ok, ap, subst, sym}
+use Rattle.vend_commands.specs.Listening.{stop_line}
+use Rattle.vend_commands.specs.Told.{Takes, sink}
+use Rattle.vend_commands.proofs.TakeLemmas.{takes_none}
+use Rattle.vend_commands.proofs.commands.serve.end_with.Goals as goal
+
+pub returns-then-all-clause-told : goal.returns-then-all-clause-told
+returns-then-all-clause-told g c =
+    let held = sink g.E.Write.contents c.args.err.now in
+    subst (λ served. Takes held held (stop_line served)) (sym (c.in-Ok.is ∙ ap (λ all. Ok (c.in-Ok.books, all)) c.if-all.true)) (takes_none held)
