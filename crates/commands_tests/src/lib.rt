@@ -2,13 +2,9 @@
 #![tactic(auto)]
 
 #[cfg(test)]
-mod bases;
-#[cfg(test)]
 mod cuts;
 #[cfg(test)]
 mod faults;
-#[cfg(test)]
-mod files;
 #[cfg(test)]
 mod folder;
 #[cfg(test)]

@@ -1,77 +1,72 @@
 ghost use Rattle.std.specs.Prelude.{◌≡◌, List};
 ghost use Rattle.papers.specs.File.{AreFileRecords, Fields};
 ghost use Rattle.papers.specs.Import.{IsReading};
-ghost use Rattle.vend_commands.specs.Imported.{IsFileImported, IsImported, read_fault_line, refusal_of_rows};
-ghost use Rattle.vend_commands.specs.Places.{again, places};
-ghost use Rattle.vend_commands.specs.Told.{Takes, outputs, sink};
+ghost use Rattle.sqlite_wal.specs.Files.{image_at};
+ghost use Rattle.vend_commands.specs.Imported.{IsFileImported, IsImported, refusal_of_rows};
+ghost use Rattle.vend_commands.specs.Told.{outputs};
 
 use crate::end::End;
-use crate::errand::Errand;
 use crate::opening::visit;
-use crate::ports::{OfficeFile, TextFiles};
-use crate::printed::{put_line, put_refusal};
-use crate::read_fault::ReadFault;
 use crate::task::Task;
-use crate::watched::Watched;
+use crate::told::{tell, tell_refusal};
 use command_line::ImportWords;
 use papers::{FileKind, RowFault, read_meters, read_tariffs};
-use sqlite::FileStore;
+use sqlite::{FileFrom, FileStore, Start};
 use sqlite_trees::store::Store;
 use std::alloc::Global;
-use std::io::Write;
+use std::fs;
+use std::io::{ErrorKind, Write};
 use sts_fields::Moment;
 use vend_core::{Refusal, Request, Rows};
 
 /// Reads the file of rows, adds them to the office, and prints how many were new.
-pub(crate) fn run<H: OfficeFile, F: TextFiles, O: Write, E: Write>(
+pub(crate) fn run<B: Start, O: Write, E: Write>(
     words: &ImportWords,
-    alloc: Global,
-    office: H,
-    texts: &F,
+    rt: &HostRuntime,
+    start: B,
     moment: Moment,
-    out: &mut Watched<'_, O>,
-    err: &mut Watched<'_, E>,
+    out: &mut O,
+    err: &mut E,
 ) -> End
-    ensures { IsFileImported ⟦<FileStore<H::Medium> as Store>⟧ (places (H.image office) (H.finds office) (H.fails office) H.closes (again H.reopens H.loses H.finds_left))
-        (F.reads texts.now) (F.lacks texts.now) words.now moment
-        (outputs (sink O.contents out.old) (sink O.contents out.new)
-        (sink E.contents err.old) (sink E.contents err.new)) result }
+    ensures { IsFileImported ⟦<FileStore<FileFrom<B>> as Store>⟧ (image_at B.Start)
+        words.now moment (outputs (O.contents out.old) (O.contents out.new)
+        (E.contents err.old) (E.contents err.new)) result }
 {
-    match texts.read(words.csv) {
-        Ok(bytes) => add(words, alloc, office, moment, &bytes, out, err),
-        Err(fault) => {
-            put_read_fault(fault, err);
+    match fs::read(rt, words.csv) {
+        Ok(bytes) => add(words, rt, start, moment, &bytes, out, err),
+        Err(error) => {
+            if error.kind() == ErrorKind::OutOfMemory {
+                tell_refusal(Refusal::Memory, err);
+            } else {
+                tell(&[b"file"], err);
+            }
             End::Refused
         }
     }
 }
 
 // Adds the rows that these bytes have.
-fn add<H: OfficeFile, O: Write, E: Write>(
+fn add<B: Start, O: Write, E: Write>(
     words: &ImportWords,
-    alloc: Global,
-    office: H,
+    rt: &HostRuntime,
+    start: B,
     moment: Moment,
     bytes: &[u8],
-    out: &mut Watched<'_, O>,
-    err: &mut Watched<'_, E>,
+    out: &mut O,
+    err: &mut E,
 ) -> End
-    ensures { IsImported ⟦<FileStore<H::Medium> as Store>⟧ (places (H.image office) (H.finds office) (H.fails office) H.closes (again H.reopens H.loses H.finds_left))
+    ensures { IsImported ⟦<FileStore<FileFrom<B>> as Store>⟧ (image_at B.Start)
         words.now moment bytes.now
-        (outputs (sink O.contents out.old) (sink O.contents out.new)
-        (sink E.contents err.old) (sink E.contents err.new)) result }
+        (outputs (O.contents out.old) (O.contents out.new)
+        (E.contents err.old) (E.contents err.new)) result }
 {
-    match rows_of(words, alloc, bytes) {
+    match rows_of(words, rt.alloc(), bytes) {
         Ok(rows) => {
-            let errand = Errand {
-                transform: words.transform,
-                file: words.file,
-                task: Task::Ask(moment, Request::Import(rows)),
-            };
-            visit(alloc, office, errand, out, err)
+            let task = Task::Ask(moment, Request::Import(rows));
+            visit(rt, start, words.transform, words.file, task, out, err)
         }
         Err(fault) => {
-            put_refusal(refusal_of(fault), err);
+            tell_refusal(refusal_of(fault), err);
             End::Refused
         }
     }
@@ -95,15 +90,5 @@ fn refusal_of(fault: RowFault) -> Refusal
     match fault {
         RowFault::At(row, cause) => Refusal::ImportRow(row, cause),
         RowFault::Memory => Refusal::Memory,
-    }
-}
-
-// Tells why a file is not read.
-fn put_read_fault<E: Write>(fault: ReadFault, err: &mut Watched<'_, E>)
-    ensures { Takes (sink E.contents err.old) (sink E.contents err.new) (read_fault_line fault) }
-{
-    match fault {
-        ReadFault::Unreadable => put_line(&[b"file"], err),
-        ReadFault::Memory => put_refusal(Refusal::Memory, err),
     }
 }
