@@ -8,6 +8,7 @@ mod attempt;
 mod close;
 mod commit;
 mod failing;
+mod files;
 mod memory;
 mod open;
 mod pages;

@@ -1,0 +1,53 @@
+//! An office in two files that are at hand.
+
+ghost use Rattle.std.specs.Prelude.{◌≡◌, false, IfErr, IfOk, IsTrue};
+ghost use Rattle.sqlite.specs.Files.{image_of, over_files};
+ghost use Rattle.vend_core.specs.LifeLaws.{opened};
+ghost use Rattle.vend_core.specs.Office.{Office};
+ghost use Rattle.books.specs.Keeps.{HaveTables, Represents, seen};
+ghost use Rattle.books.specs.Path.{OpensFiles, RefusesFiles, StandsIn};
+
+use crate::books::Books;
+use crate::fault::OpenFault;
+use crate::opening::fault_of;
+use crate::reopening::opening_law;
+use sqlite::{Connection, FileStore, Options};
+use sqlite_disk::{Disk, Files};
+use std::alloc::Global;
+use sts_token::BlockTransform;
+
+impl<D: Disk + Drop, T: BlockTransform + Drop> Books<FileStore<D>, T> {
+    /// Opens the office in a database file and its log, on whatever they are kept, or begins one in
+    /// files that have nothing. `options` have the salt of a new log. Neither file has had a sync that
+    /// failed (`is_usable`).
+    ///
+    /// # Errors
+    /// As those of `open_path`. The connection to the files comes back, if there is one.
+    pub fn open_files(
+        alloc: Global,
+        files: Files<D>,
+        options: Options,
+        transform: T,
+    ) -> Result<Books<FileStore<D>, T>, (OpenFault, Option<Connection<FileStore<D>>>)>
+        requires log { IsTrue (D.Disk.is_usable files.log) }
+        requires db { IsTrue (D.Disk.is_usable files.db) }
+        ensures opens { (o : Office) → StandsIn (image_of D.Disk files) o
+            → IfOk result (λ books. Represents
+            (opened (T.forwards transform) o) (seen over_files T.forwards books)) }
+        ensures tables { IfOk result (λ books. HaveTables (seen over_files T.forwards books)) }
+        ensures finds { IfOk result (λ books. OpensFiles (image_of D.Disk files) books.conn) }
+        ensures running { IfOk result (λ books. books.stopped ≡ false) }
+        ensures refused { IfErr result (λ e. RefusesFiles (image_of D.Disk files) e.0 e.1) }
+    {
+        opening_law::<FileStore<D>>();
+        // A file that is made here has no sums, so that any SQLite may read and write it.
+        let conn = match Connection::open_files(alloc, files, options) {
+            Ok(conn) => conn,
+            Err((error, _)) => return Err((fault_of(error), None)),
+        };
+        match Books::open_from(alloc, conn, transform) {
+            Ok(books) => Ok(books),
+            Err((fault, conn)) => Err((fault, Some(conn))),
+        }
+    }
+}
