@@ -2,15 +2,16 @@
 use Rattle.std.specs.Prelude.{◌≡◌, List, [], Option, Some, None, codes}
 use Rattle.clap.specs.Walk.{Row}
 use Rattle.sts_fields.specs.Text.{Text}
-use Rattle.command_line.specs.Commands.{SaysImport, SaysMeterCommand, SaysQuote, SaysReport, SaysSelfcheck, SaysSell, SaysServe, SaysShift, SaysTrial}
+use Rattle.command_line.specs.Commands.{SaysBaseCommand, SaysImport, SaysMeterCommand, SaysQuote, SaysReport, SaysSelfcheck, SaysSell, SaysServe, SaysShift, SaysTrial}
 use Rattle.command_line.specs.Line.{command_in, faults_in}
 use Rattle.command_line.specs.declared.asked.Asked.{Asked}
-use Rattle.command_line.specs.declared.asked.Asked.TheVariants.{Trial, Import, Shift, Sell, Report, Meter, Quote, Serve, Selfcheck}
+use Rattle.command_line.specs.declared.asked.Asked.TheVariants.{Trial, Import, Base, Shift, Sell, Report, Meter, Quote, Serve, Selfcheck}
 
 -- the name of the command
 abbrev pub name_of : Asked → Text
 name_of (Trial words) = codes "trial"
 name_of (Import words) = codes "import"
+name_of (Base words) = codes "base"
 name_of (Shift words) = codes "shift"
 name_of (Sell words) = codes "sell"
 name_of (Report words) = codes "report"
@@ -23,6 +24,7 @@ name_of (Selfcheck words) = codes "selfcheck"
 abbrev pub ArgumentsSay : List Row → Asked → Type 0
 ArgumentsSay rows (Trial words) = SaysTrial rows words
 ArgumentsSay rows (Import words) = SaysImport rows words
+ArgumentsSay rows (Base words) = SaysBaseCommand rows words
 ArgumentsSay rows (Shift words) = SaysShift rows words
 ArgumentsSay rows (Sell words) = SaysSell rows words
 ArgumentsSay rows (Report words) = SaysReport rows words

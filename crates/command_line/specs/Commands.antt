@@ -7,11 +7,12 @@ use Rattle.sts_fields.specs.Text.{Text}
 use Rattle.command_line.specs.Address.{SaysAddress}
 use Rattle.command_line.specs.Said.{IsArgument, IsOptionalArgument, parsed_arguments, parsed_argument}
 use Rattle.command_line.specs.Values.{SayEach, SaysAmount, SaysBase, SaysConnections, SaysItem, SaysKey, SaysMeterNo, SaysMoment, SaysOperator, SaysPrior, SaysRef, SaysSteps, SaysTender, SaysText, SaysTransform}
+use Rattle.command_line.specs.declared.commands.base.BaseWords.{BaseWords}
 use Rattle.command_line.specs.declared.commands.import.ImportWords.{ImportWords}
 use Rattle.command_line.specs.declared.commands.meter.MeterWords.{MeterWords}
 use Rattle.command_line.specs.declared.commands.quote.QuoteWords.{QuoteWords}
 use Rattle.command_line.specs.declared.commands.report.Paper.{Paper}
-use Rattle.command_line.specs.declared.commands.report.Paper.TheVariants.{Shift, Receipt, Sales}
+use Rattle.command_line.specs.declared.commands.report.Paper.TheVariants.{Shift, Receipt, Totals, Sales}
 use Rattle.command_line.specs.declared.commands.report.ReportWords.{ReportWords}
 use Rattle.command_line.specs.declared.commands.selfcheck.SelfcheckWords.{SelfcheckWords}
 use Rattle.command_line.specs.declared.commands.sell.SellWords.{SellWords}
@@ -58,6 +59,13 @@ pub record SaysImport (rows : List Row) (words : ImportWords) : Type 0 where
   pub kind : IsArgument SaysKind (parsed_argument (codes "kind") rows) words.kind
   pub csv : IsArgument SaysText (parsed_argument (codes "csv") rows) words.csv
 
+pub record SaysBaseCommand (rows : List Row) (words : BaseWords) : Type 0 where
+  pub transform : IsArgument SaysTransform (parsed_argument (codes "transform") rows) words.transform
+  pub file : IsArgument SaysText (parsed_argument (codes "file") rows) words.file
+  pub meter : IsArgument SaysMeterNo (parsed_argument (codes "meter") rows) words.meter
+  pub base : IsArgument SaysBase (parsed_argument (codes "base") rows) words.base
+  pub at : IsOptionalArgument SaysMoment (parsed_argument (codes "at") rows) words.at
+
 abbrev pub act_name : Act → Text
 act_name Open = codes "open"
 act_name Close = codes "close"
@@ -85,6 +93,7 @@ pub record SaysSell (rows : List Row) (words : SellWords) : Type 0 where
 abbrev pub SaysPaper : (kind number : Option Text) → Paper → Type 0
 SaysPaper kind number (Shift n) = (kind ≡ Some (codes "shift")) × IsArgument SaysItem number n
 SaysPaper kind number (Receipt n) = (kind ≡ Some (codes "receipt")) × IsArgument SaysItem number n
+SaysPaper kind number (Totals n) = (kind ≡ Some (codes "totals")) × IsArgument SaysItem number n
 SaysPaper kind number Sales = kind ≡ Some (codes "sales")
 
 pub record SaysReport (rows : List Row) (words : ReportWords) : Type 0 where

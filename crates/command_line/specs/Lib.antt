@@ -3,4 +3,5 @@ pub mod Asked
 pub mod Commands
 pub mod Line
 pub mod Said
+pub mod Transform
 pub mod Values

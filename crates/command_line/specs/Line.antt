@@ -52,6 +52,10 @@ abbrev pub import_command : Shape
 import_command = command_named (codes "import") (transform_option ∷ needed (codes "file")
     ∷ at_option ∷ word_named (codes "kind") ∷ word_named (codes "csv") ∷ [])
 
+abbrev pub base_command : Shape
+base_command = command_named (codes "base") (transform_option ∷ needed (codes "file")
+    ∷ needed (codes "meter") ∷ needed (codes "base") ∷ at_option ∷ [])
+
 abbrev pub shift_command : Shape
 shift_command = command_named (codes "shift") (transform_option ∷ needed (codes "file")
     ∷ needed (codes "operator") ∷ at_option ∷ word_named (codes "act") ∷ [])
@@ -84,8 +88,8 @@ selfcheck_command = command_named (codes "selfcheck") (transform_option ∷ [])
 
 -- the commands, each of which has one level of words
 abbrev pub commands : List Shape
-commands = trial_command ∷ import_command ∷ shift_command ∷ sell_command ∷ report_command
-    ∷ meter_command ∷ quote_command ∷ serve_command ∷ selfcheck_command ∷ []
+commands = trial_command ∷ import_command ∷ base_command ∷ shift_command ∷ sell_command
+    ∷ report_command ∷ meter_command ∷ quote_command ∷ serve_command ∷ selfcheck_command ∷ []
 
 abbrev pub has_none : List Shape → Bool
 has_none [] = true

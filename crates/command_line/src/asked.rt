@@ -2,6 +2,7 @@ ghost use Rattle.clap.specs.Simple.{subcommand_rows_of};
 ghost use Rattle.command_line.specs.Asked.{CommandAsks};
 ghost use Rattle.command_line.specs.Said.{ReadsOrFull};
 
+use crate::commands::base::BaseWords;
 use crate::commands::import::ImportWords;
 use crate::commands::meter::MeterWords;
 use crate::commands::quote::QuoteWords;
@@ -21,6 +22,7 @@ use std::alloc::Global;
 pub enum Asked<'m, 'a> {
     Trial(TrialWords),
     Import(ImportWords<'a>),
+    Base(BaseWords<'a>),
     Shift(ShiftWords<'a>),
     Sell(SellWords<'a>),
     Report(ReportWords<'a>),
@@ -42,6 +44,10 @@ impl<'m, 'a> Asked<'m, 'a> {
             },
             Some(("import", words)) => match ImportWords::read(words) {
                 Some(words) => Ok(Asked::Import(words)),
+                None => Err(BadWords::Value),
+            },
+            Some(("base", words)) => match BaseWords::read(words) {
+                Some(words) => Ok(Asked::Base(words)),
                 None => Err(BadWords::Value),
             },
             Some(("shift", words)) => match ShiftWords::read(words) {

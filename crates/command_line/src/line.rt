@@ -3,7 +3,7 @@ ghost use Rattle.clap.specs.Kinds.{HasKind};
 ghost use Rattle.clap.specs.Simple.{Shape, app_of, subcommand_rows_of};
 ghost use Rattle.command_line.specs.Line.{IsDescribed, command_in, faults_in, line_of_commands, vend_line};
 
-use crate::commands::{import, meter, quote, report, selfcheck, sell, serve, shift, trial};
+use crate::commands::{base, import, meter, quote, report, selfcheck, sell, serve, shift, trial};
 use clap::{ArgMatches, Command, Error};
 use std::alloc::{AllocError, Global};
 
@@ -29,6 +29,7 @@ fn describe<'a>(alloc: Global) -> Result<Command<'a>, AllocError>
     let line = start(alloc)?;
     let line = with(line, trial::describe(alloc)?)?;
     let line = with(line, import::describe(alloc)?)?;
+    let line = with(line, base::describe(alloc)?)?;
     let line = with(line, shift::describe(alloc)?)?;
     let line = with(line, sell::describe(alloc)?)?;
     let line = with(line, report::describe(alloc)?)?;

@@ -6,7 +6,7 @@ ghost use Rattle.command_line.specs.Line.{IsDescribed, command_named};
 ghost use Rattle.command_line.specs.Line.{at_option, needed, option_named, transform_option};
 ghost use Rattle.command_line.specs.Line.{word_named, words_named};
 ghost use Rattle.command_line.specs.Said.{IsArgument, IsOptionalArgument, ReadsWhat, argument_rows, parsed_argument};
-ghost use Rattle.command_line.specs.Values.{SaysBase, SaysKey, SaysMoment, SaysOperator};
+ghost use Rattle.command_line.specs.Values.{SaysBase, SaysKey, SaysMeterNo, SaysMoment, SaysOperator};
 ghost use Rattle.command_line.specs.Values.{SaysTender, SaysText, SaysTransform};
 
 use crate::transform::Shipped;
@@ -16,7 +16,7 @@ use std::alloc::{AllocError, Global};
 use sts_fields::{Base, Moment};
 use sts_token::read_key;
 use tariff::Tender;
-use vend_core::Operator;
+use vend_core::{MeterNo, Operator};
 
 // What stands below the help of each command.
 const STATUSES: &str =
@@ -146,6 +146,23 @@ pub(crate) fn read_operator(matches: &ArgMatches) -> Option<Operator>
         (parsed_argument (codes "operator") (argument_rows matches.now))) }
 {
     Operator::read(said::text(matches, "operator")?.as_bytes())
+}
+
+/// `--meter`.
+pub(crate) fn meter<'a>(alloc: Global) -> Arg<'a>
+    ensures rule { rule_of result ≡ needed (codes "meter") }
+    ensures own { result.global ≡ false }
+{
+    let help = "The meter's number, eleven digits of which the last is the Luhn check, e.g. \
+        12345678903";
+    needed(alloc, "meter", "NUMBER", help)
+}
+
+pub(crate) fn read_meter(matches: &ArgMatches) -> Option<MeterNo>
+    ensures { ReadsWhat result (IsArgument SaysMeterNo
+        (parsed_argument (codes "meter") (argument_rows matches.now))) }
+{
+    MeterNo::read(said::text(matches, "meter")?.as_bytes())
 }
 
 /// `--base`.

@@ -9,6 +9,7 @@ use crate::words::BadWords;
 use std::alloc::Global;
 use sts_fields::{Base, Moment};
 use tariff::{MAX_PRIOR, Tender};
+use vend_core::GREATEST_COUNT;
 
 /// A number of 64 bits in ASCII digits; zeros may stand in front.
 pub(crate) fn number(word: &str) -> Option<u64>
@@ -66,7 +67,7 @@ pub(crate) fn item(word: &str) -> Option<u32>
     ensures { ReadsBy SaysItem word.now result }
 {
     let number = u32::try_from(number(word)?).ok()?;
-    if (1..=1_000_000_000).contains(&number) {
+    if (1..=GREATEST_COUNT as u32).contains(&number) {
         Some(number)
     } else {
         None

@@ -23,7 +23,8 @@ pub(crate) fn describe<'a>(alloc: Global) -> Result<Command<'a>, AllocError>
 {
     let about = "Enters tokens into a new simulated meter, and prints what it answers to each and \
         its credit";
-    let help = "A token of twenty digits, e.g. 00072057602627981690";
+    let help = "A token of twenty digits, e.g. 00072057602627981690; or the word clear, which \
+        clears the meter and keeps its credit";
     let command = options::command(alloc, "meter", about);
     let command = with(command, options::transform(alloc))?;
     let command = with(command, options::key(alloc))?;

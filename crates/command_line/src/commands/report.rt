@@ -16,6 +16,8 @@ pub enum Paper {
     Shift(u32),
     /// The receipt of the sale of this number, 1 to 10^9.
     Receipt(u32),
+    /// The totals of the shift of this number, 1 to 10^9.
+    Totals(u32),
     /// All sales, as CSV.
     Sales,
 }
@@ -28,12 +30,12 @@ pub struct ReportWords<'a> {
     pub paper: Paper,
 }
 
-/// `report --file F --kind shift|receipt|sales [--number N]`.
+/// `report --file F --kind shift|receipt|totals|sales [--number N]`.
 pub(crate) fn describe<'a>(alloc: Global) -> Result<Command<'a>, AllocError>
     ensures { IfOk result (IsDescribed report_command) }
 {
-    let about = "Prints a shift's report, a sale's receipt again, or all sales as CSV";
-    let kind = "What is printed: shift, receipt or sales";
+    let about = "Prints a shift's report or totals, a sale's receipt again, or all sales as CSV";
+    let kind = "What is printed: shift, receipt, totals or sales";
     let number = "The number of the shift or the sale, 1 to 1000000000, e.g. 7; not looked at for \
         sales";
     let command = options::command(alloc, "report", about);
@@ -61,6 +63,7 @@ fn read_paper(matches: &ArgMatches) -> Option<Paper>
     match said::text(matches, "kind")? {
         "shift" => Some(Paper::Shift(read_number(matches)?)),
         "receipt" => Some(Paper::Receipt(read_number(matches)?)),
+        "totals" => Some(Paper::Totals(read_number(matches)?)),
         "sales" => Some(Paper::Sales),
         _ => None,
     }

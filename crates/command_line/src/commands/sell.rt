@@ -2,7 +2,7 @@ ghost use Rattle.std.specs.Prelude.{codes, IfOk};
 ghost use Rattle.command_line.specs.Commands.{SaysSell};
 ghost use Rattle.command_line.specs.Line.{IsDescribed, sell_command};
 ghost use Rattle.command_line.specs.Said.{IsArgument, ReadsWhat, argument_rows, parsed_argument};
-ghost use Rattle.command_line.specs.Values.{SaysMeterNo, SaysRef};
+ghost use Rattle.command_line.specs.Values.{SaysRef};
 
 use crate::options::{self, needed, with};
 use crate::said;
@@ -10,7 +10,7 @@ use crate::transform::Shipped;
 use clap::{ArgMatches, Command};
 use std::alloc::{AllocError, Global};
 use sts_fields::Moment;
-use vend_core::{MeterNo, Order, Ref};
+use vend_core::{Order, Ref};
 
 /// What `sell` is asked to do: an order, sold from an office.
 #[derive(Clone, Copy)]
@@ -31,15 +31,13 @@ pub(crate) fn describe<'a>(alloc: Global) -> Result<Command<'a>, AllocError>
         again print it again";
     let order_ref = "The order's name among the operator's, 1 to 32 ASCII letters, digits or \
         hyphens, e.g. A-1";
-    let meter = "The meter's number, eleven digits of which the last is the Luhn check, e.g. \
-        12345678903";
     let tender = "The money in whole cents, 1 to 100000000, e.g. 1000";
     let command = options::command(alloc, "sell", about);
     let command = with(command, options::transform(alloc))?;
     let command = with(command, options::file(alloc))?;
     let command = with(command, options::operator(alloc))?;
     let command = with(command, needed(alloc, "ref", "REF", order_ref))?;
-    let command = with(command, needed(alloc, "meter", "NUMBER", meter))?;
+    let command = with(command, options::meter(alloc))?;
     let command = with(command, needed(alloc, "tender", "CENTS", tender))?;
     with(command, options::at(alloc))
 }
@@ -51,7 +49,7 @@ impl<'a> SellWords<'a> {
         let order = Order {
             operator: options::read_operator(matches)?,
             order_ref: read_ref(matches)?,
-            meter: read_meter(matches)?,
+            meter: options::read_meter(matches)?,
             tender: options::read_tender(matches)?,
         };
         Some(SellWords {
@@ -68,11 +66,4 @@ fn read_ref(matches: &ArgMatches) -> Option<Ref>
         (parsed_argument (codes "ref") (argument_rows matches.now))) }
 {
     Ref::read(said::text(matches, "ref")?.as_bytes())
-}
-
-fn read_meter(matches: &ArgMatches) -> Option<MeterNo>
-    ensures { ReadsWhat result (IsArgument SaysMeterNo
-        (parsed_argument (codes "meter") (argument_rows matches.now))) }
-{
-    MeterNo::read(said::text(matches, "meter")?.as_bytes())
 }

@@ -6,6 +6,6 @@ returns c =
     let after2 = c.in_ok-command-2.ensures _ _ after1 c.file.ensures.rule in
     let after3 = c.in_ok-command-3.ensures _ _ after2 c.operator.ensures.rule in
     let after4 = c.in_ok-command-4.ensures _ _ after3 c.needed.ensures.rule in
-    let after5 = c.in_ok-command-5.ensures _ _ after4 c.needed-2.ensures.rule in
-    let after6 = c.in_ok-command-6.ensures _ _ after5 c.needed-3.ensures.rule in
+    let after5 = c.in_ok-command-5.ensures _ _ after4 c.meter.ensures.rule in
+    let after6 = c.in_ok-command-6.ensures _ _ after5 c.needed-2.ensures.rule in
     c.with-7.ensures _ _ after6 c.at.ensures.rule
