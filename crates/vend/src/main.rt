@@ -7,12 +7,12 @@ use sqlite::Unknown;
 use std::process::ExitCode;
 use std::rt::Env;
 use std::{env, io};
-use vend_commands::{refuse, run};
+use vend_commands::{Watched, refuse, run};
 
 fn main(rt: HostRuntime) -> ExitCode {
     let status = match words_given(&rt) {
         Ok(words) => run_given(&rt, &words),
-        Err(fault) => refuse(fault, &mut rt.stderr()).status(),
+        Err(fault) => refuse_words(&rt, fault),
     };
     ExitCode::from(status)
 }
@@ -38,6 +38,10 @@ fn run_given(rt: &HostRuntime, given: &[String]) -> u8 {
     let words: Result<Vec<&str>, _> = given.iter().map(|word| word.as_str()).collect(rt.alloc());
     match words {
         Ok(words) => run(rt, Unknown, &words, &mut rt.stdout(), &mut rt.stderr()),
-        Err(_) => refuse(BadWords::Memory, &mut rt.stderr()).status(),
+        Err(_) => refuse_words(rt, BadWords::Memory),
     }
+}
+
+fn refuse_words(rt: &HostRuntime, fault: BadWords) -> u8 {
+    refuse(fault, &mut Watched::new(&mut rt.stderr())).status()
 }

@@ -1,24 +1,18 @@
 -- Pages of an export.
-use Rattle.std.proofs.Common.{◌≡◌, ◌≢◌, ◌∙◌, ℕ, ◌+◌, ◌*◌, ◌≤◌, ◌==◌, Bool, true, false, List, [], ◌++◌, length, take, drop, Option, Some, None, Ok, Err, refl, ap, sym, subst, append_assoc, append-nil, length-take, length-drop, drop-drop, inl, inr, arith}
-use Rattle.std.proofs.KnownBytes.{Appends-nil, Appends-trans, Keeps-refl}
-use Rattle.std.proofs.lemmas.Bool.{eqb-false, ne_eqb}
+use Rattle.std.proofs.Common.{◌≡◌, ◌≢◌, ◌∙◌, ℕ, ◌+◌, ◌*◌, ◌≤◌, ◌==◌, ◌&&◌, not, Bool, true, false, List, [], ◌++◌, length, take, drop, Some, None, Ok, Err, refl, ap, sym, append_assoc, append-nil, length-take, length-drop, drop-drop, eq-eqb, arith}
+use Rattle.std.proofs.lemmas.Bool.{ne_eqb}
 use Rattle.std.proofs.lemmas.List.{drop_all, take-append-drop}
-use Rattle.std.specs.Io.KnownBytes as bytes
-use Rattle.std.specs.Io.KnownBytes.{Appends}
 use Rattle.sqlite.specs.State.{HasCleanDisk}
 use Rattle.books.specs.Keeps.{Represents, Seen}
 use Rattle.papers.specs.Export.{export_of}
-use Rattle.papers.specs.declared.fault.TextFault.TheVariants as text_fault
 use Rattle.vend_core.specs.Life.{Life, present}
 use Rattle.vend_core.specs.declared.refusal.Refusal.{Refusal}
 use Rattle.vend_core.specs.declared.sale.Sale.{Sale}
-use Rattle.vend_commands.proofs.PutLemmas.{cut-behind, none_told}
-use Rattle.vend_commands.specs.Exported.{IsExported, IsPage, IsStopTold, page_of}
+use Rattle.vend_commands.proofs.TakeLemmas.{takes_last, takes_next, takes_none}
+use Rattle.vend_commands.specs.Exported.{IsExported, IsPage, page_of}
 use Rattle.vend_commands.specs.Printed.{refusal_line}
-use Rattle.vend_commands.specs.Told.{HasBeginning, Held, outputs}
+use Rattle.vend_commands.specs.Told.{Sink, Takes, outputs}
 use Rattle.vend_commands.specs.declared.end.End.TheVariants as how
-use Rattle.vend_commands.specs.declared.exporting.ExportFault.{ExportFault}
-use Rattle.vend_commands.specs.declared.exporting.ExportFault.TheVariants.{Refused, Write}
 
 -- the export from a page on
 abbrev pub export_from : List Sale → ℕ → List ℕ
@@ -53,16 +47,21 @@ export_end sales page later past =
 pub past_short : (sales : List Sale) (page : ℕ) → length (page_of sales page) ≢ 1000 → length sales ≤ (page + 1) * 1000
 past_short sales page short = omega (arith, short, length-take 1000 (drop (page * 1000) sales), length-drop (page * 1000) sales)
 
--- the pages before one stand on the output
-pub record SoFar (old now : Seen) (held holds : Held) (page : ℕ) (front : List ℕ) : Type 0 where
-  pub put : Appends held holds front
+-- the pages before one were printed, and no write failed
+pub record SoFar (old now : Seen) (before after : Sink) (page : ℕ) (front : List ℕ) : Type 0 where
+  pub put : Takes before after front
   pub left : HasCleanDisk now.state → (life : Life) → Represents life old → front ++ export_from (present life).sales page ≡ export_of true (present life).sales
   pub keeps : (life : Life) → Represents life old → Represents life now
 
-pub no_pages : (books : Seen) (held : Held) → SoFar books books held held 0 []
-no_pages books held = record { put = Appends-nil held; left = λ clean life keeps. refl; keeps = λ life keeps. keeps }
+pub no_pages : (books : Seen) (before : Sink) → SoFar books books before before 0 []
+no_pages books before = record { put = takes_none before; left = λ clean life keeps. refl; keeps = λ life keeps. keeps }
 
-module _ (old mid new : Seen) (held part left : Held) (page : ℕ) (front : List ℕ) (law : PagesLaw) (so_far : SoFar old mid held part page front)
+-- a page that no other follows was not full, or a write failed
+ended : (n : ℕ) (failed more : Bool) → more ≡ ((n == 1000) && not failed) → more ≡ false → failed ≡ false → n ≢ 1000
+ended n true more is none sound = cc
+ended n false more is none sound = λ e. let full : (n == 1000) ≡ true = eq-eqb n 1000 e in cc
+
+module _ (old mid new : Seen) (before part after : Sink) (page : ℕ) (front : List ℕ) (law : PagesLaw) (so_far : SoFar old mid before part page front)
     (keeps : (life : Life) → Represents life mid → Represents life new) (clean_mid : HasCleanDisk new.state → HasCleanDisk mid.state) where
   -- what is left behind the page of these sales
   behind : (sales : List Sale) → (HasCleanDisk new.state → (life : Life) → Represents life mid → sales ≡ page_of (present life).sales page)
@@ -75,69 +74,45 @@ module _ (old mid new : Seen) (held part left : Held) (page : ℕ) (front : List
       ∙ ap (λ l. front ++ l) (sym (page_split law all page))
       ∙ so_far.left (clean_mid clean) life kept
 
-  pub page_more : (page_put : IsPage mid new page part left (Ok true)) → SoFar old new held left (page + 1) (front ++ export_of (page == 0) page_put.0)
+  pub page_more : (page_put : IsPage mid new page part after (Ok true)) → SoFar old new before after (page + 1) (front ++ export_of (page == 0) page_put.0)
   page_more put = record {
-    put = Appends-trans held part left front (export_of (page == 0) put.0) so_far.put put.2;
+    put = takes_next before part after front (export_of (page == 0) put.0) so_far.put put.2;
     left = behind put.0 put.1;
     keeps = λ life kept. keeps life (so_far.keeps life kept);
   }
 
-  pub page_last : (err : Held) → IsPage mid new page part left (Ok false) → IsExported old new (outputs held left err err) how.Done
-  page_last err put =
+  pub page_last : (err : Sink) (more : Bool) → more ≡ false → IsPage mid new page part after (Ok more) → IsExported old new (outputs before after err err) how.Done
+  page_last err more none put =
       let text = front ++ export_of (page == 0) put.0 in
-      let short : length put.0 ≢ 1000 = eqb-false (length put.0) 1000 (sym put.3) in
-      let whole : HasCleanDisk new.state → (life : Life) → Represents life old → text ≡ export_of true (present life).sales = λ clean life kept.
+      let whole : after.failed ≡ false → HasCleanDisk new.state → (life : Life) → Represents life old → text ≡ export_of true (present life).sales = λ sound clean life kept.
       let all = (present life).sales in
       let are = put.1 clean life (so_far.keeps life kept) in
-      let past = past_short all page (λ e. short (ap length are ∙ e)) in
+      let past = past_short all page (λ e. ended (length put.0) after.failed more put.3 none sound (ap length are ∙ e)) in
       sym (append-nil text) ∙ ap (λ l. text ++ l) (sym (export_end all (page + 1) (omega arith) past)) ∙ behind put.0 put.1 clean life kept in
       record {
         text = text;
         stop = None;
-        told = inl (Appends-trans held part left front (export_of (page == 0) put.0) so_far.put put.2, none_told err, refl);
-        sales = λ clean life kept. record { begins = ([], append-nil text ∙ whole clean life kept); whole = λ _. whole clean life kept };
+        told = (takes_next before part after front (export_of (page == 0) put.0) so_far.put put.2, takes_none err, refl);
+        sales = λ clean life kept. record { begins = (_, behind put.0 put.1 clean life kept); whole = λ _ sound. whole sound clean life kept };
         keeps = λ life kept. keeps life (so_far.keeps life kept);
       }
 
-  pub page_refused : (err told : Held) (refusal : Refusal) → IsPage mid new page part left (Err (Refused refusal)) → HasBeginning err told (refusal_line refusal)
-      → IsExported old new (outputs held left err told) how.Refused
-  page_refused err told refusal same begins =
+  pub page_refused : (err told : Sink) (refusal : Refusal) → IsPage mid new page part after (Err refusal) → Takes err told (refusal_line refusal)
+      → IsExported old new (outputs before after err told) how.Refused
+  page_refused err told refusal same says =
       record {
         text = front;
         stop = Some refusal;
-        told = inl (Appends-kept held part left front so_far.put same, begins, refl);
-        sales = λ clean life kept. record { begins = (_, so_far.left (clean_mid clean) life kept); whole = λ e. cc };
-        keeps = λ life kept. keeps life (so_far.keeps life kept);
-      }
-    where
-      Appends-kept : (a b c : Option (List ℕ)) (bs : List ℕ) → Appends a b bs → bytes.Keeps b c → Appends a c bs
-      Appends-kept None b c bs p q = tt
-      Appends-kept (Some x) None c bs p q = absurd p
-      Appends-kept (Some x) (Some y) None bs p q = absurd q
-      Appends-kept (Some x) (Some y) (Some z) bs p q = q ∙ p
-
-  pub page_cut : (err : Held) → IsPage mid new page part left (Err Write) → IsExported old new (outputs held left err err) how.Refused
-  page_cut err put =
-      let piece = export_of (page == 0) put.0 in
-      let text = front ++ piece in
-      record {
-        text = text;
-        stop = None;
-        told = inr (cut-behind held part left front piece [] text text_fault.Write (λ e. cc) so_far.put (ap (λ l. front ++ l) (sym (append-nil piece))) put.2, Keeps-refl err, refl);
-        sales = λ clean life kept. record { begins = (_, behind put.0 put.1 clean life kept); whole = λ e. cc };
+        told = (takes_last before part after front [] front so_far.put (sym (append-nil front)) same, says, refl);
+        sales = λ clean life kept. record { begins = (_, so_far.left (clean_mid clean) life kept); whole = λ e sound. cc };
         keeps = λ life kept. keeps life (so_far.keeps life kept);
       }
 
-  pub page_stopped : (err told : Held) (fault : ExportFault) → IsPage mid new page part left (Err fault) → IsStopTold fault err told
-      → IsExported old new (outputs held left err told) how.Refused
-  page_stopped err told (Refused refusal) put begins = page_refused err told refusal put begins
-  page_stopped err told Write put same = subst (λ e. IsExported old new (outputs held left err e) how.Refused) (sym same) (page_cut err put)
-
--- all pages that an office may have stand there
-pub all_pages : (old new : Seen) (held left err : Held) (page : ℕ) (front : List ℕ) → 1 ≤ page → SoFar old new held left page front
+-- all pages that an office may have were printed
+pub all_pages : (old new : Seen) (before after err : Sink) (page : ℕ) (front : List ℕ) → 1 ≤ page → SoFar old new before after page front
     → (HasCleanDisk new.state → (life : Life) → Represents life new → length (present life).sales ≤ page * 1000)
-    → IsExported old new (outputs held left err err) how.Done
-all_pages old new held left err page front later so_far few =
+    → IsExported old new (outputs before after err err) how.Done
+all_pages old new before after err page front later so_far few =
     let whole : HasCleanDisk new.state → (life : Life) → Represents life old → front ≡ export_of true (present life).sales = λ clean life kept.
     let all = (present life).sales in
     let past = few clean life (so_far.keeps life kept) in
@@ -145,7 +120,7 @@ all_pages old new held left err page front later so_far few =
     record {
       text = front;
       stop = None;
-      told = inl (so_far.put, none_told err, refl);
-      sales = λ clean life kept. record { begins = ([], append-nil front ∙ whole clean life kept); whole = λ _. whole clean life kept };
+      told = (so_far.put, takes_none err, refl);
+      sales = λ clean life kept. record { begins = ([], append-nil front ∙ whole clean life kept); whole = λ _ sound. whole clean life kept };
       keeps = so_far.keeps;
     }

@@ -1,8 +1,12 @@
+pub mod ConnectionLemmas
+pub mod CourseLemmas
 pub mod ExportLemmas
-pub mod ListeningLemmas
 pub mod MeteringLemmas
-pub mod PutLemmas
 pub mod RunLemmas
+pub mod SameLemmas
 pub mod SelfcheckLemmas
 pub mod SellLemmas
+pub mod TakeLemmas
 pub mod TrialLemmas
+pub mod UntoldLemmas
+pub mod UnwatchedLemmas

@@ -1,15 +1,16 @@
 -- How a run ends.
-use Rattle.std.proofs.Common.{◌≡◌, ℕ, ◌≤◌, Bool, true, false, List, Option, Some, None, Result, Ok, Err, inl, inr, subst, sym, arith}
-use Rattle.std.specs.Prelude.{IfSome}
+use Rattle.std.proofs.Common.{◌≡◌, ◌≢◌, ◌⊎◌, ℕ, ℤ, ◌≤◌, Bool, true, false, List, [], Option, Some, None, Result, Ok, Err, inl, inr, subst, sym, arith}
 use Rattle.clap.specs.Kinds.{HasKind, IsAmong}
 use Rattle.clap.specs.Values.{kind_of}
 use Rattle.clap.specs.declared.error.Error.{Error}
 use Rattle.sqlite_trees.specs.declared.store.Store.{Ghosts}
-use Rattle.sqlite_wal.specs.Recovery.{Image}
+use Rattle.book_tables.specs.declared.totals.Totals.{Totals}
+use Rattle.books.specs.declared.fault.OpenFault.{OpenFault}
 use Rattle.sts_fields.specs.Text.{Text}
 use Rattle.tariff.specs.declared.bought.Buy.{Buy}
 use Rattle.vend_core.specs.declared.answer.Answer as core
 use Rattle.vend_core.specs.declared.refusal.Refusal.{Refusal}
+use Rattle.vend_core.specs.declared.refusal.Refusal.TheVariants.{Memory}
 use Rattle.vend_core.specs.declared.row.Row.{Row}
 use Rattle.papers.specs.declared.row_fault.RowFault.{RowFault}
 use Rattle.tariff.specs.Purchase.{purchase_of}
@@ -17,17 +18,23 @@ use Rattle.command_line.specs.Asked.{AskFor}
 use Rattle.vend_commands.specs.Exported.{export_stop_end}
 use Rattle.vend_commands.specs.Imported.{AreAdded, IsFileImported}
 use Rattle.command_line.specs.Line.{faults_in}
-use Rattle.vend_commands.specs.Listening.{serving_stop_end}
-use Rattle.vend_commands.specs.Listening.{IsServing}
-use Rattle.vend_commands.specs.Listening.IsServing.{not_opened, no_desk, no_listener, not_told, was_open}
-use Rattle.vend_commands.specs.Quoted.{quote_end}
-use Rattle.vend_commands.specs.Run.{IsCarriedOut, IsExplained, IsProgramRun, IsTimed}
+use Rattle.vend_commands.specs.Listening.{IsServedTo, IsServing, serving_end}
+use Rattle.vend_commands.specs.Listening.IsServing.{unheard, unopened as serves_unopened, was_open}
+use Rattle.vend_commands.specs.Metered.{IsMetered}
+use Rattle.vend_commands.specs.Quoted.{IsQuoted, quote_end}
+use Rattle.vend_commands.specs.Places.{Machine, Place, Way}
+use Rattle.vend_commands.specs.Printed.{clock_line, refusal_line}
+use Rattle.vend_commands.specs.Run.{IsCarriedOut, IsExplained, IsProgramRun}
 use Rattle.vend_commands.specs.Run.IsProgramRun.{answered, bad_word, explained, no_room}
+use Rattle.vend_commands.specs.Selfchecked.{HasReplies, IsSelfchecked}
 use Rattle.vend_commands.specs.Selfchecked.IsSelfchecked.{agreed, failed}
 use Rattle.vend_commands.specs.Served.{TellsReply}
-use Rattle.vend_commands.specs.Status.{exit_status_of}
-use Rattle.vend_commands.specs.Told.{IsTold, Outputs}
-use Rattle.vend_commands.specs.Tried.{trial_end}
+use Rattle.vend_commands.specs.Status.{exit_status_of, status_of}
+use Rattle.vend_commands.specs.Tasks.{IsMoved, IsReported, IsShifted, IsSold}
+use Rattle.vend_commands.specs.Timed.{IsDoneAt, IsMomentFor, IsTakenMoment, IsTimed}
+use Rattle.vend_commands.specs.Told.{IsTold, Outputs, Sink}
+use Rattle.vend_commands.specs.Totalled.{TellsTotals}
+use Rattle.vend_commands.specs.Tried.{IsTried, trial_end}
 use Rattle.vend_commands.specs.Visited.{IsVisited}
 use Rattle.vend_commands.specs.Visited.IsVisited.{unopened, visited}
 use Rattle.command_line.specs.declared.asked.Asked.{Asked}
@@ -35,30 +42,94 @@ use Rattle.command_line.specs.declared.asked.Asked.TheVariants as asks
 use Rattle.command_line.specs.declared.commands.import.ImportWords.{ImportWords}
 use Rattle.command_line.specs.declared.commands.serve.ServeWords.{ServeWords}
 use Rattle.vend_commands.specs.declared.end.End.TheVariants as how
+use Rattle.vend_commands.specs.declared.errand.Errand.{Errand}
 use Rattle.vend_commands.specs.declared.task.Task.{Task}
-use Rattle.vend_commands.specs.declared.task.Task.TheVariants.{Ask, Export}
+use Rattle.vend_commands.specs.declared.task.Task.TheVariants.{Ask, Total, Export}
 use Rattle.command_line.specs.declared.transform.Shipped.{Shipped}
 use Rattle.vend_commands.specs.declared.trial.TrialFault.{TrialFault}
 use Rattle.vend_commands.specs.declared.end.End.{End}
 
--- a moment that is given is the one that is taken
-pub timed : (at taken : Option ℕ) (moment : ℕ) (At : ℕ → Type 0) (o : Outputs) (end : End) → IfSome at (λ m. taken ≡ Some m) → taken ≡ Some moment → At moment → IsTimed at At o end
-timed None taken moment At o end given is done = inl (moment, done)
-timed (Some m) taken moment At o end given is done = let same : moment ≡ m = cc in subst At same done
+-- ---- the moment
 
--- what `clap` says of words is a fault of theirs, or that there was no room
-pub told_by_clap : {S : Type 0} (store : Ghosts S) (image : Image) (error : Error) (words : List Text) (o : Outputs) (end : End) → HasKind (faults_in words) error → IsExplained (kind_of error) o end → IsProgramRun store image words o end
-told_by_clap store image error words o end (inl full) says = no_room (subst (λ k. IsExplained k o end) full says)
-told_by_clap store image error words o end (inr among) says = explained (kind_of error) among says
+untimed : (given : Option ℕ) (answers : Option (List ℤ)) (taken : Option ℕ) (At : ℕ → Type 0) (o : Outputs) (end : End) → IsTakenMoment given answers taken → taken ≡ None → IsTold o [] clock_line how.Refused end → IsTimed given answers At o end
+untimed given answers taken At o end for is told = (None, subst (IsTakenMoment given answers) is for, told)
 
--- what is told ends as it is meant to, or refused
+not_none : {A : Type 0} (taken : Option ℕ) (moment : ℕ) (answers left : Option (List ℤ)) → (taken ≡ Some moment) × (left ≡ answers) → taken ≡ None → A
+not_none taken moment answers left (some, same) none = absurd (cc)
+
+-- where there is none, that is told
+pub no_moment : {S D R W : Type 0} (store : Ghosts S) (m : Machine D R W) (asked : Asked) (left : Option (List ℤ)) (taken : Option ℕ) (o : Outputs) (end : End) → IsMomentFor asked m.answers left taken → taken ≡ None → IsTold o [] clock_line how.Refused end → IsCarriedOut store m asked o end
+no_moment store m (asks.Trial words) left taken o end for is told = untimed words.at m.answers taken _ o end for is told
+no_moment store m (asks.Import words) left taken o end for is told = untimed words.at m.answers taken _ o end for is told
+no_moment store m (asks.Base words) left taken o end for is told = untimed words.at m.answers taken _ o end for is told
+no_moment store m (asks.Shift words) left taken o end for is told = untimed words.at m.answers taken _ o end for is told
+no_moment store m (asks.Sell words) left taken o end for is told = untimed words.at m.answers taken _ o end for is told
+no_moment store m (asks.Report words) left taken o end for is told = not_none taken _ m.answers left for is
+no_moment store m (asks.Meter words) left taken o end for is told = not_none taken _ m.answers left for is
+no_moment store m (asks.Quote words) left taken o end for is told = not_none taken _ m.answers left for is
+no_moment store m (asks.Serve words) left taken o end for is told = not_none taken _ m.answers left for is
+no_moment store m (asks.Selfcheck words) left taken o end for is told = not_none taken _ m.answers left for is
+
+timed : (given : Option ℕ) (answers : Option (List ℤ)) (taken : Option ℕ) (moment : ℕ) (At : ℕ → Type 0) (o : Outputs) (end : End) → IsTakenMoment given answers taken → taken ≡ Some moment → At moment → IsTimed given answers At o end
+timed given answers taken moment At o end for is done = (Some moment, subst (IsTakenMoment given answers) is for, done)
+
+-- what is asked for is done at this moment, by a clock that has these answers left
+abbrev pub IsDoneThen : {S D R W : Type 0} → Ghosts S → Machine D R W → Asked → (left : Option (List ℤ)) → ℕ → Outputs → End → Type 0
+IsDoneThen store m (asks.Trial words) left moment o end = IsTried words moment o end
+IsDoneThen store m (asks.Import words) left moment o end = IsFileImported store m.at m.reads m.lacks words moment o end
+IsDoneThen store m (asks.Base words) left moment o end = IsMoved store m.at words moment o end
+IsDoneThen store m (asks.Shift words) left moment o end = IsShifted store m.at words moment o end
+IsDoneThen store m (asks.Sell words) left moment o end = IsSold store m.at words moment o end
+IsDoneThen store m (asks.Report words) left moment o end = IsReported store m.at words o end
+IsDoneThen store m (asks.Meter words) left moment o end = IsMetered words o end
+IsDoneThen store m (asks.Quote words) left moment o end = IsQuoted words o end
+IsDoneThen store m (asks.Serve words) left moment o end = IsServedTo store m.way m.at m.door left words o end
+IsDoneThen store m (asks.Selfcheck words) left moment o end = IsSelfchecked (HasReplies words.transform) o end
+
+pub at_moment : {S D R W : Type 0} (store : Ghosts S) (m : Machine D R W) (asked : Asked) (left : Option (List ℤ)) (taken : Option ℕ) (moment : ℕ) (o : Outputs) (end : End) → IsMomentFor asked m.answers left taken → taken ≡ Some moment → IsDoneThen store m asked left moment o end → IsCarriedOut store m asked o end
+at_moment store m (asks.Trial words) left taken moment o end for is done = timed words.at m.answers taken moment _ o end for is done
+at_moment store m (asks.Import words) left taken moment o end for is done = timed words.at m.answers taken moment _ o end for is done
+at_moment store m (asks.Base words) left taken moment o end for is done = timed words.at m.answers taken moment _ o end for is done
+at_moment store m (asks.Shift words) left taken moment o end for is done = timed words.at m.answers taken moment _ o end for is done
+at_moment store m (asks.Sell words) left taken moment o end for is done = timed words.at m.answers taken moment _ o end for is done
+at_moment store m (asks.Report words) left taken moment o end for is done = done
+at_moment store m (asks.Meter words) left taken moment o end for is done = done
+at_moment store m (asks.Quote words) left taken moment o end for is done = done
+at_moment store m (asks.Serve words) left taken moment o end for is done = subst (λ answers. IsServedTo store m.way m.at m.door answers words o end) for.1 done
+at_moment store m (asks.Selfcheck words) left taken moment o end for is done = done
+
+-- the same, of what was asked by another name
+pub done_at : {S D R W : Type 0} (store : Ghosts S) (m : Machine D R W) (asked same : Asked) (left : Option (List ℤ)) (taken : Option ℕ) (moment : ℕ) (o : Outputs) (end : End) → asked ≡ same → IsMomentFor asked m.answers left taken → taken ≡ Some moment → IsDoneThen store m same left moment o end → IsCarriedOut store m asked o end
+done_at store m asked same left taken moment o end is for some done =
+    subst (λ a. IsCarriedOut store m a o end) (sym is) (at_moment store m same left taken moment o end (subst (λ a. IsMomentFor a m.answers left taken) is for) some done)
+
+-- what a selfcheck found is told, by less than it found
+pub selfcheck_done : (o : Outputs) (end : End) (Agrees Has : Type 0) → (Agrees → Has) → IsSelfchecked Agrees o end → IsSelfchecked Has o end
+selfcheck_done o end Agrees Has less (agreed is told) = agreed (less is) told
+selfcheck_done o end Agrees Has less (failed fault told) = failed fault told
+
+-- an errand is done as the words have it
+pub errand_done : {S : Type 0} (store : Ghosts S) (at : Text → Place) (errand : Errand) (transform : Shipped) (file : Text) (task : Task) (o : Outputs) (end : End) → errand.transform ≡ transform → errand.file.now ≡ file → errand.task ≡ task
+    → IsVisited store (at errand.file.now) errand.transform errand.task o end → IsVisited store (at file) transform task o end
+errand_done store at errand transform file task o end same_transform same_file same_task done =
+    subst (λ t. IsVisited store (at file) t task o end) same_transform (subst (λ f. IsVisited store (at f) errand.transform task o end) same_file (subst (λ k. IsVisited store (at errand.file.now) errand.transform k o end) same_task done))
+
+-- what `clap` says of words is a fault of theirs, or there was no room
+pub told_by_clap : {S D R W : Type 0} (store : Ghosts S) (m : Machine D R W) (error : Error) (words : List Text) (Says : Error → Text → Type 0) (o : Outputs) (end : End) → HasKind (faults_in words) error
+    → IsTold o [] (refusal_line Memory) how.Refused end ⊎ ((text : Text) × Says error text × (text ≢ []) × IsExplained (kind_of error) text o end) → IsProgramRun store m words o end
+told_by_clap store m error words Says o end kind (inl told) = no_room told
+told_by_clap store m error words Says o end (inl full) (inr (text, said, some, says)) = absurd (subst (λ k. IsExplained k text o end) full says)
+told_by_clap store m error words Says o end (inr among) (inr (text, said, some, says)) = explained (kind_of error) text among some says
+
+-- ---- the status
+
+-- what is told ends as it is meant to
 told_ends : (o : Outputs) (text errors : Text) (meant end : End) → exit_status_of meant ≤ 1 → IsTold o text errors meant end → exit_status_of end ≤ 1
-told_ends o text errors meant end low (inl (put, told, is)) = subst (λ e. exit_status_of e ≤ 1) (sym is) low
-told_ends o text errors meant end low (inr (cut, kept, is)) = subst (λ e. exit_status_of e ≤ 1) (sym is) (omega arith)
+told_ends o text errors meant end low (put, told, is) = subst (λ e. exit_status_of e ≤ 1) (sym is) low
 
 reply_ends : (reply : Result core.Answer Refusal) (o : Outputs) (end : End) → TellsReply reply o end → exit_status_of end ≤ 1
 reply_ends (Ok answer) o end (inl told) = told_ends o _ _ how.Done end (omega arith) told
-reply_ends (Ok answer) o end (inr (paper, told)) = told_ends o _ _ how.Refused end (omega arith) told
+reply_ends (Ok answer) o end (inr (room, told)) = told_ends o _ _ how.Refused end (omega arith) told
 reply_ends (Err refusal) o end told = told_ends o _ _ how.Refused end (omega arith) told
 
 stop_low : (stop : Option Refusal) → exit_status_of (export_stop_end stop) ≤ 1
@@ -73,53 +144,70 @@ quote_low : (bought : Option Buy) → exit_status_of (quote_end bought) ≤ 1
 quote_low None = omega arith
 quote_low (Some b) = omega arith
 
-visit_ends : {S : Type 0} (store : Ghosts S) (image : Image) (transform : Shipped) (task : Task) (o : Outputs) (end : End) → IsVisited store image transform task o end → exit_status_of end ≤ 1
-visit_ends store image transform task o end (unopened fault told) = told_ends o _ _ how.Refused end (omega arith) told
-visit_ends store image transform (Ask moment request) o end (visited old new opened done) = reply_ends done.reply o end done.told
-visit_ends store image transform Export o end (visited old new opened done) = told_ends o _ _ (export_stop_end done.stop) end (stop_low done.stop) done.told
+totals_ends : (number : ℕ) (totals : Result Totals Refusal) (o : Outputs) (end : End) → TellsTotals number totals o end → exit_status_of end ≤ 1
+totals_ends number (Ok totals) o end told = told_ends o _ _ how.Done end (omega arith) told
+totals_ends number (Err refusal) o end told = told_ends o _ _ how.Refused end (omega arith) told
 
-added_ends : {S : Type 0} (store : Ghosts S) (image : Image) (words : ImportWords) (moment : ℕ) (rows : Result (List Row) RowFault) (o : Outputs) (end : End) → AreAdded store image words moment rows o end → exit_status_of end ≤ 1
-added_ends store image words moment (Ok rows) o end added = visit_ends store image _ _ o end added
-added_ends store image words moment (Err fault) o end told = told_ends o _ _ how.Refused end (omega arith) told
+visit_ends : {S : Type 0} (store : Ghosts S) (place : Place) (transform : Shipped) (task : Task) (o : Outputs) (end : End) → IsVisited store place transform task o end → exit_status_of end ≤ 1
+visit_ends store place transform task o end (unopened fault fails told) = told_ends o _ _ how.Refused end (omega arith) told
+visit_ends store place transform (Ask moment request) o end (visited old new opened finds done closes) = reply_ends done.reply o end done.told
+visit_ends store place transform (Total number) o end (visited old new opened finds done closes) = totals_ends number done.totals o end done.told
+visit_ends store place transform Export o end (visited old new opened finds done closes) = told_ends o _ _ (export_stop_end done.stop) end (stop_low done.stop) done.told
 
-import_ends : {S : Type 0} (store : Ghosts S) (image : Image) (words : ImportWords) (moment : ℕ) (o : Outputs) (end : End) → IsFileImported store image words moment o end → exit_status_of end ≤ 1
-import_ends store image words moment o end (inl imported) = added_ends store image words moment imported.1.1 o end imported.1.4
-import_ends store image words moment o end (inr (inl told)) = told_ends o _ _ how.Refused end (omega arith) told
-import_ends store image words moment o end (inr (inr told)) = told_ends o _ _ how.Refused end (omega arith) told
+added_ends : {S : Type 0} (store : Ghosts S) (at : Text → Place) (words : ImportWords) (moment : ℕ) (rows : Result (List Row) RowFault) (o : Outputs) (end : End) → AreAdded store at words moment rows o end → exit_status_of end ≤ 1
+added_ends store at words moment (Ok rows) o end added = visit_ends store _ _ _ o end added
+added_ends store at words moment (Err fault) o end told = told_ends o _ _ how.Refused end (omega arith) told
 
-stop_is_low : (all : Bool) → exit_status_of (serving_stop_end all) ≤ 1
-stop_is_low true = omega arith
-stop_is_low false = omega arith
+import_ends : {S D R W : Type 0} (store : Ghosts S) (m : Machine D R W) (words : ImportWords) (moment : ℕ) (o : Outputs) (end : End) → IsFileImported store m.at m.reads m.lacks words moment o end → exit_status_of end ≤ 1
+import_ends store m words moment o end (inl (bytes, reads, (records, rows, are, reading, added))) = added_ends store m.at words moment rows o end added
+import_ends store m words moment o end (inr (fault, lacks, told)) = told_ends o _ _ how.Refused end (omega arith) told
 
-serving_ends : {S : Type 0} (store : Ghosts S) (image : Image) (words : ServeWords) (o : Outputs) (end : End) → IsServing store image words o end → exit_status_of end ≤ 1
-serving_ends store image words o end (not_opened fault told) = told_ends o _ _ how.Refused end (omega arith) told
-serving_ends store image words o end (no_desk told) = told_ends o _ _ how.Refused end (omega arith) told
-serving_ends store image words o end (no_listener told) = told_ends o _ _ how.Refused end (omega arith) told
-serving_ends store image words o end (not_told port is told) = told_ends o _ _ how.Refused end (omega arith) told
-serving_ends store image words o end (was_open old new opened were) = told_ends o _ _ (serving_stop_end were.all) end (stop_is_low were.all) were.told
+served_low : {B : Type 0} (served : Result (B × Bool) OpenFault) → exit_status_of (serving_end served) ≤ 1
+served_low (Ok (books, true)) = omega arith
+served_low (Ok (books, false)) = omega arith
+served_low (Err fault) = omega arith
 
-timed_ends : (at : Option ℕ) (At : ℕ → Type 0) (o : Outputs) (end : End) → ((moment : ℕ) → At moment → exit_status_of end ≤ 1) → IsTimed at At o end → exit_status_of end ≤ 1
-timed_ends (Some moment) At o end ends done = ends moment done
-timed_ends None At o end ends (inl (moment, done)) = ends moment done
-timed_ends None At o end ends (inr told) = told_ends o _ _ how.Refused end (omega arith) told
+end_low : (meant end : End) → exit_status_of meant ≤ 1 → end ≡ meant → exit_status_of end ≤ 1
+end_low meant end low is = subst (λ e. exit_status_of e ≤ 1) (sym is) low
 
-answer_ends : {S : Type 0} (store : Ghosts S) (image : Image) (asked : Asked) (o : Outputs) (end : End) → IsCarriedOut store image asked o end → exit_status_of end ≤ 1
-answer_ends store image (asks.Trial words) o end done = timed_ends words.at _ o end (λ moment tried. told_ends o _ _ (trial_end tried.2) end (trial_low tried.2) tried.4) done
-answer_ends store image (asks.Import words) o end done = timed_ends words.at _ o end (λ moment imported. import_ends store image words moment o end imported) done
-answer_ends store image (asks.Shift words) o end done = timed_ends words.at _ o end (λ moment shifted. visit_ends store image _ _ o end shifted) done
-answer_ends store image (asks.Sell words) o end done = timed_ends words.at _ o end (λ moment sold. visit_ends store image _ _ o end sold) done
-answer_ends store image (asks.Report words) o end done = visit_ends store image _ _ o end done
-answer_ends store image (asks.Meter words) o end done = told_ends o _ _ how.Done end (omega arith) done
-answer_ends store image (asks.Quote words) o end done =
+serving_ends : {S D R W : Type 0} (store : Ghosts S) (way : Way D R W) (at : Text → Place) (door : D) (answers : Option (List ℤ)) (words : ServeWords) (err_old err_new : Sink) (end : End)
+    → IsServing store way at door answers words err_old err_new end → exit_status_of end ≤ 1
+serving_ends store way at door answers words err_old err_new end (serves_unopened fault fails told ends) = end_low how.Refused end (omega arith) ends
+serving_ends store way at door answers words err_old err_new end (unheard old opens finds deaf closes ends) = end_low how.Refused end (omega arith) ends
+serving_ends store way at door answers words err_old err_new end (was_open old opens finds were) = end_low (serving_end were.served) end (served_low were.served) were.ends
+
+done_ends : (At : ℕ → Type 0) (o : Outputs) (end : End) (moment : Option ℕ) → ((moment : ℕ) → At moment → exit_status_of end ≤ 1) → IsDoneAt At o end moment → exit_status_of end ≤ 1
+done_ends At o end (Some moment) ends done = ends moment done
+done_ends At o end None ends told = told_ends o _ _ how.Refused end (omega arith) told
+
+timed_ends : (given : Option ℕ) (answers : Option (List ℤ)) (At : ℕ → Type 0) (o : Outputs) (end : End) → ((moment : ℕ) → At moment → exit_status_of end ≤ 1) → IsTimed given answers At o end → exit_status_of end ≤ 1
+timed_ends given answers At o end ends (moment, taken, done) = done_ends At o end moment ends done
+
+answer_ends : {S D R W : Type 0} (store : Ghosts S) (m : Machine D R W) (asked : Asked) (o : Outputs) (end : End) → IsCarriedOut store m asked o end → exit_status_of end ≤ 1
+answer_ends store m (asks.Trial words) o end done = timed_ends words.at m.answers _ o end (λ moment tried. told_ends o _ _ (trial_end tried.2) end (trial_low tried.2) tried.4) done
+answer_ends store m (asks.Import words) o end done = timed_ends words.at m.answers _ o end (λ moment imported. import_ends store m words moment o end imported) done
+answer_ends store m (asks.Base words) o end done = timed_ends words.at m.answers _ o end (λ moment moved. visit_ends store _ _ _ o end moved) done
+answer_ends store m (asks.Shift words) o end done = timed_ends words.at m.answers _ o end (λ moment shifted. visit_ends store _ _ _ o end shifted) done
+answer_ends store m (asks.Sell words) o end done = timed_ends words.at m.answers _ o end (λ moment sold. visit_ends store _ _ _ o end sold) done
+answer_ends store m (asks.Report words) o end done = visit_ends store _ _ _ o end done
+answer_ends store m (asks.Meter words) o end done = told_ends o _ _ how.Done end (omega arith) done
+answer_ends store m (asks.Quote words) o end done =
     let bought = purchase_of words.steps words.prior words.tender in
     told_ends o _ _ (quote_end bought) end (quote_low bought) done
-answer_ends store image (asks.Serve words) o end done = serving_ends store image words o end done
-answer_ends store image (asks.Selfcheck words) o end (agreed has told) = told_ends o _ _ how.Done end (omega arith) told
-answer_ends store image (asks.Selfcheck words) o end (failed fault told) = told_ends o _ _ how.Refused end (omega arith) told
+answer_ends store m (asks.Serve words) o end done = serving_ends store m.way m.at m.door m.answers words o.err_old o.err_new end done.1
+answer_ends store m (asks.Selfcheck words) o end (agreed has told) = told_ends o _ _ how.Done end (omega arith) told
+answer_ends store m (asks.Selfcheck words) o end (failed fault told) = told_ends o _ _ how.Refused end (omega arith) told
 
 -- words that ask for something never end as bad words
-pub asked_ends : {S : Type 0} (store : Ghosts S) (image : Image) (words : List Text) (o : Outputs) (end : End) (asked : Asked) → AskFor words asked → IsProgramRun store image words o end → exit_status_of end ≤ 1
-asked_ends store image words o end asked for (answered other other_for done) = answer_ends store image other o end done
-asked_ends store image words o end asked for (bad_word no_fault none told) = absurd (none asked for)
-asked_ends store image words o end asked for (explained kind among says) = absurd (subst (IsAmong kind) for.no_fault among)
-asked_ends store image words o end asked for (no_room told) = told_ends o _ _ how.Refused end (omega arith) told
+run_ends : {S D R W : Type 0} (store : Ghosts S) (m : Machine D R W) (words : List Text) (o : Outputs) (end : End) (asked : Asked) → AskFor words asked → IsProgramRun store m words o end → exit_status_of end ≤ 1
+run_ends store m words o end asked for (answered other other_for done) = answer_ends store m other o end done
+run_ends store m words o end asked for (bad_word no_fault none told) = absurd (none asked for)
+run_ends store m words o end asked for (explained kind text among some says) = absurd (subst (IsAmong kind) for.no_fault among)
+run_ends store m words o end asked for (no_room told) = told_ends o _ _ how.Refused end (omega arith) told
+
+low_status : (end : End) (failed : Bool) → exit_status_of end ≤ 1 → status_of end failed ≤ 1
+low_status end false low = low
+low_status end true low = omega arith
+
+pub asked_ends : {S D R W : Type 0} (store : Ghosts S) (m : Machine D R W) (words : List Text) (o : Outputs) (end : End) (cut : Bool) (asked : Asked) → AskFor words asked → IsProgramRun store m words o end → status_of end cut ≤ 1
+asked_ends store m words o end cut asked for run = low_status end cut (run_ends store m words o end asked for run)

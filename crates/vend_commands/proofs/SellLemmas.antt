@@ -1,12 +1,10 @@
 -- What `sell` has done where it ends as done.
 use Rattle.std.proofs.Common.{◌≡◌, ◌∙◌, ℕ, ◌+◌, ◌%◌, Bool, true, false, [], ◌∷◌, length, Option, Some, None, Result, Ok, Err, inl, inr, refl, sym, ap, subst, arith}
 use Rattle.std.specs.Prelude.{All, Contains, if◌then◌else◌}
-use Rattle.std.specs.Io.KnownBytes.{Appends}
 use Rattle.std.specs.Option.{ok_or}
 use Rattle.books.specs.Keeps.{IsRepresented, RecoversTo}
 use Rattle.books.specs.Path.{StandsIn}
 use Rattle.sqlite_trees.specs.declared.store.Store.{Ghosts}
-use Rattle.sqlite_wal.specs.Recovery.{Image}
 use Rattle.sts_fields.specs.Text.{Text}
 use Rattle.sts_fields.specs.Tid.{fresh_after, minute_of}
 use Rattle.sts_token.specs.Token.{BlockFunction}
@@ -30,10 +28,11 @@ use Rattle.vend_core.specs.declared.shift.Shift.{Shift}
 use Rattle.vend_commands.specs.Selling.{EndsSold, TellsSale}
 use Rattle.vend_commands.specs.Served.{TellsReply, answer_text}
 use Rattle.vend_commands.specs.Tasks.{IsSold}
-use Rattle.vend_commands.specs.Told.{IsTold, Outputs}
+use Rattle.vend_commands.specs.Places.{Place}
+use Rattle.vend_commands.specs.Told.{IsTold, Outputs, Takes}
 use Rattle.vend_commands.specs.Visited.{seen_in}
 use Rattle.vend_commands.specs.Visited.IsVisited.{unopened, visited}
-use Rattle.vend_commands.specs.Ways.{forward_of}
+use Rattle.command_line.specs.Transform.{forward_of}
 use Rattle.command_line.specs.declared.commands.sell.SellWords.{SellWords}
 use Rattle.vend_commands.specs.declared.end.End.{End}
 use Rattle.vend_commands.specs.declared.end.End.TheVariants as how
@@ -90,13 +89,11 @@ one_left forward office at answer left (inr (doubted, there, is)) = absurd (omeg
 -- ---- a command that ended as done
 
 not_refused : (o : Outputs) (text errors : Text) → ¬ IsTold o text errors how.Refused how.Done
-not_refused o text errors (inl (put, told, is)) = cc
-not_refused o text errors (inr (cut, kept, is)) = cc
+not_refused o text errors (put, told, is) = cc
 
-is_answered : (reply : Result Answer Refusal) (o : Outputs) → TellsReply reply o how.Done → (answer : Answer) × (reply ≡ Ok answer) × Appends o.old o.new (answer_text answer)
-is_answered (Ok answer) o (inl (inl (put, told, is))) = (answer, refl, put)
-is_answered (Ok answer) o (inl (inr (cut, kept, is))) = absurd (cc)
-is_answered (Ok answer) o (inr (paper, told)) = absurd (not_refused o _ _ told)
+is_answered : (reply : Result Answer Refusal) (o : Outputs) → TellsReply reply o how.Done → (answer : Answer) × (reply ≡ Ok answer) × Takes o.old o.new (answer_text answer)
+is_answered (Ok answer) o (inl (put, told, is)) = (answer, refl, put)
+is_answered (Ok answer) o (inr (room, told)) = absurd (not_refused o _ _ told)
 is_answered (Err refusal) o told = absurd (not_refused o _ _ told)
 
 -- a receipt takes no memory
@@ -104,15 +101,16 @@ pub sale_told : (sale : Sale) (o : Outputs) (end : End) → TellsReply (Ok (Sold
 sale_told sale o end (inl told) = told
 sale_told sale o end (inr (none, told)) = absurd none
 
-pub ends_sold : {S : Type 0} (store : Ghosts S) (answers_stand : (forward : BlockFunction) (o : Office) (at : Stamped) → All (Contains (step forward o at).sales) (sales_of (reply forward o at))) (image : Image) (words : SellWords) (moment : ℕ) (office : Office) (o : Outputs) → StandsIn image office → IsSold store image words moment o how.Done → EndsSold store words moment office o
-ends_sold store answers_stand image words moment office o stands (unopened fault told) = absurd (not_refused o _ _ told)
-ends_sold store answers_stand image words moment office o stands (visited old new begins done) =
+pub ends_sold : {S : Type 0} (store : Ghosts S) (answers_stand : (forward : BlockFunction) (o : Office) (at : Stamped) → All (Contains (step forward o at).sales) (sales_of (reply forward o at))) (at : Text → Place) (words : SellWords) (moment : ℕ) (office : Office) (o : Outputs) → StandsIn (at words.file.now).image office → IsSold store at words moment o how.Done → EndsSold store (at words.file.now).closes words moment office o
+ends_sold store answers_stand places words moment office o stands (unopened fault fails told) = absurd (not_refused o _ _ told)
+ends_sold store answers_stand places words moment office o stands (visited old new begins finds done closes) =
     let forward = forward_of words.transform in
     let told = is_answered done.reply o done.told in
     let at = done.replied.0 in
     let asked = done.replied.1 in
     let replies = done.replied.2 in (
       new,
+      closes,
       λ clean.
           let present = (begins.opens office stands (replies.clean clean)).running begins.running in
           let kept = subst (λ reply. IsRepresented (extended_by (opened forward office) at reply) (seen_in new)) told.1 (replies.keeps (opened forward office) (begins.opens office stands) clean) in
@@ -128,7 +126,7 @@ ends_sold store answers_stand image words moment office o stands (visited old ne
             };
             sale = given.0;
             by_rules = by_rules;
-            printed = subst (λ answer. Appends o.old o.new (answer_text answer)) given.1 told.2;
+            printed = subst (λ answer. Takes o.old o.new (answer_text answer)) given.1 told.2;
             stands = subst (λ r. All (Contains (step forward office at).sales) (sales_of r)) by_rules (answers_stand forward office at) 0 given.0 (omega arith);
             left = λ trees may. let some = kept.left trees may in subst (RecoversTo trees) (one_left forward office at told.0 some.0 some.1) some.2;
           },

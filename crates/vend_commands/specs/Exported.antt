@@ -1,7 +1,5 @@
 -- What is printed of all sales of an office: the export of them, in pages.
-use Rattle.std.specs.Prelude.{◌≡◌, ℕ, ◌*◌, ◌==◌, Bool, true, List, [], ◌++◌, length, drop, take, Option, Some, None, Result, Ok, Err}
-use Rattle.std.specs.Io.KnownBytes.{Appends}
-use Rattle.std.specs.Io.KnownBytes as bytes
+use Rattle.std.specs.Prelude.{◌≡◌, ℕ, ◌*◌, ◌==◌, ◌&&◌, not, true, false, Bool, List, [], ◌++◌, length, drop, take, Option, Some, None, Result, Ok, Err}
 use Rattle.sqlite.specs.State.{HasCleanDisk}
 use Rattle.books.specs.Keeps.{Represents, Seen}
 use Rattle.papers.specs.Export.{export_of}
@@ -10,11 +8,9 @@ use Rattle.vend_core.specs.Life.{Life, present}
 use Rattle.vend_core.specs.declared.refusal.Refusal.{Refusal}
 use Rattle.vend_core.specs.declared.sale.Sale.{Sale}
 use Rattle.vend_commands.specs.Printed.{refusal_line}
-use Rattle.vend_commands.specs.Told.{HasBeginning, Held, IsCut, IsTold, Outputs}
+use Rattle.vend_commands.specs.Told.{IsTold, Outputs, Sink, Takes}
 use Rattle.vend_commands.specs.declared.end.End.{End}
 use Rattle.vend_commands.specs.declared.end.End.TheVariants as how
-use Rattle.vend_commands.specs.declared.exporting.ExportFault.{ExportFault}
-use Rattle.vend_commands.specs.declared.exporting.ExportFault.TheVariants.{Refused, Write}
 
 -- ---- a page
 
@@ -27,21 +23,14 @@ abbrev pub IsPageOf : (old new : Seen) → ℕ → List Sale → Type 0
 IsPageOf old new page sales = HasCleanDisk new.state → (life : Life) → Represents life old
     → sales ≡ page_of (present life).sales page
 
--- the sales of the page stand on the output, the first page behind the header; or it was refused,
--- and nothing was written; or the output failed within it
-abbrev pub IsPage : (old new : Seen) → ℕ → (held left : Held) → Result Bool ExportFault → Type 0
-IsPage old new page held left (Ok full) =
+-- the sales of the page are printed, the first page behind the header, and another page follows where
+-- it is full and no write failed; or it was refused, and nothing was printed
+abbrev pub IsPage : (old new : Seen) → ℕ → (before after : Sink) → Result Bool Refusal → Type 0
+IsPage old new page before after (Ok more) =
     (sales : List Sale) × IsPageOf old new page sales
-    × Appends held left (export_of (page == 0) sales) × (full ≡ (length sales == 1000))
-IsPage old new page held left (Err (Refused refusal)) = bytes.Keeps held left
-IsPage old new page held left (Err Write) =
-    (sales : List Sale) × IsPageOf old new page sales
-    × IsCut held left (export_of (page == 0) sales)
-
--- why it stopped is told: a refusal, and nothing where the output failed
-abbrev pub IsStopTold : ExportFault → (held left : Held) → Type 0
-IsStopTold (Refused refusal) held left = HasBeginning held left (refusal_line refusal)
-IsStopTold Write held left = left ≡ held
+    × Takes before after (export_of (page == 0) sales)
+    × (more ≡ ((length sales == 1000) && not after.failed))
+IsPage old new page before after (Err refusal) = Takes before after []
 
 -- ---- all pages
 
@@ -54,17 +43,20 @@ abbrev pub export_stop_end : Option Refusal → End
 export_stop_end None = how.Done
 export_stop_end (Some refusal) = how.Refused
 
--- the text is a beginning of the export of all these sales, and the whole where it is done
-pub record IsExportOf (sales : List Sale) (text : Text) (end : End) : Type 0 where
+-- the text is a beginning of the export of all these sales; it is the whole where no page was refused
+-- and no write failed
+pub record IsExportOf (sales : List Sale) (text : Text) (stop : Option Refusal) (failed : Bool) :
+    Type 0 where
   pub begins : (rest : Text) × (text ++ rest ≡ export_of true sales)
-  pub whole : end ≡ how.Done → text ≡ export_of true sales
+  pub whole : stop ≡ None → failed ≡ false → text ≡ export_of true sales
 
 -- The export of all sales of the present office is told, or a beginning of it up to a page that is
--- refused, and then the refusal. The books keep what they kept.
+-- refused, and then the refusal, or up to a page that the output did not take. The books keep what
+-- they kept.
 pub record IsExported (old new : Seen) (o : Outputs) (end : End) : Type 0 where
   pub text : Text
   pub stop : Option Refusal
   pub told : IsTold o text (stop_errors stop) (export_stop_end stop) end
   pub sales : HasCleanDisk new.state → (life : Life) → Represents life old
-      → IsExportOf (present life).sales text end
+      → IsExportOf (present life).sales text stop o.new.failed
   pub keeps : (life : Life) → Represents life old → Represents life new

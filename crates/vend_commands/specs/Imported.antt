@@ -1,7 +1,7 @@
 -- What `import` does: a file of rows is read, and they are added to an office.
 use Rattle.std.specs.Prelude.{◌⊎◌, ℕ, List, [], Result, Ok, Err}
+use Rattle.sts_fields.specs.Text.{Text}
 use Rattle.sqlite_trees.specs.declared.store.Store.{Ghosts}
-use Rattle.sqlite_wal.specs.Recovery.{Image}
 use Rattle.papers.specs.File.{AreFileRecords, Fields}
 use Rattle.papers.specs.Import.{IsReading}
 use Rattle.papers.specs.declared.row_fault.RowFault.{RowFault}
@@ -10,12 +10,15 @@ use Rattle.vend_core.specs.declared.refusal.Refusal.{Refusal}
 use Rattle.vend_core.specs.declared.refusal.Refusal.TheVariants as refusal
 use Rattle.vend_core.specs.declared.request.Request.TheVariants.{Import}
 use Rattle.vend_core.specs.declared.row.Row.{Row}
+use Rattle.vend_commands.specs.Places.{Place}
 use Rattle.vend_commands.specs.Printed.{file_line, refusal_line}
 use Rattle.vend_commands.specs.Told.{Outputs, IsTold}
 use Rattle.vend_commands.specs.Visited.{IsVisited}
 use Rattle.command_line.specs.declared.commands.import.ImportWords.{ImportWords}
 use Rattle.vend_commands.specs.declared.end.End.{End}
 use Rattle.vend_commands.specs.declared.end.End.TheVariants.{Refused}
+use Rattle.vend_commands.specs.declared.read_fault.ReadFault.{ReadFault}
+use Rattle.vend_commands.specs.declared.read_fault.ReadFault.TheVariants as read
 use Rattle.vend_commands.specs.declared.task.Task.TheVariants.{Ask}
 
 -- how a fault of the rows is told: as the office refuses a row
@@ -24,25 +27,30 @@ refusal_of_rows (At row cause) = refusal.ImportRow row cause
 refusal_of_rows Memory = refusal.Memory
 
 -- rows that were read go to the office as one request; a fault is told, and no office is opened
-abbrev pub AreAdded : {S : Type 0} → Ghosts S → Image → ImportWords → ℕ
+abbrev pub AreAdded : {S : Type 0} → Ghosts S → (Text → Place) → ImportWords → ℕ
     → Result (List Row) RowFault → Outputs → End → Type 0
-AreAdded store image words moment (Ok rows) o end =
-    IsVisited store image words.transform (Ask moment (Import rows)) o end
-AreAdded store image words moment (Err fault) o end =
+AreAdded store at words moment (Ok rows) o end =
+    IsVisited store (at words.file.now) words.transform (Ask moment (Import rows)) o end
+AreAdded store at words moment (Err fault) o end =
     IsTold o [] (refusal_line (refusal_of_rows fault)) Refused end
 
 -- the rows of these bytes, by their kind, are added
-abbrev pub IsImported : {S : Type 0} → Ghosts S → Image → ImportWords → ℕ → List ℕ → Outputs
-    → End → Type 0
-IsImported store image words moment bytes o end =
+abbrev pub IsImported : {S : Type 0} → Ghosts S → (Text → Place) → ImportWords → ℕ → List ℕ
+    → Outputs → End → Type 0
+IsImported store at words moment bytes o end =
     (records : List Fields) × (rows : Result (List Row) RowFault)
     × AreFileRecords bytes records × IsReading words.kind records rows
-    × AreAdded store image words moment rows o end
+    × AreAdded store at words moment rows o end
 
--- the file has some bytes, which are imported; or it is not read, or there is no room for it, and
--- that is told
-abbrev pub IsFileImported : {S : Type 0} → Ghosts S → Image → ImportWords → ℕ → Outputs → End
-    → Type 0
-IsFileImported store image words moment o end =
-    ((bytes : List ℕ) × IsImported store image words moment bytes o end)
-    ⊎ (IsTold o [] file_line Refused end ⊎ IsTold o [] (refusal_line refusal.Memory) Refused end)
+-- the file cannot be read, or there is no room for it
+abbrev pub read_fault_line : ReadFault → Text
+read_fault_line read.Unreadable = file_line
+read_fault_line read.Memory = refusal_line refusal.Memory
+
+-- the file of the words has some bytes, which are imported; or it is not read, and that is told
+abbrev pub IsFileImported : {S : Type 0} → Ghosts S → (Text → Place) → (Text → List ℕ → Type 0)
+    → (Text → ReadFault → Type 0) → ImportWords → ℕ → Outputs → End → Type 0
+IsFileImported store at Reads Lacks words moment o end =
+    ((bytes : List ℕ) × Reads words.csv.now bytes × IsImported store at words moment bytes o end)
+    ⊎ ((fault : ReadFault) × Lacks words.csv.now fault
+    × IsTold o [] (read_fault_line fault) Refused end)

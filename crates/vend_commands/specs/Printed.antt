@@ -21,13 +21,16 @@ line_of words = join_with_byte 32 words ++ 10 ∷ []
 abbrev pub token_line : Text → Text
 token_line token = line_of (token ∷ [])
 
--- the meter's answer to a token, and its credit
+-- the meter's answer to a token, that it was cleared, and its credit
 abbrev pub answer_line : Answer → Text
 answer_line (Accepted tenths) = line_of (codes "accepted" ∷ decimal tenths ∷ [])
 answer_line Used = line_of (codes "used" ∷ [])
 answer_line Old = line_of (codes "old" ∷ [])
 answer_line (Refused fault) =
     line_of (codes "refused" ∷ decimal (token_fault_number fault) ∷ token_fault_name fault ∷ [])
+
+abbrev pub cleared_line : Text
+cleared_line = line_of (codes "cleared" ∷ [])
 
 abbrev pub credit_line : ℕ → Text
 credit_line tenths = line_of (codes "credit" ∷ decimal tenths ∷ [])
@@ -57,7 +60,10 @@ abbrev pub opening_line : OpenFault → Text
 opening_line fault =
     line_of (codes "open" ∷ decimal (open_fault_number fault) ∷ open_fault_name fault ∷ [])
 
--- how many rows an import added, the number of a shift, and a selfcheck that found no fault
+-- that it is done, how many rows an import added, the number of a shift, and a selfcheck that found no fault
+abbrev pub done_line : Text
+done_line = line_of (codes "done" ∷ [])
+
 abbrev pub added_line : ℕ → Text
 added_line count = line_of (codes "added" ∷ decimal count ∷ [])
 

@@ -19,7 +19,7 @@ use Rattle.vend_core.specs.declared.request.Request.TheVariants.{AddTariff, AddM
 use Rattle.vend_core.specs.declared.request.Stamped.{Stamped}
 use Rattle.vend_commands.specs.Printed.{net_line, opening_line, refusal_line, selfcheck_line}
 use Rattle.vend_commands.specs.Told.{Held, IsTold, Outputs}
-use Rattle.vend_commands.specs.Ways.{forward_of}
+use Rattle.command_line.specs.Transform.{forward_of}
 use Rattle.vend_commands.specs.declared.end.End.{End}
 use Rattle.vend_commands.specs.declared.end.End.TheVariants.{Done, Refused as IsRefused}
 use Rattle.vend_commands.specs.declared.selfcheck_fault.SelfcheckFault.{SelfcheckFault}

@@ -1,7 +1,7 @@
 -- What `sell` has done where it ends as done, by the rules of the office that the files stand for.
 use Rattle.std.specs.Prelude.{◌≡◌, ℕ, ◌+◌, ◌%◌, [], length, Contains, Ok}
-use Rattle.std.specs.Io.KnownBytes.{Appends}
 use Rattle.books.specs.Keeps.{RecoversTo, Seen}
+use Rattle.books.specs.declared.books.Books.{Books}
 use Rattle.papers.specs.Receipt.{receipt_of}
 use Rattle.sqlite.specs.State.{HasCleanDisk}
 use Rattle.sqlite_trees.specs.Tree.{Trees}
@@ -14,13 +14,13 @@ use Rattle.vend_core.specs.declared.request.Order.{Order}
 use Rattle.vend_core.specs.declared.request.Request.TheVariants.{Sell}
 use Rattle.vend_core.specs.declared.request.Stamped.{Stamped}
 use Rattle.vend_core.specs.declared.sale.Sale.{Sale}
-use Rattle.vend_commands.specs.Told.{IsTold, Outputs}
+use Rattle.vend_commands.specs.Told.{IsTold, Outputs, Takes}
 use Rattle.vend_commands.specs.Visited.{seen_in}
-use Rattle.vend_commands.specs.Ways.{forward_of}
+use Rattle.command_line.specs.Transform.{forward_of}
 use Rattle.command_line.specs.declared.commands.sell.SellWords.{SellWords}
+use Rattle.command_line.specs.declared.transform.Shipped.{Shipped}
 use Rattle.vend_commands.specs.declared.end.End.{End}
 use Rattle.vend_commands.specs.declared.end.End.TheVariants.{Done}
-use Rattle.vend_commands.specs.declared.file_books.FileBooks.{FileBooks}
 
 -- the order at this moment, with the nibble of the office's next sale
 pub record IsOrdered (moment : ℕ) (order : Order) (office : Office) (at : Stamped) : Type 0 where
@@ -28,7 +28,7 @@ pub record IsOrdered (moment : ℕ) (order : Order) (office : Office) (at : Stam
   pub by_number : at.nibble ≡ (length office.sales + 1) % 16
   pub for_order : at.request ≡ Sell order
 
--- The output has the receipt of the sale that the office's rules give for the order. The sale stands
+-- The output was given the receipt of the sale that the office's rules give for the order. The sale stands
 -- in the office after it, and all that a crash may leave of the files stands for that office.
 pub record HasSold (forward : BlockFunction) (office : Office) (order : Order) (moment : ℕ) (o : Outputs)
     (books : Seen) : Type 0 where
@@ -36,7 +36,7 @@ pub record HasSold (forward : BlockFunction) (office : Office) (order : Order) (
   pub ordered : IsOrdered moment order office at
   pub sale : Sale
   pub by_rules : reply forward office at ≡ Ok (Sold sale)
-  pub printed : Appends o.old o.new (receipt_of sale)
+  pub printed : Takes o.old o.new (receipt_of sale)
   pub stands : Contains (step forward office at).sales sale
   pub left : (trees : Trees) → books.state.may_leave trees
       → RecoversTo trees (step forward office at)
@@ -45,9 +45,11 @@ pub record HasSold (forward : BlockFunction) (office : Office) (order : Order) (
 abbrev pub TellsSale : Sale → Outputs → End → Type 0
 TellsSale sale o end = IsTold o (receipt_of sale) [] Done end
 
--- so with the books as the command left them, as long as the disk returned what was written
-abbrev pub EndsSold : {S : Type 0} → Ghosts S → SellWords → (moment : ℕ) → Office → Outputs → Type 0
-EndsSold {S} store words moment office o =
-    (books : FileBooks S store)
+-- so with the books as the command left them and closed their file, as long as the disk returned what
+-- was written
+abbrev pub EndsSold : {S : Type 0} → Ghosts S → (Closes : Seen → Type 0) → SellWords → (moment : ℕ)
+    → Office → Outputs → Type 0
+EndsSold {S} store Closes words moment office o =
+    (books : Books S Shipped store) × Closes (seen_in books)
     × (HasCleanDisk (seen_in books).state
     → HasSold (forward_of words.transform) office words.order moment o (seen_in books))

@@ -10,14 +10,14 @@ use Rattle.vend_core.specs.declared.answer.Answer.TheVariants.{Done, Imported, O
 use Rattle.vend_core.specs.declared.refusal.Refusal.{Refusal}
 use Rattle.vend_core.specs.declared.refusal.Refusal.TheVariants.{Memory}
 use Rattle.vend_core.specs.declared.request.Request.{Request}
-use Rattle.vend_commands.specs.Printed.{added_line, refusal_line, shift_line}
+use Rattle.vend_commands.specs.Printed.{added_line, done_line, refusal_line, shift_line}
 use Rattle.vend_commands.specs.Told.{Outputs, IsTold}
 use Rattle.vend_commands.specs.declared.end.End.{End}
 use Rattle.vend_commands.specs.declared.end.End.TheVariants as how
 
--- the text of an answer: a sale's receipt, a shift's report, or a line with a number
+-- the text of an answer: a sale's receipt, a shift's report, or a line
 abbrev pub answer_text : core.Answer → Text
-answer_text Done = []
+answer_text Done = done_line
 answer_text (Imported count) = added_line count
 answer_text (Opened number) = shift_line number
 answer_text (Closed number) = shift_line number

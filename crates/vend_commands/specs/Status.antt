@@ -1,10 +1,15 @@
--- How a command ends, and the exit status for it.
-use Rattle.std.specs.Prelude.{ℕ}
+-- The exit status.
+use Rattle.std.specs.Prelude.{ℕ, Bool, true, false}
 use Rattle.vend_commands.specs.declared.end.End.{End}
 use Rattle.vend_commands.specs.declared.end.End.TheVariants.{Done, Refused, BadWords}
 
--- done; refused or failed, as where an output fails; words that are none of a command's
+-- done; refused or failed; words that are none of a command's
 abbrev pub exit_status_of : End → ℕ
 exit_status_of Done = 0
 exit_status_of Refused = 1
 exit_status_of BadWords = 2
+
+-- the same, but for an output that failed
+abbrev pub status_of : End → (failed : Bool) → ℕ
+status_of end false = exit_status_of end
+status_of end true = 1

@@ -1,14 +1,16 @@
 -- What the words of a command ask of an office, and what is done by them.
 use Rattle.std.specs.Prelude.{ℕ}
 use Rattle.sqlite_trees.specs.declared.store.Store.{Ghosts}
-use Rattle.sqlite_wal.specs.Recovery.{Image}
 use Rattle.sts_fields.specs.Moment.{first_moment}
+use Rattle.sts_fields.specs.Text.{Text}
 use Rattle.vend_core.specs.declared.request.Request.{Request}
-use Rattle.vend_core.specs.declared.request.Request.TheVariants.{OpenShift, CloseShift, Sell, Reprint, ShiftReport}
+use Rattle.vend_core.specs.declared.request.Request.TheVariants.{MoveBase, OpenShift, CloseShift, Sell, Reprint, ShiftReport}
+use Rattle.vend_commands.specs.Places.{Place}
 use Rattle.vend_commands.specs.Told.{Outputs}
 use Rattle.vend_commands.specs.Visited.{IsVisited}
+use Rattle.command_line.specs.declared.commands.base.BaseWords.{BaseWords}
 use Rattle.command_line.specs.declared.commands.report.Paper.{Paper}
-use Rattle.command_line.specs.declared.commands.report.Paper.TheVariants.{Shift, Receipt, Sales}
+use Rattle.command_line.specs.declared.commands.report.Paper.TheVariants.{Shift, Receipt, Totals, Sales}
 use Rattle.command_line.specs.declared.commands.report.ReportWords.{ReportWords}
 use Rattle.command_line.specs.declared.commands.sell.SellWords.{SellWords}
 use Rattle.command_line.specs.declared.commands.shift.Act.{Act}
@@ -16,8 +18,11 @@ use Rattle.command_line.specs.declared.commands.shift.Act.TheVariants.{Open, Clo
 use Rattle.command_line.specs.declared.commands.shift.ShiftWords.{ShiftWords}
 use Rattle.vend_commands.specs.declared.end.End.{End}
 use Rattle.vend_commands.specs.declared.task.Task.{Task}
-use Rattle.vend_commands.specs.declared.task.Task.TheVariants.{Ask, Export}
+use Rattle.vend_commands.specs.declared.task.Task.TheVariants.{Ask, Total, Export}
 use Rattle.command_line.specs.declared.transform.Shipped.TheVariants.{Plain}
+
+abbrev pub base_request : BaseWords → Request
+base_request words = MoveBase words.meter words.base
 
 abbrev pub act_request : Act → ShiftWords → Request
 act_request Open words = OpenShift words.operator
@@ -30,18 +35,26 @@ shift_request words = act_request words.act words
 abbrev pub report_task : Paper → Task
 report_task (Shift number) = Ask first_moment (ShiftReport number)
 report_task (Receipt number) = Ask first_moment (Reprint number)
+report_task (Totals number) = Total number
 report_task Sales = Export
 
--- `shift`, `sell` and `report`: each does its task at the office in its file
-abbrev pub IsShifted : {S : Type 0} → Ghosts S → Image → ShiftWords → (moment : ℕ) → Outputs
-    → End → Type 0
-IsShifted store image words moment o end =
-    IsVisited store image words.transform (Ask moment (shift_request words)) o end
+-- `base`, `shift`, `sell` and `report`: each does its task at the office in the file of its words
+abbrev pub IsMoved : {S : Type 0} → Ghosts S → (Text → Place) → BaseWords → (moment : ℕ)
+    → Outputs → End → Type 0
+IsMoved store at words moment o end =
+    IsVisited store (at words.file.now) words.transform (Ask moment (base_request words)) o end
 
-abbrev pub IsSold : {S : Type 0} → Ghosts S → Image → SellWords → (moment : ℕ) → Outputs
-    → End → Type 0
-IsSold store image words moment o end =
-    IsVisited store image words.transform (Ask moment (Sell words.order)) o end
+abbrev pub IsShifted : {S : Type 0} → Ghosts S → (Text → Place) → ShiftWords → (moment : ℕ)
+    → Outputs → End → Type 0
+IsShifted store at words moment o end =
+    IsVisited store (at words.file.now) words.transform (Ask moment (shift_request words)) o end
 
-abbrev pub IsReported : {S : Type 0} → Ghosts S → Image → ReportWords → Outputs → End → Type 0
-IsReported store image words o end = IsVisited store image Plain (report_task words.paper) o end
+abbrev pub IsSold : {S : Type 0} → Ghosts S → (Text → Place) → SellWords → (moment : ℕ)
+    → Outputs → End → Type 0
+IsSold store at words moment o end =
+    IsVisited store (at words.file.now) words.transform (Ask moment (Sell words.order)) o end
+
+abbrev pub IsReported : {S : Type 0} → Ghosts S → (Text → Place) → ReportWords → Outputs → End
+    → Type 0
+IsReported store at words o end =
+    IsVisited store (at words.file.now) Plain (report_task words.paper) o end

@@ -7,7 +7,7 @@ use Rattle.vend_core.specs.declared.refusal.Refusal.TheVariants as refusal
 use Rattle.vend_commands.specs.Printed.{amount_line, refusal_line, token_line}
 use Rattle.vend_commands.specs.Told.{Outputs, IsTold}
 use Rattle.vend_commands.specs.Trial.{IsTrial}
-use Rattle.vend_commands.specs.Ways.{forward_of}
+use Rattle.command_line.specs.Transform.{forward_of}
 use Rattle.command_line.specs.declared.commands.trial.TrialWords.{TrialWords}
 use Rattle.vend_commands.specs.declared.end.End.{End}
 use Rattle.vend_commands.specs.declared.end.End.TheVariants.{Done, Refused}

@@ -2,9 +2,6 @@
 pub mod import;
 pub mod meter;
 pub mod quote;
-pub mod report;
 pub mod selfcheck;
-pub mod sell;
 pub mod serve;
-pub mod shift;
 pub mod trial;

@@ -1,16 +1,17 @@
 //! All sales of an open office, printed as CSV in pages.
 
-ghost use Rattle.std.specs.Prelude.{◌≡◌, ◌≤◌};
+ghost use Rattle.std.specs.Prelude.{◌≤◌};
 ghost use Rattle.sqlite.specs.State.{HasCleanDisk};
 ghost use Rattle.books.specs.Keeps.{Represents, seen};
-ghost use Rattle.vend_commands.specs.Exported.{IsExported, IsPage, IsStopTold};
-ghost use Rattle.vend_commands.specs.Told.{outputs};
+ghost use Rattle.vend_commands.specs.Exported.{IsExported, IsPage};
+ghost use Rattle.vend_commands.specs.Told.{outputs, sink};
 ghost use Rattle.vend_core.specs.Life.{Life};
 
 use crate::end::End;
-use crate::told::tell_refusal;
+use crate::printed::put_refusal;
+use crate::watched::Watched;
 use books::Books;
-use papers::{TextFault, export_law, sales_csv};
+use papers::{export, export_law};
 use sqlite::Alter;
 use std::alloc::Global;
 use std::io::Write;
@@ -23,34 +24,26 @@ const PAGE: u32 = 1000;
 // The pages of the greatest office, all of them full, and an empty one.
 const PAGES: u32 = 1_000_001;
 
-/// Why an export stopped before its end.
-#[derive(Clone, Copy, Debug, PartialEq, Eq)]
-pub enum ExportFault {
-    /// The office refused a page, or there was no room for its text.
-    Refused(Refusal),
-    /// The output failed.
-    Write,
-}
-
-/// Prints all sales, the header once in front of them, or tells why it stops.
-pub(crate) fn export<S: Alter, T: BlockTransform, O: Write, E: Write>(
+/// Prints all sales, the header once in front of them, or tells why it stops. Where the output fails
+/// it goes no further.
+pub(crate) fn print_sales<S: Alter, T: BlockTransform, O: Write, E: Write>(
     alloc: Global,
     books: &mut Books<S, T>,
-    out: &mut O,
-    err: &mut E,
+    out: &mut Watched<'_, O>,
+    err: &mut Watched<'_, E>,
 ) -> End
     ensures { IsExported (seen S.Store T.forwards books.old) (seen S.Store T.forwards books.new)
-        (outputs (O.contents out.old) (O.contents out.new)
-        (E.contents err.old) (E.contents err.new)) result }
+        (outputs (sink O.contents out.old) (sink O.contents out.new)
+        (sink E.contents err.old) (sink E.contents err.new)) result }
 {
     export_law();
     life_law();
     for page in 0..PAGES {
-        match write_page(alloc, books, page, out) {
+        match print_page(alloc, books, page, out) {
             Ok(true) => {}
             Ok(false) => return End::Done,
-            Err(fault) => {
-                tell_stop(fault, err);
+            Err(refusal) => {
+                put_refusal(refusal, err);
                 return End::Refused;
             }
         }
@@ -58,27 +51,17 @@ pub(crate) fn export<S: Alter, T: BlockTransform, O: Write, E: Write>(
     End::Done
 }
 
-// Tells why an export stopped, but for an output that failed, which the status tells.
-fn tell_stop<E: Write>(fault: ExportFault, err: &mut E)
-    ensures { IsStopTold fault (E.contents err.old) (E.contents err.new) }
-{
-    match fault {
-        ExportFault::Refused(refusal) => tell_refusal(refusal, err),
-        ExportFault::Write => {}
-    }
-}
-
-// Writes a page, the first one behind the header, and answers whether it is full, so that another
-// follows.
-fn write_page<S: Alter, T: BlockTransform, O: Write>(
+// Prints a page, the first one behind the header, and answers whether another follows: it is full,
+// and the output took it.
+fn print_page<S: Alter, T: BlockTransform, O: Write>(
     alloc: Global,
     books: &mut Books<S, T>,
     page: u32,
-    out: &mut O,
-) -> Result<bool, ExportFault>
+    out: &mut Watched<'_, O>,
+) -> Result<bool, Refusal>
     requires { page ≤ 1000000 }
     ensures page { IsPage (seen S.Store T.forwards books.old) (seen S.Store T.forwards books.new)
-        page (O.contents out.old) (O.contents out.new) result }
+        page (sink O.contents out.old) (sink O.contents out.new) result }
     ensures keeps { (life : Life) → Represents life (seen S.Store T.forwards books.old)
         → Represents life (seen S.Store T.forwards books.new) }
     ensures clean { HasCleanDisk (seen S.Store T.forwards books.new).state
@@ -88,11 +71,12 @@ fn write_page<S: Alter, T: BlockTransform, O: Write>(
     store_law();
     let sales = match books.sales_after(page * PAGE, PAGE) {
         Ok(sales) => sales,
-        Err(refusal) => return Err(ExportFault::Refused(refusal)),
+        Err(refusal) => return Err(refusal),
     };
-    match sales_csv(alloc, &sales, page == 0, out) {
-        Ok(()) => Ok(sales.len() == PAGE as usize),
-        Err(TextFault::Memory) => Err(ExportFault::Refused(Refusal::Memory)),
-        Err(TextFault::Write) => Err(ExportFault::Write),
-    }
+    let Ok(text) = export(alloc, &sales, page == 0) else {
+        return Err(Refusal::Memory);
+    };
+    out.put(&text);
+    let is_full = sales.len() == PAGE as usize;
+    Ok(is_full && !out.has_failed())
 }

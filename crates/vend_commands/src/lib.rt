@@ -5,26 +5,41 @@
 #![tactic(auto)]
 
 pub use commands::selfcheck::run_selfcheck;
-pub use commands::sell::sell_law;
+pub use door::Door;
 pub use end::End;
-pub use listening::{serve, set_options};
-pub use running::{refuse, run};
+pub use laws::{sell_law, serve_law};
+pub use listening::serve;
+pub use machine_door::set_options;
+pub use ports::{OfficeFile, Ports, SaltSource, TextFiles};
+pub use read_fault::ReadFault;
+pub use reopening::reopen;
+pub use running::{refuse, run, run_over, status};
 pub use selfcheck::{gives_exactly, replies_over_memory};
 pub use selfcheck_fault::SelfcheckFault;
+pub use watched::Watched;
 
 mod clock;
 mod commands;
+mod door;
 mod end;
+mod errand;
+mod explanation;
 mod exporting;
-mod file_books;
+mod laws;
 mod listening;
+mod machine;
+mod machine_door;
 mod opening;
+mod ports;
 mod prepared;
 mod printed;
+mod read_fault;
+mod reopening;
 mod running;
 mod selfcheck;
 mod selfcheck_fault;
 mod serving;
 mod task;
-mod told;
+mod totalling;
 mod trial;
+mod watched;

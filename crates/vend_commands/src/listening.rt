@@ -1,91 +1,88 @@
-//! Connections to a listener, served one after another over any books.
+//! Connections to a door, served one after another over any books.
 
-ghost use Rattle.std.specs.Prelude.{◌≡◌, ◌≢◌, Some};
-ghost use Rattle.sqlite.specs.State.{HasCleanDisk};
-ghost use Rattle.books.specs.Keeps.{seen};
-ghost use Rattle.vend_commands.specs.Listening.{AreServed, GoOn, IsHeld};
+ghost use Rattle.std.specs.Prelude.{MatchResult};
+ghost use Rattle.std.specs.Bool.{MatchBool};
+ghost use Rattle.command_line.specs.Transform.{forward_of};
+ghost use Rattle.vend_commands.specs.Connections.{AreLost, AreReady, AreServed, IsHeld, IsUnheld, service};
+ghost use Rattle.vend_commands.specs.Places.{IsUnreopened, way};
+ghost use Rattle.vend_commands.specs.Visited.{seen_in};
 
-use books::Books;
+use crate::door::Door;
+use crate::ports::OfficeFile;
+use crate::reopening::open_again;
+use books::{Books, OpenFault};
+use command_line::{ServeWords, Shipped};
 use desk::{Clock, Desk};
-use sqlite::Alter;
+use sqlite::{Alter, FileStore};
 use std::alloc::Global;
-use std::net::{OpenListener, OpenStream, TcpStream};
-use std::time::Duration;
-use sts_token::BlockTransform;
 
-// For so many seconds a peer may send nothing, or take nothing, before its conversation ends.
-const PATIENCE: u64 = 30;
-
-/// Serves so many connections, one after another, and answers whether all of them could be had.
+/// Serves as many connections as the words ask for, one after another. Answers the books as they are
+/// left and whether all connections could be had, or why the file of stopped books was not opened
+/// again.
 ///
-/// However a conversation ends, its connection is closed then, and counts.
-pub fn serve<L, S, T, C>(
+/// However a conversation ends, its connection is let go then, and counts.
+pub fn serve<H: OfficeFile, D: Door, C: Clock>(
+    words: &ServeWords,
     alloc: Global,
     desk: &Desk,
-    listener: &L,
-    connections: u32,
-    books: &mut Books<S, T>,
+    salts: &H::Salts,
+    door: &mut D,
+    books: Books<FileStore<H::Medium>, Shipped>,
     clock: &mut C,
-) -> bool
-where
-    L: OpenListener<Stream = TcpStream>,
-    S: Alter,
-    T: BlockTransform,
-    C: Clock,
-    ensures clean { HasCleanDisk (seen S.Store T.forwards books.new).state
-        → HasCleanDisk (seen S.Store T.forwards books.old).state }
-    ensures lives { GoOn (seen S.Store T.forwards books.old) (seen S.Store T.forwards books.new)
-        (λ life after. AreServed connections result
-        (life, C.answers clock.old) (after, C.answers clock.new)) }
+) -> Result<(Books<FileStore<H::Medium>, Shipped>, bool), OpenFault>
+    ensures { AreServed
+        (way D.listens D.accepts D.refuses D.ends D.Reader.remaining D.Writer.contents)
+        (forward_of words.now.transform) seen_in (IsUnreopened H.Salts.SaltSource) words.now.connections
+        (service door.old books (C.answers clock.old)) door.new (C.answers clock.new) result }
 {
-    for _connection in 0..connections {
-        match listener.accept() {
-            Ok((stream, _)) => converse(alloc, desk, &stream, books, clock),
-            Err(_) => return false,
+    let mut books = books;
+    for _connection in 0..words.connections {
+        books = match readied::<H>(alloc, salts, books, words.transform) {
+            Ok(books) => books,
+            Err(fault) => return Err(fault),
+        };
+        if !hold(alloc, desk, door, &mut books, clock) {
+            return Ok((books, false));
         }
     }
-    true
+    Ok((books, true))
 }
 
-// Holds the conversation of a connection.
-fn converse<S: Alter, T: BlockTransform, C: Clock>(
+// Books that are not stopped, or else those that are opened again in their file.
+fn readied<H: OfficeFile>(
+    alloc: Global,
+    salts: &H::Salts,
+    books: Books<FileStore<H::Medium>, Shipped>,
+    transform: Shipped,
+) -> Result<Books<FileStore<H::Medium>, Shipped>, OpenFault>
+    ensures { MatchResult result
+        (AreReady seen_in (forward_of transform) books)
+        (AreLost seen_in (IsUnreopened H.Salts.SaltSource) books) }
+{
+    if !books.is_stopped() {
+        return Ok(books);
+    }
+    open_again::<H>(alloc, salts, books, transform)
+}
+
+// Takes the next connection, holds its conversation and lets it go. Answers whether one could be had.
+fn hold<S: Alter, D: Door, C: Clock>(
     alloc: Global,
     desk: &Desk,
-    stream: &TcpStream,
-    books: &mut Books<S, T>,
+    door: &mut D,
+    books: &mut Books<S, Shipped>,
     clock: &mut C,
-)
-    ensures clean { HasCleanDisk (seen S.Store T.forwards books.new).state
-        → HasCleanDisk (seen S.Store T.forwards books.old).state }
-    ensures lives { GoOn (seen S.Store T.forwards books.old) (seen S.Store T.forwards books.new)
-        (λ life after. IsHeld (life, C.answers clock.old) (after, C.answers clock.new)) }
+) -> bool
+    ensures { MatchBool result
+        (IsHeld (way D.listens D.accepts D.refuses D.ends D.Reader.remaining D.Writer.contents) seen_in
+        (service door.old books.old (C.answers clock.old)) (service door.new books.new (C.answers clock.new)))
+        (IsUnheld (way D.listens D.accepts D.refuses D.ends D.Reader.remaining D.Writer.contents) seen_in
+        (service door.old books.old (C.answers clock.old)) (service door.new books.new (C.answers clock.new))) }
 {
-    set_options(stream);
-    let mut reader = stream;
-    let mut writer = stream;
+    let Some((mut reader, mut writer)) = door.accept() else {
+        return false;
+    };
     let _ = desk.run(alloc, &mut reader, &mut writer, books, clock);
-}
-
-/// Readies a connection for a conversation. One that refuses an option is served all the same.
-pub fn set_options(stream: &TcpStream) {
-    // Else a reply may wait until the peer acknowledges the one before.
-    let _ = stream.set_nodelay(true);
-    // Else one silent peer holds up all that come after it.
-    let patience = Some(Duration::from_secs(PATIENCE));
-    let _ = stream.set_read_timeout(patience);
-    let _ = stream.set_write_timeout(patience);
-}
-
-/// The port that a listener has, where that can be told: the one that was asked for, or with 0 the
-/// one that the system chose.
-pub(crate) fn port_of<L: OpenListener>(listener: &L, asked: u16) -> Option<u16>
-    ensures { asked ≢ 0 → result ≡ Some asked }
-{
-    if asked != 0 {
-        return Some(asked);
-    }
-    match listener.local_addr() {
-        Ok(address) => Some(address.port()),
-        Err(_) => None,
-    }
+    D::end(reader, writer);
+    true
 }

@@ -1,32 +1,39 @@
-ghost use Rattle.std.specs.Prelude.{◌≡◌, ◌≤◌, map};
-ghost use Rattle.clap.specs.Values.{kind_of};
+ghost use Rattle.std.specs.Prelude.{◌≡◌, ◌≢◌, ◌⊎◌, ◌≤◌, ℕ, Bool, false, [], map};
 ghost use Rattle.sqlite_wal.specs.Files.{image_at};
+ghost use Rattle.sts_fields.specs.Text.{Text};
+ghost use Rattle.vend_core.specs.declared.refusal.Refusal.TheVariants.{Memory};
 ghost use Rattle.command_line.specs.Asked.{AskFor};
-ghost use Rattle.vend_commands.specs.Imported.{IsFileImported};
-ghost use Rattle.vend_commands.specs.Printed.{clock_line};
-ghost use Rattle.vend_commands.specs.Run.{IsCarriedOut, IsExplained, IsProgramRun, IsTimed};
-ghost use Rattle.vend_commands.specs.Selfchecked.{HasReplies, IsSelfchecked};
-ghost use Rattle.vend_commands.specs.Status.{exit_status_of};
-ghost use Rattle.vend_commands.specs.Tasks.{IsShifted, IsSold};
-ghost use Rattle.vend_commands.specs.Told.{HasBeginning, outputs};
-ghost use Rattle.vend_commands.specs.Tried.{IsTried};
+ghost use Rattle.vend_commands.specs.Places.{machine, places_of, untold, way};
+ghost use Rattle.vend_commands.specs.Printed.{refusal_line};
+ghost use Rattle.vend_commands.specs.Run.{IsCarriedOut, IsExplained, IsProgramRun};
+ghost use Rattle.vend_commands.specs.Status.{status_of};
+ghost use Rattle.vend_commands.specs.Told.{IsTold, Takes, outputs, sink, writer};
 ghost use Rattle.vend_commands.specs.Unread.{bad_words_end, bad_words_line};
 ghost use Rattle.command_line.specs.declared.asked.Asked.{Asked};
 ghost use Rattle.vend_commands.specs.declared.end.End.{End};
 
-use crate::clock::moment_or_now;
+use crate::clock::moment_for;
 use crate::commands;
 use crate::commands::selfcheck::run_selfcheck;
+use crate::door::Door;
 use crate::end::End;
-use crate::told::{tell, tell_refusal};
-use clap::Error;
+use crate::errand::Errand;
+use crate::explanation::Explanation;
+use crate::machine::{MachineFile, MachineTexts};
+use crate::machine_door::MachineDoor;
+use crate::opening::visit;
+use crate::ports::{OfficeFile, Ports, TextFiles};
+use crate::printed::{put_line, put_refusal};
+use crate::watched::Watched;
 use clap::error::ErrorKind;
-use command_line::{
-    Asked, BadWords, ImportWords, SelfcheckWords, SellWords, ShiftWords, TrialWords, parse,
-};
+use command_line::{Asked, BadWords, parse};
+use desk::{Clock, MachineClock};
 use sqlite::{FileFrom, FileStore, Start};
+use sqlite_disk::Disk;
 use sqlite_trees::store::Store;
+use std::alloc::Global;
 use std::io::Write;
+use std::net::Net;
 use vend_core::Refusal;
 
 /// Runs the command that some words give, the program's own name left out, and answers the exit
@@ -41,181 +48,156 @@ pub fn run<B: Start, O: Write, E: Write>(
     out: &mut O,
     err: &mut E,
 ) -> u8
-    ensures run { (end : End) × IsProgramRun ⟦<FileStore<FileFrom<B>> as Store>⟧ (image_at B.Start)
+    ensures run { (end : End) × (out_failed err_failed : Bool) × (out_name err_name : ℕ)
+        × IsProgramRun ⟦<FileStore<FileFrom<B>> as Store>⟧ (untold ⟦<FileFrom<B> as Disk>⟧ (image_at B.Start))
         (map (λ w. w.now) words.now)
-        (outputs (O.contents out.old) (O.contents out.new)
-        (E.contents err.old) (E.contents err.new)) end × (result ≡ exit_status_of end) }
+        (outputs (writer (O.contents out.old) false out_name)
+        (writer (O.contents out.new) out_failed out_name)
+        (writer (E.contents err.old) false err_name)
+        (writer (E.contents err.new) err_failed err_name)) end
+        × (result ≡ status_of end out_failed) }
     ensures asked { (asked : Asked) → AskFor (map (λ w. w.now) words.now) asked → result ≤ 1 }
 {
-    carry_out(rt, start, words, out, err).status()
+    let ports = Ports {
+        office: MachineFile { rt, start },
+        texts: MachineTexts { rt },
+        clock: MachineClock::new(rt),
+        door: MachineDoor::new(rt),
+    };
+    let mut out = Watched::new(out);
+    let mut err = Watched::new(err);
+    let end = run_over(rt.alloc(), rt, ports, words, &mut out, &mut err);
+    status(end, out.has_failed())
 }
 
-// Does what the words ask for, or says why not.
-fn carry_out<B: Start, O: Write, E: Write>(
-    rt: &HostRuntime,
-    start: B,
-    words: &[&str],
-    out: &mut O,
-    err: &mut E,
-) -> End
-    ensures { IsProgramRun ⟦<FileStore<FileFrom<B>> as Store>⟧ (image_at B.Start)
-        (map (λ w. w.now) words.now)
-        (outputs (O.contents out.old) (O.contents out.new)
-        (E.contents err.old) (E.contents err.new)) result }
+/// The exit status, where the output failed or not.
+pub fn status(end: End, failed: bool) -> u8
+    ensures { result ≡ status_of end failed }
 {
-    match parse(rt.alloc(), words) {
-        Ok(matches) => match Asked::read(rt.alloc(), &matches) {
-            Ok(asked) => answer(rt, start, &asked, out, err),
+    if failed {
+        return 1;
+    }
+    end.status()
+}
+
+/// Does what the words ask for with what some ports give, or says why not.
+pub fn run_over<H: OfficeFile, F: TextFiles, C: Clock + Drop, D: Door, N: Net, O: Write, E: Write>(
+    alloc: Global,
+    net: &N,
+    ports: Ports<H, F, C, D>,
+    words: &[&str],
+    out: &mut Watched<'_, O>,
+    err: &mut Watched<'_, E>,
+) -> End
+    ensures { IsProgramRun ⟦<FileStore<H::Medium> as Store>⟧ (machine
+        (places_of H.Medium.Disk H.Salts.SaltSource H.OfficeFile ports.office)
+        (F.reads ports.texts) (F.lacks ports.texts) (C.answers ports.clock)
+        (way D.listens D.accepts D.refuses D.ends D.Reader.remaining D.Writer.contents) ports.door)
+        (map (λ w. w.now) words.now)
+        (outputs (sink O.contents out.old) (sink O.contents out.new)
+        (sink E.contents err.old) (sink E.contents err.new)) result }
+{
+    match parse(alloc, words) {
+        Ok(matches) => match Asked::read(alloc, &matches) {
+            Ok(asked) => answer(alloc, net, ports, &asked, out, err),
             Err(fault) => refuse(fault, err),
         },
-        Err(error) => explain(&error, out, err),
+        Err(error) => explain(alloc, &error, out, err),
     }
 }
 
 // Does what is asked.
-fn answer<B: Start, O: Write, E: Write>(
-    rt: &HostRuntime,
-    start: B,
+fn answer<H: OfficeFile, F: TextFiles, C: Clock + Drop, D: Door, N: Net, O: Write, E: Write>(
+    alloc: Global,
+    net: &N,
+    ports: Ports<H, F, C, D>,
     asked: &Asked,
-    out: &mut O,
-    err: &mut E,
+    out: &mut Watched<'_, O>,
+    err: &mut Watched<'_, E>,
 ) -> End
-    ensures { IsCarriedOut ⟦<FileStore<FileFrom<B>> as Store>⟧ (image_at B.Start)
-        asked.now (outputs (O.contents out.old) (O.contents out.new)
-        (E.contents err.old) (E.contents err.new)) result }
+    ensures { IsCarriedOut ⟦<FileStore<H::Medium> as Store>⟧ (machine
+        (places_of H.Medium.Disk H.Salts.SaltSource H.OfficeFile ports.office)
+        (F.reads ports.texts) (F.lacks ports.texts) (C.answers ports.clock)
+        (way D.listens D.accepts D.refuses D.ends D.Reader.remaining D.Writer.contents) ports.door)
+        asked.now (outputs (sink O.contents out.old) (sink O.contents out.new)
+        (sink E.contents err.old) (sink E.contents err.new)) result }
 {
+    let Ports {
+        office,
+        texts,
+        mut clock,
+        mut door,
+    } = ports;
+    let Some(moment) = moment_for(asked, &mut clock) else {
+        put_line(&[b"refused", b"clock"], err);
+        return End::Refused;
+    };
     match asked {
-        Asked::Trial(words) => trial(rt, words, out, err),
-        Asked::Import(words) => import(rt, start, words, out, err),
-        Asked::Shift(words) => shift(rt, start, words, out, err),
-        Asked::Sell(words) => sell(rt, start, words, out, err),
-        Asked::Report(words) => commands::report::run(words, rt, start, out, err),
+        Asked::Trial(words) => commands::trial::run(words, alloc, moment, out, err),
+        Asked::Import(words) => {
+            commands::import::run(words, alloc, office, &texts, moment, out, err)
+        }
+        Asked::Base(words) => visit(alloc, office, Errand::to_move(words, moment), out, err),
+        Asked::Shift(words) => visit(alloc, office, Errand::to_shift(words, moment), out, err),
+        Asked::Sell(words) => visit(alloc, office, Errand::to_sell(words, moment), out, err),
+        Asked::Report(words) => visit(alloc, office, Errand::to_report(words), out, err),
         Asked::Meter(words) => commands::meter::run(words, out),
         Asked::Quote(words) => commands::quote::run(words, out, err),
-        Asked::Serve(words) => commands::serve::run(words, rt, start, err),
-        Asked::Selfcheck(words) => selfcheck(rt, words, out, err),
+        Asked::Serve(words) => commands::serve::run(
+            words, alloc, office, &mut door, &mut clock, err,
+        ),
+        Asked::Selfcheck(words) => run_selfcheck(words, alloc, net, out, err),
     }
-}
-
-fn trial<O: Write, E: Write>(rt: &HostRuntime, words: &TrialWords, out: &mut O, err: &mut E) -> End
-    ensures { let o = outputs (O.contents out.old) (O.contents out.new)
-        (E.contents err.old) (E.contents err.new) in
-        IsTimed words.now.at (λ moment. IsTried words.now moment o result) o result }
-{
-    match moment_or_now(rt, words.at) {
-        Some(moment) => commands::trial::run(words, rt.alloc(), moment, out, err),
-        None => no_moment(err),
-    }
-}
-
-fn import<B: Start, O: Write, E: Write>(
-    rt: &HostRuntime,
-    start: B,
-    words: &ImportWords,
-    out: &mut O,
-    err: &mut E,
-) -> End
-    ensures { let o = outputs (O.contents out.old) (O.contents out.new)
-        (E.contents err.old) (E.contents err.new) in
-        IsTimed words.now.at (λ moment. IsFileImported ⟦<FileStore<FileFrom<B>> as Store>⟧
-        (image_at B.Start) words.now moment o result) o result }
-{
-    match moment_or_now(rt, words.at) {
-        Some(moment) => commands::import::run(words, rt, start, moment, out, err),
-        None => no_moment(err),
-    }
-}
-
-fn shift<B: Start, O: Write, E: Write>(
-    rt: &HostRuntime,
-    start: B,
-    words: &ShiftWords,
-    out: &mut O,
-    err: &mut E,
-) -> End
-    ensures { let o = outputs (O.contents out.old) (O.contents out.new)
-        (E.contents err.old) (E.contents err.new) in
-        IsTimed words.now.at (λ moment. IsShifted ⟦<FileStore<FileFrom<B>> as Store>⟧
-        (image_at B.Start) words.now moment o result) o result }
-{
-    match moment_or_now(rt, words.at) {
-        Some(moment) => commands::shift::run(words, rt, start, moment, out, err),
-        None => no_moment(err),
-    }
-}
-
-fn sell<B: Start, O: Write, E: Write>(
-    rt: &HostRuntime,
-    start: B,
-    words: &SellWords,
-    out: &mut O,
-    err: &mut E,
-) -> End
-    ensures { let o = outputs (O.contents out.old) (O.contents out.new)
-        (E.contents err.old) (E.contents err.new) in
-        IsTimed words.now.at (λ moment. IsSold ⟦<FileStore<FileFrom<B>> as Store>⟧
-        (image_at B.Start) words.now moment o result) o result }
-{
-    match moment_or_now(rt, words.at) {
-        Some(moment) => commands::sell::run(words, rt, start, moment, out, err),
-        None => no_moment(err),
-    }
-}
-
-fn selfcheck<O: Write, E: Write>(
-    rt: &HostRuntime,
-    words: &SelfcheckWords,
-    out: &mut O,
-    err: &mut E,
-) -> End
-    ensures { IsSelfchecked (HasReplies words.now.transform)
-        (outputs (O.contents out.old) (O.contents out.new)
-        (E.contents err.old) (E.contents err.new)) result }
-{
-    run_selfcheck(words, rt.alloc(), rt, out, err)
-}
-
-// Tells that the clock has no moment.
-fn no_moment<E: Write>(err: &mut E) -> End
-    ensures told { HasBeginning (E.contents err.old) (E.contents err.new) clock_line }
-    ensures end { result ≡ End.Refused }
-{
-    tell(&[b"refused", b"clock"], err);
-    End::Refused
 }
 
 /// Tells why words were not read.
-pub fn refuse<E: Write>(fault: BadWords, err: &mut E) -> End
-    ensures told { HasBeginning (E.contents err.old) (E.contents err.new) (bad_words_line fault) }
+pub fn refuse<E: Write>(fault: BadWords, err: &mut Watched<'_, E>) -> End
+    ensures told { Takes (sink E.contents err.old) (sink E.contents err.new)
+        (bad_words_line fault) }
     ensures end { result ≡ bad_words_end fault }
 {
     match fault {
         BadWords::Value => {
-            tell(&[b"bad", b"word"], err);
+            put_line(&[b"bad", b"word"], err);
             End::BadWords
         }
         BadWords::Memory => {
-            tell_refusal(Refusal::Memory, err);
+            put_refusal(Refusal::Memory, err);
             End::Refused
         }
     }
 }
 
-// Says what `clap` says of words that are no command's, which stands in no contract.
-fn explain<O: Write, E: Write>(error: &Error, out: &mut O, err: &mut E) -> End
-    ensures { IsExplained (kind_of error.now) (outputs (O.contents out.old) (O.contents out.new)
-        (E.contents err.old) (E.contents err.new)) result }
+// Says what is wrong with words that are no command's, or gives the help that they call for.
+fn explain<X: Explanation, O: Write, E: Write>(
+    alloc: Global,
+    error: &X,
+    out: &mut Watched<'_, O>,
+    err: &mut Watched<'_, E>,
+) -> End
+    ensures { let o = outputs (sink O.contents out.old) (sink O.contents out.new)
+        (sink E.contents err.old) (sink E.contents err.new) in
+        IsTold o [] (refusal_line Memory) End.Refused result
+        ⊎ ((text : Text) × X.says error.now text × (text ≢ [])
+        × IsExplained (X.kind error.now) text o result) }
 {
-    if error.kind() == ErrorKind::OutOfMemory {
-        tell_refusal(Refusal::Memory, err);
+    let kind = error.kind();
+    if kind == ErrorKind::OutOfMemory {
+        put_refusal(Refusal::Memory, err);
         return End::Refused;
     }
-    if error.use_stderr() {
-        let _ = write!(err, "{error}");
-        return End::BadWords;
-    }
-    match write!(out, "{error}") {
-        Ok(()) => End::Done,
-        Err(_) => End::Refused,
+    let Ok(text) = error.text(alloc) else {
+        put_refusal(Refusal::Memory, err);
+        return End::Refused;
+    };
+    match kind {
+        ErrorKind::DisplayHelp | ErrorKind::DisplayVersion => {
+            out.put(text.as_bytes());
+            End::Done
+        }
+        _ => {
+            err.put(text.as_bytes());
+            End::BadWords
+        }
     }
 }

@@ -1,72 +1,77 @@
 ghost use Rattle.std.specs.Prelude.{◌≡◌, List};
 ghost use Rattle.papers.specs.File.{AreFileRecords, Fields};
 ghost use Rattle.papers.specs.Import.{IsReading};
-ghost use Rattle.sqlite_wal.specs.Files.{image_at};
-ghost use Rattle.vend_commands.specs.Imported.{IsFileImported, IsImported, refusal_of_rows};
-ghost use Rattle.vend_commands.specs.Told.{outputs};
+ghost use Rattle.vend_commands.specs.Imported.{IsFileImported, IsImported, read_fault_line, refusal_of_rows};
+ghost use Rattle.vend_commands.specs.Places.{places_of};
+ghost use Rattle.vend_commands.specs.Told.{Takes, outputs, sink};
 
 use crate::end::End;
+use crate::errand::Errand;
 use crate::opening::visit;
+use crate::ports::{OfficeFile, TextFiles};
+use crate::printed::{put_line, put_refusal};
+use crate::read_fault::ReadFault;
 use crate::task::Task;
-use crate::told::{tell, tell_refusal};
+use crate::watched::Watched;
 use command_line::ImportWords;
 use papers::{FileKind, RowFault, read_meters, read_tariffs};
-use sqlite::{FileFrom, FileStore, Start};
+use sqlite::FileStore;
 use sqlite_trees::store::Store;
 use std::alloc::Global;
-use std::fs;
-use std::io::{ErrorKind, Write};
+use std::io::Write;
 use sts_fields::Moment;
 use vend_core::{Refusal, Request, Rows};
 
 /// Reads the file of rows, adds them to the office, and prints how many were new.
-pub(crate) fn run<B: Start, O: Write, E: Write>(
+pub(crate) fn run<H: OfficeFile, F: TextFiles, O: Write, E: Write>(
     words: &ImportWords,
-    rt: &HostRuntime,
-    start: B,
+    alloc: Global,
+    office: H,
+    texts: &F,
     moment: Moment,
-    out: &mut O,
-    err: &mut E,
+    out: &mut Watched<'_, O>,
+    err: &mut Watched<'_, E>,
 ) -> End
-    ensures { IsFileImported ⟦<FileStore<FileFrom<B>> as Store>⟧ (image_at B.Start)
-        words.now moment (outputs (O.contents out.old) (O.contents out.new)
-        (E.contents err.old) (E.contents err.new)) result }
+    ensures { IsFileImported ⟦<FileStore<H::Medium> as Store>⟧ (places_of H.Medium.Disk H.Salts.SaltSource H.OfficeFile office)
+        (F.reads texts.now) (F.lacks texts.now) words.now moment
+        (outputs (sink O.contents out.old) (sink O.contents out.new)
+        (sink E.contents err.old) (sink E.contents err.new)) result }
 {
-    match fs::read(rt, words.csv) {
-        Ok(bytes) => add(words, rt, start, moment, &bytes, out, err),
-        Err(error) => {
-            if error.kind() == ErrorKind::OutOfMemory {
-                tell_refusal(Refusal::Memory, err);
-            } else {
-                tell(&[b"file"], err);
-            }
+    match texts.read(words.csv) {
+        Ok(bytes) => add(words, alloc, office, moment, &bytes, out, err),
+        Err(fault) => {
+            put_read_fault(fault, err);
             End::Refused
         }
     }
 }
 
 // Adds the rows that these bytes have.
-fn add<B: Start, O: Write, E: Write>(
+fn add<H: OfficeFile, O: Write, E: Write>(
     words: &ImportWords,
-    rt: &HostRuntime,
-    start: B,
+    alloc: Global,
+    office: H,
     moment: Moment,
     bytes: &[u8],
-    out: &mut O,
-    err: &mut E,
+    out: &mut Watched<'_, O>,
+    err: &mut Watched<'_, E>,
 ) -> End
-    ensures { IsImported ⟦<FileStore<FileFrom<B>> as Store>⟧ (image_at B.Start)
+    ensures { IsImported ⟦<FileStore<H::Medium> as Store>⟧ (places_of H.Medium.Disk H.Salts.SaltSource H.OfficeFile office)
         words.now moment bytes.now
-        (outputs (O.contents out.old) (O.contents out.new)
-        (E.contents err.old) (E.contents err.new)) result }
+        (outputs (sink O.contents out.old) (sink O.contents out.new)
+        (sink E.contents err.old) (sink E.contents err.new)) result }
 {
-    match rows_of(words, rt.alloc(), bytes) {
+    match rows_of(words, alloc, bytes) {
         Ok(rows) => {
-            let task = Task::Ask(moment, Request::Import(rows));
-            visit(rt, start, words.transform, words.file, task, out, err)
+            let errand = Errand {
+                transform: words.transform,
+                file: words.file,
+                task: Task::Ask(moment, Request::Import(rows)),
+            };
+            visit(alloc, office, errand, out, err)
         }
         Err(fault) => {
-            tell_refusal(refusal_of(fault), err);
+            put_refusal(refusal_of(fault), err);
             End::Refused
         }
     }
@@ -90,5 +95,15 @@ fn refusal_of(fault: RowFault) -> Refusal
     match fault {
         RowFault::At(row, cause) => Refusal::ImportRow(row, cause),
         RowFault::Memory => Refusal::Memory,
+    }
+}
+
+// Tells why a file is not read.
+fn put_read_fault<E: Write>(fault: ReadFault, err: &mut Watched<'_, E>)
+    ensures { Takes (sink E.contents err.old) (sink E.contents err.new) (read_fault_line fault) }
+{
+    match fault {
+        ReadFault::Unreadable => put_line(&[b"file"], err),
+        ReadFault::Memory => put_refusal(Refusal::Memory, err),
     }
 }

@@ -1,46 +1,59 @@
-ghost use Rattle.std.specs.Prelude.{◌≢◌, Err, map};
-ghost use Rattle.papers.specs.Output.{IsWritten};
+ghost use Rattle.std.specs.Prelude.{◌≡◌, ◌∷◌, ◌++◌, [], List, map};
+ghost use Rattle.sim_meter.specs.Meter.{ComesFrom};
+ghost use Rattle.sts_token.specs.Meter.{Entry, Reader};
 ghost use Rattle.sts_token.specs.Reading.{reading_of};
-ghost use Rattle.vend_commands.specs.Metered.{metering, metering_of};
-ghost use Rattle.vend_commands.specs.Told.{IsPut};
+ghost use Rattle.vend_commands.specs.Metered.{entry_of, metering, metering_of, word_line};
+ghost use Rattle.vend_commands.specs.Told.{Takes, sink};
 
 use crate::end::End;
-use crate::printed::{write_answer, write_credit};
-use command_line::{MeterWords, Shipped};
-use papers::TextFault;
+use crate::printed::{put_answer, put_credit, put_line};
+use crate::watched::Watched;
+use command_line::MeterWords;
 use sim_meter::Meter;
 use std::io::Write;
-use sts_token::{BlockTransform, Demo, Plain};
+use sts_token::BlockTransform;
 
 /// Prints what the meter answers to each token, and then its credit.
-pub(crate) fn run<O: Write>(words: &MeterWords, out: &mut O) -> End
-    ensures { IsPut (O.contents out.old) (O.contents out.new) (metering_of words.now)
-        End.Done result }
+pub(crate) fn run<O: Write>(words: &MeterWords, out: &mut Watched<'_, O>) -> End
+    ensures told { Takes (sink O.contents out.old) (sink O.contents out.new) (metering_of words.now) }
+    ensures end { result ≡ End.Done }
 {
-    let entered = match words.transform {
-        Shipped::Plain => enter_all(Plain, words.key, words.tokens, out),
-        Shipped::Demo => enter_all(Demo, words.key, words.tokens, out),
-    };
-    match entered {
-        Ok(()) => End::Done,
-        Err(_) => End::Refused,
-    }
+    enter_all(words.transform, words.key, words.tokens, out);
+    End::Done
 }
 
-// Enters the tokens into a new meter, and writes what it answers and its credit.
+// Enters the words into a new meter, and prints what it answers and its credit.
 fn enter_all<T: BlockTransform + Drop, O: Write>(
     transform: T,
     key: u64,
     tokens: &[&str],
-    out: &mut O,
-) -> Result<(), TextFault>
-    ensures written { IsWritten (O.contents out.old) (O.contents out.new)
-        (metering (reading_of (T.inverses transform) key) (map (λ w. w.now) tokens.now)) result }
-    ensures never_memory { result ≢ Err TextFault.Memory }
+    out: &mut Watched<'_, O>,
+)
+    ensures { Takes (sink O.contents out.old) (sink O.contents out.new)
+        (metering (reading_of (T.inverses transform) key) (map (λ w. w.now) tokens.now)) }
 {
     let mut meter = Meter::new(transform, key);
     for token in tokens {
-        write_answer(meter.enter(token.as_bytes()), out)?;
+        enter(&mut meter, token, out);
     }
-    write_credit(meter.credit(), out)
+    put_credit(meter.credit(), out);
+}
+
+// Enters a word into a meter and prints what it answers, or clears the meter.
+fn enter<T: BlockTransform, O: Write>(meter: &mut Meter<T>, word: &str, out: &mut Watched<'_, O>)
+    ensures entered { (reader : Reader) (history : List Entry)
+        → ComesFrom T.inverses reader history meter.old
+        → ComesFrom T.inverses reader (history ++ entry_of word.now ∷ []) meter.new }
+    ensures told { (reader : Reader) (history : List Entry)
+        → ComesFrom T.inverses reader history meter.old
+        → Takes (sink O.contents out.old) (sink O.contents out.new)
+        (word_line reader history word.now) }
+{
+    match word {
+        "clear" => {
+            meter.clear();
+            put_line(&[b"cleared"], out);
+        }
+        _ => put_answer(meter.enter(word.as_bytes()), out),
+    }
 }

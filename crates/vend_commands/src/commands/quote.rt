@@ -1,26 +1,30 @@
-ghost use Rattle.vend_commands.specs.Told.{outputs};
 ghost use Rattle.vend_commands.specs.Quoted.{IsQuoted};
+ghost use Rattle.vend_commands.specs.Told.{outputs, sink};
 
 use crate::end::End;
-use crate::printed::write_quote;
-use crate::told::tell_refusal;
+use crate::printed::{put_quote, put_refusal};
+use crate::watched::Watched;
 use command_line::QuoteWords;
 use std::io::Write;
 use tariff::buy;
 use vend_core::Refusal;
 
 /// Prints the tenths, the price and the change, or why nothing is bought.
-pub(crate) fn run<O: Write, E: Write>(words: &QuoteWords, out: &mut O, err: &mut E) -> End
-    ensures { IsQuoted words.now (outputs (O.contents out.old) (O.contents out.new)
-        (E.contents err.old) (E.contents err.new)) result }
+pub(crate) fn run<O: Write, E: Write>(
+    words: &QuoteWords,
+    out: &mut Watched<'_, O>,
+    err: &mut Watched<'_, E>,
+) -> End
+    ensures { IsQuoted words.now (outputs (sink O.contents out.old) (sink O.contents out.new)
+        (sink E.contents err.old) (sink E.contents err.new)) result }
 {
     match buy(&words.steps, words.prior, words.tender) {
-        Some(bought) => match write_quote(&bought, out) {
-            Ok(()) => End::Done,
-            Err(_) => End::Refused,
-        },
+        Some(bought) => {
+            put_quote(&bought, out);
+            End::Done
+        }
         None => {
-            tell_refusal(Refusal::TooLittle, err);
+            put_refusal(Refusal::TooLittle, err);
             End::Refused
         }
     }

@@ -1,112 +1,114 @@
-ghost use Rattle.std.specs.Prelude.{◌≡◌, ℕ};
-ghost use Rattle.sqlite_wal.specs.Files.{image_at};
-ghost use Rattle.sqlite_wal.specs.Recovery.{Image};
-ghost use Rattle.vend_commands.specs.Listening.{IsPortFor, IsServing};
-ghost use Rattle.vend_commands.specs.Printed.{address_text, net_line, refusal_line};
-ghost use Rattle.vend_commands.specs.Told.{HasBeginning, Held, outputs};
-ghost use Rattle.vend_commands.specs.Visited.{IsOpened};
+ghost use Rattle.std.specs.Prelude.{◌≡◌, MatchOption};
+ghost use Rattle.vend_commands.specs.Closed.{IsClosed};
+ghost use Rattle.vend_commands.specs.Listening.{IsClosedAfter, IsDeaf, IsServing, Listens, serving_end, stop_line};
+ghost use Rattle.vend_commands.specs.Places.{places_of, way};
+ghost use Rattle.vend_commands.specs.Printed.{net_line, refusal_line};
+ghost use Rattle.vend_commands.specs.Told.{Takes, sink};
+ghost use Rattle.vend_commands.specs.Visited.{seen_in};
 
+use crate::door::Door;
 use crate::end::End;
-use crate::file_books::FileBooks;
-use crate::listening::port_of;
-use crate::printed::{address_text, write_line};
-use crate::told::{tell, tell_opening, tell_refusal};
-use command_line::ServeWords;
-use desk::{Desk, MachineClock};
-use sqlite::{Alter, FileFrom, FileStore, Start};
+use crate::listening::serve;
+use crate::opening::{close_office, open_office};
+use crate::ports::OfficeFile;
+use crate::printed::{address_text, put_line, put_opening, put_refusal};
+use crate::watched::Watched;
+use books::{Books, OpenFault};
+use command_line::{Address, ServeWords, Shipped};
+use desk::{Clock, Desk};
+use sqlite::FileStore;
 use sqlite_trees::store::Store;
+use std::alloc::Global;
 use std::io::Write;
-use std::net::TcpListener;
 use vend_core::Refusal;
 
-/// Opens the office and serves its connections.
-pub(crate) fn run<B: Start, E: Write>(
+/// Opens the office, serves its connections, and closes its file as it is left.
+pub(crate) fn run<H: OfficeFile, D: Door, C: Clock, E: Write>(
     words: &ServeWords,
-    rt: &HostRuntime,
-    start: B,
-    err: &mut E,
+    alloc: Global,
+    office: H,
+    door: &mut D,
+    clock: &mut C,
+    err: &mut Watched<'_, E>,
 ) -> End
-    ensures { (held : Held) → IsServing ⟦<FileStore<FileFrom<B>> as Store>⟧
-        (image_at B.Start) words.now
-        (outputs held held (E.contents err.old) (E.contents err.new)) result }
+    ensures { IsServing ⟦<FileStore<H::Medium> as Store>⟧
+        (way D.listens D.accepts D.refuses D.ends D.Reader.remaining D.Writer.contents)
+        (places_of H.Medium.Disk H.Salts.SaltSource H.OfficeFile office)
+        door.old (C.answers clock.old) words.now
+        (sink E.contents err.old) (sink E.contents err.new) result }
 {
-    match FileBooks::open(rt, start, words.file, words.transform) {
-        Ok(mut books) => listen(words, rt, &mut books, err),
+    let salts = office.salts();
+    match open_office(alloc, office, &salts, words.file, words.transform) {
+        Ok(books) => match listen(words.listen, alloc, door, err) {
+            Some(desk) => {
+                let served = serve::<H, D, C>(words, alloc, &desk, &salts, door, books, clock);
+                end_with::<H, E>(served, err)
+            }
+            None => {
+                close_office::<H>(books);
+                End::Refused
+            }
+        },
         Err(fault) => {
-            tell_opening(fault, err);
+            put_opening(fault, err);
             End::Refused
         }
     }
 }
 
-// Has a desk and a listener for the books, tells where it listens, and serves.
-fn listen<S: Alter, E: Write>(
-    words: &ServeWords,
-    rt: &HostRuntime,
-    books: &mut FileBooks<S>,
-    err: &mut E,
-) -> End
-    ensures { (held : Held) (image : Image)
-        → IsOpened image words.now.transform books.old → IsServing S.Store image words.now
-        (outputs held held (E.contents err.old) (E.contents err.new)) result }
+// Has a desk, has the door listen, and tells where; or tells why not. Where that cannot be told
+// nobody is served.
+fn listen<D: Door, E: Write>(
+    address: Address,
+    alloc: Global,
+    door: &mut D,
+    err: &mut Watched<'_, E>,
+) -> Option<Desk>
+    ensures { MatchOption result
+        (IsDeaf address (sink E.contents err.old) (sink E.contents err.new))
+        (λ _. Listens (way D.listens D.accepts D.refuses D.ends D.Reader.remaining D.Writer.contents)
+        address door.old door.new (sink E.contents err.old) (sink E.contents err.new)) }
 {
-    let Ok(desk) = Desk::new(rt.alloc()) else {
-        return no_room(err);
+    let Ok(desk) = Desk::new(alloc) else {
+        put_refusal(Refusal::Memory, err);
+        return None;
     };
-    let Ok(listener) = TcpListener::bind(rt, words.listen.socket()) else {
-        return no_listener(err);
+    let Some(port) = door.listen(address) else {
+        put_line(&[b"net"], err);
+        return None;
     };
-    let Some(port) = port_of(&listener, words.listen.port) else {
-        return no_listener(err);
+    let Ok(text) = address_text(alloc, address, port) else {
+        put_refusal(Refusal::Memory, err);
+        return None;
     };
-    let Ok(address) = address_text(rt.alloc(), words.listen, port) else {
-        return no_room(err);
-    };
-    serve(words, rt, &desk, &listener, address.as_bytes(), books, err)
-}
-
-// Tells where it listens, and serves. Where that cannot be told nobody is served.
-fn serve<S: Alter, E: Write>(
-    words: &ServeWords,
-    rt: &HostRuntime,
-    desk: &Desk,
-    listener: &TcpListener,
-    address: &[u8],
-    books: &mut FileBooks<S>,
-    err: &mut E,
-) -> End
-    ensures { (held : Held) (image : Image) (port : ℕ)
-        → IsOpened image words.now.transform books.old
-        → IsPortFor words.now.listen port → address.now ≡ address_text words.now.listen port
-        → IsServing S.Store image words.now
-        (outputs held held (E.contents err.old) (E.contents err.new)) result }
-{
-    match write_line(&[b"listening", address], err) {
-        Ok(()) => {}
-        Err(_) => return End::Refused,
+    put_line(&[b"listening", text.as_bytes()], err);
+    if err.has_failed() {
+        return None;
     }
-    let mut clock = MachineClock::new(rt);
-    if books.serve(rt.alloc(), desk, listener, words.connections, &mut clock) {
-        return End::Done;
+    Some(desk)
+}
+
+// Closes the file of the books that are left, and tells why not all connections were served.
+fn end_with<H: OfficeFile, E: Write>(
+    served: Result<(Books<FileStore<H::Medium>, Shipped>, bool), OpenFault>,
+    err: &mut Watched<'_, E>,
+) -> End
+    ensures closed { IsClosedAfter (λ books. IsClosed H.Medium.Disk H.lets_go (seen_in books)) served }
+    ensures told { Takes (sink E.contents err.old) (sink E.contents err.new) (stop_line served) }
+    ensures end { result ≡ serving_end served }
+{
+    match served {
+        Ok((books, all)) => {
+            close_office::<H>(books);
+            if all {
+                return End::Done;
+            }
+            put_line(&[b"net"], err);
+            End::Refused
+        }
+        Err(fault) => {
+            put_opening(fault, err);
+            End::Refused
+        }
     }
-    no_listener(err)
-}
-
-// Tells that there is no room for the desk.
-fn no_room<E: Write>(err: &mut E) -> End
-    ensures told { HasBeginning (E.contents err.old) (E.contents err.new)
-        (refusal_line Refusal.Memory) }
-    ensures end { result ≡ End.Refused }
-{
-    tell_refusal(Refusal::Memory, err);
-    End::Refused
-}
-
-// Tells that the connections cannot be had.
-fn no_listener<E: Write>(err: &mut E) -> End
-    ensures told { HasBeginning (E.contents err.old) (E.contents err.new) net_line }
-    ensures end { result ≡ End.Refused }
-{
-    tell(&[b"net"], err);
-    End::Refused
 }

@@ -1,34 +1,48 @@
 use Rattle.std.proofs.Common.{arith}
-use Rattle.books.specs.Keeps.{seen}
-use Rattle.vend_commands.proofs.ListeningLemmas.{all_served, fewer_served, none_yet, one_more}
+use Rattle.command_line.specs.Transform.{forward_of}
+use Rattle.vend_commands.specs.Connections.{service}
+use Rattle.vend_commands.specs.Places.{way}
+use Rattle.vend_commands.specs.Visited.{seen_in}
+use Rattle.vend_commands.proofs.ConnectionLemmas.{all_held, one_more}
 use Rattle.vend_commands.proofs.listening.serve.Goals as goal
-
-pub loop-connection-init : goal.loop-connection-init
-loop-connection-init g c = none_yet (seen g.S.Store g.T.BlockTransform.forwards c.args.books.now) (g.C.Clock.answers c.args.clock.now)
 
 pub loop-connection-preserved : goal.loop-connection-preserved
 loop-connection-preserved g c =
-    let see = seen g.S.Store g.T.BlockTransform.forwards in
-    let answers = g.C.Clock.answers in
-    one_more (see c.args.books.now) (see c.loop-connection.books) (see c.converse.new.books) (answers c.args.clock.now) (answers c.loop-connection.clock) (answers c.converse.new.clock) c.loop-connection._connection
-    c.loop-connection.invariant c.converse.ensures.clean c.converse.ensures.lives
+    let D = g.D.Door in
+    let H = g.H.OfficeFile in
+    let C = g.C.Clock in
+    let ways = way D.listens D.accepts D.refuses D.ends g.D.Reader.Read.remaining g.D.Writer.Write.contents in
+    let before = c.loop-connection in
+    one_more ways (forward_of c.args.words.now.transform) seen_in before._connection
+    (service c.args.door.now c.args.books (C.answers c.args.clock.now)) (service before.door before.books (C.answers before.clock))
+    (service c.hold.new.door c.hold.new.books (C.answers c.hold.new.clock)) c.in-Ok.books before.invariant c.in-Ok.ensures c.if-not-hold.ensures
 
-pub returns-in-Err-clause-clean : goal.returns-in-Err-clause-clean
-returns-in-Err-clause-clean g c = c.loop-connection.invariant.clean
+pub returns-in-Err : goal.returns-in-Err
+returns-in-Err g c = record {
+  count = c.loop-connection._connection;
+  fewer = c.loop-connection-test.true;
+  last = service c.loop-connection.door c.loop-connection.books (g.C.Clock.answers c.loop-connection.clock);
+  held = c.loop-connection.invariant;
+  lost = c.in-Err.ensures;
+}
 
-pub returns-in-Err-clause-lives : goal.returns-in-Err-clause-lives
-returns-in-Err-clause-lives g c =
-    let see = seen g.S.Store g.T.BlockTransform.forwards in
-    let answers = g.C.Clock.answers in
-    fewer_served c.args.connections (see c.args.books.now) (see c.loop-connection.books) (answers c.args.clock.now) (answers c.loop-connection.clock) c.loop-connection._connection
-    c.loop-connection.invariant (omega (arith, c.loop-connection-test.true))
+pub returns-then-not-hold : goal.returns-then-not-hold
+returns-then-not-hold g c = record {
+  count = c.loop-connection._connection;
+  fewer = c.loop-connection-test.true;
+  last = service c.loop-connection.door c.loop-connection.books (g.C.Clock.answers c.loop-connection.clock);
+  held = c.loop-connection.invariant;
+  ready = c.in-Ok.books;
+  are_ready = c.in-Ok.ensures;
+  unheld = c.if-not-hold.ensures;
+}
 
-pub returns-clause-clean : goal.returns-clause-clean
-returns-clause-clean g c = c.loop-connection.invariant.clean
-
-pub returns-clause-lives : goal.returns-clause-lives
-returns-clause-lives g c =
-    let see = seen g.S.Store g.T.BlockTransform.forwards in
-    let answers = g.C.Clock.answers in
-    all_served c.args.connections (see c.args.books.now) (see c.loop-connection.books) (answers c.args.clock.now) (answers c.loop-connection.clock) c.loop-connection._connection
-    c.loop-connection.invariant (omega (arith, c.loop-connection-test.false))
+pub returns : goal.returns
+returns g c =
+    let D = g.D.Door in
+    let H = g.H.OfficeFile in
+    let C = g.C.Clock in
+    let ways = way D.listens D.accepts D.refuses D.ends g.D.Reader.Read.remaining g.D.Writer.Write.contents in
+    let last = c.loop-connection in
+    all_held ways (forward_of c.args.words.now.transform) seen_in last._connection c.args.words.now.connections
+    (service c.args.door.now c.args.books (C.answers c.args.clock.now)) (service last.door last.books (C.answers last.clock)) last.invariant (omega arith)

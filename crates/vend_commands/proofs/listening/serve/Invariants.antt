@@ -1,9 +1,15 @@
-use Rattle.books.specs.Keeps.{seen}
-use Rattle.vend_commands.proofs.ListeningLemmas.{SoFar}
+use Rattle.command_line.specs.Transform.{forward_of}
+use Rattle.vend_commands.specs.Connections.{AreHeld, service}
+use Rattle.vend_commands.specs.Places.{way}
+use Rattle.vend_commands.specs.Visited.{seen_in}
 use Rattle.vend_commands.proofs.listening.serve.Given as goal
 
--- the connections before this one were served
+-- so many connections were served
 abbrev pub invariant-loop-connection : goal.invariant-loop-connection
 invariant-loop-connection g l =
-    let see = seen g.S.Store g.T.BlockTransform.forwards in
-    SoFar (see l.fn.books) (see l.books) (g.C.Clock.answers l.fn.clock) (g.C.Clock.answers l.clock) l._connection
+    let D = g.D.Door in
+    let H = g.H.OfficeFile in
+    let C = g.C.Clock in
+    let ways = way D.listens D.accepts D.refuses D.ends g.D.Reader.Read.remaining g.D.Writer.Write.contents in
+    AreHeld ways (forward_of l.words.transform) seen_in l._connection
+    (service l.fn.door l.fn.books (C.answers l.fn.clock)) (service l.door l.books (C.answers l.clock))

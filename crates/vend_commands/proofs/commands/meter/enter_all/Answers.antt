@@ -1,45 +1,38 @@
-use Rattle.std.proofs.Common.{◌∙◌, ◌++◌, [], ap, sym}
-use Rattle.std.proofs.KnownBytes.{Appends-nil}
+use Rattle.std.proofs.Common.{◌∙◌, ◌++◌, [], ap, sym, subst}
+use Rattle.sim_meter.specs.Meter.{ComesFrom}
 use Rattle.sts_token.specs.Reading.{reading_of}
 use Rattle.vend_commands.specs.Printed.{credit_line}
-use Rattle.vend_commands.proofs.MeteringLemmas.{all_lines, entered_more, history, last_line, next_answer}
-use Rattle.vend_commands.proofs.PutLemmas.{cut-up, last-put, put-behind}
+use Rattle.vend_commands.specs.Told.{sink}
+use Rattle.vend_commands.proofs.MeteringLemmas.{all_lines, history, history-more, last_line, next_line}
+use Rattle.vend_commands.proofs.TakeLemmas.{takes_last, takes_more, takes_none}
 use Rattle.vend_commands.proofs.commands.meter.enter_all.Goals as goal
 
 pub loop-token-init : goal.loop-token-init
 loop-token-init g c =
     let read = reading_of (g.T.BlockTransform.inverses c.args.transform) c.args.key in
-    ([], record { from = c.new-meter.ensures; put = Appends-nil (g.O.Write.contents c.args.out.now); left = all_lines read c.args.tokens.now })
-
-pub returns-in_err-write_answer-clause-written : goal.returns-in_err-write_answer-clause-written
-returns-in_err-write_answer-clause-written g c =
-    let so_far = c.loop-token.invariant in
-    let read = reading_of (g.T.BlockTransform.inverses c.args.transform) c.args.key in
-    let answered = c.enter.ensures.answer read (history c.args.tokens.now c.loop-token.token-index) so_far.1.from in
-    cut-up c.from_residual.result _ _ _ so_far.0 _ _ _ c.in_err-write_answer.field-0.0 c.from_residual.ensures.1 c.in_err-write_answer.ensures.never_memory so_far.1.put
-    (next_answer read c.args.tokens.now c.loop-token.token-index _ so_far.0 _ c.as_bytes.result.now c.enter.result c.loop-token-test.true c.as_bytes.ensures.value answered so_far.1.left)
-    c.in_err-write_answer.ensures.written
+    ([], record { from = c.new-meter.ensures; put = takes_none (sink g.O.Write.contents c.args.out.now); left = all_lines read c.args.tokens.now })
 
 pub loop-token-preserved : goal.loop-token-preserved
 loop-token-preserved g c =
     let so_far = c.loop-token.invariant in
-    let read = reading_of (g.T.BlockTransform.inverses c.args.transform) c.args.key in
-    let before = history c.args.tokens.now c.loop-token.token-index in
-    let answered = c.enter.ensures.answer read before so_far.1.from in
-    let next = next_answer read c.args.tokens.now c.loop-token.token-index _ so_far.0 _ c.as_bytes.result.now c.enter.result c.loop-token-test.true c.as_bytes.ensures.value answered so_far.1.left in
-    let more = put-behind _ _ _ so_far.0 _ _ _ so_far.1.put next c.in_ok-write_answer.ensures.written in (
+    let inverses = g.T.BlockTransform.inverses in
+    let read = reading_of (inverses c.args.transform) c.args.key in
+    let i = c.loop-token.token-index in
+    let before = history c.args.tokens.now i in
+    let next = next_line read c.args.tokens.now i _ so_far.0 _ c.loop-token-test.true so_far.1.left in
+    let more = takes_more _ _ _ so_far.0 _ _ _ so_far.1.put next (c.enter.ensures.told read before so_far.1.from) in (
       _,
       record {
-        from = entered_more (g.T.BlockTransform.inverses) read c.args.tokens.now c.loop-token.token-index _ c.as_bytes.result.now c.enter.new.self c.loop-token-test.true c.as_bytes.ensures.value (c.enter.ensures.entered read before so_far.1.from);
+        from = subst (λ h. ComesFrom inverses read h c.enter.new.meter) (sym (history-more c.args.tokens.now i _ c.loop-token-test.true)) (c.enter.ensures.entered read before so_far.1.from);
         put = more.0;
         left = more.1;
       },
     )
 
-pub returns-clause-written : goal.returns-clause-written
-returns-clause-written g c =
+pub returns : goal.returns
+returns g c =
     let so_far = c.loop-token.invariant in
     let read = reading_of (g.T.BlockTransform.inverses c.args.transform) c.args.key in
     let before = history c.args.tokens.now c.loop-token.token-index in
     let left = last_line read c.args.tokens.now c.loop-token.token-index so_far.0 _ c.loop-token-test.false so_far.1.left ∙ ap (λ n. so_far.0 ++ credit_line n) (sym (c.credit.ensures read before so_far.1.from)) in
-    last-put c.write_credit.result _ _ _ so_far.0 _ _ c.write_credit.ensures.never_memory so_far.1.put left c.write_credit.ensures.written
+    takes_last _ _ _ so_far.0 _ _ so_far.1.put left c.put_credit.ensures

@@ -1,11 +1,24 @@
-use Rattle.std.proofs.Common.{inl, refl}
-use Rattle.std.proofs.KnownBytes.{Appends-nil}
-use Rattle.vend_commands.specs.Listening.IsServing.{not_opened}
-use Rattle.vend_commands.proofs.ListeningLemmas.{at_opened}
+use Rattle.std.proofs.Common.{refl}
+use Rattle.vend_commands.specs.Listening.IsServing.{unheard, unopened, was_open}
+use Rattle.vend_commands.specs.Told.{sink}
 use Rattle.vend_commands.proofs.commands.serve.run.Goals as goal
 
-pub returns-in-Ok : goal.returns-in-Ok
-returns-in-Ok g c = at_opened _ c.args.words.now c.in-Ok.books _ _ c.listen.result _ c.listen.ensures c.in-Ok.ensures.opened
+pub returns-in-Some : goal.returns-in-Some
+returns-in-Some g c = was_open c.in-Ok.books c.in-Ok.ensures.opened c.in-Ok.ensures.finds (record {
+  listening = c.listen.new.door;
+  mid = sink g.E.Write.contents c.listen.new.err;
+  listens = c.in-Some.ensures;
+  last = c.serve-served.new.door;
+  left = g.C.Clock.answers c.serve-served.new.clock;
+  served = c.serve-served.result;
+  are_served = c.serve-served.ensures;
+  closed = c.end_with.ensures.closed;
+  told = c.end_with.ensures.told;
+  ends = c.end_with.ensures.end;
+})
 
-pub returns-in-Err : goal.returns-in-Err
-returns-in-Err g c held = not_opened c.in-Err.fault (inl (Appends-nil held, c.tell_opening.ensures, refl))
+pub returns-in-Ok : goal.returns-in-Ok
+returns-in-Ok g c = unheard c.in-Ok.books c.in-Ok.ensures.opened c.in-Ok.ensures.finds c.in-None.ensures c.close_office.ensures refl
+
+pub returns : goal.returns
+returns g c = unopened c.in-Err.fault c.in-Err.ensures.fails c.put_opening.ensures refl

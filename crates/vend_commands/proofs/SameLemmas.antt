@@ -1,0 +1,110 @@
+-- A run ends with the writers that it began with.
+use Rattle.std.proofs.Common.{◌≡◌, ◌∙◌, ℕ, ℤ, List, [], Option, Some, None, Result, Ok, Err, ap, inl, inr}
+use Rattle.clap.specs.declared.error.kind.ErrorKind.{ErrorKind}
+use Rattle.clap.specs.declared.error.kind.ErrorKind.TheVariants.{DisplayHelp, DisplayVersion, OutOfMemory}
+use Rattle.sqlite_trees.specs.declared.store.Store.{Ghosts}
+use Rattle.book_tables.specs.declared.totals.Totals.{Totals}
+use Rattle.sts_fields.specs.Text.{Text}
+use Rattle.vend_core.specs.declared.answer.Answer as core
+use Rattle.vend_core.specs.declared.refusal.Refusal.{Refusal}
+use Rattle.vend_core.specs.declared.row.Row.{Row}
+use Rattle.papers.specs.declared.row_fault.RowFault.{RowFault}
+use Rattle.command_line.specs.declared.address.Address.{Address}
+use Rattle.command_line.specs.declared.asked.Asked.{Asked}
+use Rattle.command_line.specs.declared.asked.Asked.TheVariants as asks
+use Rattle.command_line.specs.declared.commands.import.ImportWords.{ImportWords}
+use Rattle.command_line.specs.declared.commands.serve.ServeWords.{ServeWords}
+use Rattle.command_line.specs.declared.transform.Shipped.{Shipped}
+use Rattle.vend_commands.specs.Imported.{AreAdded, IsFileImported}
+use Rattle.vend_commands.specs.Listening.{IsDeaf, IsServing}
+use Rattle.vend_commands.specs.Listening.IsDeaf.{no_listener, no_room as deaf_for_room, not_told}
+use Rattle.vend_commands.specs.Listening.IsServing.{unheard, unopened as serves_unopened, was_open}
+use Rattle.vend_commands.specs.Places.{Machine, Place, Way}
+use Rattle.vend_commands.specs.Run.{IsCarriedOut, IsExplained, IsProgramRun}
+use Rattle.vend_commands.specs.Run.IsProgramRun.{answered, bad_word, explained, no_room}
+use Rattle.vend_commands.specs.Selfchecked.IsSelfchecked.{agreed, failed}
+use Rattle.vend_commands.specs.Served.{TellsReply}
+use Rattle.vend_commands.specs.Timed.{IsDoneAt, IsTimed}
+use Rattle.vend_commands.specs.Told.{IsTold, Outputs, Sink}
+use Rattle.vend_commands.specs.Totalled.{TellsTotals}
+use Rattle.vend_commands.specs.Visited.{IsVisited}
+use Rattle.vend_commands.specs.Visited.IsVisited.{unopened, visited}
+use Rattle.vend_commands.specs.declared.end.End.{End}
+use Rattle.vend_commands.specs.declared.end.End.TheVariants as how
+use Rattle.vend_commands.specs.declared.task.Task.{Task}
+use Rattle.vend_commands.specs.declared.task.Task.TheVariants.{Ask, Total, Export}
+
+-- both writers are still the same ones
+pub record AreSame (o : Outputs) : Type 0 where
+  pub out : o.new.name ≡ o.old.name
+  pub err : o.err_new.name ≡ o.err_old.name
+
+told_same : (o : Outputs) (text errors : Text) (meant end : End) → IsTold o text errors meant end → AreSame o
+told_same o text errors meant end (put, told, is) = record { out = put.same; err = told.same }
+
+reply_same : (reply : Result core.Answer Refusal) (o : Outputs) (end : End) → TellsReply reply o end → AreSame o
+reply_same (Ok answer) o end (inl told) = told_same o _ _ _ end told
+reply_same (Ok answer) o end (inr (room, told)) = told_same o _ _ _ end told
+reply_same (Err refusal) o end told = told_same o _ _ _ end told
+
+totals_same : (number : ℕ) (totals : Result Totals Refusal) (o : Outputs) (end : End) → TellsTotals number totals o end → AreSame o
+totals_same number (Ok totals) o end told = told_same o _ _ _ end told
+totals_same number (Err refusal) o end told = told_same o _ _ _ end told
+
+visit_same : {S : Type 0} (store : Ghosts S) (place : Place) (transform : Shipped) (task : Task) (o : Outputs) (end : End) → IsVisited store place transform task o end → AreSame o
+visit_same store place transform task o end (unopened fault fails told) = told_same o _ _ _ end told
+visit_same store place transform (Ask moment request) o end (visited old new opened finds done closes) = reply_same done.reply o end done.told
+visit_same store place transform (Total number) o end (visited old new opened finds done closes) = totals_same number done.totals o end done.told
+visit_same store place transform Export o end (visited old new opened finds done closes) = told_same o _ _ _ end done.told
+
+added_same : {S : Type 0} (store : Ghosts S) (at : Text → Place) (words : ImportWords) (moment : ℕ) (rows : Result (List Row) RowFault) (o : Outputs) (end : End) → AreAdded store at words moment rows o end → AreSame o
+added_same store at words moment (Ok rows) o end added = visit_same store _ _ _ o end added
+added_same store at words moment (Err fault) o end told = told_same o _ _ _ end told
+
+import_same : {S D R W : Type 0} (store : Ghosts S) (m : Machine D R W) (words : ImportWords) (moment : ℕ) (o : Outputs) (end : End) → IsFileImported store m.at m.reads m.lacks words moment o end → AreSame o
+import_same store m words moment o end (inl (bytes, reads, (records, rows, are, reading, added))) = added_same store m.at words moment rows o end added
+import_same store m words moment o end (inr (fault, lacks, told)) = told_same o _ _ _ end told
+
+deaf_same : (address : Address) (old new : Sink) → IsDeaf address old new → new.name ≡ old.name
+deaf_same address old new (deaf_for_room told) = told.same
+deaf_same address old new (no_listener told) = told.same
+deaf_same address old new (not_told port is_port cut told) = told.same
+
+serving_same : {S D R W : Type 0} (store : Ghosts S) (way : Way D R W) (at : Text → Place) (door : D) (answers : Option (List ℤ)) (words : ServeWords) (old new : Sink) (end : End)
+    → IsServing store way at door answers words old new end → new.name ≡ old.name
+serving_same store way at door answers words old new end (serves_unopened fault fails told ends) = told.same
+serving_same store way at door answers words old new end (unheard books opens finds deaf closes ends) = deaf_same words.listen old new deaf
+serving_same store way at door answers words old new end (was_open books opens finds were) = were.told.same ∙ were.listens.told.same
+
+done_same : (At : ℕ → Type 0) (o : Outputs) (end : End) (moment : Option ℕ) → ((moment : ℕ) → At moment → AreSame o) → IsDoneAt At o end moment → AreSame o
+done_same At o end (Some moment) same done = same moment done
+done_same At o end None same told = told_same o _ _ _ end told
+
+timed_same : (given : Option ℕ) (answers : Option (List ℤ)) (At : ℕ → Type 0) (o : Outputs) (end : End) → ((moment : ℕ) → At moment → AreSame o) → IsTimed given answers At o end → AreSame o
+timed_same given answers At o end same (moment, taken, done) = done_same At o end moment same done
+
+answer_same : {S D R W : Type 0} (store : Ghosts S) (m : Machine D R W) (asked : Asked) (o : Outputs) (end : End) → IsCarriedOut store m asked o end → AreSame o
+answer_same store m (asks.Trial words) o end done = timed_same words.at m.answers _ o end (λ moment tried. told_same o _ _ _ end tried.4) done
+answer_same store m (asks.Import words) o end done = timed_same words.at m.answers _ o end (λ moment imported. import_same store m words moment o end imported) done
+answer_same store m (asks.Base words) o end done = timed_same words.at m.answers _ o end (λ moment moved. visit_same store _ _ _ o end moved) done
+answer_same store m (asks.Shift words) o end done = timed_same words.at m.answers _ o end (λ moment shifted. visit_same store _ _ _ o end shifted) done
+answer_same store m (asks.Sell words) o end done = timed_same words.at m.answers _ o end (λ moment sold. visit_same store _ _ _ o end sold) done
+answer_same store m (asks.Report words) o end done = visit_same store _ _ _ o end done
+answer_same store m (asks.Meter words) o end done = told_same o _ _ _ end done
+answer_same store m (asks.Quote words) o end done = told_same o _ _ _ end done
+answer_same store m (asks.Serve words) o end done =
+    record { out = ap (λ s. s.name) done.0; err = serving_same store m.way m.at m.door m.answers words o.err_old o.err_new end done.1 }
+answer_same store m (asks.Selfcheck words) o end (agreed has told) = told_same o _ _ _ end told
+answer_same store m (asks.Selfcheck words) o end (failed fault told) = told_same o _ _ _ end told
+
+explained_same : (kind : ErrorKind) (text : Text) (o : Outputs) (end : End) → IsExplained kind text o end → AreSame o
+explained_same OutOfMemory text o end none = absurd none
+explained_same DisplayHelp text o end told = told_same o _ _ _ end told
+explained_same DisplayVersion text o end told = told_same o _ _ _ end told
+explained_same kind text o end told = told_same o [] text how.BadWords end told
+
+pub run_same : {S D R W : Type 0} (store : Ghosts S) (m : Machine D R W) (words : List Text) (o : Outputs) (end : End) → IsProgramRun store m words o end → AreSame o
+run_same store m words o end (answered asked for done) = answer_same store m asked o end done
+run_same store m words o end (bad_word no_fault none told) = told_same o _ _ _ end told
+run_same store m words o end (explained kind text among some says) = explained_same kind text o end says
+run_same store m words o end (no_room told) = told_same o _ _ _ end told

@@ -1,0 +1,137 @@
+-- What is left of a run where nothing is told of the door but the bytes of its connections.
+use Rattle.std.proofs.Common.{ℕ, ℤ, zero, suc, Bool, true, false, List, Option, None, Some, Result, Ok, Err, inl, inr, ap}
+use Rattle.std.specs.Prelude.{⊤}
+use Rattle.sqlite_trees.specs.declared.store.Store.{Ghosts}
+use Rattle.books.specs.Keeps.{Seen}
+use Rattle.books.specs.declared.fault.OpenFault.{OpenFault}
+use Rattle.sts_fields.specs.Text.{Text}
+use Rattle.sts_token.specs.Token.{BlockFunction}
+use Rattle.command_line.specs.declared.asked.Asked.{Asked}
+use Rattle.command_line.specs.declared.asked.Asked.TheVariants as asks
+use Rattle.command_line.specs.declared.commands.serve.ServeWords.{ServeWords}
+use Rattle.vend_commands.specs.Connections.{AreHeld, AreServed, IsHeld, IsUnheld, Service, service}
+use Rattle.vend_commands.specs.Listening.{IsServing}
+use Rattle.vend_commands.specs.Listening.IsServing.{unheard, unopened, was_open}
+use Rattle.vend_commands.specs.Places.{Place, Way, machine, untold_place, untold_way}
+use Rattle.vend_commands.specs.Run.{IsCarriedOut, IsProgramRun}
+use Rattle.vend_commands.specs.Run.IsProgramRun.{answered, bad_word, explained, no_room}
+use Rattle.vend_commands.specs.Told.{Outputs, Sink}
+use Rattle.vend_commands.specs.Imported.{AreAdded, IsFileImported}
+use Rattle.vend_commands.specs.Timed.{IsTimed}
+use Rattle.vend_commands.specs.Visited.{IsVisited}
+use Rattle.vend_commands.specs.Visited.IsVisited.{unopened as unvisited, visited}
+use Rattle.vend_commands.specs.declared.end.End.{End}
+use Rattle.vend_commands.specs.declared.task.Task.{Task}
+use Rattle.command_line.specs.declared.commands.import.ImportWords.{ImportWords}
+use Rattle.command_line.specs.declared.transform.Shipped.{Shipped}
+use Rattle.command_line.specs.declared.transform.Shipped.TheVariants.{Plain}
+use Rattle.papers.specs.declared.row_fault.RowFault.{RowFault}
+use Rattle.vend_core.specs.declared.row.Row.{Row}
+use Rattle.vend_commands.specs.declared.read_fault.ReadFault.{ReadFault}
+
+abbrev bare_place : Place → Place
+bare_place place = untold_place place.image place.closes
+
+visited_bare : {S : Type 0} (store : Ghosts S) (place : Place) (transform : Shipped) (task : Task) (o : Outputs) (end : End) → IsVisited store place transform task o end → IsVisited store (bare_place place) transform task o end
+visited_bare store place transform task o end (unvisited fault fails told) = unvisited fault tt told
+visited_bare store place transform task o end (visited old new opens finds done closes) = visited old new opens tt done closes
+
+added_bare : {S : Type 0} (store : Ghosts S) (at : Text → Place) (words : ImportWords) (moment : ℕ) (rows : Result (List Row) RowFault) (o : Outputs) (end : End)
+    → AreAdded store at words moment rows o end → AreAdded store (λ path. bare_place (at path)) words moment rows o end
+added_bare store at words moment (Ok rows) o end added = visited_bare store (at words.file.now) words.transform _ o end added
+added_bare store at words moment (Err fault) o end told = told
+
+imported_bare : {S : Type 0} (store : Ghosts S) (at : Text → Place) (reads : Text → List ℕ → Type 0) (lacks : Text → ReadFault → Type 0) (words : ImportWords) (moment : ℕ) (o : Outputs) (end : End)
+    → IsFileImported store at reads lacks words moment o end → IsFileImported store (λ path. bare_place (at path)) reads lacks words moment o end
+imported_bare store at reads lacks words moment o end (inl (bytes, read, (records, rows, are, reading, added))) = inl (bytes, read, (records, rows, are, reading, added_bare store at words moment rows o end added))
+imported_bare store at reads lacks words moment o end (inr told) = inr told
+
+timed_bare : (given : Option ℕ) (answers : Option (List ℤ)) (At Bare : ℕ → Type 0) (o : Outputs) (end : End) → ((moment : ℕ) → At moment → Bare moment) → IsTimed given answers At o end → IsTimed given answers Bare o end
+timed_bare given answers At Bare o end less (None, taken, told) = (None, taken, told)
+timed_bare given answers At Bare o end less (Some moment, taken, done) = (Some moment, taken, less moment done)
+
+abbrev bare : {D B : Type 0} → Service D B → Service ⊤ B
+bare s = service tt s.books s.answers
+
+module _ {D R W B : Type 0} (way : Way D R W) (see : B → Seen) where
+  held_bare : (old new : Service D B) → IsHeld way see old new → IsHeld untold_way see (bare old) (bare new)
+  held_bare old new one = record {
+    reader = way.remaining one.reader;
+    writer = way.contents one.writer;
+    read = way.remaining one.read;
+    written = way.contents one.written;
+    end = one.end;
+    accepted = tt;
+    run = one.run;
+    clean = one.clean;
+    lives = one.lives;
+    ended = tt;
+  }
+
+  unheld_bare : (old new : Service D B) → IsUnheld way see old new → IsUnheld untold_way see (bare old) (bare new)
+  unheld_bare old new none = record { refused = tt; books = none.books; answers = none.answers }
+
+module _ {D R W B : Type 0} (way : Way D R W) (forward : BlockFunction) (see : B → Seen) where
+  all_bare : (count : ℕ) (old new : Service D B) → AreHeld way forward see count old new → AreHeld untold_way forward see count (bare old) (bare new)
+  all_bare zero old new same = ap bare same
+  all_bare (suc count) old new (mid, held, (ready, are, one)) = (bare mid, all_bare count old mid held, (ready, are, held_bare way see (service mid.door ready mid.answers) new one))
+
+  served_bare : (loses : OpenFault → Type 0) (asked : ℕ) (old : Service D B) (door : D) (answers : Option (List ℤ)) (served : Result (B × Bool) OpenFault)
+      → AreServed way forward see loses asked old door answers served → AreServed untold_way forward see (λ fault. ⊤) asked (bare old) tt answers served
+  served_bare loses asked old door answers (Ok (books, true)) held = all_bare asked old (service door books answers) held
+  served_bare loses asked old door answers (Ok (books, false)) none = record {
+    count = none.count;
+    fewer = none.fewer;
+    last = bare none.last;
+    held = all_bare none.count old none.last none.held;
+    ready = none.ready;
+    are_ready = none.are_ready;
+    unheld = unheld_bare way see (service none.last.door none.ready none.last.answers) (service door books answers) none.unheld;
+  }
+  served_bare loses asked old door answers (Err fault) lost = record {
+    count = lost.count;
+    fewer = lost.fewer;
+    last = bare lost.last;
+    held = all_bare lost.count old lost.last lost.held;
+    lost = (lost.lost.0, tt);
+  }
+
+module _ {S D R W : Type 0} (store : Ghosts S) (way : Way D R W) (at : Text → Place) (door : D) where
+  serving_bare : (answers : Option (List ℤ)) (words : ServeWords) (err_old err_new : Sink) (end : End)
+      → IsServing store way at door answers words err_old err_new end → IsServing store untold_way (λ path. bare_place (at path)) tt answers words err_old err_new end
+  serving_bare answers words err_old err_new end (unopened fault fails told ends) = unopened fault tt told ends
+  serving_bare answers words err_old err_new end (unheard old opens finds deaf closes ends) = unheard old opens tt deaf closes ends
+  serving_bare answers words err_old err_new end (was_open old opens finds were) =
+      was_open old opens tt (record {
+        listening = tt;
+        mid = were.mid;
+        listens = record { port = were.listens.port; is_port = were.listens.is_port; listens = tt; told = were.listens.told };
+        last = tt;
+        left = were.left;
+        served = were.served;
+        are_served = served_bare way _ _ _ words.connections (service were.listening old answers) were.last were.left were.served were.are_served;
+        closed = were.closed;
+        told = were.told;
+        ends = were.ends;
+      })
+
+  module _ (reads : Text → List ℕ → Type 0) (lacks : Text → ReadFault → Type 0) (answers : Option (List ℤ)) where
+    carried_bare : (asked : Asked) (o : Outputs) (end : End) → IsCarriedOut store (machine at reads lacks answers way door) asked o end → IsCarriedOut store (machine (λ path. bare_place (at path)) reads lacks answers untold_way tt) asked o end
+    carried_bare (asks.Trial words) o end done = done
+    carried_bare (asks.Import words) o end done = timed_bare words.at answers _ _ o end (λ moment. imported_bare store at reads lacks words moment o end) done
+    carried_bare (asks.Base words) o end done = timed_bare words.at answers _ _ o end (λ moment. visited_bare store (at words.file.now) words.transform _ o end) done
+    carried_bare (asks.Shift words) o end done = timed_bare words.at answers _ _ o end (λ moment. visited_bare store (at words.file.now) words.transform _ o end) done
+    carried_bare (asks.Sell words) o end done = timed_bare words.at answers _ _ o end (λ moment. visited_bare store (at words.file.now) words.transform _ o end) done
+    carried_bare (asks.Report words) o end done = visited_bare store (at words.file.now) Plain _ o end done
+    carried_bare (asks.Meter words) o end done = done
+    carried_bare (asks.Quote words) o end done = done
+    carried_bare (asks.Serve words) o end done = (done.0, serving_bare answers words o.err_old o.err_new end done.1)
+    carried_bare (asks.Selfcheck words) o end done = done
+
+    -- a run of the program, of which nothing is told but that
+    pub run_bare : (words : List Text) (o : Outputs) (end : End) → IsProgramRun store (machine at reads lacks answers way door) words o end
+        → IsProgramRun store (machine (λ path. bare_place (at path)) reads lacks answers untold_way tt) words o end
+    run_bare words o end (answered asked for done) = answered asked for (carried_bare asked o end done)
+    run_bare words o end (bad_word no_fault none told) = bad_word no_fault none told
+    run_bare words o end (explained kind text among some says) = explained kind text among some says
+    run_bare words o end (no_room told) = no_room told

@@ -1,0 +1,20 @@
+use Rattle.std.proofs.Common.{◌∙◌, Ok, ap, subst, sym}
+use Rattle.vend_commands.specs.Closed.{IsClosed}
+use Rattle.vend_commands.specs.Listening.{IsClosedAfter, stop_line}
+use Rattle.vend_commands.specs.Told.{Takes, sink}
+use Rattle.vend_commands.specs.Visited.{seen_in}
+use Rattle.vend_commands.proofs.TakeLemmas.{takes_none}
+use Rattle.vend_commands.proofs.commands.serve.end_with.Goals as goal
+
+pub returns-then-all-clause-closed : goal.returns-then-all-clause-closed
+returns-then-all-clause-closed g c =
+    subst (IsClosedAfter (λ books. IsClosed g.H.Medium.Disk g.H.OfficeFile.lets_go (seen_in books))) (sym c.in-Ok.is) c.close_office.ensures
+
+pub returns-then-all-clause-told : goal.returns-then-all-clause-told
+returns-then-all-clause-told g c =
+    let held = sink g.E.Write.contents c.args.err.now in
+    subst (λ served. Takes held held (stop_line served)) (sym (c.in-Ok.is ∙ ap (λ all. Ok (c.in-Ok.books, all)) c.if-all.true)) (takes_none held)
+
+pub returns-else-all-clause-closed : goal.returns-else-all-clause-closed
+returns-else-all-clause-closed g c =
+    subst (IsClosedAfter (λ books. IsClosed g.H.Medium.Disk g.H.OfficeFile.lets_go (seen_in books))) (sym c.in-Ok.is) c.close_office.ensures

@@ -1,0 +1,18 @@
+use Rattle.std.proofs.Common.{refl, subst, sym}
+use Rattle.books.specs.Path.{StandsIn}
+use Rattle.vend_commands.specs.Places.IsUnopened.{refused, unsalted}
+use Rattle.vend_commands.proofs.opening.open_office.Goals as goal
+
+pub returns-in_default-clause-fails : goal.returns-in_default-clause-fails
+returns-in_default-clause-fails g c =
+    unsalted c.in-Ok.files.0 c.in-Ok.files.1 c.in-Ok.ensures.finds c.args.salts.now c.in_default.ensures.lacks refl
+
+pub returns-in-Ok-open_files-clause-opened : goal.returns-in-Ok-open_files-clause-opened
+returns-in-Ok-open_files-clause-opened g c = record {
+  opens = λ office stands. c.in-Ok-open_files.ensures.opens office (subst (λ image. StandsIn image office) (sym c.in-Ok.ensures.image) stands);
+  running = c.in-Ok-open_files.ensures.running;
+}
+
+pub returns-clause-fails : goal.returns-clause-fails
+returns-clause-fails g c =
+    refused c.in-Ok.files.0 c.in-Ok.files.1 c.in-Ok.ensures.finds (c.in-Err-open_files.field-0-1, c.in-Err-open_files.ensures.refused)

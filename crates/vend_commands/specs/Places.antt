@@ -1,0 +1,114 @@
+-- What a command has of the machine beside its outputs.
+use Rattle.std.specs.Prelude.{◌≡◌, ◌⊎◌, ℕ, ℤ, ⊤, List, Option, None}
+use Rattle.sqlite_disk.specs.declared.Disk as disk
+use Rattle.sqlite_wal.specs.Files.{seen_image}
+use Rattle.sqlite_wal.specs.Recovery.{Image}
+use Rattle.books.specs.Keeps.{Seen}
+use Rattle.books.specs.Path.{RefusedAt}
+use Rattle.books.specs.declared.fault.OpenFault.{OpenFault}
+use Rattle.books.specs.declared.fault.OpenFault.TheVariants.{Store}
+use Rattle.sts_fields.specs.Text.{Text}
+use Rattle.command_line.specs.declared.address.Address.{Address}
+use Rattle.vend_commands.specs.Closed.{IsClosed}
+use Rattle.vend_commands.specs.Told.{Held}
+use Rattle.vend_commands.specs.declared.ports.OfficeFile as file
+use Rattle.vend_commands.specs.declared.ports.SaltSource as source
+use Rattle.vend_commands.specs.declared.read_fault.ReadFault.{ReadFault}
+
+-- No office was opened: no files were found at its path, or two were, and there was no salt for a new
+-- log, or the office in them was refused.
+pub data IsUnopened {D S : Type 0} (disk : disk.Ghosts D) (salts : source.Ghosts S)
+    (finds : D → D → Type 0) (fails : OpenFault → Type 0) (fault : OpenFault) : Type 0 where
+  unfound : fails fault → IsUnopened disk salts finds fails fault
+  unsalted : (log db : D) → finds log db → (it : S) → salts.lacks it → fault ≡ Store
+      → IsUnopened disk salts finds fails fault
+  refused : (log db : D) → finds log db → RefusedAt disk (seen_image disk log db) fault
+      → IsUnopened disk salts finds fails fault
+
+-- Stopped books lost their file: there was no salt for a new log, or with a salt that was drawn the
+-- office was not opened again.
+abbrev pub IsUnreopened : {S : Type 0} → source.Ghosts S → OpenFault → Type 0
+IsUnreopened {S} salts fault = (it : S)
+    × ((salts.lacks it × (fault ≡ Store)) ⊎ ((salt : ℕ) × salts.draws it salt))
+
+-- a file at a path: what it holds, that it was found, why no office was opened there, how it is
+-- closed, and why it is not opened again
+pub record Place : Type 1 where
+  pub image : Image
+  pub finds : Type 0
+  pub fails : OpenFault → Type 0
+  pub closes : Seen → Type 0
+  pub loses : OpenFault → Type 0
+
+-- What a door tells: where it listens, which connection came in or that none could be had, and that
+-- it was let go; and what is known of the bytes of its halves.
+pub record Way (D R W : Type 0) : Type 1 where
+  pub listens : D → Address → ℕ → D → Type 0
+  pub accepts : D → R → W → D → Type 0
+  pub refuses : D → D → Type 0
+  pub ends : R → W → Type 0
+  pub remaining : R → Held
+  pub contents : W → Held
+
+abbrev pub way : {D R W : Type 0} → (D → Address → ℕ → D → Type 0) → (D → R → W → D → Type 0)
+    → (D → D → Type 0) → (R → W → Type 0) → (R → Held) → (W → Held) → Way D R W
+way listens accepts refuses ends remaining contents = record {
+  listens = listens;
+  accepts = accepts;
+  refuses = refuses;
+  ends = ends;
+  remaining = remaining;
+  contents = contents;
+}
+
+-- the files that keep offices, the files that are read, the answers of the clock, and the door
+pub record Machine (D R W : Type 0) : Type 1 where
+  pub at : Text → Place
+  pub reads : Text → List ℕ → Type 0
+  pub lacks : Text → ReadFault → Type 0
+  pub answers : Option (List ℤ)
+  pub way : Way D R W
+  pub door : D
+
+-- what keeps offices has a file at each path
+abbrev pub places_of : {H D S : Type 0} → (disk : disk.Ghosts D) → source.Ghosts S → file.Ghosts H D S
+    → H → Text → Place
+places_of {H} {D} {S} disk salts of office path = record {
+  image = of.image office path;
+  finds = (log : D) × (db : D) × of.finds office path log db;
+  fails = IsUnopened disk salts (of.finds office path) (of.fails office path);
+  closes = IsClosed disk of.lets_go;
+  loses = IsUnreopened salts;
+}
+
+abbrev pub machine : {D R W : Type 0} → (Text → Place) → (Text → List ℕ → Type 0)
+    → (Text → ReadFault → Type 0) → Option (List ℤ) → Way D R W → D → Machine D R W
+machine at reads lacks answers way door = record {
+  at = at;
+  reads = reads;
+  lacks = lacks;
+  answers = answers;
+  way = way;
+  door = door;
+}
+
+-- a door of which nothing is told but the bytes of each connection
+abbrev pub untold_way : Way ⊤ Held Held
+untold_way = way (λ old address port new. ⊤) (λ old reader writer new. ⊤) (λ old new. ⊤)
+    (λ reader writer. ⊤) (λ unread. unread) (λ held. held)
+
+-- a file of which nothing is told but what it holds and how it is closed
+abbrev pub untold_place : Image → (Seen → Type 0) → Place
+untold_place image closes = record {
+  image = image;
+  finds = ⊤;
+  fails = λ fault. ⊤;
+  closes = closes;
+  loses = λ fault. ⊤;
+}
+
+-- a machine of which nothing is told but that, and the bytes of each connection
+abbrev pub untold : {D : Type 0} → disk.Ghosts D → Image → Machine ⊤ Held Held
+untold disk image = machine
+    (λ path. untold_place image (IsClosed disk (λ log db. ⊤)))
+    (λ path bytes. ⊤) (λ path fault. ⊤) None untold_way tt

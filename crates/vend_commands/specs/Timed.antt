@@ -1,0 +1,45 @@
+-- The moment at which a command is done.
+use Rattle.std.specs.Prelude.{◌≡◌, ⊤, ℕ, ℤ, pos, List, [], ◌∷◌, Option, Some, None}
+use Rattle.command_line.specs.declared.asked.Asked.{Asked}
+use Rattle.command_line.specs.declared.asked.Asked.TheVariants.{Trial, Import, Base, Shift, Sell}
+use Rattle.sts_fields.specs.Moment.{IsMoment, first_moment}
+use Rattle.vend_commands.specs.Printed.{clock_line}
+use Rattle.vend_commands.specs.Told.{Outputs, IsTold}
+use Rattle.vend_commands.specs.declared.end.End.{End}
+use Rattle.vend_commands.specs.declared.end.End.TheVariants.{Refused}
+
+-- this is the next answer of a clock, where its answers are known
+abbrev pub IsNextAnswer : Option (List ℤ) → ℤ → Type 0
+IsNextAnswer None now = ⊤
+IsNextAnswer (Some []) now = ⊥
+IsNextAnswer (Some (first ∷ others)) now = now ≡ first
+
+-- the moment of the clock's next answer, or none where that is no moment
+abbrev pub IsToldBy : Option (List ℤ) → Option ℕ → Type 0
+IsToldBy answers (Some moment) = IsNextAnswer answers (pos moment)
+IsToldBy answers None = (now : ℤ) × IsNextAnswer answers now × ((moment : ℕ) → IsMoment moment → ¬ (now ≡ pos moment))
+
+-- the moment that is given, or else the clock's
+abbrev pub IsTakenMoment : Option ℕ → Option (List ℤ) → Option ℕ → Type 0
+IsTakenMoment (Some given) answers moment = moment ≡ Some given
+IsTakenMoment None answers moment = IsToldBy answers moment
+
+-- what needs a moment is done at this one, or that there is none is told
+abbrev pub IsDoneAt : (ℕ → Type 0) → Outputs → End → Option ℕ → Type 0
+IsDoneAt At o end (Some moment) = At moment
+IsDoneAt At o end None = IsTold o [] clock_line Refused end
+
+-- it is done at the moment that is given, or else at the clock's
+abbrev pub IsTimed : Option ℕ → Option (List ℤ) → (ℕ → Type 0) → Outputs → End → Type 0
+IsTimed given answers At o end =
+    (moment : Option ℕ) × IsTakenMoment given answers moment × IsDoneAt At o end moment
+
+-- The moment of a command that has one, given or taken from the clock. Without one the clock is not
+-- read.
+abbrev pub IsMomentFor : Asked → (answers left : Option (List ℤ)) → Option ℕ → Type 0
+IsMomentFor (Trial words) answers left moment = IsTakenMoment words.at answers moment
+IsMomentFor (Import words) answers left moment = IsTakenMoment words.at answers moment
+IsMomentFor (Base words) answers left moment = IsTakenMoment words.at answers moment
+IsMomentFor (Shift words) answers left moment = IsTakenMoment words.at answers moment
+IsMomentFor (Sell words) answers left moment = IsTakenMoment words.at answers moment
+IsMomentFor _ answers left moment = (moment ≡ Some first_moment) × (left ≡ answers)

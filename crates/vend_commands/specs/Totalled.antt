@@ -1,0 +1,39 @@
+-- What is printed of the totals of a shift.
+use Rattle.std.specs.Prelude.{◌≡◌, ℕ, [], ◌∷◌, codes, decimal, Some, None, Result, Ok, Err}
+use Rattle.sqlite.specs.State.{HasCleanDisk}
+use Rattle.book_tables.specs.declared.totals.Totals.{Totals}
+use Rattle.books.specs.Keeps.{Represents, Seen}
+use Rattle.books.specs.Totals.{shift_totals}
+use Rattle.sts_fields.specs.Text.{Text}
+use Rattle.vend_core.specs.Life.{Life, present}
+use Rattle.vend_core.specs.declared.refusal.Refusal.{Refusal}
+use Rattle.vend_core.specs.declared.refusal.Refusal.TheVariants.{NoSuchShift}
+use Rattle.vend_commands.specs.Printed.{line_of, refusal_line}
+use Rattle.vend_commands.specs.Told.{Outputs, IsTold}
+use Rattle.vend_commands.specs.declared.end.End.{End}
+use Rattle.vend_commands.specs.declared.end.End.TheVariants.{Done, Refused}
+
+-- the shift, the count of its sales, and the sums of their tenths and of their prices
+abbrev pub totals_line : ℕ → Totals → Text
+totals_line number totals = line_of (codes "shift" ∷ decimal number ∷ codes "sales" ∷ decimal totals.sales
+    ∷ codes "tenths" ∷ decimal totals.tenths ∷ codes "cash" ∷ decimal totals.cash ∷ [])
+
+-- these are the totals of the shift in every life that the books kept, or it has none where it is
+-- refused as no such shift
+abbrev pub AreTotals : ℕ → (old new : Seen) → Result Totals Refusal → Type 0
+AreTotals number old new (Ok totals) = HasCleanDisk new.state → (life : Life) → Represents life old
+    → shift_totals (present life) number ≡ Some totals
+AreTotals number old new (Err refusal) = HasCleanDisk new.state → (life : Life) → Represents life old
+    → refusal ≡ NoSuchShift → shift_totals (present life) number ≡ None
+
+-- they are told, or the refusal is
+abbrev pub TellsTotals : ℕ → Result Totals Refusal → Outputs → End → Type 0
+TellsTotals number (Ok totals) o end = IsTold o (totals_line number totals) [] Done end
+TellsTotals number (Err refusal) o end = IsTold o [] (refusal_line refusal) Refused end
+
+-- The totals of the shift in the present office are told, or why not. The books keep what they kept.
+pub record IsTotalled (number : ℕ) (old new : Seen) (o : Outputs) (end : End) : Type 0 where
+  pub totals : Result Totals Refusal
+  pub are_totals : AreTotals number old new totals
+  pub told : TellsTotals number totals o end
+  pub keeps : (life : Life) → Represents life old → Represents life new

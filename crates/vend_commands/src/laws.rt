@@ -1,0 +1,62 @@
+ghost use Rattle.std.specs.Prelude.{ℕ, Ok};
+ghost use Rattle.sqlite.specs.State.{HasCleanDisk};
+ghost use Rattle.sts_token.specs.Token.{BlockFunction};
+ghost use Rattle.books.specs.Headline.{RepresentTheLast};
+ghost use Rattle.books.specs.Path.{StandsIn};
+ghost use Rattle.books.specs.declared.books.Books.{Books};
+ghost use Rattle.sqlite_store.specs.declared.store.FileStore.{FileStore as Files};
+ghost use Rattle.command_line.specs.declared.transform.Shipped.{Shipped};
+ghost use Rattle.vend_commands.specs.Closed.{IsClosed};
+ghost use Rattle.vend_commands.specs.Connections.{AreHeld, Service, service};
+ghost use Rattle.vend_commands.specs.Courses.{Course, LiveOn};
+ghost use Rattle.vend_core.specs.Office.{Office};
+ghost use Rattle.vend_core.specs.declared.answer.Answer.TheVariants.{Sold};
+ghost use Rattle.vend_core.specs.declared.sale.Sale.{Sale};
+ghost use Rattle.command_line.specs.declared.commands.sell.SellWords.{SellWords};
+ghost use Rattle.vend_commands.specs.Places.{places_of, way};
+ghost use Rattle.vend_commands.specs.Selling.{EndsSold, TellsSale};
+ghost use Rattle.vend_commands.specs.Served.{TellsReply};
+ghost use Rattle.vend_commands.specs.Tasks.{IsSold};
+ghost use Rattle.vend_commands.specs.Told.{Outputs};
+ghost use Rattle.vend_commands.specs.Visited.{seen_in};
+ghost use Rattle.vend_commands.specs.declared.end.End.{End};
+ghost use Rattle.vend_commands.specs.declared.end.End.TheVariants.{Done};
+
+use crate::door::Door;
+use crate::ports::OfficeFile;
+use sqlite::FileStore;
+use sqlite_trees::store::Store;
+use vend_core::{history_law, office_law};
+
+/// What `sell` has done where it ends as done: where the files stood for an office, it printed the
+/// receipt of the sale that the office's rules give for the order, and the sale stands in all that a
+/// crash may leave of them as they are closed. Of a sale nothing is told but the receipt: what is
+/// told of want of memory came before any sale stood.
+pub fn sell_law<H: OfficeFile>()
+    ensures done { (file : H) (words : SellWords) (moment : ℕ) (office : Office) (o : Outputs)
+        → StandsIn (H.image file words.file.now) office
+        → IsSold ⟦<FileStore<H::Medium> as Store>⟧ (places_of H.Medium.Disk H.Salts.SaltSource H.OfficeFile file)
+        words moment o Done
+        → EndsSold ⟦<FileStore<H::Medium> as Store>⟧ (IsClosed H.Medium.Disk H.lets_go) words moment office o }
+    ensures told { (sale : Sale) (o : Outputs) (end : End)
+        → TellsReply (Ok (Sold sale)) o end → TellsSale sale o end }
+{
+    office_law();
+}
+
+/// What holds of connections that are served one after another, and of the openings between them:
+/// while the disk returns what was written, they are lives of one office. Each connection went on the last of them by the
+/// conversation over its own bytes, and by nothing beside; so what `headline_law` of `books` says of
+/// lives holds of these.
+pub fn serve_law<H: OfficeFile, D: Door>()
+    ensures { (forward : BlockFunction) (count : ℕ)
+        (old new : Service D (Books (Files H.Medium H.Medium.Disk) Shipped ⟦<FileStore<H::Medium> as Store>⟧)) (start : Course)
+        → AreHeld (way D.listens D.accepts D.refuses D.ends D.Reader.remaining D.Writer.contents)
+        forward seen_in count old new
+        → HasCleanDisk (seen_in new.books).state
+        → RepresentTheLast start.over start.life (seen_in old.books)
+        → ∥ LiveOn (way D.listens D.accepts D.refuses D.ends D.Reader.remaining D.Writer.contents)
+        forward seen_in count (service old.door start old.answers) new ∥₁ }
+{
+    history_law();
+}

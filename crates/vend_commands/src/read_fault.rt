@@ -1,0 +1,8 @@
+/// Why a file is not read.
+#[derive(Clone, Copy, Debug, PartialEq, Eq)]
+pub enum ReadFault {
+    /// There is no such file, or it cannot be read.
+    Unreadable,
+    /// There was no room for it.
+    Memory,
+}
