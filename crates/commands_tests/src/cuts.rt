@@ -11,6 +11,7 @@ fn a_paper_is_cut(rt: HostRuntime) -> Result<(), Fail> {
     folder::fill(&rt)?;
     expect_each_cut(&rt, "report --file office.db --kind shift")?;
     expect_each_cut(&rt, "report --file office.db --kind sales")?;
+    expect_each_cut(&rt, "report --file office.db --kind totals")?;
     folder::remove(&rt, path)
 }
 
@@ -23,7 +24,7 @@ fn expect_sale_stands(rt: &HostRuntime, room: usize) -> Result<(), Fail> {
     let words = words_of(rt, line.as_str())?;
     let cut = run_within(rt, &words, room, usize::MAX)?;
     let again = run_words(rt, &words)?;
-    expect_beginning(&cut, again.output.as_str(), room)?;
+    expect_beginning(&cut, &again, room)?;
     if again.status == 0 && again.output.len() >= 118 {
         return Ok(());
     }

@@ -2,15 +2,21 @@
 #![tactic(auto)]
 
 #[cfg(test)]
+mod bases;
+#[cfg(test)]
 mod cuts;
 #[cfg(test)]
 mod faults;
+#[cfg(test)]
+mod files;
 #[cfg(test)]
 mod folder;
 #[cfg(test)]
 mod help;
 #[cfg(test)]
 mod imports;
+#[cfg(test)]
+mod lapses;
 #[cfg(test)]
 mod meters;
 #[cfg(test)]

@@ -36,6 +36,14 @@ fn answers_each_token(rt: HostRuntime) -> Result<(), Fail> {
             "meter --key 0000000000000000 00072057594037998043",
             "used\ncredit 0\n",
         ),
+        (
+            "meter --key 0000000000000000 00072057602627981690 clear 00072057602627981690",
+            "accepted 1\ncleared\naccepted 1\ncredit 2\n",
+        ),
+        (
+            "meter --key 0000000000000000 clear Clear",
+            "cleared\nrefused 1 NotTwentyDigits\ncredit 0\n",
+        ),
     ];
     expect_done(&rt, &rows)?;
     let empty = ["meter", "--key", "0000000000000000", ""];

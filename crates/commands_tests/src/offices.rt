@@ -24,9 +24,22 @@ fn the_worked_run(rt: HostRuntime) -> Result<(), Fail> {
             folder::EXPORT,
         ),
         ("report --file office.db --kind shift", folder::REPORT),
+        (
+            "report --file office.db --kind totals",
+            "shift 1 sales 1 tenths 1 cash 10\n",
+        ),
+        (
+            "report --number 001 --kind totals --file office.db",
+            "shift 1 sales 1 tenths 1 cash 10\n",
+        ),
     ];
     expect_done(&rt, &rows)?;
     let rows = [
+        (
+            "report --file office.db --kind totals --number 2",
+            "",
+            "refused 13 NoSuchShift\n",
+        ),
         (
             "sell --file office.db --operator ann --ref A-1 --meter 12345678903 --tender 20 \
                 --at 1388534430",
@@ -55,6 +68,10 @@ fn shifts_on_a_new_file(rt: HostRuntime) -> Result<(), Fail> {
     expect_done(&rt, &[(open, "shift 1\n")])?;
     expect_refused(&rt, &[(open, "", "refused 3 ShiftOpen\n")])?;
     let rows = [
+        (
+            "report --file office.db --kind totals",
+            "shift 1 sales 0 tenths 0 cash 0\n",
+        ),
         (
             "shift close --at 1388592000 --operator ann --file office.db",
             "shift 1\n",

@@ -8,7 +8,7 @@ use std::io::{ErrorKind, Read};
 use std::net::{Net, SocketAddr, TcpListener, TcpStream};
 use std::test::Fail;
 use sts_token::{Demo, Plain};
-use vend_commands::{End, gives_exactly, replies_over_memory, run_selfcheck};
+use vend_commands::{End, Watched, gives_exactly, replies_over_memory, run_selfcheck};
 
 // The replies to a sale and to a call for its receipt.
 const REPLIES: &[u8] = b"HTTP/1.1 200 OK\r\nContent-Type: application/json\r\n\
@@ -157,7 +157,10 @@ fn nobody_answers(rt: HostRuntime) -> Result<(), Fail> {
         };
         let mut out = Vec::new(rt.alloc());
         let mut err = Vec::new(rt.alloc());
-        let end = run_selfcheck(&words, rt.alloc(), &NoNet { binds }, &mut out, &mut err);
+        let net = NoNet { binds };
+        let mut output = Watched::new(&mut out);
+        let mut errors = Watched::new(&mut err);
+        let end = run_selfcheck(&words, rt.alloc(), &net, &mut output, &mut errors);
         assert_eq!(rt; end, End::Refused);
         assert!(rt; out.is_empty());
         assert_eq!(rt; err.as_slice(), b"net\n".as_slice());

@@ -194,31 +194,6 @@ fn a_file_that_is_no_office(rt: HostRuntime) -> Result<(), Fail> {
     folder::remove(&rt, path)
 }
 
-/// A listener whose connections fail.
-#[derive(Drop)]
-struct Broken;
-
-impl OpenListener for Broken {
-    type Stream = TcpStream;
-
-    fn accept(&self) -> io::Result<(TcpStream, SocketAddr)> {
-        Err(io::Error::from(ErrorKind::ConnectionAborted))
-    }
-}
-
-#[test]
-fn a_connection_that_cannot_be_had(rt: HostRuntime) -> Result<(), Fail> {
-    let Ok(mut books) = Books::in_memory(rt.alloc(), Plain) else {
-        return Err(Fail::new("no books"));
-    };
-    let desk = Desk::new(rt.alloc())?;
-    let mut clock = Script::new(1_388_534_430, &[]);
-    if serve(rt.alloc(), &desk, &Broken, 1, &mut books, &mut clock) {
-        return Err(Fail::new("served"));
-    }
-    Ok(())
-}
-
 // It waits for a silent peer for a time, both ways, and for no acknowledgement.
 #[test]
 fn options_of_a_connection(rt: HostRuntime) -> Result<(), Fail> {

@@ -156,26 +156,27 @@ pub(crate) fn expect_help(rt: &HostRuntime, line: &str, texts: &[&str]) -> Resul
     Ok(())
 }
 
-/// A run whose output fails leaves a beginning of the text, no errors and the status 1.
+/// A run whose output fails leaves a beginning of the text, the same errors and the status 1.
 pub(crate) fn expect_each_cut(rt: &HostRuntime, line: &str) -> Result<(), Fail> {
     let words = words_of(rt, line)?;
-    let whole = run_words(rt, &words)?.output;
-    for room in 0..whole.len() {
+    let whole = run_words(rt, &words)?;
+    for room in 0..whole.output.len() {
         let cut = run_within(rt, &words, room, usize::MAX)?;
-        expect_beginning(&cut, whole.as_str(), room)?;
+        expect_beginning(&cut, &whole, room)?;
     }
-    if whole.is_empty() {
+    if whole.output.is_empty() {
         return Err(Fail::new(format_args!("{line}: nothing")));
     }
     Ok(())
 }
 
-/// A cut run left the first so many bytes of a text.
-pub(crate) fn expect_beginning(cut: &Ran, whole: &str, room: usize) -> Result<(), Fail> {
-    if whole.get(..room) == Some(cut.output.as_str()) && cut.errors.is_empty() && cut.status == 1 {
+/// A cut run left the first so many bytes of what a whole one prints.
+pub(crate) fn expect_beginning(cut: &Ran, whole: &Ran, room: usize) -> Result<(), Fail> {
+    let beginning = whole.output.get(..room).unwrap_or("no text ends here");
+    if cut.is(beginning, whole.errors.as_str(), 1) {
         return Ok(());
     }
-    Err(Fail::new(format_args!("{room} of {whole}: {cut:?}")))
+    Err(Fail::new(format_args!("{room} of {whole:?}: {cut:?}")))
 }
 
 /// A run whose error output fails is otherwise as before.

@@ -1,0 +1,159 @@
+//! A store that fails within `serve`: the next connection is served, and a repeated ref is one sale.
+mod lapse;
+mod ports;
+
+use crate::folder;
+use crate::lapses::ports::{LapsingOffice, NoTexts, Texts};
+use crate::support::words_of;
+use desk::Script;
+use std::fs;
+use std::test::Fail;
+use vend_commands::{End, Ports, Watched, run_over};
+
+// Each message comes on two connections, as from a till that asks again.
+const MESSAGES: &[&str] = &[
+    TARIFF, TARIFF, METER, METER, SHIFT, SHIFT, SALE, SALE, SHOWN, SHOWN,
+];
+
+const TARIFF: &str = "POST /tariffs HTTP/1.1\r\nHost: d\r\nContent-Length: 30\r\n\r\n\
+    {\"name\":\"flat\",\"steps\":\":100\"}";
+
+const METER: &str = "POST /meters HTTP/1.1\r\nHost: d\r\nContent-Length: 76\r\n\r\n\
+    {\"base\":2014,\"key\":\"0000000000000000\",\"meter\":\"12345678903\",\"tariff\":\"flat\"}";
+
+const SHIFT: &str = "POST /shifts HTTP/1.1\r\nHost: d\r\nContent-Length: 18\r\n\r\n\
+    {\"operator\":\"ann\"}";
+
+const SALE: &str = "POST /sales HTTP/1.1\r\nHost: d\r\nContent-Length: 64\r\n\r\n\
+    {\"meter\":\"12345678903\",\"operator\":\"ann\",\"ref\":\"A-1\",\"tender\":10}";
+
+const SHOWN: &str = "GET /shifts/1 HTTP/1.1\r\nHost: d\r\n\r\n";
+
+const SOLD: &str = "{\"base\":2014,\"change\":0,\"meter\":\"12345678903\",\"moment\":1388534430,\
+    \"number\":1,\"operator\":\"ann\",\"price\":10,\"ref\":\"A-1\",\"shift\":1,\"tender\":10,\
+    \"tenths\":1,\"tid\":2,\"token\":\"00072057602627981690\"}";
+
+const FAILED: &str = "{\"error\":\"Store\",\"refusal\":16}";
+
+const TOTALS: &str = "\nSALES 1\nTENTHS 1\nCASH 10\n";
+
+/// What came of a run: its end, what it told, and all that its connections were sent.
+#[derive(Debug, Drop)]
+struct Outcome {
+    end: End,
+    errors: String,
+    replies: String,
+}
+
+// The messages are served by a new office of which one call fails, of the log or of the other file.
+fn served(rt: &HostRuntime, is_log: bool, before: u64, failing: u64) -> Result<Outcome, Fail> {
+    fs::write(rt, "replies", "")?;
+    let ports = Ports {
+        office: LapsingOffice {
+            alloc: rt.alloc(),
+            is_log,
+            before,
+            failing,
+        },
+        texts: NoTexts,
+        clock: Script::new(1388534430, &[]),
+        door: Texts {
+            rt,
+            texts: MESSAGES,
+            next: 0,
+        },
+    };
+    let line = "serve --file office.db --listen 127.0.0.1:80 --connections 10";
+    let mut out = Vec::new(rt.alloc());
+    let mut err = Vec::new(rt.alloc());
+    let end = run_over(
+        rt.alloc(),
+        rt,
+        ports,
+        &words_of(rt, line)?,
+        &mut Watched::new(&mut out),
+        &mut Watched::new(&mut err),
+    );
+    if !out.is_empty() {
+        return Err(Fail::new("an output"));
+    }
+    Ok(Outcome {
+        end,
+        errors: String::from_utf8(err)?,
+        replies: fs::read_to_string(rt, "replies")?,
+    })
+}
+
+// How often a text stands in another.
+fn count_in(text: &str, part: &str) -> usize {
+    (0..text.len())
+        .filter(|at| text.get(*at..).is_some_and(|rest| rest.starts_with(part)))
+        .count()
+}
+
+// Whether a request met the failure. Each that was asked for again has its one right reply.
+fn has_failed(ran: &Outcome) -> Result<bool, Fail> {
+    let replies = ran.replies.as_str();
+    if ran.end == End::Refused && ran.errors.as_str() == "open 3 Store\n" && replies.is_empty() {
+        return Ok(true);
+    }
+    let failed = count_in(replies, FAILED);
+    let sold = count_in(replies, SOLD);
+    let shown = count_in(replies, TOTALS);
+    let is_right = ran.end == End::Done
+        && ran.errors.as_str() == "listening 127.0.0.1:80\n"
+        && failed <= 1
+        && sold >= 1
+        && shown >= 1
+        && sold.saturating_add(shown).saturating_add(failed) >= 4
+        && count_in(replies, "HTTP/1.1 ") == MESSAGES.len()
+        && !replies.contains("\"number\":2");
+    if is_right {
+        return Ok(failed == 1);
+    }
+    Err(Fail::new(format_args!("{ran:?}")))
+}
+
+// So many calls of one file fail, one in each run: more than are made, so the last runs have none.
+const CALLS: u64 = 600;
+
+const PAST: u64 = CALLS - 50;
+
+// Each call of one file fails once. Answers how many requests met that.
+fn sweep(rt: &HostRuntime, is_log: bool) -> Result<u64, Fail> {
+    let path = folder::enter(rt)?;
+    let mut failures: u64 = 0;
+    for before in 0..CALLS {
+        let ran = served(rt, is_log, before, 1)?;
+        if has_failed(&ran)? {
+            if before >= PAST {
+                return Err(Fail::new(format_args!("there are calls past {before}")));
+            }
+            failures = failures.saturating_add(1);
+        }
+    }
+    folder::remove(rt, path)?;
+    Ok(failures)
+}
+
+#[test]
+fn without_a_failure(rt: HostRuntime) -> Result<(), Fail> {
+    let path = folder::enter(&rt)?;
+    let ran = served(&rt, true, 0, 0)?;
+    assert!(rt; !has_failed(&ran)?);
+    assert_eq!(rt; count_in(ran.replies.as_str(), SOLD), 2);
+    assert_eq!(rt; count_in(ran.replies.as_str(), TOTALS), 2);
+    folder::remove(&rt, path)
+}
+
+#[test]
+fn a_call_of_the_log_fails(rt: HostRuntime) -> Result<(), Fail> {
+    assert!(rt; sweep(&rt, true)? > 0);
+    Ok(())
+}
+
+#[test]
+fn a_call_of_the_database_file_fails(rt: HostRuntime) -> Result<(), Fail> {
+    assert!(rt; sweep(&rt, false)? > 0);
+    Ok(())
+}

@@ -1,0 +1,164 @@
+//! A machine in memory: an office's file that lapses, and connections that are texts.
+ghost use Rattle.std.specs.Prelude.{⊤, []};
+
+use crate::lapses::lapse::Lapse;
+use books::OpenFault;
+use command_line::Address;
+use sqlite_disk::Memory;
+use std::alloc::Global;
+use std::fs::OpenOptions;
+use std::io::{self, Read, Write};
+use vend_commands::{Door, OfficeFile, ReadFault, SaltSource, TextFiles};
+
+/// The file of a new office. So many calls of its log, or of its database file, succeed, and then
+/// some fail.
+#[derive(Drop)]
+pub(crate) struct LapsingOffice {
+    pub(crate) alloc: Global,
+    pub(crate) is_log: bool,
+    pub(crate) before: u64,
+    pub(crate) failing: u64,
+}
+
+/// The same salt each time.
+#[derive(Drop)]
+pub(crate) struct OneSalt;
+
+impl SaltSource for OneSalt {
+    ghost draws = { λ _ _. ⊤ };
+
+    ghost lacks = { λ _. ⊤ };
+
+    fn draw(&self) -> Option<u64> {
+        Some(7)
+    }
+}
+
+impl OfficeFile for LapsingOffice {
+    type Medium = Lapse<Memory>;
+
+    type Salts = OneSalt;
+
+    ghost image = { λ _ _. record { log = []; db = [] } };
+
+    ghost finds = { λ _ _ _ _. ⊤ };
+
+    ghost fails = { λ _ _ _. ⊤ };
+
+    ghost lets_go = { λ _ _. ⊤ };
+
+    fn salts(&self) -> OneSalt {
+        OneSalt
+    }
+
+    fn find(self, _path: &str) -> Result<(Lapse<Memory>, Lapse<Memory>), OpenFault> {
+        let (of_log, of_db) = if self.is_log {
+            (self.failing, 0)
+        } else {
+            (0, self.failing)
+        };
+        let log = Lapse::new(Memory::new(self.alloc), self.before, of_log);
+        let db = Lapse::new(Memory::new(self.alloc), self.before, of_db);
+        Ok((log, db))
+    }
+
+    fn let_go(log: Lapse<Memory>, db: Lapse<Memory>)
+        ensures { ⊤ }
+    {
+        drop(log);
+        drop(db);
+    }
+}
+
+/// No file is read.
+#[derive(Drop)]
+pub(crate) struct NoTexts;
+
+impl TextFiles for NoTexts {
+    ghost reads = { λ _ _ _. ⊤ };
+
+    ghost lacks = { λ _ _ _. ⊤ };
+
+    fn read(&self, _path: &str) -> Result<Vec<u8>, ReadFault> {
+        Err(ReadFault::Unreadable)
+    }
+}
+
+/// Connections that send these texts, one each. What they are sent is added to the file `replies`.
+#[derive(Drop)]
+pub(crate) struct Texts<'a> {
+    pub(crate) rt: &'a HostRuntime,
+    pub(crate) texts: &'a [&'a str],
+    pub(crate) next: usize,
+}
+
+/// What a connection has still to send.
+#[derive(Drop)]
+pub(crate) struct Sent<'a> {
+    left: &'a [u8],
+}
+
+impl Read for Sent<'_> {
+    fn read(&mut self, buf: &mut [u8]) -> io::Result<usize> {
+        let count = buf.len().min(self.left.len());
+        let (now, later) = self.left.split_at(count);
+        buf[..count].copy_from_slice(now);
+        self.left = later;
+        Ok(count)
+    }
+}
+
+/// Adds to the file `replies`.
+#[derive(Drop)]
+pub(crate) struct Replies<'a> {
+    rt: &'a HostRuntime,
+}
+
+impl Write for Replies<'_> {
+    fn write(&mut self, buf: &[u8]) -> io::Result<usize> {
+        let mut file = OpenOptions::new()
+            .append(true)
+            .create(true)
+            .open(self.rt, "replies")?;
+        file.write_all(buf)?;
+        Ok(buf.len())
+    }
+
+    fn flush(&mut self) -> io::Result<()> {
+        Ok(())
+    }
+}
+
+impl<'a> Door for Texts<'a> {
+    type Reader = Sent<'a>;
+
+    type Writer = Replies<'a>;
+
+    ghost listens = { λ _ _ _ _. ⊤ };
+
+    ghost accepts = { λ _ _ _ _. ⊤ };
+
+    ghost refuses = { λ _ _. ⊤ };
+
+    ghost ends = { λ _ _. ⊤ };
+
+    fn listen(&mut self, address: Address) -> Option<u16> {
+        Some(address.port)
+    }
+
+    fn accept(&mut self) -> Option<(Sent<'a>, Replies<'a>)> {
+        let text = self.texts.get(self.next)?;
+        self.next += 1;
+        let reader = Sent {
+            left: text.as_bytes(),
+        };
+        Some((reader, Replies { rt: self.rt }))
+    }
+
+    fn end(reader: Sent<'a>, writer: Replies<'a>)
+        ensures { ⊤ }
+    {
+        drop(reader);
+        drop(writer);
+    }
+}
