@@ -1,0 +1,26 @@
+//! Tests of the office in its file, which have no code of their own, also on disks that stop at each
+//! of their calls.
+//!
+//! Each reply of the books is compared with the one that the office over plain lists gives to the
+//! same request. What is expected was worked out by hand, from `docs/OFFICE.md`, `docs/PROFILE.md`
+//! and `docs/LIVES.md`, or computed by `tools/oracle`.
+#![tactic(auto)]
+
+#[cfg(test)]
+mod drawn;
+#[cfg(test)]
+mod files;
+#[cfg(test)]
+mod imports;
+#[cfg(test)]
+mod listed;
+#[cfg(test)]
+mod older;
+#[cfg(test)]
+mod pages;
+#[cfg(test)]
+mod paths;
+#[cfg(test)]
+mod shown;
+#[cfg(test)]
+mod stops;
