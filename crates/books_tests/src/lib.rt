@@ -23,4 +23,6 @@ mod paths;
 #[cfg(test)]
 mod shown;
 #[cfg(test)]
+mod sizes;
+#[cfg(test)]
 mod stops;

@@ -2,7 +2,9 @@
 
 use crate::shown::all_shown;
 use books::{Books, OpenFault};
-use office_testing::both::{Both, agree, in_memory, is_same, office, serve, serve_all, sold};
+use office_testing::both::{Both, agree, ask, in_memory, is_same, office, serve, serve_all, sold};
+use office_testing::in_file::change_tables;
+use office_testing::listed::OLDER;
 use office_testing::values::{FIRST_DAY, METER, OTHER_METER, flat, order, stamped};
 use papers::{TextFault, sales_csv};
 use sqlite::{Connection, MemStore};
@@ -11,7 +13,7 @@ use std::process::Abort;
 use std::test::Fail;
 use sts_fields::Base;
 use sts_token::Plain;
-use vend_core::{Refusal, Sale, Stamped};
+use vend_core::{Refusal, Request, Sale, Stamped};
 
 pub(crate) type Office = Both<MemStore, Plain>;
 
@@ -116,27 +118,6 @@ fn has_export(rt: &(impl Abort + AllocGlobal), both: &mut Office, many: usize) -
     Ok(())
 }
 
-// The third page is empty at first, and then has one sale.
-#[test]
-fn an_export_in_three_pages(rt: HostRuntime) -> Result<(), Fail> {
-    let alloc = rt.alloc();
-    let mut both = office(alloc, Base::Y2014, flat(alloc, 100)?)?;
-    let orders = orders(alloc, 2_001)?;
-    serve_orders(&rt, &mut both, orders.get(..2_000).ok_or("orders")?)?;
-    has_export(&rt, &mut both, 2_000)?;
-    serve_orders(&rt, &mut both, orders.get(2_000..).ok_or("an order")?)?;
-    has_export(&rt, &mut both, 2_001)
-}
-
-#[test]
-fn no_requests_and_no_sales(rt: HostRuntime) -> Result<(), Fail> {
-    let mut both = in_memory(rt.alloc())?;
-    serve_orders(&rt, &mut both, &[])?;
-    assert_eq!(rt; both.books.next_number(), 1);
-    assert!(rt; page(&mut both, 0, true)?.is_empty());
-    agree(&mut both)
-}
-
 fn reopened(
     alloc: Global,
     conn: Connection<MemStore>,
@@ -148,6 +129,50 @@ fn reopened(
         Ok(books) => Ok(books),
         Err((fault, _)) => Err(fault),
     }
+}
+
+// The office after its tables were changed by these statements, opened again, and what it exports.
+fn taken_back(rt: &(impl Abort + AllocGlobal), both: Office, sql: &str) -> Result<Office, Fail> {
+    let Both { books, lists } = both;
+    let mut conn = books.into_connection();
+    change_tables(&mut conn, sql)?;
+    let mut both = Both {
+        books: reopened(rt.alloc(), conn)?,
+        lists,
+    };
+    let many = both.lists.sales().len();
+    has_export(rt, &mut both, many)?;
+    Ok(both)
+}
+
+// The third page is empty at first, and then has one sale. It is the same office when it is opened
+// again, whatever format its tables were taken back to: an opening fills the totals in three pages too.
+#[test]
+fn an_export_in_three_pages(rt: HostRuntime) -> Result<(), Fail> {
+    let alloc = rt.alloc();
+    let mut both = office(alloc, Base::Y2014, flat(alloc, 100)?)?;
+    let orders = orders(alloc, 2_001)?;
+    serve_orders(&rt, &mut both, orders.get(..2_000).ok_or("orders")?)?;
+    has_export(&rt, &mut both, 2_000)?;
+    serve_orders(&rt, &mut both, orders.get(2_000..).ok_or("an order")?)?;
+    has_export(&rt, &mut both, 2_001)?;
+    let both = taken_back(&rt, both, "")?;
+    let [first, second, third] = OLDER;
+    let both = taken_back(&rt, both, first)?;
+    let both = taken_back(&rt, both, second)?;
+    let mut both = taken_back(&rt, both, third)?;
+    let reply = ask(&mut both, FIRST_DAY, Request::Reprint(2_001))?;
+    assert!(rt; reply.is_ok(), "{reply:?}");
+    agree(&mut both)
+}
+
+#[test]
+fn no_requests_and_no_sales(rt: HostRuntime) -> Result<(), Fail> {
+    let mut both = in_memory(rt.alloc())?;
+    serve_orders(&rt, &mut both, &[])?;
+    assert_eq!(rt; both.books.next_number(), 1);
+    assert!(rt; page(&mut both, 0, true)?.is_empty());
+    agree(&mut both)
 }
 
 #[test]

@@ -12,5 +12,10 @@ fn an_office_stays_in_its_file(rt: HostRuntime) -> Result<(), Fail> {
     let nowhere = next_in_file(&rt, "missing/office.db");
     assert_eq!(rt; nowhere, Err(OpenFault::Store));
     assert_eq!(rt; next_in_file(&rt, ":memory:"), Err(OpenFault::Store));
-    remove(rt.alloc(), &rt, "stays.db")
+    remove(rt.alloc(), &rt, "stays.db")?;
+    // As long a name as leaves room for that of its log, 255 bytes.
+    let long = format!(in rt.alloc(); "{:d>251}", "office.db")?;
+    assert_eq!(rt; next_in_file(&rt, long.as_str()), Ok(1));
+    assert_eq!(rt; next_in_file(&rt, long.as_str()), Ok(1), "opened again");
+    remove(rt.alloc(), &rt, long.as_str())
 }
