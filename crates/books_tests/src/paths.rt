@@ -13,9 +13,12 @@ fn an_office_stays_in_its_file(rt: HostRuntime) -> Result<(), Fail> {
     assert_eq!(rt; nowhere, Err(OpenFault::Store));
     assert_eq!(rt; next_in_file(&rt, ":memory:"), Err(OpenFault::Store));
     remove(rt.alloc(), &rt, "stays.db")?;
-    // As long a name as leaves room for that of its log, 255 bytes.
-    let long = format!(in rt.alloc(); "{:d>251}", "office.db")?;
-    assert_eq!(rt; next_in_file(&rt, long.as_str()), Ok(1));
-    assert_eq!(rt; next_in_file(&rt, long.as_str()), Ok(1), "opened again");
-    remove(rt.alloc(), &rt, long.as_str())
+    // The longest name, with room for `-journal` behind it, and one byte more.
+    let longest = format!(in rt.alloc(); "{:d>247}", "office.db")?;
+    assert_eq!(rt; next_in_file(&rt, longest.as_str()), Ok(1));
+    assert_eq!(rt; next_in_file(&rt, longest.as_str()), Ok(1), "opened again");
+    remove(rt.alloc(), &rt, longest.as_str())?;
+    let longer = format!(in rt.alloc(); "{:d>248}", "office.db")?;
+    assert_eq!(rt; next_in_file(&rt, longer.as_str()), nowhere);
+    Ok(())
 }
