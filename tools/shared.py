@@ -1,9 +1,11 @@
 """What the scripts beside this file share: the crates of the repository, copies of them in which the
-kit works, and what a machine has to have installed. It is no script of its own."""
+kit works, the tables of an office's file, and what a machine has to have installed. It is no script
+of its own."""
 import importlib.util
 import os
 import re
 import shutil
+import subprocess
 import sys
 
 TOP = os.path.dirname(os.path.dirname(os.path.abspath(__file__)))
@@ -12,14 +14,36 @@ GB_OF_A_CHECK = 5
 # Debian's packages of the commands that the scripts call, and of the modules that they import.
 COMMANDS = {"cc": "gcc and libc6-dev", "curl": "curl", "sqlite3": "sqlite3"}
 MODULES = {"yaml": "python3-yaml"}
+# What each format of an office's file has beside the tables of those before it.
+NEW_TABLES = {
+    1: ("about", "tariffs", "tariff_steps", "meters", "shifts", "sales"),
+    2: ("last_ids", "month_tenths", "shift_totals"),
+    3: ("meter_bases",),
+    4: ("dated_steps",),
+}
+FORMAT = max(NEW_TABLES)
+
+
+def tables_of(number):
+    """The tables that a file of a format has."""
+    return [table for since, tables in NEW_TABLES.items() if since <= number for table in tables]
 
 
 def lacking(*names):
     """A sentence for each of these commands and modules that this machine lacks."""
     found = lambda name: importlib.util.find_spec(name) if name in MODULES else shutil.which(name)
     packages = {**COMMANDS, **MODULES}
-    return [f"{name} is missing: install Debian's {packages[name]}" for name in names
-            if not found(name)]
+    missing = [f"{name} is missing: install Debian's {packages[name]}" for name in names
+               if not found(name)]
+    if "cc" in names and found("cc") and not has_headers():
+        missing.append("cc finds no stdlib.h, the C library's: install Debian's libc6-dev")
+    return missing
+
+
+def has_headers():
+    """Whether the C compiler finds the C library's headers, which another package has."""
+    words = ["cc", "-E", "-x", "c", "-o", os.devnull, "-"]
+    return subprocess.run(words, input=b"#include <stdlib.h>\n", capture_output=True).returncode == 0
 
 
 def stop_without(*names):
@@ -53,6 +77,16 @@ def with_those_below(names, lines):
         found.update(new)
         unread += new
     return [name for name in lines if name in found]
+
+
+def newest_source(name, lines):
+    """When a file that a crate is made of was last changed, or the list of the crates."""
+    files = [f"{TOP}/crates.txt"]
+    for crate in with_those_below([name], lines):
+        for part in ("src", "specs", "proofs"):
+            for at, _, found in os.walk(f"{TOP}/crates/{crate}/{part}"):
+                files += [f"{at}/{it}" for it in found]
+    return max(os.path.getmtime(file) for file in files)
 
 
 def copy_to(room, names, lines):
