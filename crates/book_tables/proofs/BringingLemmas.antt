@@ -1,7 +1,8 @@
 -- The tables of an older format are brought up to the present one, step after step: the same office.
-use Rattle.std.proofs.Common.{◌≡◌, ◌≢◌, ◌≤◌, ◌↔◌, ℕ, Bool, List, [], ◌∷◌, codes, refl, sym, subst, inl, inr, arith, IsPermutation, Result, Ok, Err, IfErr}
+use Rattle.std.proofs.Common.{◌≡◌, ◌≢◌, ◌≤◌, ◌↔◌, ◌∙◌, ℕ, Bool, false, List, [], ◌∷◌, codes, nat_le, refl, sym, subst, inl, inr, arith, IsPermutation, Result, Ok, Err, IfErr}
 use Rattle.std.specs.Prelude.{AllPairs, Contains}
 use Rattle.std.specs.List.{AllByRecursion}
+use Rattle.std.proofs.lemmas.Bool.{false≢true}
 use Rattle.std.proofs.lemmas.List.Sorted.{Contains-permutation, IsPermutation-refl, IsPermutation-sym}
 use Rattle.std.proofs.lemmas.Map.Keys.{IsDistinct-IsPermutation}
 use Rattle.std.proofs.lemmas.Map.Made.{AllPairs-from_IsDistinct, IsDistinct-from_AllPairs}
@@ -23,8 +24,8 @@ use Rattle.book_tables.specs.declared.error.TableError.{TableError}
 use Rattle.book_tables.specs.declared.error.TableError.TheVariants as fails
 use Rattle.book_tables.proofs.EditLemmas.{no_members}
 use Rattle.book_tables.proofs.HoldsLemmas.{held_as}
-use Rattle.book_tables.proofs.MakingLemmas.{still_beside}
-use Rattle.book_tables.proofs.OnlyLemmas.{only_among, only_both}
+use Rattle.book_tables.proofs.MakingLemmas.{MayChange, about_may, still_beside}
+use Rattle.book_tables.proofs.OnlyLemmas.{AreAmong, only_among, only_both}
 use Rattle.book_tables.proofs.SalesOfLemmas.{same_test, tells_under}
 
 -- ---- the office's members
@@ -59,35 +60,59 @@ members_brought rows totals bases o are none same they = record {
   dated_once = subst (AllPairs AreDatedApart) none are.dated_once;
 }
 
--- ---- what stands beside
+-- ---- what is left
 
-abbrev brought : List Kept
-brought = about_kept ∷ last_ids_kept ∷ month_tenths_kept ∷ shift_totals_kept ∷ bases_kept ∷ []
+-- the tables that get rows, by the format that they had
+abbrev from_third : List Kept
+from_third = about_kept ∷ []
 
-abbrev pub brought_names : List (List ℕ)
-brought_names = kept_names brought
+abbrev from_second : List Kept
+from_second = about_kept ∷ bases_kept ∷ []
 
-all_brought : AllByRecursion (Member kept) brought
-all_brought = (
-  inl refl,
-  (inr (inr (inr (inr (inr (inr (inl refl)))))), (inr (inr (inr (inr (inr (inr (inr (inl refl))))))), (inr (inr (inr (inr (inr (inr (inr (inr (inl refl)))))))), (inr (inr (inr (inr (inr (inr (inr (inr (inr (inl refl))))))))), tt)))),
+abbrev totals_kept : List Kept
+totals_kept = last_ids_kept ∷ month_tenths_kept ∷ shift_totals_kept ∷ []
+
+abbrev from_first : List Kept
+from_first = about_kept ∷ bases_kept ∷ totals_kept
+
+-- a table that came after the format
+later_may : (n : ℕ) (k : Kept) → Member kept k → nat_le k.since n ≡ false → MayChange n k
+later_may n k there later = (there, λ came. absurd (false≢true (sym later ∙ came)))
+
+bases_listed : Member kept bases_kept
+bases_listed = inr (inr (inr (inr (inr (inr (inr (inr (inr (inl refl)))))))))
+
+second_may : AllByRecursion (MayChange 2) from_second
+second_may = (about_may 2, (later_may 2 bases_kept bases_listed refl, tt))
+
+first_may : AllByRecursion (MayChange 1) from_first
+first_may = (
+  about_may 1,
+  (
+    later_may 1 bases_kept bases_listed refl,
+    (
+      later_may 1 last_ids_kept (inr (inr (inr (inr (inr (inr (inl refl))))))) refl,
+      (later_may 1 month_tenths_kept (inr (inr (inr (inr (inr (inr (inr (inl refl)))))))) refl, (later_may 1 shift_totals_kept (inr (inr (inr (inr (inr (inr (inr (inr (inl refl))))))))) refl, tt)),
+    ),
+  ),
 )
 
-pub about_brought : (old new : State) → WritesOnly (codes "about" ∷ []) old new → WritesOnly brought_names old new
-about_brought old new only = only_among (codes "about" ∷ []) brought_names (λ s tree none. (none.0, tt)) old new only
+-- they are among more tables
+about_among : (ks : List Kept) → AreAmong (codes "about" ∷ []) (kept_names (about_kept ∷ ks))
+about_among ks s tree none = (none.0, tt)
 
-pub totals_brought : (old new : State) → WritesOnly totals_names old new → WritesOnly brought_names old new
-totals_brought old new only = only_among totals_names brought_names (λ s tree none. (none.1.0, (none.1.1.0, (none.1.1.1.0, tt)))) old new only
+bases_among : (ks : List Kept) → AreAmong (codes "meter_bases" ∷ []) (kept_names (about_kept ∷ bases_kept ∷ ks))
+bases_among ks s tree none = (none.1.0, tt)
 
-pub bases_brought : (old new : State) → WritesOnly (codes "meter_bases" ∷ []) old new → WritesOnly brought_names old new
-bases_brought old new only = only_among (codes "meter_bases" ∷ []) brought_names (λ s tree none. (none.1.1.1.1.0, tt)) old new only
+totals_among : AreAmong totals_names (kept_names from_first)
+totals_among s tree none = (none.1.1.0, (none.1.1.1.0, (none.1.1.1.1.0, tt)))
 
 -- ---- an older format, once its missing tables are made
 
 -- what is brought, by what is made of the office's rows
-brings : (from : ℕ) → from ≤ present_format → 1 ≤ from → (old mid new : State) → StaysInside old mid → MakesMissing from old.now mid.now → WritesOnly brought_names mid new
-    → ((o : Office) (rows : Rows) → IsOffice o → HoldsOf from from old.now rows → AreMembersOf rows o → HoldsOf present_format from mid.now (rows_upto from rows) → HoldsMembers new.now o) → Brings from old new
-brings from known some old mid new inside made only members = record {
+brings : (from : ℕ) → from ≤ present_format → 1 ≤ from → (old mid new : State) → StaysInside old mid → MakesMissing from old.now mid.now
+    → (ks : List Kept) → AllByRecursion (MayChange from) ks → WritesOnly (kept_names ks) mid new → ((o : Office) (rows : Rows) → IsOffice o → HoldsOf from from old.now rows → AreMembersOf rows o → HoldsOf present_format from mid.now (rows_upto from rows) → HoldsMembers new.now o) → Brings from old new
+brings from known some old mid new inside made ks may only members = record {
   inside = stays_then old mid new inside only.inside;
   brings = record {
     had = made.had;
@@ -95,14 +120,14 @@ brings from known some old mid new inside made only members = record {
     members = λ o stands.
         let held = (held_as old.now o from stands known made.had).0 in
         members o held.0 stands.office held.1 held.2 (made.rows held.0 held.1);
-    beside = still_beside from old.now made.had mid new made.beside made.has brought all_brought only;
+    beside = still_beside from old.now made.had mid new made.beside made.has ks may only;
   };
 }
 
 -- from format 3
 pub brings_third : (old mid new : State) → StaysInside old mid → MakesMissing 3 old.now mid.now → TellsPresent 3 mid new → Brings 3 old new
 brings_third old mid new inside made tells =
-    brings 3 (omega arith) (omega arith) old mid new inside made (about_brought mid new tells.only) (λ o rows office held are here.
+    brings 3 (omega arith) (omega arith) old mid new inside made from_third (about_may 3, tt) tells.only (λ o rows office held are here.
     (record rows { dated_steps = [] }, tells.rows (rows_upto 3 rows) here, members_brought rows rows rows.bases o are (held.of_format.dated_steps (omega arith)) (IsPermutation-refl rows.bases) are.totals))
 
 -- from format 2
@@ -111,7 +136,9 @@ awaits_bases rows o office are = record { office = (o, office, are); same = refl
 
 pub brings_second : (old mid filled new : State) → StaysInside old mid → MakesMissing 2 old.now mid.now → FillsBases mid filled → TellsPresent 2 filled new → Brings 2 old new
 brings_second old mid filled new inside made fills tells =
-    brings 2 (omega arith) (omega arith) old mid new inside made (only_both brought_names mid filled new (bases_brought mid filled (fills.others.only made.beside.sound)) (about_brought filled new tells.only)) (λ o rows office held are here.
+    let filling = only_among _ (kept_names from_second) (bases_among []) mid filled (fills.others.only made.beside.sound) in
+    let only = only_both (kept_names from_second) mid filled new filling (only_among _ (kept_names from_second) (about_among (bases_kept ∷ [])) filled new tells.only) in
+    brings 2 (omega arith) (omega arith) old mid new inside made from_second second_may only (λ o rows office held are here.
     let it = fills.rows 2 (rows_upto 2 rows) rows here (awaits_bases rows o office are) in
     let same = subst (λ (l : List (List ℕ × Base)). IsPermutation l it.0) (sym (held.of_format.bases (omega arith))) it.1 in
     (record rows { bases = it.0; dated_steps = [] }, tells.rows (record rows { bases = it.0; dated_steps = [] }) it.2, members_brought rows rows it.0 o are (held.of_format.dated_steps (omega arith)) same are.totals))
@@ -131,10 +158,12 @@ awaits_later rows totals o office are = record { office = (o, office, are); same
 
 pub brings_with_totals : (old mid totalled filled new : State) → StaysInside old mid → MakesMissing 1 old.now mid.now → FillsTotals mid totalled → FillsBases totalled filled → TellsPresent 1 filled new → Brings 1 old new
 brings_with_totals old mid totalled filled new inside made totals fills tells =
-    let first = totals.others.only made.beside.sound in
-    let second = fills.others.only first.sound in
-    let only = only_both brought_names mid totalled new (totals_brought mid totalled first) (only_both brought_names totalled filled new (bases_brought totalled filled second) (about_brought filled new tells.only)) in
-    brings 1 (omega arith) (omega arith) old mid new inside made only (λ o rows office held are here.
+    let names = kept_names from_first in
+    let totalling = totals.others.only made.beside.sound in
+    let filling = only_among _ names (bases_among totals_kept) totalled filled (fills.others.only totalling.sound) in
+    let telling = only_among _ names (about_among (bases_kept ∷ totals_kept)) filled new tells.only in
+    let only = only_both names mid totalled new (only_among _ names totals_among mid totalled totalling) (only_both names totalled filled new filling telling) in
+    brings 1 (omega arith) (omega arith) old mid new inside made from_first first_may only (λ o rows office held are here.
     let sums = totals.rows 1 (rows_upto 1 rows) rows here (awaits_totals rows o office are) in
     let some : Rows = with_totals_of sums.0 (rows_upto 1 rows) in
     let it = fills.rows 1 some rows sums.1 (awaits_later rows sums.0 o office are) in

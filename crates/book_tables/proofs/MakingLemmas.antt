@@ -34,7 +34,7 @@ use Rattle.one_table.proofs.MakingLemmas.{all_grow}
 use Rattle.book_tables.specs.Edited.{no_rows}
 use Rattle.book_tables.specs.Holds.{AreStoredRows, HasOffice, HasOfficeOf, HoldsMembers, HoldsOf, HoldsRows, IsKept, rows_in, table_names}
 use Rattle.book_tables.specs.Kept.{Kept, about_kept, kept, kept_names, kept_tables, kept_texts, later, upto}
-use Rattle.book_tables.specs.Making.{Brings, LeavesBeside, MakesMissing, TellsOf, TellsPresent, rows_upto}
+use Rattle.book_tables.specs.Making.{Brings, LeavesBeside, MakesMissing, TellsOf, TellsPresent, rows_upto, told_names}
 use Rattle.book_tables.specs.Rows.{Rows, about_rows, number, present_format}
 use Rattle.book_tables.specs.Tables.{about_table}
 use Rattle.book_tables.specs.Writing.{IsOfNone, WritesOnly}
@@ -227,36 +227,40 @@ all_known = (refl, (refl, (refl, (refl, (refl, (refl, (refl, (refl, (refl, (refl
 tree_is : (s : Schema) (at : ℕ) (t : Table) → Has s at t → tree_in s t.name ≡ t.tree
 tree_is s at t has = rw (has.named, has.listed) refl
 
-names_apart : (s : Schema) (tree : ℕ) (ks : List Kept) → IsOfNone s (kept_names ks) tree → AllByRecursion (λ k. tree ≢ tree_in s k.table.name) ks
-names_apart s tree [] apart = tt
-names_apart s tree (k ∷ ks) apart = (apart.0, names_apart s tree ks apart.1)
+-- a table that the older format lacks, or that tells the format
+abbrev pub MayChange : ℕ → Kept → Type 0
+MayChange n k = Member kept k × (nat_le k.since n ≡ true → Member (told_names n) k.table.name)
 
--- what was written of the office's tables leaves alone what stood beside those of the older format
+pub about_may : (n : ℕ) → MayChange n about_kept
+about_may zero = (inl refl, λ came. absurd (false≢true came))
+about_may (suc n) = (inl refl, λ _. inl refl)
+
+-- what was written of such tables leaves alone all else that was there
 module _ (n : ℕ) (a : Database) (had : HasOfficeOf n a.schema) (old new : State) (beside : LeavesBeside n a old.now) (has : HasOffice old.now.schema) where
-  each_apart : (u : Table) → Member a.schema.tables u → IsOfNone a.schema (kept_names (upto n)) u.tree → (k : Kept) → Member kept k → u.tree ≢ tree_in old.now.schema k.table.name
-  each_apart u there apart k listed = by_test (nat_le k.since n) refl
+  each_apart : (u : Table) → Member a.schema.tables u → IsOfNone a.schema (told_names n) u.tree → (k : Kept) → MayChange n k → u.tree ≢ tree_in old.now.schema k.table.name
+  each_apart u there apart k may = by_test (nat_le k.since n) refl
     where
       by_test : (b : Bool) → nat_le k.since n ≡ b → u.tree ≢ tree_in old.now.schema k.table.name
       by_test true came same =
-          let stands = of_upto (IsKept a.schema) n k kept listed came had.tables in
+          let stands = of_upto (IsKept a.schema) n k kept may.0 came had.tables in
           let kept_there = tree_is old.now.schema (place_in a.schema k.table.name) (record k.table { tree = tree_in a.schema k.table.name }) (beside.places (place_in a.schema k.table.name) (record k.table { tree = tree_in a.schema k.table.name }) stands.0.has) in
-          of_upto (λ k. u.tree ≢ tree_in a.schema k.table.name) n k kept listed came (names_apart a.schema u.tree (upto n) apart) (same ∙ kept_there)
+          all_has (λ name. u.tree ≢ tree_in a.schema name) (told_names n) k.table.name apart (may.1 came) (same ∙ kept_there)
       by_test false later same =
-          apart_new n a old.now beside k (free_later a.schema n k kept listed later had.free) (of_upto (IsKept old.now.schema) present_format k kept listed (known k kept all_known listed) has.tables) u there same
+          apart_new n a old.now beside k (free_later a.schema n k kept may.0 later had.free) (of_upto (IsKept old.now.schema) present_format k kept may.0 (known k kept all_known may.0) has.tables) u there same
 
-  all_apart : (u : Table) → Member a.schema.tables u → IsOfNone a.schema (kept_names (upto n)) u.tree → (ks : List Kept) → AllByRecursion (Member kept) ks → IsOfNone old.now.schema (kept_names ks) u.tree
-  all_apart u there apart [] listed = tt
-  all_apart u there apart (k ∷ ks) listed = (each_apart u there apart k listed.0, all_apart u there apart ks listed.1)
+  all_apart : (u : Table) → Member a.schema.tables u → IsOfNone a.schema (told_names n) u.tree → (ks : List Kept) → AllByRecursion (MayChange n) ks → IsOfNone old.now.schema (kept_names ks) u.tree
+  all_apart u there apart [] may = tt
+  all_apart u there apart (k ∷ ks) may = (each_apart u there apart k may.0, all_apart u there apart ks may.1)
 
-  pub still_beside : (ks : List Kept) → AllByRecursion (Member kept) ks → WritesOnly (kept_names ks) old new → LeavesBeside n a new.now
-  still_beside ks listed only = record {
+  pub still_beside : (ks : List Kept) → AllByRecursion (MayChange n) ks → WritesOnly (kept_names ks) old new → LeavesBeside n a new.now
+  still_beside ks may only = record {
     schema = only.schema ∙ beside.schema;
     places = λ at t there. subst (λ (s : Schema). Has s at t) (sym only.schema) (beside.places at t there);
-    others = all_from (λ u. IsOfNone a.schema (kept_names (upto n)) u.tree → new.now.trees u.tree ≡ a.trees u.tree) a.schema.tables (λ u there apart.
+    others = all_from (λ u. IsOfNone a.schema (told_names n) u.tree → new.now.trees u.tree ≡ a.trees u.tree) a.schema.tables (λ u there apart.
         let g = grown n a old.now beside in
         let here = subst (λ l. Member l u) (sym g.tables) (has_left a.schema.tables g.more u there) in
-        all_has (λ u. IsOfNone old.now.schema (kept_names ks) u.tree → new.now.trees u.tree ≡ old.now.trees u.tree) old.now.schema.tables u only.tables here (all_apart u there apart ks listed)
-        ∙ all_has (λ u. IsOfNone a.schema (kept_names (upto n)) u.tree → old.now.trees u.tree ≡ a.trees u.tree) a.schema.tables u beside.others there apart);
+        all_has (λ u. IsOfNone old.now.schema (kept_names ks) u.tree → new.now.trees u.tree ≡ old.now.trees u.tree) old.now.schema.tables u only.tables here (all_apart u there apart ks may)
+        ∙ all_has (λ u. IsOfNone a.schema (told_names n) u.tree → old.now.trees u.tree ≡ a.trees u.tree) a.schema.tables u beside.others there apart);
     sound = only.sound;
   }
 
@@ -273,7 +277,7 @@ brings_first old mid new inside made tells =
         members = λ o stands.
             let is = (held_as old.now o 0 stands (omega arith) made.had).1 refl in
             subst (HoldsMembers new.now) (sym is) (no_rows, tells.rows no_rows held, no_members);
-        beside = still_beside 0 old.now made.had mid new made.beside made.has (about_kept ∷ []) (inl refl, tt) tells.only;
+        beside = still_beside 0 old.now made.had mid new made.beside made.has (about_kept ∷ []) (about_may 0, tt) tells.only;
       };
     }
 

@@ -1,6 +1,6 @@
 -- The tables of an office that are made in a database, beside whatever other tables it has, and the
 -- tables of an older format that are brought up to the present one.
-use Rattle.std.specs.Prelude.{◌≡◌, ℕ, zero, suc, true, [], ◌∷◌, codes, fold, IsTrue}
+use Rattle.std.specs.Prelude.{◌≡◌, ℕ, zero, suc, true, List, [], ◌∷◌, codes, fold, IsTrue}
 use Rattle.std.specs.List.{AllByRecursion}
 use Rattle.sqlite.specs.Effect.{Database, IsDatabase}
 use Rattle.sqlite.specs.State.{Shows, State}
@@ -10,7 +10,7 @@ use Rattle.one_table.specs.Place.{Has}
 use Rattle.vend_core.specs.Office.{Office}
 use Rattle.book_tables.specs.Edited.{no_rows}
 use Rattle.book_tables.specs.Holds.{HasOffice, HasOfficeOf, Holds, HoldsMembers, HoldsOf, StandsFor}
-use Rattle.book_tables.specs.Kept.{kept_names, kept_tables, later, upto}
+use Rattle.book_tables.specs.Kept.{kept_tables, later}
 use Rattle.book_tables.specs.Rows.{Rows, present_format}
 use Rattle.book_tables.specs.declared.error.TableError.{TableError}
 use Rattle.book_tables.specs.declared.error.TableError.TheVariants as fails
@@ -29,13 +29,19 @@ rows_upto (suc (suc zero)) rows = record rows { bases = []; dated_steps = [] }
 rows_upto (suc (suc (suc zero))) rows = record rows { dated_steps = [] }
 rows_upto (suc (suc (suc (suc n)))) rows = rows
 
--- what stands beside the tables of a format: nothing but the tables that it lacks is added to the
--- schema, each table has its place, and those of other names their rows
+-- the table that tells the format, where there is one: alone among those that were there it gets
+-- another row
+abbrev pub told_names : ℕ → List (List ℕ)
+told_names zero = []
+told_names (suc n) = codes "about" ∷ []
+
+-- what was there is left: nothing but the tables that a format lacks is added to the schema, each
+-- table has its place, and each but `about` has its rows, whatever they are
 pub record LeavesBeside (from : ℕ) (old new : Database) : Type 0 where
   pub schema : new.schema ≡ fold made old.schema (kept_tables (later from))
   pub places : (at : ℕ) (t : Table) → Has old.schema at t
       → Has new.schema at t
-  pub others : AllByRecursion (λ u. IsOfNone old.schema (kept_names (upto from)) u.tree
+  pub others : AllByRecursion (λ u. IsOfNone old.schema (told_names from) u.tree
       → new.trees u.tree ≡ old.trees u.tree) old.schema.tables
   pub sound : IsDatabase new
 
