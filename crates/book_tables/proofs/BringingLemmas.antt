@@ -14,6 +14,7 @@ use Rattle.vend_core.specs.Office.{IsOffice, Office}
 use Rattle.one_table.specs.InTransaction.{StaysInside}
 use Rattle.one_table.proofs.ChangeLemmas.{stays_then}
 use Rattle.book_tables.specs.Filling.{AwaitsBases, FillsBases, FillsTotals, HasTotalsUpto}
+use Rattle.book_tables.specs.Format.{HasFormat, TellsFormat}
 use Rattle.book_tables.specs.Holds.{HasOffice, HasOfficeOf, HoldsMembers, HoldsOf, StandsFor}
 use Rattle.book_tables.specs.Kept.{Kept, about_kept, bases_kept, kept, kept_names, last_ids_kept, month_tenths_kept, shift_totals_kept}
 use Rattle.book_tables.specs.Making.{Brings, MakesMissing, TellsOf, TellsPresent, rows_upto}
@@ -22,9 +23,11 @@ use Rattle.book_tables.specs.Stands.{AreDatedApart, AreMembersOf, AreTotalsOf, H
 use Rattle.book_tables.specs.Writing.{WritesOnly, is_under, totals_names, with_totals_of}
 use Rattle.book_tables.specs.declared.error.TableError.{TableError}
 use Rattle.book_tables.specs.declared.error.TableError.TheVariants as fails
+use Rattle.book_tables.proofs.AboutLemmas.{IsAnother, told_left}
 use Rattle.book_tables.proofs.EditLemmas.{no_members}
 use Rattle.book_tables.proofs.HoldsLemmas.{held_as}
 use Rattle.book_tables.proofs.MakingLemmas.{MayChange, about_may, still_beside}
+use Rattle.book_tables.proofs.OfficeTableLemmas.{bases_in, last_ids_in, month_tenths_in, shift_totals_in}
 use Rattle.book_tables.proofs.OnlyLemmas.{AreAmong, only_among, only_both}
 use Rattle.book_tables.proofs.SalesOfLemmas.{same_test, tells_under}
 
@@ -97,6 +100,13 @@ first_may = (
   ),
 )
 
+-- none of them but `about` is `about`
+bases_another : AllByRecursion IsAnother (bases_kept ∷ [])
+bases_another = ((bases_in, refl), tt)
+
+totals_another : AllByRecursion IsAnother totals_kept
+totals_another = ((last_ids_in, refl), ((month_tenths_in, refl), ((shift_totals_in, refl), tt)))
+
 -- they are among more tables
 about_among : (ks : List Kept) → AreAmong (codes "about" ∷ []) (kept_names (about_kept ∷ ks))
 about_among ks s tree none = (none.0, tt)
@@ -111,8 +121,9 @@ totals_among s tree none = (none.1.1.0, (none.1.1.1.0, (none.1.1.1.1.0, tt)))
 
 -- what is brought, by what is made of the office's rows
 brings : (from : ℕ) → from ≤ present_format → 1 ≤ from → (old mid new : State) → StaysInside old mid → MakesMissing from old.now mid.now
-    → (ks : List Kept) → AllByRecursion (MayChange from) ks → WritesOnly (kept_names ks) mid new → ((o : Office) (rows : Rows) → IsOffice o → HoldsOf from from old.now rows → AreMembersOf rows o → HoldsOf present_format from mid.now (rows_upto from rows) → HoldsMembers new.now o) → Brings from old new
-brings from known some old mid new inside made ks may only members = record {
+    → (ks : List Kept) → AllByRecursion (MayChange from) ks → WritesOnly (kept_names ks) mid new → ((o : Office) (rows : Rows) → IsOffice o → HoldsOf from from old.now rows → AreMembersOf rows o → HoldsOf present_format from mid.now (rows_upto from rows) → HoldsMembers new.now o)
+    → (TellsFormat from old.now → HasFormat new.now present_format) → Brings from old new
+brings from known some old mid new inside made ks may only members told = record {
   inside = stays_then old mid new inside only.inside;
   brings = record {
     had = made.had;
@@ -120,6 +131,7 @@ brings from known some old mid new inside made ks may only members = record {
     members = λ o stands.
         let held = (held_as old.now o from stands known made.had).0 in
         members o held.0 stands.office held.1 held.2 (made.rows held.0 held.1);
+    tells = told;
     beside = still_beside from old.now made.had mid new made.beside made.has ks may only;
   };
 }
@@ -128,7 +140,7 @@ brings from known some old mid new inside made ks may only members = record {
 pub brings_third : (old mid new : State) → StaysInside old mid → MakesMissing 3 old.now mid.now → TellsPresent 3 mid new → Brings 3 old new
 brings_third old mid new inside made tells =
     brings 3 (omega arith) (omega arith) old mid new inside made from_third (about_may 3, tt) tells.only (λ o rows office held are here.
-    (record rows { dated_steps = [] }, tells.rows (rows_upto 3 rows) here, members_brought rows rows rows.bases o are (held.of_format.dated_steps (omega arith)) (IsPermutation-refl rows.bases) are.totals))
+    (record rows { dated_steps = [] }, tells.rows (rows_upto 3 rows) here, members_brought rows rows rows.bases o are (held.of_format.dated_steps (omega arith)) (IsPermutation-refl rows.bases) are.totals)) (λ told. tells.tells (made.tells told))
 
 -- from format 2
 pub awaits_bases : (rows : Rows) (o : Office) → IsOffice o → AreMembersOf rows o → AwaitsBases rows (rows_upto 2 rows)
@@ -141,7 +153,7 @@ brings_second old mid filled new inside made fills tells =
     brings 2 (omega arith) (omega arith) old mid new inside made from_second second_may only (λ o rows office held are here.
     let it = fills.rows 2 (rows_upto 2 rows) rows here (awaits_bases rows o office are) in
     let same = subst (λ (l : List (List ℕ × Base)). IsPermutation l it.0) (sym (held.of_format.bases (omega arith))) it.1 in
-    (record rows { bases = it.0; dated_steps = [] }, tells.rows (record rows { bases = it.0; dated_steps = [] }) it.2, members_brought rows rows it.0 o are (held.of_format.dated_steps (omega arith)) same are.totals))
+    (record rows { bases = it.0; dated_steps = [] }, tells.rows (record rows { bases = it.0; dated_steps = [] }) it.2, members_brought rows rows it.0 o are (held.of_format.dated_steps (omega arith)) same are.totals)) (λ told. tells.tells (told_left mid filled made.has (bases_kept ∷ []) bases_another (fills.others.only made.beside.sound) ∙ made.tells told))
 
 -- from format 1
 pub awaits_totals : (rows : Rows) (o : Office) → IsOffice o → AreMembersOf rows o → HasTotalsUpto 0 rows (rows_upto 1 rows)
@@ -160,6 +172,7 @@ pub brings_with_totals : (old mid totalled filled new : State) → StaysInside o
 brings_with_totals old mid totalled filled new inside made totals fills tells =
     let names = kept_names from_first in
     let totalling = totals.others.only made.beside.sound in
+    let has = subst HasOffice (sym totals.others.schema) made.has in
     let filling = only_among _ names (bases_among totals_kept) totalled filled (fills.others.only totalling.sound) in
     let telling = only_among _ names (about_among (bases_kept ∷ totals_kept)) filled new tells.only in
     let only = only_both names mid totalled new (only_among _ names totals_among mid totalled totalling) (only_both names totalled filled new filling telling) in
@@ -169,7 +182,7 @@ brings_with_totals old mid totalled filled new inside made totals fills tells =
     let it = fills.rows 1 some rows sums.1 (awaits_later rows sums.0 o office are) in
     let same = subst (λ (l : List (List ℕ × Base)). IsPermutation l it.0) (sym (held.of_format.bases (omega arith))) it.1 in
     let they = subst (λ l. AreTotalsOf l sums.0) are.sales sums.2 in
-    (record some { bases = it.0 }, tells.rows (record some { bases = it.0 }) it.2, members_brought rows sums.0 it.0 o are (held.of_format.dated_steps (omega arith)) same they))
+    (record some { bases = it.0 }, tells.rows (record some { bases = it.0 }) it.2, members_brought rows sums.0 it.0 o are (held.of_format.dated_steps (omega arith)) same they)) (λ told. tells.tells (told_left totalled filled has (bases_kept ∷ []) bases_another (fills.others.only totalling.sound) ∙ told_left mid totalled made.has totals_kept totals_another totalling ∙ made.tells told))
 
 -- ---- why it fails
 

@@ -1,3 +1,4 @@
+pub mod AboutLemmas
 pub mod AddTotalsLemmas
 pub mod AfterLemmas
 pub mod BaseLemmas

@@ -40,6 +40,7 @@ use Rattle.book_tables.specs.Tables.{about_table}
 use Rattle.book_tables.specs.Writing.{IsOfNone, WritesOnly}
 use Rattle.book_tables.specs.declared.error.TableError.{TableError}
 use Rattle.book_tables.specs.declared.error.TableError.TheVariants as fails
+use Rattle.book_tables.proofs.AboutLemmas.{told_made}
 use Rattle.book_tables.proofs.EditLemmas.{no_members}
 use Rattle.book_tables.proofs.HoldsLemmas.{free_later, held_as, of_upto}
 use Rattle.book_tables.proofs.KeptLemmas.{about_changed}
@@ -133,7 +134,7 @@ beside_tables n a b m = record {
 }
 
 pub makes_missing : (n : ℕ) → n < present_format → (a b : Database) → HasOfficeOf n a.schema → MakesTables (kept_tables (later n)) a b → MakesMissing n a b
-makes_missing n below a b had m = record { had = had; has = has_all n a b had m; rows = rows_made n below a b had m; beside = beside_tables n a b m }
+makes_missing n below a b had m = record { had = had; has = has_all n a b had m; rows = rows_made n below a b had m; tells = told_made n a b had m; beside = beside_tables n a b m }
 
 -- a format below the present one lacks some table
 pub lacks_some : (n : ℕ) → n < present_format → 0 < length (kept_texts (later n))
@@ -172,6 +173,9 @@ module _ (old new : State) (put : PutsRow (about_table (tree_in old.now.schema (
     rows = λ rows held.
         about_changed 0 old.now new.now rows held (changes_only (codes "about") old new about_only)
         (put.changed.rows_are ∙ format_is (tree_in old.now.schema (codes "about")) (old.now.trees (tree_in old.now.schema (codes "about"))) held.are.0);
+    tells = λ none.
+        ap (λ (s : Schema). new.now.trees (tree_in s (codes "about"))) about_only.schema
+        ∙ put.changed.rows_are ∙ format_is (tree_in old.now.schema (codes "about")) (old.now.trees (tree_in old.now.schema (codes "about"))) none;
   }
 
 is_free : (b : Bool) → not b ≡ true → b ≡ false
@@ -277,6 +281,7 @@ brings_first old mid new inside made tells =
         members = λ o stands.
             let is = (held_as old.now o 0 stands (omega arith) made.had).1 refl in
             subst (HoldsMembers new.now) (sym is) (no_rows, tells.rows no_rows held, no_members);
+        tells = λ told. tells.tells (made.tells told);
         beside = still_beside 0 old.now made.had mid new made.beside made.has (about_kept ∷ []) (about_may 0, tt) tells.only;
       };
     }

@@ -1,7 +1,8 @@
 -- `about` tells the present format in place of an older one.
-use Rattle.std.proofs.Common.{◌≡◌, ℕ, ℤ, suc, Bool, true, List, [], ◌∷◌, codes, pos, refl, arith}
+use Rattle.std.proofs.Common.{◌≡◌, ℕ, ℤ, suc, Bool, true, List, [], ◌∷◌, codes, pos, refl, ap, arith, ◌∙◌}
 use Rattle.sqlite.specs.State.{State}
 use Rattle.sqlite_keyed.specs.Keyed.{IsKeyedBy}
+use Rattle.sqlite_schema.specs.declared.schema.Schema.{Schema}
 use Rattle.sqlite_schema.specs.declared.schema.Table.{Table}
 use Rattle.sqlite_sql.specs.Query.{Query}
 use Rattle.sqlite_sql.specs.Term.{Term, col, lit, op2}
@@ -82,4 +83,8 @@ module _ (old new : State) where
             let one : IsKeyedBy key (suc before ∷ []) = (tt, tt) in
             let changed = sets_listed about is_the_row format_set_terms [] key about_row always present telling old new (suc before ∷ []) set held.are.0 one (omega arith) in
             about_changed (suc before) old.now new.now rows held (changes_only (codes "about") old new only) changed.rows_are;
+        tells = λ told.
+            let one : IsKeyedBy key (suc before ∷ []) = (tt, tt) in
+            let changed = sets_listed about is_the_row format_set_terms [] key about_row always present telling old new (suc before ∷ []) set told one (omega arith) in
+            ap (λ (s : Schema). new.now.trees (tree_in s (codes "about"))) only.schema ∙ changed.rows_are;
       }

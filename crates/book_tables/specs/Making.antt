@@ -9,9 +9,10 @@ use Rattle.one_table.specs.Making.{made}
 use Rattle.one_table.specs.Place.{Has}
 use Rattle.vend_core.specs.Office.{Office}
 use Rattle.book_tables.specs.Edited.{no_rows}
-use Rattle.book_tables.specs.Holds.{HasOffice, HasOfficeOf, Holds, HoldsMembers, HoldsOf, StandsFor}
+use Rattle.book_tables.specs.Format.{HasFormat, TellsFormat}
+use Rattle.book_tables.specs.Holds.{HasOffice, HasOfficeOf, Holds, HoldsMembers, HoldsOf, StandsFor, rows_in}
 use Rattle.book_tables.specs.Kept.{kept_tables, later}
-use Rattle.book_tables.specs.Rows.{Rows, present_format}
+use Rattle.book_tables.specs.Rows.{Rows, about_rows, present_format}
 use Rattle.book_tables.specs.declared.error.TableError.{TableError}
 use Rattle.book_tables.specs.declared.error.TableError.TheVariants as fails
 use Rattle.book_tables.specs.Writing.{IsOfNone, WritesOnly}
@@ -51,19 +52,23 @@ pub record MakesMissing (from : ℕ) (old new : Database) : Type 0 where
   pub has : HasOffice new.schema
   pub rows : (rows : Rows) → HoldsOf from from old rows
       → HoldsOf present_format from new (rows_upto from rows)
+  pub tells : TellsFormat from old → rows_in new (codes "about") ≡ about_rows from
   pub beside : LeavesBeside from old new
 
 -- `about` tells the present format, where it told another or none
 pub record TellsPresent (told : ℕ) (old new : State) : Type 0 where
   pub only : WritesOnly (codes "about" ∷ []) old new
   pub rows : (rows : Rows) → HoldsOf present_format told old.now rows → Holds new.now rows
+  pub tells : rows_in old.now (codes "about") ≡ about_rows told → HasFormat new.now present_format
 
 -- The database has the present tables in place of those of a format, or of none, and holds the
--- office that it stood for: the empty one, where there was none.
+-- office that it stood for: the empty one, where there was none. Whatever the other rows are, `about`
+-- tells the present format in place of that of the tables.
 pub record BringsOffice (from : ℕ) (old new : Database) : Type 0 where
   pub had : HasOfficeOf from old.schema
   pub has : HasOffice new.schema
   pub members : (o : Office) → StandsFor old o → HoldsMembers new o
+  pub tells : TellsFormat from old → HasFormat new present_format
   pub beside : LeavesBeside from old new
 
 -- it is not, where a row is that of no office: then the database stands for none

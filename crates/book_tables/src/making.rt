@@ -126,8 +126,8 @@ fn bring_third<S: Alter>(tx: &mut Transaction<'_, S>) -> Result<(), TableError>
 /// Brings the tables of a format to the present one, with the same office; format 0 is that there are
 /// none, and the office is the empty one.
 ///
-/// Each table that is there keeps its rows, whatever they are, but for `about`, which tells the format.
-/// What was made before an error goes with the transaction, which the caller drops.
+/// Each table that is there keeps its rows, whatever they are, but for `about`: it tells the present
+/// format then. What was made before an error goes with the transaction, which the caller drops.
 ///
 /// # Errors
 /// What the database refuses, want of memory, and a row that is no office's.
