@@ -26,12 +26,14 @@ pub mod ListLemmas
 pub mod ListingLemmas
 pub mod MakingLemmas
 pub mod MemberLemmas
+pub mod MeterEditLemmas
 pub mod MeterLemmas
 pub mod OfficeTableLemmas
 pub mod OneRowTexts
 pub mod OnlyLemmas
 pub mod PagingLemmas
 pub mod PartLemmas
+pub mod PutLemmas
 pub mod ReadLemmas
 pub mod RecognisingLemmas
 pub mod RefusalLemmas
@@ -47,6 +49,7 @@ pub mod ShiftTexts
 pub mod StepLemmas
 pub mod StepListLemmas
 pub mod StepTexts
+pub mod TariffEditLemmas
 pub mod TariffLemmas
 pub mod TariffWriteLemmas
 pub mod TellingLemmas
