@@ -1,18 +1,25 @@
 -- What the files at a path stand for, by what they hold, and what an opening makes of them.
 use Rattle.std.specs.Prelude.{◌≡◌, ◌⊎◌, false, Option, Some, None}
-use Rattle.sqlite.specs.Files.{AreFoundIn, HoldsDatabase, file_state}
+use Rattle.sqlite.specs.Closing.{files_left}
+use Rattle.sqlite.specs.Files.{AreFoundIn, FailsToOpenFiles, HoldsDatabase, IsCleanLeft, IsClosed, LeavesFiles, file_state, image_of}
 use Rattle.sqlite.specs.Held.{Held}
 use Rattle.sqlite.specs.State.{HasCleanDisk, IsLive, Opens, State, Survives}
+use Rattle.sqlite.specs.declared.error.Error.{Error}
+use Rattle.sqlite.specs.declared.file.Leftover.{Leftover}
 use Rattle.sqlite_disk.specs.declared.Disk.{Ghosts}
+use Rattle.sqlite_disk.specs.declared.Files.{Files}
+use Rattle.sqlite_store.specs.FileStore.{files as store_files}
 use Rattle.sqlite_store.specs.declared.store.FileStore.{FileStore}
 use Rattle.sqlite_trees.specs.Tree.{Trees}
 use Rattle.sqlite_wal.specs.Recovery.{Image}
 use Rattle.vend_core.specs.Office.{Office}
 use Rattle.books.specs.Keeps.{RecoversTo, StoreStandsFor}
-use Rattle.books.specs.Opening.{LeavesBrought, LeavesRefused, OpensAs}
+use Rattle.books.specs.Opening.{LeavesBrought, LeavesRefused, OpensAs, fault_of}
 use Rattle.books.specs.Same.{IsSame}
 use Rattle.books.specs.declared.fault.OpenFault.{OpenFault}
 use Rattle.books.specs.declared.fault.OpenFault.TheVariants.{NotAnOffice, Store, Memory}
+use Rattle.books.specs.declared.refused_files.RefusedFiles.{RefusedFiles}
+use Rattle.books.specs.declared.refused_files.RefusedFiles.TheVariants.{Connected, Unconnected}
 
 -- an opening of the files may find these trees: those that they hold, where they hold a database,
 -- and none where nothing has been made yet
@@ -54,12 +61,34 @@ module _ {D : Type 0} {g : Ghosts D} where
     pub survives : Survives (file_state first) (file_state last)
         (LeavesRefused (file_state first) fault)
 
-  -- Where no connection could be made, the fault names no file.
-  abbrev pub RefusesFiles : Image → OpenFault → Option (Held (FileStore D g)) → Type 0
-  RefusesFiles image fault (Some last) = RefusesConnection image fault last
-  RefusesFiles image fault None = (fault ≡ Store) ⊎ (fault ≡ Memory)
+  -- No connection could be made, for a reason that is the database's, so that the fault names no
+  -- file. The files may leave what they might have left before, or what stands for the same; only
+  -- where there was no database, an empty one may have been begun.
+  pub record RefusesToConnect (files : Files D) (fault : OpenFault) (left : Leftover D g) : Type 0
+    where
+      pub error : Error
+      pub answered : fault ≡ fault_of error
+      pub fails : IsCleanLeft left → FailsToOpenFiles files left error
+      pub kept : IsCleanLeft left → LeavesFiles files left
+
+  -- what is given back of files in which no office was opened
+  abbrev pub RefusesFiles : Files D → OpenFault → RefusedFiles D g → Type 0
+  RefusesFiles files fault (Connected last) = RefusesConnection (image_of g files) fault last
+  RefusesFiles files fault (Unconnected left) = RefusesToConnect files fault left
+
+  -- these are the files, which were taken from what was given back
+  abbrev pub AreTakenFrom : RefusedFiles D g → Files D → Type 0
+  AreTakenFrom (Connected last) files =
+      (store : FileStore D g) × (store_files store ≡ (files.log, files.db)) × IsClosed last store
+  AreTakenFrom (Unconnected left) files = files_left left ≡ (files.log, files.db)
+
+  -- The same at a path. Of one that is not opened the database tells nothing but its error, so where
+  -- no connection could be made, the fault names no file.
+  abbrev pub RefusesPath : Image → OpenFault → Option (Held (FileStore D g)) → Type 0
+  RefusesPath image fault (Some last) = RefusesConnection image fault last
+  RefusesPath image fault None = (fault ≡ Store) ⊎ (fault ≡ Memory)
 
 -- The same of a connection that is gone.
 abbrev pub RefusedAt : {D : Type 0} → (g : Ghosts D) → Image → OpenFault → Type 0
 RefusedAt {D} g image fault =
-    (left : Option (Held (FileStore D g))) × RefusesFiles image fault left
+    (left : Option (Held (FileStore D g))) × RefusesPath image fault left

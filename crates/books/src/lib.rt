@@ -9,6 +9,7 @@ pub use book_tables::Totals;
 pub use books::Books;
 pub use fault::OpenFault;
 pub use headline::headline_law;
+pub use refused_files::RefusedFiles;
 pub use reopening::opening_law;
 
 mod books;
@@ -19,4 +20,5 @@ mod facts;
 mod fault;
 mod headline;
 mod opening;
+mod refused_files;
 mod reopening;

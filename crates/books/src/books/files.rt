@@ -10,6 +10,7 @@ ghost use Rattle.books.specs.Path.{OpensFiles, RefusesFiles, StandsIn};
 use crate::books::Books;
 use crate::fault::OpenFault;
 use crate::opening::fault_of;
+use crate::refused_files::RefusedFiles;
 use crate::reopening::opening_law;
 use sqlite::{Connection, FileStore, Options};
 use sqlite_disk::{Disk, Files};
@@ -22,13 +23,13 @@ impl<D: Disk + Drop, T: BlockTransform + Drop> Books<FileStore<D>, T> {
     /// failed (`is_usable`).
     ///
     /// # Errors
-    /// As those of `open_path`. The connection to the files comes back, if there is one.
+    /// As those of `open_path`. The files come back, with the connection to them if there is one.
     pub fn open_files(
         alloc: Global,
         files: Files<D>,
         options: Options,
         transform: T,
-    ) -> Result<Books<FileStore<D>, T>, (OpenFault, Option<Connection<FileStore<D>>>)>
+    ) -> Result<Books<FileStore<D>, T>, (OpenFault, RefusedFiles<D>)>
         requires log { IsTrue (D.Disk.is_usable files.log) }
         requires db { IsTrue (D.Disk.is_usable files.db) }
         ensures opens { (o : Office) → StandsIn (image_of D.Disk files) o
@@ -37,17 +38,17 @@ impl<D: Disk + Drop, T: BlockTransform + Drop> Books<FileStore<D>, T> {
         ensures tables { IfOk result (λ books. HaveTables (seen over_files T.forwards books)) }
         ensures finds { IfOk result (λ books. OpensFiles (image_of D.Disk files) books.conn) }
         ensures running { IfOk result (λ books. books.stopped ≡ false) }
-        ensures refused { IfErr result (λ e. RefusesFiles (image_of D.Disk files) e.0 e.1) }
+        ensures refused { IfErr result (λ e. RefusesFiles files e.0 e.1) }
     {
         opening_law::<FileStore<D>>();
         // A file that is made here has no sums, so that any SQLite may read and write it.
         let conn = match Connection::open_files(alloc, files, options) {
             Ok(conn) => conn,
-            Err((error, _)) => return Err((fault_of(error), None)),
+            Err((error, left)) => return Err((fault_of(error), RefusedFiles::Unconnected(left))),
         };
         match Books::open_from(alloc, conn, transform) {
             Ok(books) => Ok(books),
-            Err((fault, conn)) => Err((fault, Some(conn))),
+            Err((fault, conn)) => Err((fault, RefusedFiles::Connected(conn))),
         }
     }
 }

@@ -6,7 +6,7 @@ ghost use Rattle.sqlite.specs.Files.{over_files};
 ghost use Rattle.vend_core.specs.LifeLaws.{opened};
 ghost use Rattle.vend_core.specs.Office.{Office};
 ghost use Rattle.books.specs.Keeps.{HaveTables, Represents, seen};
-ghost use Rattle.books.specs.Path.{OpensFiles, RefusedAt, RefusesFiles, StandsIn};
+ghost use Rattle.books.specs.Path.{OpensFiles, RefusedAt, RefusesPath, StandsIn};
 
 use crate::books::Books;
 use crate::fault::OpenFault;
@@ -65,7 +65,7 @@ impl<B: Start, T: BlockTransform + Drop> Books<FileStore<FileFrom<B>>, T> {
         ensures tables { IfOk result (λ books. HaveTables (seen over_files T.forwards books)) }
         ensures finds { IfOk result (λ books. OpensFiles (image_at B.Start) books.conn) }
         ensures running { IfOk result (λ books. books.stopped ≡ false) }
-        ensures refused { IfErr result (λ e. RefusesFiles (image_at B.Start) e.0 e.1) }
+        ensures refused { IfErr result (λ e. RefusesPath (image_at B.Start) e.0 e.1) }
         // What `sqlite` keeps in memory is no file, and is never opened.
         ensures no_memory { path.now ≡ codes ":memory:"
             → IsErrAnd result (λ e. e.0 ≡ OpenFault.Store) }
