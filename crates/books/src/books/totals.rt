@@ -1,6 +1,6 @@
 //! The running totals of a shift.
 
-ghost use Rattle.std.specs.Prelude.{◌≡◌, ◌≢◌, ◌↔◌, ◌⊎◌, false, true, Err, None, Some, IfErr, IfOk};
+ghost use Rattle.std.specs.Prelude.{◌≡◌, ◌↔◌, ◌⊎◌, false, true, Err, None, Some, IfErr, IfOk};
 ghost use Rattle.sqlite.specs.Held.{state};
 ghost use Rattle.sqlite.specs.State.{HasCleanDisk};
 ghost use Rattle.vend_core.specs.Life.{Life, present};
@@ -48,6 +48,9 @@ impl<S: Alter, T: BlockTransform> Books<S, T> {
         ensures stopped { (result ≡ Err Refusal.Stopped) ↔ (self.old.stopped ≡ true) }
         ensures stops { (self.new.stopped ≡ true)
             ↔ ((result ≡ Err Refusal.Store) ⊎ (result ≡ Err Refusal.Stopped)) }
+        ensures refusals { IfErr result (λ refusal. (refusal ≡ Refusal.NoSuchShift)
+            ⊎ ((refusal ≡ Refusal.Memory) ⊎ ((refusal ≡ Refusal.Store)
+            ⊎ (refusal ≡ Refusal.Stopped)))) }
         ensures failures { HasCleanDisk (seen S.Store T.forwards self.new).state
             → HaveTables (seen S.Store T.forwards self.old) → self.old.stopped ≡ false
             → IfErr result (λ refusal. (refusal ≡ Refusal.NoSuchShift) ⊎ IsToldOfRead refusal
@@ -80,7 +83,8 @@ fn totals<S: Alter>(conn: &mut Connection<S>, number: u32) -> Result<Totals, Ref
         → HasTables (state S.Store conn.old)
         → IfErr result (λ refusal. (refusal ≡ Refusal.NoSuchShift) ⊎ IsToldOfRead refusal
         (state S.Store conn.old) (state S.Store conn.new)) }
-    ensures never_stopped { result ≢ Err Refusal.Stopped }
+    ensures refusals { IfErr result (λ refusal. (refusal ≡ Refusal.NoSuchShift)
+        ⊎ ((refusal ≡ Refusal.Memory) ⊎ (refusal ≡ Refusal.Store))) }
     ensures outside { conn.new.in_transaction ≡ false }
 {
     // Outside a transaction an open connection has what was committed last.
