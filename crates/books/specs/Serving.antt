@@ -1,5 +1,5 @@
 -- How a request ends at books.
-use Rattle.std.specs.Prelude.{◌≡◌, ◌⊎◌, ◌+◌, Result, Ok, Err, IfErr, OnOk, IsTrue, length}
+use Rattle.std.specs.Prelude.{◌≡◌, ◌⊎◌, ◌+◌, Some, Result, Ok, Err, IfErr, OnOk, IsTrue, length}
 use Rattle.sqlite.specs.State.{State, Survives}
 use Rattle.sqlite_trees.specs.Tree.{Trees}
 use Rattle.sts_token.specs.Token.{BlockFunction}
@@ -59,23 +59,29 @@ abbrev pub FailsToEdit : Edit → State → State → Refusal → Type 0
 FailsToEdit edit old new refusal =
     IsToldOfEdit refusal old new ⊎ ((refusal ≡ Store) × DoubtsEdit edit old new)
 
+-- the books hold the office
+pub record HoldsOffice (o : Office) (books : Seen) : Type 0 where
+  pub at : Stores books.state o
+  pub next : books.next_number ≡ length o.sales + 1
+
+-- this edit is what the rules decide for the request, in whichever office the books hold
+abbrev pub IsDecidedFor : Stamped → Seen → Edit → Type 0
+IsDecidedFor at books edit =
+    (o : Office) → HoldsOffice o books
+    → (change : Change) × (decision books.forward o at ≡ Ok change) × (change.edit ≡ Some edit)
+
 -- Why a request is refused by books that are not stopped. It was refused before anything changed, or
--- an edit is not known to be committed.
+-- its edit is not known to be committed.
 abbrev pub FailsToServe : Stamped → Seen → Seen → Refusal → Type 0
 FailsToServe at old new refusal =
     (ChangesNothing old.state new.state × RefusesUnchanged at old.next_number old.state new.state refusal)
-    ⊎ ((edit : Edit) × FailsToEdit edit old.state new.state refusal)
+    ⊎ ((edit : Edit) × IsDecidedFor at old edit × FailsToEdit edit old.state new.state refusal)
 
 -- an edit was committed, or not
 pub record Commits (edit : Edit) (result : Result (Unit {0}) Refusal) (old new : State) : Type 0
   where
     pub done : OnOk result (HasEdit edit old new)
     pub failed : IfErr result (FailsToEdit edit old new)
-
--- the books hold the office
-pub record HoldsOffice (o : Office) (books : Seen) : Type 0 where
-  pub at : Stores books.state o
-  pub next : books.next_number ≡ length o.sales + 1
 
 -- the office served the request, and the books hold the office after it; or no memory was found,
 -- and they hold the office from before; or the store failed, and may be opened again with either

@@ -116,4 +116,9 @@ returns-in_err-commit-clause-failures g c clean tables =
     let early = c.commit.ensures.clean clean in
     let nothing = c.decided.ensures.nothing early tables in
     let commits = c.in_err-commit.ensures.commits clean (tables_stay old mid (nothing_others old mid early nothing) tables) in
-    rw same (inr (c.in-Some.edit, fails_after c.in-Some.edit old mid new clean nothing c.in_err-commit.field-0.0 commits.failed))
+    let decided = λ o held. (
+      c.in_ok-change.field-0.change,
+      is_decision (g.T.BlockTransform.forwards c.args.self.now.transform) o c.args.at.now c.in_ok-change.field-0.change (c.in_ok-change.ensures.decides early o held.at held.next),
+      c.in-Some.is,
+    ) in
+    rw same (inr (c.in-Some.edit, decided, fails_after c.in-Some.edit old mid new clean nothing c.in_err-commit.field-0.0 commits.failed))
