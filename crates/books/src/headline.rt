@@ -30,7 +30,7 @@ use vend_core::{history_law, life_law};
 /// a reprint is the first token, and the simulated meter credits each token at most once.
 ///
 /// `Books::open_from` begins a life for the office that the file stands for, `Books::serve` adds to
-/// it, and each keeps the relation `Keeps` that is the premise here.
+/// it, and each keeps the relation `Represents` that is the premise here.
 pub fn headline_law<S: Alter, T: BlockTransform>()
     // The lives of which books keep the last one are lives of one office.
     ensures lives { (lives : List Life) (life : Life) (books : Books S T S.Store)
