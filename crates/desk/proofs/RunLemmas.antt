@@ -118,7 +118,7 @@ pub used_read : {O : Type 0} (step : Step O) (old new : Timed O) (told mid tells
     (rest : List ℕ) (w : Wants) (wanted : ℕ) (came : Option (List ℕ)) → wanted ≡ count_of w → Used step old told mid unread left held holds uses → AreOpen uses
     → Progress (timed step) (received uses) rest old (written uses) new → IsAwaited rest w → (asks : AsksOnce mid tells wanted came)
     → Consumes left now (came_by (asked asks.0 came)) → Used step old told tells unread now held holds (uses ++ asked asks.0 came ∷ [])
-used_read step old new told mid tells unread left now held holds uses rest w wanted came all used opened answered awaited (count, least, grows) reads =
+used_read step old new told mid tells unread left now held holds uses rest w wanted came all used opened answered awaited (count, least, fits_in, grows) reads =
     let within : count ≤ count_of w = omega (arith, least, all) in
     let more : List Use = asked count came ∷ [] in
     let fits = awaited_fits rest w awaited in
@@ -128,7 +128,7 @@ used_read step old new told mid tells unread left now held holds uses rest w wan
     record {
       told_are = Grows-trans told mid tells uses more used.told_are grows;
       paced = record {
-        in_turn = AreInTurn-append step old [] uses more used.paced.in_turn ((opened, may), tt);
+        in_turn = AreInTurn-append step old [] uses more used.paced.in_turn ((opened, may, fits_in), tt);
         reads = subst (λ bytes. Consumes unread now bytes) (ap (λ bytes. received uses ++ bytes) (sym one) ∙ sym (received-append uses more))
             (Consumes-trans unread left now (received uses) (came_by (asked count came)) used.paced.reads reads);
         writes = subst (λ bytes. Appends held holds bytes) (sym (append-nil (written uses)) ∙ sym (written-append uses more)) used.paced.writes;

@@ -4,7 +4,7 @@ use Rattle.std.specs.Prelude.{◌≡◌, ℕ, ◌<◌, ◌≤◌, ⊤, true, fal
 use Rattle.std.specs.Io.KnownBytes.{Appends, Consumes, IsAtEnd, Keeps}
 use Rattle.desk.specs.declared.end.End.{End}
 use Rattle.desk.specs.declared.end.End.TheVariants.{ReadFault, WriteFault, Memory}
-use Rattle.desk.specs.Uses.{Use, asked, sent, AreOpen, Grows, written}
+use Rattle.desk.specs.Uses.{Use, asked, sent, AreOpen, Grows, came_by, written}
 
 -- the bytes that a writer holds, and the uses that a line tells
 abbrev pub Output : Type 0
@@ -45,10 +45,11 @@ abbrev pub ReadsAt : {E : Type 0} → Option (List ℕ) → Option (List ℕ) �
 ReadsAt old new bytes (Ok count) = Consumes old new (take count bytes) × (count ≡ 0 → IsAtEnd new)
 ReadsAt old new bytes (Err _) = Keeps old new
 
--- one read was made, which asked for no more than was wanted
+-- one read was made, which asked for no more than was wanted, and by which no more came than that
 abbrev pub AsksOnce : Option (List Use) → Option (List Use) → ℕ → Option (List ℕ) → Type 0
 AsksOnce told tells wanted came =
-    (count : ℕ) × (count ≤ wanted) × Grows told tells (asked count came ∷ [])
+    (count : ℕ) × (count ≤ wanted) × (length (came_by (asked count came)) ≤ count)
+    × Grows told tells (asked count came ∷ [])
 
 -- bytes were read behind what was there, none only at the end of the input; or nothing was read
 abbrev pub IsRead : (told tells : Option (List Use)) → Option (List ℕ) → Option (List ℕ)

@@ -79,12 +79,13 @@ pub record MayAsk
   pub within : count ≤ count_of wants
   pub held : length rest + count ≤ longest_message
 
--- This use may follow those: a read where nothing failed and the input has not ended, and a text where
--- nothing failed.
+-- This use may follow those: a read where nothing failed and the input has not ended, by which no more
+-- comes than it asked for, and a text where nothing failed.
 abbrev pub MayFollow : {O : Type 0} → (O → MessageExchange → O → Type 0) → Timed O → List Use → Use
     → Type 0
 MayFollow step old before (asked count came) =
     AreOpen before × MayAsk step old (received before) (written before) count
+    × (length (came_by (asked count came)) ≤ count)
 MayFollow step old before (sent bytes all) = AreSound before
 
 -- each of these uses may follow those before it

@@ -18,15 +18,19 @@ returns-in-Ok g c =
     let behind = read_behind old mid after _ filled c.min-room.result count long made c.in-Ok.ensures.front in
     let all = c.resize.ensures.len ∙ cond-true _ _ _ ok in
     let room : length mid ≤ filled + c.min-room.result = omega (arith, all, c.resize.new.self.ok.0) in
+    let long_enough : length mid ≡ length after = omega (arith, c.in-Ok.ensures.size, c.resize.new.self.ok.0) in
+    let come = length-take-le count (drop filled after) fits in
+    let came : length (take count (drop filled after)) ≤ length (drop filled mid) =
+    omega (arith, come, fits, length-drop filled after, length-drop filled mid, long_enough) in
     let within : length (drop filled mid) ≤ c.args.wanted = omega (arith, length-drop filled mid, room, c.min-room.ensures) in
     record {
       read = (
         take count (drop filled after),
-        length-take-le count (drop filled after) fits,
+        come,
         c.truncate.ensures.items ∙ behind,
         c.in-Ok.ensures.bytes.0,
         c.in-Ok.ensures.bytes.1,
-        (length (drop filled mid), within, c.in-Ok.ensures.told),
+        (length (drop filled mid), within, came, c.in-Ok.ensures.told),
       );
       within = omega (arith, all, c.in-Ok.ensures.size, c.truncate.ensures.len, c.requires.room, c.min-room.ensures, long, c.args.buffer.now.ok.0);
     }
