@@ -19,4 +19,5 @@ pub mod RunLemmas
 pub mod SaleLemmas
 pub mod SaleTextLemmas
 pub mod ServingLemmas
+pub mod TableLemmas
 pub mod UsesLemmas

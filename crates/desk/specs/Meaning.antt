@@ -15,15 +15,26 @@ use Rattle.desk.specs.declared.meaning.Meaning.TheVariants as meanings
 use Rattle.desk.specs.declared.outcome.Outcome.{Outcome}
 use Rattle.desk.specs.declared.outcome.Outcome.TheVariants.{Faulty, Served}
 use Rattle.desk.specs.declared.route.Route.{Route}
-use Rattle.desk.specs.declared.route.Route.TheVariants.{Receipt}
+use Rattle.desk.specs.declared.route.Route.TheVariants.{AddTariff, AddSteps, AddMeter, SetTariff, MoveBase, OpenShift, CloseShift, ShiftReport, Sell, Reprint, Receipt, ImportMeters, ImportTariffs}
 use Rattle.desk.specs.Asking.{BodyAsks}
 use Rattle.desk.specs.Messages.{Message}
 use Rattle.desk.specs.Route.{IsRouted}
 
 -- the form in which a route tells a sale: a receipt is a paper
 abbrev pub sale_form_of : Route → Form
+sale_form_of AddTariff = Json
+sale_form_of (AddSteps tariff) = Json
+sale_form_of AddMeter = Json
+sale_form_of (SetTariff meter) = Json
+sale_form_of (MoveBase meter) = Json
+sale_form_of OpenShift = Json
+sale_form_of CloseShift = Json
+sale_form_of (ShiftReport shift) = Json
+sale_form_of Sell = Json
+sale_form_of (Reprint sale) = Json
 sale_form_of (Receipt sale) = Paper
-sale_form_of route = Json
+sale_form_of ImportMeters = Json
+sale_form_of ImportTariffs = Json
 
 -- the target and the method lead to the route
 abbrev pub IsFor : Message → Route → Type 0

@@ -18,7 +18,7 @@ use Rattle.vend_core.specs.RowCause.{cause_text}
 use Rattle.vend_core.specs.declared.answer.Answer.{Answer}
 use Rattle.vend_core.specs.declared.answer.Answer.TheVariants.{Done, Imported, Opened, Closed, Sold, Reprinted, Report}
 use Rattle.vend_core.specs.declared.refusal.Refusal.{Refusal}
-use Rattle.vend_core.specs.declared.refusal.Refusal.TheVariants.{ImportRow}
+use Rattle.vend_core.specs.declared.refusal.Refusal.TheVariants.{RefReused, NoShift, ShiftOpen, NoMeter, NoTariff, Differs, BeforeBase, IdentifiersSpent, IdentifierAhead, TooLittle, OfficeFull, NoSale, NoSuchShift, ImportRow, Memory, Store, Stopped, NotLater, DayPast}
 use Rattle.vend_core.specs.declared.sale.Sale.{Sale}
 
 -- a fault of the desk is told by its word
@@ -34,14 +34,35 @@ row_members name number row cause =
     ∷ (codes "row", whole row)
     ∷ []
 
--- another refusal of the office by its name and number
-abbrev pub refusal_members : Refusal → List Pair
-refusal_members (ImportRow row cause) =
-    row_members (refusal_name (ImportRow row cause)) (refusal_number (ImportRow row cause)) row (cause_text cause)
-refusal_members refusal =
+-- another refusal of the office is told by its name and number
+abbrev pub name_members : Refusal → List Pair
+name_members refusal =
     (codes "error", string (refusal_name refusal))
     ∷ (codes "refusal", whole (refusal_number refusal))
     ∷ []
+
+-- what each refusal is told by
+abbrev pub refusal_members : Refusal → List Pair
+refusal_members RefReused = name_members RefReused
+refusal_members NoShift = name_members NoShift
+refusal_members ShiftOpen = name_members ShiftOpen
+refusal_members NoMeter = name_members NoMeter
+refusal_members NoTariff = name_members NoTariff
+refusal_members Differs = name_members Differs
+refusal_members BeforeBase = name_members BeforeBase
+refusal_members IdentifiersSpent = name_members IdentifiersSpent
+refusal_members IdentifierAhead = name_members IdentifierAhead
+refusal_members TooLittle = name_members TooLittle
+refusal_members OfficeFull = name_members OfficeFull
+refusal_members NoSale = name_members NoSale
+refusal_members NoSuchShift = name_members NoSuchShift
+refusal_members (ImportRow row cause) =
+    row_members (refusal_name (ImportRow row cause)) (refusal_number (ImportRow row cause)) row (cause_text cause)
+refusal_members Memory = name_members Memory
+refusal_members Store = name_members Store
+refusal_members Stopped = name_members Stopped
+refusal_members NotLater = name_members NotLater
+refusal_members DayPast = name_members DayPast
 
 -- a sale; the digits of its token are text already, as those of an office are
 abbrev pub sale_members : Sale → List Pair

@@ -21,7 +21,8 @@ impl Form {
         match answer {
             Answer::Sold(_) | Answer::Reprinted(_) => self,
             Answer::Report(..) => Form::Paper,
-            _ => Form::Json,
+            Answer::Done | Answer::Imported(_) | Answer::Opened(_) | Answer::Closed(_) =>
+                Form::Json,
         }
     }
 

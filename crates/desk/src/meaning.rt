@@ -32,7 +32,18 @@ impl Route {
     {
         match self {
             Route::Receipt(_) => Form::Paper,
-            _ => Form::Json,
+            Route::AddTariff
+            | Route::AddSteps(_)
+            | Route::AddMeter
+            | Route::SetTariff(_)
+            | Route::MoveBase(_)
+            | Route::OpenShift
+            | Route::CloseShift
+            | Route::ShiftReport(_)
+            | Route::Sell
+            | Route::Reprint(_)
+            | Route::ImportMeters
+            | Route::ImportTariffs => Form::Json,
         }
     }
 }

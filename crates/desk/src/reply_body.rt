@@ -1,7 +1,7 @@
 ghost use Rattle.std.specs.Prelude.{◌≡◌, IfOk};
 ghost use Rattle.papers.specs.Text.{change_of};
 ghost use Rattle.desk.specs.Members.{json_text};
-ghost use Rattle.desk.specs.ReplyBody.{answer_body, body_of, fault_members, refusal_members, row_members, sale_body, sale_members};
+ghost use Rattle.desk.specs.ReplyBody.{answer_body, body_of, fault_members, name_members, refusal_members, row_members, sale_body, sale_members};
 
 use crate::form::Form;
 use crate::members::{Member, object_text};
@@ -38,14 +38,36 @@ fn refusal_body(alloc: Global, refusal: Refusal) -> Result<Vec<u8>, AllocError>
             let cause = format!(in alloc; "{cause}")?;
             row_body(alloc, refusal.name(), refusal.number(), row, &cause)
         }
-        _ => object_text(
-            alloc,
-            &[
-                ("error", Member::Word(refusal.name())),
-                ("refusal", Member::Number(u64::from(refusal.number()))),
-            ],
-        ),
+        Refusal::RefReused
+        | Refusal::NoShift
+        | Refusal::ShiftOpen
+        | Refusal::NoMeter
+        | Refusal::NoTariff
+        | Refusal::Differs
+        | Refusal::BeforeBase
+        | Refusal::IdentifiersSpent
+        | Refusal::IdentifierAhead
+        | Refusal::TooLittle
+        | Refusal::OfficeFull
+        | Refusal::NoSale
+        | Refusal::NoSuchShift
+        | Refusal::Memory
+        | Refusal::Store
+        | Refusal::Stopped
+        | Refusal::NotLater
+        | Refusal::DayPast => name_body(alloc, refusal),
     }
+}
+
+// The refusal of no row, told by its name and number alone.
+fn name_body(alloc: Global, refusal: Refusal) -> Result<Vec<u8>, AllocError>
+    ensures { IfOk result (λ body. body.items ≡ json_text (name_members refusal)) }
+{
+    let members = [
+        ("error", Member::Word(refusal.name())),
+        ("refusal", Member::Number(u64::from(refusal.number()))),
+    ];
+    object_text(alloc, &members)
 }
 
 // The refusal of a row, told by the row and the cause too.

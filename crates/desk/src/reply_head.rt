@@ -58,7 +58,7 @@ fn allowed_by(fault: DeskFault) -> Option<Method>
 {
     match fault {
         DeskFault::Method(allowed) => Some(allowed),
-        _ => None,
+        DeskFault::NoRoute | DeskFault::Clock | DeskFault::Body => None,
     }
 }
 
@@ -70,6 +70,15 @@ fn refusal_status(refusal: Refusal) -> u16
         Refusal::NoMeter | Refusal::NoTariff | Refusal::NoSale | Refusal::NoSuchShift => 404,
         Refusal::TooLittle | Refusal::ImportRow(..) => 422,
         Refusal::Memory | Refusal::Store | Refusal::Stopped => 503,
-        _ => 409,
+        Refusal::RefReused
+        | Refusal::NoShift
+        | Refusal::ShiftOpen
+        | Refusal::Differs
+        | Refusal::BeforeBase
+        | Refusal::IdentifiersSpent
+        | Refusal::IdentifierAhead
+        | Refusal::OfficeFull
+        | Refusal::NotLater
+        | Refusal::DayPast => 409,
     }
 }

@@ -3,6 +3,7 @@ ghost use Rattle.desk.specs.Endpoint.{table};
 ghost use Rattle.desk.specs.Reads.{IsFound};
 ghost use Rattle.desk.specs.Route.{Finds, IsRouted, Names, endpoint_of};
 ghost use Rattle.desk.specs.declared.desk_fault.DeskFault.{DeskFault};
+ghost use Rattle.desk.specs.declared.endpoint.Endpoint.{Endpoint};
 ghost use Rattle.desk.specs.declared.method.Method.{Method};
 ghost use Rattle.desk.specs.declared.route.Route.{Route};
 
@@ -76,10 +77,12 @@ impl Routes {
     }
 }
 
-/// What a target and a method ask for is one: one route, or one fault.
+/// What a target and a method ask for is one: one route, or one fault. No endpoint is without a
+/// target.
 pub fn route_law()
-    ensures { (target : List ℕ) (method : Method) (a b : Result Route DeskFault)
+    ensures one { (target : List ℕ) (method : Method) (a b : Result Route DeskFault)
         → IsRouted target method a → IsRouted target method b → a ≡ b }
+    ensures each { (endpoint : Endpoint) → (target : List ℕ) × Finds target endpoint }
 {}
 
 // The route of a target, whose endpoint was found, or why there is none.
