@@ -21,8 +21,8 @@ use Rattle.desk.specs.Asking.{BodyAsks}
 use Rattle.desk.specs.Conversation.{messages_of}
 use Rattle.desk.specs.Exchanges.{MessageExchange}
 use Rattle.desk.specs.Meaning.{ComesAt, ComesOutside, IsFor, IsIdle, MessageAsks, sale_form_of}
-use Rattle.desk.specs.Messages.{Message}
-use Rattle.desk.specs.OneConversation.{HasOneMeaning, asked_at, moments_of}
+use Rattle.desk.specs.Messages.{AgreeBy, Ending, Message, Stop, ended, failed}
+use Rattle.desk.specs.OneConversation.{HasOneMeaning, IsOneConversation, asked_at, conversation_text, moments_of}
 use Rattle.desk.specs.Replies.{reply_bytes_of}
 use Rattle.desk.specs.Route.{IsRouted}
 
@@ -167,3 +167,14 @@ same_exchanges one (x ∷ xs) (y ∷ ys) ats bts replies messages moments (inr (
       ap asked_at is ∙ ap (λ m. (m, at.request) ∷ asked_at later) meaning.1 ∙ ap (λ q. (bt.moment, q) ∷ asked_at later) meaning.2
           ∙ ap (λ l. (bt.moment, bt.request) ∷ l) more.1 ∙ sym (ap asked_at was),
     )
+
+-- endings that are one are written alike
+same_text : (stop : Stop) (xs ys : List MessageExchange) (e f : Ending) → xs ≡ ys → AgreeBy stop e f → stop ≡ ended
+    → conversation_text xs e ≡ conversation_text ys f
+same_text ended xs ys e f same ends over = ap (λ zs. conversation_text zs e) same ∙ ap (λ g. conversation_text ys g) ends
+same_text failed xs ys e f same ends over = absurd (cc)
+
+pub one_conversation : (stop : Stop) (xs ys : List MessageExchange) (e f : Ending) (ats bts : List Stamped) → xs ≡ ys
+    → asked_at ats ≡ asked_at bts → AgreeBy stop e f → IsOneConversation stop xs ys e f ats bts
+one_conversation stop xs ys e f ats bts same asked ends =
+    record { exchanges = same; asked = asked; ends = ends; written = same_text stop xs ys e f same ends }

@@ -1,12 +1,14 @@
 -- What is one: the meaning of a message, and the conversation of an input.
-use Rattle.std.specs.Prelude.{◌≡◌, ℕ, ℤ, List, map, Option}
+use Rattle.std.specs.Prelude.{◌≡◌, ℕ, ℤ, List, ◌++◌, map, Option}
 use Rattle.vend_core.specs.declared.request.Request.{Request}
 use Rattle.vend_core.specs.declared.request.Stamped.{Stamped}
 use Rattle.desk.specs.declared.form.Form.{Form}
 use Rattle.desk.specs.declared.outcome.Outcome.{Outcome}
+use Rattle.desk.specs.Answering.{message_refusal_of}
+use Rattle.desk.specs.Conversation.{last_words, replies_of}
 use Rattle.desk.specs.Exchanges.{MessageExchange}
 use Rattle.desk.specs.Meaning.{IsIdle, MessageAsks}
-use Rattle.desk.specs.Messages.{Message}
+use Rattle.desk.specs.Messages.{AgreeBy, Ending, Message, Stop, ended}
 
 -- With what the clock gave for it a message asks one thing of the office, or one thing comes of it
 -- without the office, and never both.
@@ -29,3 +31,18 @@ AskedAt = ℕ × Request
 
 abbrev pub asked_at : List Stamped → List AskedAt
 asked_at ats = map (λ at. (at.moment, at.request)) ats
+
+-- what a desk writes in a conversation: the replies, and the last words where it ends so
+abbrev pub conversation_text : List MessageExchange → Ending → List ℕ
+conversation_text xs ending = replies_of xs ++ last_words message_refusal_of ending
+
+-- Two conversations of an input that stops so are one: the same exchanges, by which the same is asked
+-- at the same moments. Where the input ended they end alike, and what is written is the same, to its
+-- last byte. Where its reader failed, one may end by the refusal of what is no head, and the other
+-- without a word.
+pub record IsOneConversation (stop : Stop) (xs ys : List MessageExchange) (e f : Ending)
+    (ats bts : List Stamped) : Type 0 where
+  pub exchanges : xs ≡ ys
+  pub asked : asked_at ats ≡ asked_at bts
+  pub ends : AgreeBy stop e f
+  pub written : stop ≡ ended → conversation_text xs e ≡ conversation_text ys f

@@ -9,7 +9,7 @@ ghost use Rattle.desk.specs.Answering.{answers_by, life_serves};
 ghost use Rattle.desk.specs.Conversation.{messages_of};
 ghost use Rattle.desk.specs.Exchanges.{Exchanged, MessageExchange, Timed, timed};
 ghost use Rattle.desk.specs.Messages.{Ending, Message, Messages, Stop};
-ghost use Rattle.desk.specs.OneConversation.{HasOneMeaning, asked_at, moments_of};
+ghost use Rattle.desk.specs.OneConversation.{HasOneMeaning, IsOneConversation, moments_of};
 
 use crate::asking::asking_law;
 use crate::message::message_law;
@@ -26,14 +26,14 @@ pub fn desk_law()
 
 /// A message has one meaning, and an input one conversation: with the same answers of the clock and
 /// the same replies of the office, two conversations of an input are the same exchanges, and ask the
-/// same requests at the same moments.
+/// same requests at the same moments. Where the input ended they end alike, and are written the same.
 pub fn conversation_law()
     ensures meaning { (m : Message) (now : Option ℤ) → HasOneMeaning m now }
     ensures one { (stop : Stop) (input : List ℕ) (xs ys : List MessageExchange) (e f : Ending)
         (ats bts : List Stamped) (replies : List (Result Answer Refusal))
         → Messages stop input (messages_of xs) e → Messages stop input (messages_of ys) f
         → moments_of xs ≡ moments_of ys → AreAsked xs ats replies → AreAsked ys bts replies
-        → (xs ≡ ys) × (asked_at ats ≡ asked_at bts) }
+        → IsOneConversation stop xs ys e f ats bts }
 {
     message_law();
     route_law();

@@ -1,4 +1,4 @@
-use Rattle.desk.proofs.OneLemmas.{AreOne, one_meaning, same_exchanges}
+use Rattle.desk.proofs.OneLemmas.{AreOne, one_conversation, one_meaning, same_exchanges}
 use Rattle.desk.proofs.along.conversation_law.Goals as goal
 
 pub returns-clause-meaning : goal.returns-clause-meaning
@@ -7,4 +7,6 @@ returns-clause-meaning c = one_meaning (record { routed = c.route_law.ensures.on
 pub returns-clause-one : goal.returns-clause-one
 returns-clause-one c stop input xs ys e f ats bts replies x y moments a b =
     let are : AreOne = record { routed = c.route_law.ensures.one; asked = c.asking_law.ensures } in
-    same_exchanges (one_meaning are) xs ys ats bts replies (c.message_law.ensures stop input _ _ e f x y).0 moments a b
+    let messages = c.message_law.ensures stop input _ _ e f x y in
+    let same = same_exchanges (one_meaning are) xs ys ats bts replies messages.0 moments a b in
+    one_conversation stop xs ys e f ats bts same.0 same.1 messages.1
