@@ -29,7 +29,7 @@ use Rattle.desk.specs.declared.route.Route.TheVariants.{AddTariff, AddSteps, Add
 use Rattle.desk.specs.declared.json_kind.JsonKind.{JsonKind}
 use Rattle.desk.specs.declared.json_kind.JsonKind.TheVariants as kinds
 use Rattle.desk.specs.Asking.{AsksByJson, AsksImport, BodyAsks, SaysJson, import_of}
-use Rattle.desk.specs.JsonBody.{BodySays, BodySaysMeter, BodySaysOperator, SaysBase, SaysDatedSteps, SaysOrder, BodySaysTariff, SaysTariffName}
+use Rattle.desk.specs.JsonBody.{BodySays, BodySaysMeter, BodySaysOperator, BodySaysBase, BodySaysDatedSteps, BodySaysOrder, BodySaysTariff, BodySaysTariffName}
 use Rattle.desk.specs.Reads.{IsFoundIn}
 
 -- ---- members
@@ -76,7 +76,7 @@ one_tariff are json name other steps others a b = (
 )
 
 one_dated : TextsSayOne → (json : Data) (day other : ℕ) (steps others : List Step)
-    → SaysDatedSteps json day steps → SaysDatedSteps json other others → (day ≡ other) × (steps ≡ others)
+    → BodySaysDatedSteps json day steps → BodySaysDatedSteps json other others → (day ≡ other) × (steps ≡ others)
 one_dated are json day other steps others a b = (
   one_value IsDayText (λ text x y. are.one_day x y text) (get (codes "from") json) a.day_text b.day_text day other
       a.members.each.0 b.members.each.0 a.dated b.dated,
@@ -97,7 +97,7 @@ one_meter json meter other m n a b =
           ∙ ap (λ key. record { base = n.base; tariff = n.tariff; key = key }) keys,
     )
 
-one_order : (json : Data) (a b : Order) → SaysOrder json a → SaysOrder json b → a ≡ b
+one_order : (json : Data) (a b : Order) → BodySaysOrder json a → BodySaysOrder json b → a ≡ b
 one_order json a b x y =
     let meters = same_text (get (codes "meter") json) a.meter b.meter x.members.each.0 y.members.each.0 in
     let operators = same_text (get (codes "operator") json) a.operator b.operator x.members.each.1.0 y.members.each.1.0 in
@@ -112,11 +112,11 @@ one_operator : (json : Data) (a b : List ℕ) → BodySaysOperator json a → Bo
 one_operator json a b x y =
     same_text (get (codes "operator") json) a b x.members.each.0 y.members.each.0
 
-one_tariff_name : (json : Data) (a b : List ℕ) → SaysTariffName json a → SaysTariffName json b → a ≡ b
+one_tariff_name : (json : Data) (a b : List ℕ) → BodySaysTariffName json a → BodySaysTariffName json b → a ≡ b
 one_tariff_name json a b x y =
     same_text (get (codes "tariff") json) a b x.members.each.0 y.members.each.0
 
-one_base : (json : Data) (a b : Base) → SaysBase json a → SaysBase json b → a ≡ b
+one_base : (json : Data) (a b : Base) → BodySaysBase json a → BodySaysBase json b → a ≡ b
 one_base json a b x y =
     same_base a b (same_number (get (codes "base") json) (year_of a) (year_of b) x.members.each.0 y.members.each.0)
 

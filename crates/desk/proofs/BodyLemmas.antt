@@ -15,7 +15,7 @@ use Rattle.desk.specs.declared.body_fault.BodyFault.{BodyFault}
 use Rattle.desk.specs.declared.body_fault.BodyFault.TheVariants.{OutsideRule, Row, Memory}
 use Rattle.desk.specs.declared.json_kind.JsonKind.{JsonKind}
 use Rattle.desk.specs.declared.json_kind.JsonKind.TheVariants.{Tariff, TariffSteps}
-use Rattle.desk.specs.JsonBody.{HasMemberCount, IsKeyAt, BodySays, BodySaysMeter, BodySaysTariff, SaysDatedSteps}
+use Rattle.desk.specs.JsonBody.{HasMemberCount, IsKeyAt, BodySays, BodySaysMeter, BodySaysTariff, BodySaysDatedSteps}
 use Rattle.desk.specs.Reads.{IsFoundIn}
 
 -- a map has as many entries as its object has members
@@ -61,8 +61,8 @@ no_tariff kind json fault =
 -- a value that says no dated steps
 pub no_dated_steps : (kind : JsonKind) (name : List ℕ) (json : Data) (fault : BodyFault)
     → kind ≡ TariffSteps name
-    → IsFoundIn {A = ℕ × List Step} (λ said. SaysDatedSteps json said.0 said.1) (Err fault)
+    → IsFoundIn {A = ℕ × List Step} (λ said. BodySaysDatedSteps json said.0 said.1) (Err fault)
     → IsFoundIn (BodySays kind json) (Err fault)
 no_dated_steps kind name json fault =
-    not_said {A = ℕ × List Step} (λ said. SaysDatedSteps json said.0 said.1) kind (TariffSteps name) json fault
+    not_said {A = ℕ × List Step} (λ said. BodySaysDatedSteps json said.0 said.1) kind (TariffSteps name) json fault
     (λ request says. ((says.0, says.1), says.3))

@@ -10,7 +10,7 @@ use Rattle.desk.specs.Conversation.{messages_of, Conversation, Progress, IsCutOf
 use Rattle.desk.specs.Exchanges.{MessageExchange, Timed, timed, GaveUp}
 use Rattle.desk.specs.Messages.{Stop, ended, Message, BeginsMessage, IsRefused, finished, closing, refused}
 use Rattle.desk.specs.Next.{IsRefusedEver}
-use Rattle.desk.specs.Parts.{EndsEarly, EndsHere, IsAnswered, RefusalIsWritten}
+use Rattle.desk.specs.Parts.{EndsEarly, EndsHere, ReplyIsWritten, RefusalIsWritten}
 use Rattle.desk.specs.Run.{IsAll, IsRun}
 use Rattle.desk.specs.Ends.{Output, Writes, WritesWhole}
 use Rattle.desk.proofs.UsesLemmas.{writes_after}
@@ -44,7 +44,7 @@ closed_end step refusal old new rest m after x begins closes same answered stop 
 -- a message whose reply was not written whole
 pub answered_end : {O : Type 0} (A : Type 0) (step : Step O) (refusal : MessageFault → List ℕ) (old new : Timed O) (held holds : Output)
     (rest : List ℕ) (m : Message) (after : List ℕ) (end : End) → BeginsMessage rest m after
-    → IsAnswered {A = A} step old new held holds m (Err end)
+    → ReplyIsWritten {A = A} step old new held holds m (Err end)
     → Written held holds (λ text. EndsEarly step refusal old text new rest end)
 answered_end A step refusal old new held holds rest m after Closed begins x = absurd x
 answered_end A step refusal old new held holds rest m after BadMessage begins x = absurd x

@@ -14,7 +14,7 @@ use Rattle.desk.specs.declared.form.Form.{Form}
 use Rattle.desk.specs.declared.form.Form.TheVariants.{Json}
 use Rattle.desk.specs.declared.method.Method.{Method}
 use Rattle.desk.specs.declared.outcome.Outcome.{Outcome}
-use Rattle.desk.specs.declared.outcome.Outcome.TheVariants.{Faulty, Served}
+use Rattle.desk.specs.declared.outcome.Outcome.TheVariants.{Faulty, Replied}
 use Rattle.desk.specs.declared.route.Route.{Route}
 use Rattle.desk.specs.Along.{AreAsked}
 use Rattle.desk.specs.Asking.{BodyAsks}
@@ -35,7 +35,7 @@ pub record AreOne : Type 0 where
 -- what comes of a message without the office, for this fault of its body
 abbrev told_for : BodyFault → Outcome
 told_for body_faults.OutsideRule = Faulty faults.Body
-told_for (body_faults.Row row cause) = Served Json (Err (ImportRow row cause))
+told_for (body_faults.Row row cause) = Replied Json (Err (ImportRow row cause))
 told_for body_faults.Memory = Faulty faults.Body
 
 -- why nothing is asked of the office
@@ -50,8 +50,8 @@ why m now (Faulty faults.Clock) is = outside is refl
 why m now (Faulty faults.Body) (route, moment, comes, asked) = unasked route moment body_faults.OutsideRule comes asked (λ e. absurd (cc)) refl
 why m now (Faulty faults.NoRoute) (routed, none) = unrouted faults.NoRoute routed refl
 why m now (Faulty (faults.Method allowed)) (routed, none) = unrouted (faults.Method allowed) routed refl
-why m now (Served form (Err (ImportRow row cause))) (told, (route, moment, comes, asked)) =
-    unasked route moment (body_faults.Row row cause) comes asked (λ e. absurd (cc)) (ap (λ f. Served f (Err (ImportRow row cause))) told)
+why m now (Replied form (Err (ImportRow row cause))) (told, (route, moment, comes, asked)) =
+    unasked route moment (body_faults.Row row cause) comes asked (λ e. absurd (cc)) (ap (λ f. Replied f (Err (ImportRow row cause))) told)
 why m now outcome is = absurd is
 
 module _ (are : AreOne) (m : Message) (now : Option ℤ) where
@@ -160,8 +160,8 @@ same_exchanges one (x ∷ xs) (y ∷ ys) ats bts replies messages moments (inr (
     let same : reply ≡ other = cc in
     let left : others ≡ rest = cc in
     let text : x.reply ≡ y.reply =
-    asked.told ∙ ap (λ f. reply_bytes_of (Served f reply) x.message.closes) meaning.0 ∙ ap (λ r. reply_bytes_of (Served ask.form r) x.message.closes) same
-    ∙ ap (λ (m : Message). reply_bytes_of (Served ask.form other) m.closes) message ∙ sym ask.told in
+    asked.told ∙ ap (λ f. reply_bytes_of (Replied f reply) x.message.closes) meaning.0 ∙ ap (λ r. reply_bytes_of (Replied ask.form r) x.message.closes) same
+    ∙ ap (λ (m : Message). reply_bytes_of (Replied ask.form other) m.closes) message ∙ sym ask.told in
     let more = same_exchanges one xs ys later then others (cc) (cc) a (subst (λ l. AreAsked ys then l) (sym left) b) in (
       ap (λ z. z ∷ xs) (same_exchange x y message now text) ∙ ap (λ zs. y ∷ zs) more.0,
       ap asked_at is ∙ ap (λ m. (m, at.request) ∷ asked_at later) meaning.1 ∙ ap (λ q. (bt.moment, q) ∷ asked_at later) meaning.2

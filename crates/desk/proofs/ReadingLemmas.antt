@@ -12,7 +12,7 @@ use Rattle.desk.specs.Framing.{framing_of}
 use Rattle.desk.specs.Heads.{BeginsWithHead, HasNoHead, NeverHasHead}
 use Rattle.desk.specs.declared.message.Next.{Next}
 use Rattle.desk.specs.declared.message.Next.TheVariants.{Whole, Refused, NeedHead, NeedBody}
-use Rattle.desk.specs.Next.{message_of, IsRefusedEver, IsNext, FindsNext}
+use Rattle.desk.specs.Next.{message_of, IsRefusedEver, BeginsAs, FindsNext}
 use Rattle.desk.specs.Messages.{Stop, ended, failed, Message, BeginsMessage, BeginsFaulty, BeginsNoHead, LacksBody, IsCutMessage, IsRefused, Ending, finished, closing, broken, refused, EndsAs, Messages, IsEither, AgreeBy}
 
 -- two fronts of one length
@@ -216,7 +216,7 @@ faulty_or_headless : (input : List ℕ) (fault : MessageFault) → HasNoHead inp
 faulty_or_headless input fault none (inl x) = absurd (none x.head _ x.begins)
 faulty_or_headless input fault none (inr x) = x.word
 
-pub finds_next : (input : List ℕ) (next : Next) → IsNext input next → FindsNext input next
+pub finds_next : (input : List ℕ) (next : Next) → BeginsAs input next → FindsNext input next
 finds_next input (Whole r) is = record {
   whole = λ m rest x. message_unique input (message_of r) m _ rest is.begins x;
   faulty = λ fault x. absurd (message_no_fault input _ _ fault is.begins x);

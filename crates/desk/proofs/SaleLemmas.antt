@@ -9,7 +9,7 @@ use Rattle.std.proofs.lemmas.Bool.Decides.{nat_tests}
 use Rattle.std.proofs.lemmas.List.{get_or_past}
 use Rattle.std.proofs.lemmas.Str.{IsUtf8-from_ascii, utf8_lossy-IsUtf8}
 use Rattle.serde_json.specs.Data.{string}
-use Rattle.desk.specs.Members.{Pair, whole}
+use Rattle.desk.specs.Members.{Pair, whole_number}
 use Rattle.desk.specs.ReplyBody.{sale_members}
 use Rattle.papers.specs.Text.{change_of}
 use Rattle.sts_fields.specs.Base.{year_of}
@@ -44,10 +44,10 @@ pub sale_members-are : (s : Sale) (base change moment number price shift tender 
     → operator ≡ s.operator → IsOperator s.operator → price ≡ s.price → order_ref ≡ s.order_ref → IsName s.order_ref → shift ≡ s.shift
     → tender ≡ s.tender → tenths ≡ s.tenths → tid ≡ s.tid → token ≡ s.digits
     → let members : List Pair =
-    (codes "base", whole base) ∷ (codes "change", whole change) ∷ (codes "meter", string (utf8_lossy meter)) ∷ (codes "moment", whole moment)
-    ∷ (codes "number", whole number) ∷ (codes "operator", string (utf8_lossy operator)) ∷ (codes "price", whole price)
-    ∷ (codes "ref", string (utf8_lossy order_ref)) ∷ (codes "shift", whole shift) ∷ (codes "tender", whole tender)
-    ∷ (codes "tenths", whole tenths) ∷ (codes "tid", whole tid) ∷ (codes "token", string (utf8_lossy token)) ∷ [] in
+    (codes "base", whole_number base) ∷ (codes "change", whole_number change) ∷ (codes "meter", string (utf8_lossy meter)) ∷ (codes "moment", whole_number moment)
+    ∷ (codes "number", whole_number number) ∷ (codes "operator", string (utf8_lossy operator)) ∷ (codes "price", whole_number price)
+    ∷ (codes "ref", string (utf8_lossy order_ref)) ∷ (codes "shift", whole_number shift) ∷ (codes "tender", whole_number tender)
+    ∷ (codes "tenths", whole_number tenths) ∷ (codes "tid", whole_number tid) ∷ (codes "token", string (utf8_lossy token)) ∷ [] in
     members ≡ sale_members s
 sale_members-are s base change moment number price shift tender tenths tid meter operator order_ref token e1 e2 e3 r3 e4 e5 e6 r6 e7 e8 r8 e9 e10 e11 e12 e13 =
     rw (

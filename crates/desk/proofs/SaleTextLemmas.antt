@@ -9,7 +9,7 @@ use Rattle.std.proofs.lemmas.List.Elements.{recursion_from_All}
 use Rattle.json.specs.Print.{escape_byte, quoted}
 use Rattle.serde_json.proofs.OnLiterals.{serde_json_on_literals}
 use Rattle.serde_json.specs.Data.{string}
-use Rattle.desk.specs.Members.{json_text, whole}
+use Rattle.desk.specs.Members.{json_text, whole_number}
 use Rattle.desk.specs.ReplyBody.{sale_members}
 use Rattle.desk.specs.SaleText.{IsTellableSale, sale_text}
 use Rattle.desk.proofs.SaleLemmas.{digits-kept}
@@ -40,10 +40,10 @@ as_it_is test plain text passes = unescaped test plain text (recursion_from_All 
 
 -- the members in the order of their names
 object-text : (base change moment number price shift tender tenths tid : ℕ) (meter operator order_ref token : List ℕ)
-    → json_text ((codes "base", whole base) ∷ (codes "change", whole change) ∷ (codes "meter", string meter) ∷ (codes "moment", whole moment)
-    ∷ (codes "number", whole number) ∷ (codes "operator", string operator) ∷ (codes "price", whole price)
-    ∷ (codes "ref", string order_ref) ∷ (codes "shift", whole shift) ∷ (codes "tender", whole tender)
-    ∷ (codes "tenths", whole tenths) ∷ (codes "tid", whole tid) ∷ (codes "token", string token) ∷ [])
+    → json_text ((codes "base", whole_number base) ∷ (codes "change", whole_number change) ∷ (codes "meter", string meter) ∷ (codes "moment", whole_number moment)
+    ∷ (codes "number", whole_number number) ∷ (codes "operator", string operator) ∷ (codes "price", whole_number price)
+    ∷ (codes "ref", string order_ref) ∷ (codes "shift", whole_number shift) ∷ (codes "tender", whole_number tender)
+    ∷ (codes "tenths", whole_number tenths) ∷ (codes "tid", whole_number tid) ∷ (codes "token", string token) ∷ [])
     ≡ codes "{\"base\":" ++ (decimal base ++ (codes ",\"change\":" ++ (decimal change ++ (codes ",\"meter\":" ++ (quoted meter
     ++ (codes ",\"moment\":" ++ (decimal moment ++ (codes ",\"number\":" ++ (decimal number ++ (codes ",\"operator\":" ++ (quoted operator
     ++ (codes ",\"price\":" ++ (decimal price ++ (codes ",\"ref\":" ++ (quoted order_ref ++ (codes ",\"shift\":" ++ (decimal shift

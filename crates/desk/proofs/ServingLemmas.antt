@@ -25,12 +25,12 @@ use Rattle.desk.specs.declared.meaning.Meaning.{Meaning}
 use Rattle.desk.specs.declared.meaning.Meaning.TheVariants as meanings
 use Rattle.desk.specs.declared.message_fault.MessageFault.{MessageFault}
 use Rattle.desk.specs.declared.outcome.Outcome.{Outcome}
-use Rattle.desk.specs.declared.outcome.Outcome.TheVariants.{Served}
+use Rattle.desk.specs.declared.outcome.Outcome.TheVariants.{Replied}
 use Rattle.desk.proofs.FollowLemmas.{Follows, run_along, run_well}
 
 -- a message asks something, which is served
 pub comes_asked : {O : Type 0} (serves : Serving O) (m : Message) (now : Option ℤ) (meaning : Meaning) (form : Form) (moment : ℕ) (request : Request) (reply : Result Answer Refusal)
-    (outcome : Outcome) (old new office : O) → IsMeaning m now meaning → meaning ≡ meanings.Asks form moment request → outcome ≡ Served form reply → office ≡ new
+    (outcome : Outcome) (old new office : O) → IsMeaning m now meaning → meaning ≡ meanings.Asks form moment request → outcome ≡ Replied form reply → office ≡ new
     → serves moment request reply old new → Comes serves m now outcome old office
 comes_asked serves m now meaning form moment request reply outcome old new office is means told same served =
     inr (form, moment, request, reply, told, subst (λ x. IsMeaning m now x) means is, subst (λ o. serves moment request reply old o) (sym same) served)

@@ -5,7 +5,7 @@ use Rattle.vend_core.specs.declared.refusal.Refusal.{Refusal}
 use Rattle.vend_core.specs.declared.request.Stamped.{Stamped}
 use Rattle.desk.specs.declared.form.Form.{Form}
 use Rattle.desk.specs.declared.outcome.Outcome.{Outcome}
-use Rattle.desk.specs.declared.outcome.Outcome.TheVariants.{Served}
+use Rattle.desk.specs.declared.outcome.Outcome.TheVariants.{Replied}
 use Rattle.desk.specs.Exchanges.{MessageExchange}
 use Rattle.desk.specs.Meaning.{MessageAsks, IsIdle}
 use Rattle.desk.specs.Replies.{reply_bytes_of}
@@ -17,16 +17,16 @@ pub record AskedNothing (x : MessageExchange) : Type 0 where
   pub told : x.reply ≡ reply_bytes_of outcome x.message.closes
 
 -- the message asked this of the office, and was told the reply
-pub record Asked (x : MessageExchange) (at : Stamped) (reply : Result Answer Refusal) : Type 0 where
+pub record AskedOffice (x : MessageExchange) (at : Stamped) (reply : Result Answer Refusal) : Type 0 where
   pub form : Form
   pub asks : MessageAsks x.message x.now form at.moment at.request
-  pub told : x.reply ≡ reply_bytes_of (Served form reply) x.message.closes
+  pub told : x.reply ≡ reply_bytes_of (Replied form reply) x.message.closes
 
 -- the requests and the replies of these exchanges, each once and in order, and no others
 abbrev pub AreAsked : List MessageExchange → List Stamped → List (Result Answer Refusal) → Type 0
 AreAsked [] ats replies = (ats ≡ []) × (replies ≡ [])
 AreAsked (x ∷ xs) ats replies =
     (AskedNothing x × AreAsked xs ats replies)
-    ⊎ ((at : Stamped) × (reply : Result Answer Refusal) × Asked x at reply
+    ⊎ ((at : Stamped) × (reply : Result Answer Refusal) × AskedOffice x at reply
     × (later : List Stamped) × (others : List (Result Answer Refusal))
     × (ats ≡ at ∷ later) × (replies ≡ reply ∷ others) × AreAsked xs later others)

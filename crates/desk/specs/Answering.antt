@@ -12,7 +12,7 @@ use Rattle.vend_core.specs.declared.request.Stamped.{Stamped}
 use Rattle.desk.specs.declared.form.Form.{Form}
 use Rattle.desk.specs.declared.message_fault.MessageFault.{MessageFault}
 use Rattle.desk.specs.declared.outcome.Outcome.{Outcome}
-use Rattle.desk.specs.declared.outcome.Outcome.TheVariants.{Refused, Served}
+use Rattle.desk.specs.declared.outcome.Outcome.TheVariants.{Refused, Replied}
 use Rattle.desk.specs.Exchanges.{MessageExchange}
 use Rattle.desk.specs.Meaning.{MessageAsks, IsIdle}
 use Rattle.desk.specs.Messages.{Message}
@@ -28,7 +28,7 @@ abbrev pub Comes : {O : Type 0} → Serving O → Message → Option ℤ → Out
 Comes serves m now outcome old new =
     (IsIdle m now outcome × (new ≡ old))
     ⊎ ((form : Form) × (moment : ℕ) × (request : Request) × (reply : Result Answer Refusal)
-    × (outcome ≡ Served form reply) × MessageAsks m now form moment request
+    × (outcome ≡ Replied form reply) × MessageAsks m now form moment request
     × serves moment request reply old new)
 
 -- the office answered a message by the reply that tells what came of it

@@ -37,13 +37,13 @@ abbrev pub is_number : List ℕ → Bool
 is_number value = nat_lt 0 (length value) && list_all is_ascii_digit value
 
 -- the length, if a body may be as long
-abbrev pub allowed : ℕ → Result ℕ MessageFault
-allowed len = if nat_le len longest_body then Ok len else Err faults.Body
+abbrev pub within_longest : ℕ → Result ℕ MessageFault
+within_longest len = if nat_le len longest_body then Ok len else Err faults.Body
 
 -- the length that a value writes, as a number
 abbrev pub length_of : List ℕ → Result ℕ MessageFault
 length_of value =
-    if is_number value then allowed (digits_value 10 value) else Err faults.Length
+    if is_number value then within_longest (digits_value 10 value) else Err faults.Length
 
 -- the length of the body, from the values of the `Content-Length` fields; without one it is empty
 abbrev pub body_len : List (List ℕ) → Result ℕ MessageFault

@@ -63,7 +63,7 @@ pub record BodySaysTariff (json : Data) (name : List ℕ) (steps : List Step) : 
   pub priced : IsSteps steps
 
 -- the value says dated steps: the text of the day from which they hold, and their own text
-pub record SaysDatedSteps (json : Data) (day : ℕ) (steps : List Step) : Type 0 where
+pub record BodySaysDatedSteps (json : Data) (day : ℕ) (steps : List Step) : Type 0 where
   pub day_text : List ℕ
   pub steps_text : List ℕ
   pub members : IsObject json
@@ -83,12 +83,12 @@ pub record BodySaysMeter (json : Data) (meter : List ℕ) (m : Meter) : Type 0 w
   pub keyed : IsKeyText m.key key_text
 
 -- the value says the name of a tariff
-pub record SaysTariffName (json : Data) (name : List ℕ) : Type 0 where
+pub record BodySaysTariffName (json : Data) (name : List ℕ) : Type 0 where
   pub members : IsObject json ((codes "tariff", string name) ∷ [])
   pub named : IsName name
 
 -- the value says a base date, by its year
-pub record SaysBase (json : Data) (base : Base) : Type 0 where
+pub record BodySaysBase (json : Data) (base : Base) : Type 0 where
   pub members : IsObject json ((codes "base", number (unsigned (year_of base))) ∷ [])
 
 -- the value says an operator
@@ -97,7 +97,7 @@ pub record BodySaysOperator (json : Data) (operator : List ℕ) : Type 0 where
   pub named : IsOperator operator
 
 -- the value says an order: its meter, its operator, its ref and its tender in cents
-pub record SaysOrder (json : Data) (order : Order) : Type 0 where
+pub record BodySaysOrder (json : Data) (order : Order) : Type 0 where
   pub members : IsObject json
       ((codes "meter", string order.meter) ∷ (codes "operator", string order.operator)
       ∷ (codes "ref", string order.order_ref) ∷ (codes "tender", number (unsigned order.tender)) ∷ [])
@@ -113,17 +113,17 @@ BodySays kinds.Tariff json request =
     × BodySaysTariff json name steps
 BodySays (kinds.TariffSteps tariff) json request =
     (day : ℕ) × (steps : List Step) × (request ≡ requests.AddSteps tariff day steps)
-    × SaysDatedSteps json day steps
+    × BodySaysDatedSteps json day steps
 BodySays kinds.Meter json request =
     (meter : List ℕ) × (m : Meter) × (request ≡ requests.AddMeter meter m)
     × BodySaysMeter json meter m
 BodySays (kinds.MeterTariff meter) json request =
-    (name : List ℕ) × (request ≡ requests.SetTariff meter name) × SaysTariffName json name
+    (name : List ℕ) × (request ≡ requests.SetTariff meter name) × BodySaysTariffName json name
 BodySays (kinds.MeterBase meter) json request =
-    (base : Base) × (request ≡ requests.MoveBase meter base) × SaysBase json base
+    (base : Base) × (request ≡ requests.MoveBase meter base) × BodySaysBase json base
 BodySays kinds.Opening json request =
     (operator : List ℕ) × (request ≡ requests.OpenShift operator) × BodySaysOperator json operator
 BodySays kinds.Closing json request =
     (operator : List ℕ) × (request ≡ requests.CloseShift operator) × BodySaysOperator json operator
 BodySays kinds.Order json request =
-    (order : Order) × (request ≡ requests.Sell order) × SaysOrder json order
+    (order : Order) × (request ≡ requests.Sell order) × BodySaysOrder json order

@@ -13,7 +13,7 @@ use Rattle.desk.specs.declared.form.Form.TheVariants.{Json, Paper}
 use Rattle.desk.specs.declared.meaning.Meaning.{Meaning}
 use Rattle.desk.specs.declared.meaning.Meaning.TheVariants as meanings
 use Rattle.desk.specs.declared.outcome.Outcome.{Outcome}
-use Rattle.desk.specs.declared.outcome.Outcome.TheVariants.{Faulty, Served}
+use Rattle.desk.specs.declared.outcome.Outcome.TheVariants.{Faulty, Replied}
 use Rattle.desk.specs.declared.route.Route.{Route}
 use Rattle.desk.specs.declared.route.Route.TheVariants.{AddTariff, AddSteps, AddMeter, SetTariff, MoveBase, OpenShift, CloseShift, ShiftReport, Sell, Reprint, Receipt, ImportMeters, ImportTariffs}
 use Rattle.desk.specs.Asking.{BodyAsks}
@@ -73,7 +73,7 @@ MessageHasFault m now fault = IsRouted m.target m.method (Err fault) × (now ≡
 -- row that is outside the rules
 abbrev pub IsIdle : Message → Option ℤ → Outcome → Type 0
 IsIdle m now (Faulty fault) = MessageHasFault m now fault
-IsIdle m now (Served form (Err (ImportRow row cause))) =
+IsIdle m now (Replied form (Err (ImportRow row cause))) =
     (form ≡ Json) × ((route : Route) × (moment : ℕ) × ComesAt m now route moment
     × BodyAsks route m.body (Err (Row row cause)))
 IsIdle m now outcome = ⊥

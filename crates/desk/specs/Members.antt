@@ -13,8 +13,8 @@ abbrev pub Pair : Type 0
 Pair = List ℕ × Data
 
 -- a whole number
-abbrev pub whole : ℕ → Data
-whole n = number (unsigned n)
+abbrev pub whole_number : ℕ → Data
+whole_number n = number (unsigned n)
 
 -- the members of an object that has each of these, in the order of their names
 abbrev pub put_all : List Pair → Members
@@ -27,7 +27,7 @@ json_text pairs = compact_text (object (put_all pairs))
 -- the value that a member has
 abbrev pub data_of : Member → Data
 data_of (Truth holds) = boolean holds
-data_of (Number n) = whole n
+data_of (Number n) = whole_number n
 data_of (Word word) = string word.now
 data_of (Text text) = string (utf8_lossy text.now)
 

@@ -23,11 +23,11 @@ abbrev pub IsRefusedEver : List ℕ → MessageFault → Type 0
 IsRefusedEver input fault = (stop : Stop) (more : List ℕ) → IsRefused stop (input ++ more) fault
 
 -- what each answer says
-abbrev pub IsNext : List ℕ → Next → Type 0
-IsNext input (Whole received) = IsWhole input received
-IsNext input (Refused fault) = IsRefusedEver input fault
-IsNext input NeedHead = AwaitsHead input
-IsNext input (NeedBody missing) = LacksBody input missing
+abbrev pub BeginsAs : List ℕ → Next → Type 0
+BeginsAs input (Whole received) = IsWhole input received
+BeginsAs input (Refused fault) = IsRefusedEver input fault
+BeginsAs input NeedHead = AwaitsHead input
+BeginsAs input (NeedBody missing) = LacksBody input missing
 
 -- the answer is this message, and the rest follows it
 abbrev pub IsWholeOf : List ℕ → Message → List ℕ → Next → Type 0

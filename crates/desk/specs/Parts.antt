@@ -28,14 +28,14 @@ EndsEarly step refusal old text new input Memory =
     (more : List ℕ) → IsGivenUp (timed step) (GaveUp step) (input ++ more) old text new
 
 -- one message was answered and its reply written, or not
-abbrev pub IsAnswered : {O A : Type 0} → (O → MessageExchange → O → Type 0) → Timed O → Timed O
+abbrev pub ReplyIsWritten : {O A : Type 0} → (O → MessageExchange → O → Type 0) → Timed O → Timed O
     → Output → Output → Message → Result A End → Type 0
-IsAnswered step old new held holds m (Ok _) =
+ReplyIsWritten step old new held holds m (Ok _) =
     (x : MessageExchange) × (x.message ≡ m) × timed step old x new × WritesWhole held holds x.reply
-IsAnswered step old new held holds m (Err WriteFault) =
+ReplyIsWritten step old new held holds m (Err WriteFault) =
     (x : MessageExchange) × (x.message ≡ m) × timed step old x new × IsBeginning held holds x.reply
-IsAnswered step old new held holds m (Err Memory) = GaveUp step old m new × Writes held holds []
-IsAnswered step old new held holds m (Err end) = ⊥
+ReplyIsWritten step old new held holds m (Err Memory) = GaveUp step old m new × Writes held holds []
+ReplyIsWritten step old new held holds m (Err end) = ⊥
 
 -- the refusal of a message was written, or not
 abbrev pub RefusalIsWritten : Output → Output → List ℕ → End → Type 0
@@ -51,13 +51,13 @@ IsOver refusal rest held holds end =
     IsRefused ended rest Head × RefusalIsWritten held holds (refusal Head) end
 
 -- all whole messages of the input were answered, and this is left and awaited; or the end came
-abbrev pub AreAnswered : {O : Type 0} → (O → MessageExchange → O → Type 0) → (MessageFault → List ℕ)
+abbrev pub RepliesAreWritten : {O : Type 0} → (O → MessageExchange → O → Type 0) → (MessageFault → List ℕ)
     → Timed O → Timed O → Output → Output → List ℕ → Result Awaiting End → Type 0
-AreAnswered step refusal old new held holds input (Ok awaiting) =
+RepliesAreWritten step refusal old new held holds input (Ok awaiting) =
     (text : List ℕ) × WritesWhole held holds text × (awaiting.len ≤ length input)
     × Progress (timed step) input (drop awaiting.len input) old text new
     × IsAwaited (drop awaiting.len input) awaiting.wants
-AreAnswered step refusal old new held holds input (Err end) =
+RepliesAreWritten step refusal old new held holds input (Err end) =
     (text : List ℕ) × Writes held holds text × EndsEarly step refusal old text new input end
 
 -- an end that was written as this text where the input ended

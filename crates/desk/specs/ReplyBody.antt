@@ -5,9 +5,9 @@ use Rattle.serde_json.specs.Data.{boolean, string}
 use Rattle.desk.specs.declared.form.Form.{Form}
 use Rattle.desk.specs.declared.form.Form.TheVariants.{Json, Paper}
 use Rattle.desk.specs.declared.outcome.Outcome.{Outcome}
-use Rattle.desk.specs.declared.outcome.Outcome.TheVariants.{Refused, Faulty, Served}
+use Rattle.desk.specs.declared.outcome.Outcome.TheVariants.{Refused, Faulty, Replied}
 use Rattle.desk.specs.DeskFault.{desk_fault_word}
-use Rattle.desk.specs.Members.{Pair, json_text, whole}
+use Rattle.desk.specs.Members.{Pair, json_text, whole_number}
 use Rattle.desk.specs.MessageFault.{message_fault_word}
 use Rattle.papers.specs.Receipt.{receipt_of}
 use Rattle.papers.specs.Report.{report_of}
@@ -30,15 +30,15 @@ abbrev pub row_members : List ℕ → ℕ → ℕ → List ℕ → List Pair
 row_members name number row cause =
     (codes "cause", string cause)
     ∷ (codes "error", string name)
-    ∷ (codes "refusal", whole number)
-    ∷ (codes "row", whole row)
+    ∷ (codes "refusal", whole_number number)
+    ∷ (codes "row", whole_number row)
     ∷ []
 
 -- another refusal of the office is told by its name and number
 abbrev pub name_members : Refusal → List Pair
 name_members refusal =
     (codes "error", string (refusal_name refusal))
-    ∷ (codes "refusal", whole (refusal_number refusal))
+    ∷ (codes "refusal", whole_number (refusal_number refusal))
     ∷ []
 
 -- what each refusal is told by
@@ -67,18 +67,18 @@ refusal_members DayPast = name_members DayPast
 -- a sale; the digits of its token are text already, as those of an office are
 abbrev pub sale_members : Sale → List Pair
 sale_members s =
-    (codes "base", whole (year_of s.base))
-    ∷ (codes "change", whole (change_of s))
+    (codes "base", whole_number (year_of s.base))
+    ∷ (codes "change", whole_number (change_of s))
     ∷ (codes "meter", string s.meter)
-    ∷ (codes "moment", whole s.moment)
-    ∷ (codes "number", whole s.number)
+    ∷ (codes "moment", whole_number s.moment)
+    ∷ (codes "number", whole_number s.number)
     ∷ (codes "operator", string s.operator)
-    ∷ (codes "price", whole s.price)
+    ∷ (codes "price", whole_number s.price)
     ∷ (codes "ref", string s.order_ref)
-    ∷ (codes "shift", whole s.shift)
-    ∷ (codes "tender", whole s.tender)
-    ∷ (codes "tenths", whole s.tenths)
-    ∷ (codes "tid", whole s.tid)
+    ∷ (codes "shift", whole_number s.shift)
+    ∷ (codes "tender", whole_number s.tender)
+    ∷ (codes "tenths", whole_number s.tenths)
+    ∷ (codes "tid", whole_number s.tid)
     ∷ (codes "token", string (utf8_lossy s.digits))
     ∷ []
 
@@ -90,9 +90,9 @@ sale_body Paper sale = receipt_of sale
 -- an answer, where a sale is to have this form
 abbrev pub answer_body : Form → Answer → List ℕ
 answer_body form Done = json_text ((codes "done", boolean true) ∷ [])
-answer_body form (Imported count) = json_text ((codes "added", whole count) ∷ [])
-answer_body form (Opened shift) = json_text ((codes "shift", whole shift) ∷ [])
-answer_body form (Closed shift) = json_text ((codes "shift", whole shift) ∷ [])
+answer_body form (Imported count) = json_text ((codes "added", whole_number count) ∷ [])
+answer_body form (Opened shift) = json_text ((codes "shift", whole_number shift) ∷ [])
+answer_body form (Closed shift) = json_text ((codes "shift", whole_number shift) ∷ [])
 answer_body form (Sold sale) = sale_body form sale
 answer_body form (Reprinted sale) = sale_body form sale
 answer_body form (Report shift sales) = report_of shift sales
@@ -101,5 +101,5 @@ answer_body form (Report shift sales) = report_of shift sales
 abbrev pub body_of : Outcome → List ℕ
 body_of (Refused fault) = json_text (fault_members (message_fault_word fault))
 body_of (Faulty fault) = json_text (fault_members (desk_fault_word fault))
-body_of (Served form (Ok answer)) = answer_body form answer
-body_of (Served form (Err refusal)) = json_text (refusal_members refusal)
+body_of (Replied form (Ok answer)) = answer_body form answer
+body_of (Replied form (Err refusal)) = json_text (refusal_members refusal)

@@ -6,7 +6,7 @@ use Rattle.desk.specs.declared.form.Form.{Form}
 use Rattle.desk.specs.declared.form.Form.TheVariants.{Json, Paper}
 use Rattle.desk.specs.declared.method.Method.{Method}
 use Rattle.desk.specs.declared.outcome.Outcome.{Outcome}
-use Rattle.desk.specs.declared.outcome.Outcome.TheVariants.{Refused, Faulty, Served}
+use Rattle.desk.specs.declared.outcome.Outcome.TheVariants.{Refused, Faulty, Replied}
 use Rattle.desk.specs.declared.reply_head.ReplyHead.{ReplyHead}
 use Rattle.desk.specs.DeskFault.{desk_fault_status}
 use Rattle.desk.specs.MessageFault.{message_fault_status}
@@ -46,14 +46,14 @@ allowed_by faults.Clock = None
 allowed_by faults.Body = None
 
 -- the form of an answer, where a sale is to have this one: a report is a paper, and all else JSON
-abbrev pub form_of : Form → Answer → Form
-form_of form Done = Json
-form_of form (Imported count) = Json
-form_of form (Opened shift) = Json
-form_of form (Closed shift) = Json
-form_of form (Sold sale) = form
-form_of form (Reprinted sale) = form
-form_of form (Report shift sales) = Paper
+abbrev pub answer_form : Form → Answer → Form
+answer_form form Done = Json
+answer_form form (Imported count) = Json
+answer_form form (Opened shift) = Json
+answer_form form (Closed shift) = Json
+answer_form form (Sold sale) = form
+answer_form form (Reprinted sale) = form
+answer_form form (Report shift sales) = Paper
 
 -- the head for what came of a message, after which the conversation ends or not; a message that is
 -- refused always ends it
@@ -62,7 +62,7 @@ head_of (Refused fault) closes =
     record { status = message_fault_status fault; form = Json; allowed = None; closes = true }
 head_of (Faulty fault) closes =
     record { status = desk_fault_status fault; form = Json; allowed = allowed_by fault; closes = closes }
-head_of (Served form (Ok answer)) closes =
-    record { status = 200; form = form_of form answer; allowed = None; closes = closes }
-head_of (Served form (Err refusal)) closes =
+head_of (Replied form (Ok answer)) closes =
+    record { status = 200; form = answer_form form answer; allowed = None; closes = closes }
+head_of (Replied form (Err refusal)) closes =
     record { status = refusal_status refusal; form = Json; allowed = None; closes = closes }

@@ -1,5 +1,5 @@
 ghost use Rattle.desk.specs.Next.{message_of};
-ghost use Rattle.desk.specs.Parts.{AreAnswered, IsAnswered, IsOver, RefusalIsWritten};
+ghost use Rattle.desk.specs.Parts.{RepliesAreWritten, ReplyIsWritten, IsOver, RefusalIsWritten};
 ghost use Rattle.desk.specs.Run.{IsRun};
 ghost use Rattle.desk.specs.Uses.{Grows, IsPaced, Use};
 ghost use Rattle.desk.specs.Wants.{IsAwaited};
@@ -35,7 +35,7 @@ fn answer_one<O, S: Service<O>, L: Line, W: Write, C: Clock>(
     writer: &mut W,
     message: &Received<'_>,
 ) -> Result<(), End>
-    ensures { IsAnswered S.step (office.old, C.answers clock.old) (office.new, C.answers clock.new)
+    ensures { ReplyIsWritten S.step (office.old, C.answers clock.old) (office.new, C.answers clock.new)
         (W.contents writer.old, L.uses line.old) (W.contents writer.new, L.uses line.new)
         (message_of message.now) result }
 {
@@ -76,7 +76,7 @@ fn answer_all<O, S: Service<O>, L: Line, W: Write, C: Clock>(
     writer: &mut W,
     input: &[u8],
 ) -> Result<Awaiting, End>
-    ensures { AreAnswered S.step S.refusal (office.old, C.answers clock.old)
+    ensures { RepliesAreWritten S.step S.refusal (office.old, C.answers clock.old)
         (office.new, C.answers clock.new) (W.contents writer.old, L.uses line.old)
         (W.contents writer.new, L.uses line.new) input.now result }
 {

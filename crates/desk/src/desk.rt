@@ -132,7 +132,7 @@ impl<S: Alter, T: BlockTransform> Service<Books<S, T>> for Desk {
     ) -> Result<Vec<u8>, AllocError> {
         let outcome = match self.meaning_of(alloc, clock, message) {
             Meaning::Asks(form, moment, request) => {
-                Outcome::Served(form, office.ask(moment, request))
+                Outcome::Replied(form, office.ask(moment, request))
             }
             Meaning::Told(outcome) => outcome,
             Meaning::Memory => return Err(AllocError),

@@ -1,6 +1,6 @@
 ghost use Rattle.std.specs.Prelude.{◌≡◌};
 ghost use Rattle.desk.specs.Replies.{media_type};
-ghost use Rattle.desk.specs.ReplyHead.{form_of};
+ghost use Rattle.desk.specs.ReplyHead.{answer_form};
 
 use vend_core::Answer;
 
@@ -16,7 +16,7 @@ pub enum Form {
 impl Form {
     // The form of an answer, where a sale is to have this one.
     pub(crate) fn of(self, answer: &Answer) -> Form
-        ensures { result ≡ form_of self answer.now }
+        ensures { result ≡ answer_form self answer.now }
     {
         match answer {
             Answer::Sold(_) | Answer::Reprinted(_) => self,

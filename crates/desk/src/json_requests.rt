@@ -1,5 +1,5 @@
 ghost use Rattle.serde_json.specs.View.{view};
-ghost use Rattle.desk.specs.JsonBody.{BodySays, BodySaysMeter, BodySaysOperator, SaysBase, SaysDatedSteps, SaysOrder, BodySaysTariff, SaysTariffName};
+ghost use Rattle.desk.specs.JsonBody.{BodySays, BodySaysMeter, BodySaysOperator, BodySaysBase, BodySaysDatedSteps, BodySaysOrder, BodySaysTariff, BodySaysTariffName};
 ghost use Rattle.desk.specs.Reads.{IsFound, IsFoundIn};
 
 use crate::body_fault::BodyFault;
@@ -69,7 +69,7 @@ fn tariff(alloc: Global, value: &Value) -> Result<(TariffName, Steps), BodyFault
 
 // The dated steps that a value says: the day from which they hold, and the steps.
 fn dated_steps(alloc: Global, value: &Value) -> Result<(Day, Steps), BodyFault>
-    ensures { IsFoundIn (λ said. SaysDatedSteps (view value.now) said.0 said.1) result }
+    ensures { IsFoundIn (λ said. BodySaysDatedSteps (view value.now) said.0 said.1) result }
 {
     if !has_count(value, 2) {
         return Err(BodyFault::OutsideRule);
@@ -99,7 +99,7 @@ fn meter(value: &Value) -> Option<(MeterNo, Meter)>
 
 // The name of a tariff that a value says.
 fn tariff_name(value: &Value) -> Option<TariffName>
-    ensures { IsFound (SaysTariffName (view value.now)) result }
+    ensures { IsFound (BodySaysTariffName (view value.now)) result }
 {
     if has_count(value, 1) {
         tariff_at(value, "tariff")
@@ -110,7 +110,7 @@ fn tariff_name(value: &Value) -> Option<TariffName>
 
 // The base date that a value says.
 fn base(value: &Value) -> Option<Base>
-    ensures { IsFound (SaysBase (view value.now)) result }
+    ensures { IsFound (BodySaysBase (view value.now)) result }
 {
     if has_count(value, 1) {
         base_at(value, "base")
@@ -132,7 +132,7 @@ fn operator(value: &Value) -> Option<Operator>
 
 // The order that a value says.
 fn order(value: &Value) -> Option<Order>
-    ensures { IsFound (SaysOrder (view value.now)) result }
+    ensures { IsFound (BodySaysOrder (view value.now)) result }
 {
     if !has_count(value, 4) {
         return None;

@@ -74,7 +74,7 @@ fn meaning_of(alloc: Global, route: Route, moment: Moment, message: &Received<'_
         Ok(request) => Meaning::Asks(form, moment, request),
         Err(BodyFault::OutsideRule) => Meaning::Told(Outcome::Faulty(DeskFault::Body)),
         Err(BodyFault::Row(row, cause)) => {
-            Meaning::Told(Outcome::Served(Form::Json, Err(Refusal::ImportRow(row, cause))))
+            Meaning::Told(Outcome::Replied(Form::Json, Err(Refusal::ImportRow(row, cause))))
         }
         Err(BodyFault::Memory) => Meaning::Memory,
     }

@@ -1,7 +1,7 @@
 ghost use Rattle.std.specs.Prelude.{◌≡◌, ℕ, List};
 ghost use Rattle.desk.specs.Front.{IsHeadAt};
 ghost use Rattle.desk.specs.Messages.{AgreeBy, Ending, Message, Messages, Stop};
-ghost use Rattle.desk.specs.Next.{FindsNext, IsNext};
+ghost use Rattle.desk.specs.Next.{FindsNext, BeginsAs};
 
 use crate::framing::framing_of;
 use crate::head::{Front, MAX_FIELDS, front_of};
@@ -24,7 +24,7 @@ pub enum Next<'b> {
 
 /// What stands at the front of an input, of which more may come.
 pub fn next_of(input: &[u8]) -> Next<'_>
-    ensures next { IsNext input.now result }
+    ensures next { BeginsAs input.now result }
     ensures finds { FindsNext input.now result }
 {
     let mut fields = [EMPTY_HEADER_SPAN; MAX_FIELDS];
@@ -38,7 +38,7 @@ pub fn next_of(input: &[u8]) -> Next<'_>
 // The same of an input that begins with a head.
 fn next_after<'b>(input: &'b [u8], spans: RequestSpans, fields: &[HeaderSpan]) -> Next<'b>
     requires { IsHeadAt input.now fields.now spans }
-    ensures { IsNext input.now result }
+    ensures { BeginsAs input.now result }
 {
     let fields = &fields[..spans.headers];
     let framing = match framing_of(spans.method.of(input), spans.version, input, fields) {

@@ -12,5 +12,5 @@ pub enum Outcome {
     Faulty(DeskFault),
     /// It asked the office, which answered this, or it brought rows that can't be read, which is a
     /// refusal as well. A sale is told in this form.
-    Served(Form, Reply),
+    Replied(Form, Reply),
 }

@@ -17,8 +17,8 @@ pub(crate) fn body_of(alloc: Global, outcome: &Outcome) -> Result<Vec<u8>, Alloc
     match outcome {
         Outcome::Refused(fault) => fault_body(alloc, fault.word()),
         Outcome::Faulty(fault) => fault_body(alloc, fault.word()),
-        Outcome::Served(form, Ok(answer)) => answer_body(alloc, *form, answer),
-        Outcome::Served(_, Err(refusal)) => refusal_body(alloc, *refusal),
+        Outcome::Replied(form, Ok(answer)) => answer_body(alloc, *form, answer),
+        Outcome::Replied(_, Err(refusal)) => refusal_body(alloc, *refusal),
     }
 }
 

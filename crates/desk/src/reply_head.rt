@@ -36,13 +36,13 @@ impl ReplyHead {
                 allowed: allowed_by(*fault),
                 closes,
             },
-            Outcome::Served(form, Ok(answer)) => ReplyHead {
+            Outcome::Replied(form, Ok(answer)) => ReplyHead {
                 status: 200,
                 form: form.of(answer),
                 allowed: None,
                 closes,
             },
-            Outcome::Served(_, Err(refusal)) => ReplyHead {
+            Outcome::Replied(_, Err(refusal)) => ReplyHead {
                 status: refusal_status(*refusal),
                 form: Form::Json,
                 allowed: None,

@@ -181,7 +181,7 @@ fn asked(alloc: Global, routes: &Routes, text: &[u8]) -> Result<Request, Fail> {
 }
 
 fn told(alloc: Global, reply: Reply) -> Result<Vec<u8>, Fail> {
-    let outcome = Outcome::Served(Form::Json, reply);
+    let outcome = Outcome::Replied(Form::Json, reply);
     Ok(desk::reply_bytes(alloc, &outcome, false)?)
 }
 

@@ -28,12 +28,12 @@ fn first_sale() -> Result<Sale, Fail> {
 
 // The reply to what the office answered, as text of JSON where there is a choice.
 fn told(alloc: Global, answer: Answer) -> Result<Vec<u8>, AllocError> {
-    reply_bytes(alloc, &Outcome::Served(Form::Json, Ok(answer)), false)
+    reply_bytes(alloc, &Outcome::Replied(Form::Json, Ok(answer)), false)
 }
 
 // The reply to a refusal of the office.
 fn refused(alloc: Global, refusal: Refusal) -> Result<Vec<u8>, AllocError> {
-    reply_bytes(alloc, &Outcome::Served(Form::Paper, Err(refusal)), false)
+    reply_bytes(alloc, &Outcome::Replied(Form::Paper, Err(refusal)), false)
 }
 
 // A whole reply that is JSON, with what follows `HTTP/1.1 ` in its first line.
@@ -67,7 +67,7 @@ fn a_sale_and_its_receipt(rt: HostRuntime) -> Result<(), Fail> {
     assert_eq!(rt; sold.as_slice(), SALE);
     let again = told(alloc, Answer::Reprinted(first_sale()?))?;
     assert_eq!(rt; again.as_slice(), SALE);
-    let printed = Outcome::Served(Form::Paper, Ok(Answer::Reprinted(first_sale()?)));
+    let printed = Outcome::Replied(Form::Paper, Ok(Answer::Reprinted(first_sale()?)));
     assert_eq!(rt; reply_bytes(alloc, &printed, false)?.as_slice(), RECEIPT);
     Ok(())
 }

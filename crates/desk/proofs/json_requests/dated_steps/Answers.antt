@@ -3,7 +3,7 @@ use Rattle.std.specs.Prelude.{codes}
 use Rattle.serde_json.specs.Find.{get}
 use Rattle.serde_json.specs.View.{view}
 use Rattle.tariff.specs.declared.step.Step.{Step}
-use Rattle.desk.specs.JsonBody.{IsStepsAt, SaysDatedSteps}
+use Rattle.desk.specs.JsonBody.{IsStepsAt, BodySaysDatedSteps}
 use Rattle.desk.proofs.BodyLemmas.{not_found_in}
 use Rattle.desk.proofs.json_requests.dated_steps.Goals as goal
 
@@ -12,5 +12,5 @@ returns-in-None c = λ said says. c.in-None.ensures said.0 (says.day_text, says.
 
 pub returns-in-Err : goal.returns-in-Err
 returns-in-Err c =
-    not_found_in {A = List Step} (IsStepsAt (get (codes "steps") (view c.args.value.now))) (λ said. SaysDatedSteps (view c.args.value.now) said.0 said.1) c.in-Err.fault
+    not_found_in {A = List Step} (IsStepsAt (get (codes "steps") (view c.args.value.now))) (λ said. BodySaysDatedSteps (view c.args.value.now) said.0 said.1) c.in-Err.fault
     (λ said says. (said.1, (says.steps_text, says.members.each.1.0, says.written, says.priced))) c.in-Err.ensures
