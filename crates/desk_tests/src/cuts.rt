@@ -2,10 +2,11 @@
 //! reader that fails, and to a writer that fails.
 use crate::inputs::first;
 use crate::prepared::{NO_HEAD, PRINTED, RECEIPT, SALE, SOLD, hold, prepared};
-use crate::streams::{Asking, Counting, Failing, Pieces};
+use crate::streams::{Asking, Counting, Failing, Full, Pieces};
 use desk::End;
 use std::alloc::{AllocError, Global};
 use std::cell::Cell;
+use std::io::Read;
 use std::process::Abort;
 use std::test::Fail;
 
@@ -88,6 +89,38 @@ fn an_input_that_ends_or_fails_after_any_byte(rt: HostRuntime) -> Result<(), Fai
             each_beginning(&rt, &input, size, fails)?;
         }
     }
+    Ok(())
+}
+
+// Two pieces, cut after each byte in turn: within a message, between two, and at both ends.
+#[test]
+fn two_pieces_cut_after_any_byte(rt: HostRuntime) -> Result<(), Fail> {
+    let alloc = rt.alloc();
+    let input = joined(alloc, SALE, RECEIPT)?;
+    let replies = joined(alloc, SOLD, PRINTED)?;
+    let mut books = prepared(alloc).ok_or("no office")?;
+    for cut in 0..=159_usize {
+        let front = first(&input, cut);
+        let back = input.get(front.len()..).unwrap_or(b"");
+        let mut reader = front.chain(back);
+        let mut text = Vec::new(alloc);
+        let end = hold(alloc, &mut books, &mut reader, &mut text).ok_or("no desk")?;
+        assert_eq!(rt; text, replies, "{cut}");
+        assert_eq!(rt; end, End::Closed, "{cut}");
+    }
+    Ok(())
+}
+
+// The sale is served, and its reply lost.
+#[test]
+fn a_writer_that_takes_nothing(rt: HostRuntime) -> Result<(), Fail> {
+    let alloc = rt.alloc();
+    let input = joined(alloc, SALE, RECEIPT)?;
+    let mut reader = input.as_slice();
+    let mut books = prepared(alloc).ok_or("no office")?;
+    let end = hold(alloc, &mut books, &mut reader, &mut Full).ok_or("no desk")?;
+    assert_eq!(rt; end, End::WriteFault);
+    assert_eq!(rt; books.next_number(), 2);
     Ok(())
 }
 

@@ -45,6 +45,20 @@ impl Write for Failing {
     }
 }
 
+/// Takes no byte, and says so without a failure.
+#[derive(Clone, Copy)]
+pub(crate) struct Full;
+
+impl Write for Full {
+    fn write(&mut self, _buf: &[u8]) -> io::Result<usize> {
+        Ok(0)
+    }
+
+    fn flush(&mut self) -> io::Result<()> {
+        Ok(())
+    }
+}
+
 /// What a read has to find: so many bytes written by then, and no more asked for than this; and what
 /// it gives.
 pub(crate) type Step<'a> = (usize, usize, &'a [u8]);
