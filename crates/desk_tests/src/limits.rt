@@ -2,6 +2,7 @@
 use crate::prepared::{hold, prepared};
 use crate::rows::{Parts, rows};
 use crate::streams::Pieces;
+use crate::wanted::{ADDED_ALL, DONE, NO_TARIFF};
 use desk::End;
 use std::alloc::{AllocError, Global};
 use std::test::Fail;
@@ -56,7 +57,7 @@ fn many_sales(alloc: Global, count: u32) -> Result<Vec<u8>, AllocError> {
     Ok(input)
 }
 
-// The report of them: a line of 56 bytes for each sale.
+// The report of them: a line of 62 bytes for each sale.
 fn their_report(alloc: Global, count: u32) -> Result<Vec<u8>, AllocError> {
     let mut body = Vec::new(alloc);
     body.extend_from_slice(b"SHIFT 1 ann\nOPENED 2014-01-01T00:00:30Z\nCLOSED -\n")?;
@@ -87,5 +88,51 @@ fn a_shift_of_500_sales(rt: HostRuntime) -> Result<(), Fail> {
     assert!(rt; text.ends_with(&report));
     text.truncate(text.len().saturating_sub(len));
     assert!(rt; text.ends_with(head.as_bytes()));
+    Ok(())
+}
+
+// A file of so many tariffs of names of their own, and what puts the meter on the last of them and on
+// one that isn't there.
+fn many_tariffs(alloc: Global, count: u32) -> Result<Vec<u8>, AllocError> {
+    let mut file = Vec::new(alloc);
+    file.extend_from_slice(b"name,steps\n")?;
+    for number in 1..=count {
+        let row = format!(in alloc; "t-{number},:{number}\n")?;
+        file.extend_from_slice(row.as_bytes())?;
+    }
+    let len = file.len();
+    let mut input = Vec::new(alloc);
+    let head = format!(in alloc;
+        "POST /imports/tariffs HTTP/1.1\r\nHost: d\r\nContent-Length: {len}"
+    )?;
+    input.extend_from_slice(head.as_bytes())?;
+    input.extend_from_slice(b"\r\n\r\n")?;
+    input.extend_from_slice(&file)?;
+    for number in count..=count.saturating_add(1) {
+        let body = format!(in alloc; "{{\"tariff\":\"t-{number}\"}}")?;
+        let len = body.len();
+        let head = format!(in alloc;
+            "POST /meters/12345678903/tariff HTTP/1.1\r\nHost: d\r\nContent-Length: {len}"
+        )?;
+        input.extend_from_slice(head.as_bytes())?;
+        input.extend_from_slice(b"\r\n\r\n")?;
+        input.extend_from_slice(body.as_bytes())?;
+    }
+    Ok(input)
+}
+
+#[test]
+fn an_import_of_10000_distinct_rows(rt: HostRuntime) -> Result<(), Fail> {
+    let alloc = rt.alloc();
+    let input = many_tariffs(alloc, 10000)?;
+    let mut reader = input.as_slice();
+    let mut text = Vec::new(alloc);
+    let mut books = prepared(alloc).ok_or("no office")?;
+    let end = hold(alloc, &mut books, &mut reader, &mut text).ok_or("no desk")?;
+    assert_eq!(rt; end, End::Closed);
+    assert_eq!(rt;
+        text,
+        text_of(alloc, &[(ADDED_ALL, 1), (DONE, 1), (NO_TARIFF, 1)])?
+    );
     Ok(())
 }

@@ -18,7 +18,7 @@ const FRONT: &[u8] = b"POST /sales HTTP/1.1\r\nHost: d\r\nContent-Length: 64\r\n
 const ORDER: &[u8] =
     b"{\"meter\":\"12345678903\",\"operator\":\"ann\",\"ref\":\"A-1\",\"tender\":10}";
 
-static ROWS: [Row; 32] = [
+static ROWS: [Row; 34] = [
     // A head of 8192 bytes with 32 fields.
     (
         &[
@@ -54,6 +54,8 @@ static ROWS: [Row; 32] = [
         &[(NO_HEAD, 1)],
         End::BadMessage,
     ),
+    // The beginning of a head, and no more.
+    (&[(b"GET", 1)], usize::MAX, &[(NO_HEAD, 1)], End::BadMessage),
     // 8192 bytes without the end of a head.
     (
         &[(b"POST /sales HTTP/1.1\r\nHost: d\r\nX: ", 1), (b"x", 8158)],
@@ -393,6 +395,13 @@ static ROWS: [Row; 32] = [
         &[(SALE, 1), (RECEIPT, 120)],
         1,
         &[(SOLD, 1), (PRINTED, 120)],
+        End::Closed,
+    ),
+    // More than 1,000 messages.
+    (
+        &[(SALE, 1), (RECEIPT, 1200)],
+        usize::MAX,
+        &[(SOLD, 1), (PRINTED, 1200)],
         End::Closed,
     ),
 ];

@@ -45,6 +45,11 @@ pub(crate) const ADDED: &[u8] = b"HTTP/1.1 200 OK\r\n\
     Content-Type: application/json\r\nContent-Length: 11\r\n\r\n\
     {\"added\":1}";
 
+/// Each of 10,000 rows was added.
+pub(crate) const ADDED_ALL: &[u8] = b"HTTP/1.1 200 OK\r\n\
+    Content-Type: application/json\r\nContent-Length: 15\r\n\r\n\
+    {\"added\":10000}";
+
 /// The file has a row too many.
 pub(crate) const TOO_MANY_ROWS: &[u8] = b"HTTP/1.1 422 Unprocessable Entity\r\n\
     Content-Type: application/json\r\nContent-Length: 68\r\n\r\n\
