@@ -39,4 +39,6 @@ mod rows;
 #[cfg(test)]
 mod streams;
 #[cfg(test)]
+mod telling;
+#[cfg(test)]
 mod wanted;
