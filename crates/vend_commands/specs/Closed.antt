@@ -1,14 +1,15 @@
 -- What comes of closing the files of books.
 use Rattle.std.specs.Prelude.{◌≡◌}
 use Rattle.sqlite.specs.Closing.{IsCopied}
-use Rattle.sqlite.specs.Files.{FailsToClose, file_state}
+use Rattle.sqlite.specs.Files.{FailsToClose, IsClosed as ClosesAs, file_state}
 use Rattle.sqlite.specs.Held.{Held}
 use Rattle.sqlite.specs.State.{State}
 use Rattle.sqlite.specs.declared.error.Error.{Error}
 use Rattle.sqlite_disk.specs.declared.Disk.{Ghosts}
 use Rattle.sqlite_disk.specs.declared.Files.{Files}
-use Rattle.sqlite_store.specs.FileStore.{view}
+use Rattle.sqlite_store.specs.FileStore.{files, view}
 use Rattle.sqlite_store.specs.declared.store.FileStore.{FileStore}
+use Rattle.sqlite_trees.specs.Tree.{Trees}
 use Rattle.sqlite_trees.specs.View.{IsClean}
 use Rattle.sqlite_wal.specs.Reads.{AreClean}
 use Rattle.books.specs.Keeps.{Seen}
@@ -20,13 +21,18 @@ pub record IsSeenAs {D : Type 0} {g : Ghosts D} (conn : Held (FileStore D g)) (s
   pub is_open : s.is_open ≡ (file_state conn).is_open
   pub is_clean : s.is_clean ≡ (file_state conn).is_clean
   pub faults : s.faults ≡ (file_state conn).faults
+  pub left : (trees : Trees) → s.may_leave trees → (file_state conn).may_leave trees
+  pub leaves : (trees : Trees) → (file_state conn).may_leave trees → s.may_leave trees
 
 -- They were closed, the database file alone holds what the books last committed, and holds it after a
--- crash too, and both were let go; or there is a cause why they could not be closed.
+-- crash too; or there is a cause why they could not be closed. Either way a crash leaves of the files
+-- nothing that it could not leave of the books, and these files were let go.
 pub data IsClosed {D : Type 0} (g : Ghosts D) (LetsGo : D → D → Type 0) (books : Seen) : Type 0 where
-  closed : (conn : Held (FileStore D g)) (files : Files D) → IsSeenAs conn books.state
-      → (AreClean g files.log files.db → IsCopied conn files) → LetsGo files.log files.db
+  closed : (conn : Held (FileStore D g)) (last : FileStore D g) (here : Files D) → IsSeenAs conn books.state
+      → ClosesAs conn last → files last ≡ (here.log, here.db)
+      → (AreClean g here.log here.db → IsCopied conn here) → LetsGo here.log here.db
       → IsClosed g LetsGo books
   unclosed : (conn : Held (FileStore D g)) (last : FileStore D g) (error : Error)
-      → IsSeenAs conn books.state → (IsClean (view last) → FailsToClose conn last error)
-      → IsClosed g LetsGo books
+      → IsSeenAs conn books.state → ClosesAs conn last
+      → (IsClean (view last) → FailsToClose conn last error)
+      → LetsGo (files last).0 (files last).1 → IsClosed g LetsGo books

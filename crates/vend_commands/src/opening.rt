@@ -86,7 +86,10 @@ pub(crate) fn close_office<H: OfficeFile>(books: Books<FileStore<H::Medium>, Shi
 {
     match books.into_connection().close_files() {
         Ok(files) => H::let_go(files.log, files.db),
-        Err(left) => drop(left),
+        Err((_, store)) => {
+            let files = store.close();
+            H::let_go(files.log, files.db);
+        }
     }
 }
 

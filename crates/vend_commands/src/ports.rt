@@ -44,7 +44,7 @@ pub trait OfficeFile: Drop {
     /// At this path no files were opened, for this fault.
     ghost fails: { Self → Text → OpenFault → Type 0 };
 
-    /// The log and the database file were let go, after they were closed.
+    /// The log and the database file were let go, as their last use left them.
     ghost lets_go: { Self.Medium → Self.Medium → Type 0 };
 
     /// What the salts of its log are drawn from.
