@@ -1,5 +1,5 @@
 -- What is left of a run where nothing is told of the door but the bytes of its connections.
-use Rattle.std.proofs.Common.{ℕ, ℤ, zero, suc, Bool, true, false, List, Option, None, Some, Result, Ok, Err, inl, inr, ap}
+use Rattle.std.proofs.Common.{ℕ, ℤ, zero, suc, Bool, true, false, List, Option, None, Some, Result, Ok, Err, inl, inr, ap, refl}
 use Rattle.std.specs.Prelude.{⊤}
 use Rattle.sqlite_trees.specs.declared.store.Store.{Ghosts}
 use Rattle.books.specs.Keeps.{Seen}
@@ -94,6 +94,8 @@ module _ {D R W B : Type 0} (way : Way D R W) (forward : BlockFunction) (see : B
     last = bare lost.last;
     held = all_bare lost.count old lost.last lost.held;
     lost = (lost.lost.0, tt);
+    door = refl;
+    answers = lost.answers;
   }
 
 module _ {S D R W : Type 0} (store : Ghosts S) (way : Way D R W) (at : Text → Place) (door : D) where

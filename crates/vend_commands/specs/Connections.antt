@@ -85,14 +85,16 @@ module _ {D R W B : Type 0} (way : Way D R W) (forward : BlockFunction) (see : B
     pub are_ready : AreReady see forward last.books ready
     pub unheld : IsUnheld way see (service last.door ready last.answers) new
 
-  -- after fewer the file of stopped books could not be opened again
-  pub record IsLost (loses : OpenFault → Type 0) (asked : ℕ) (old : Service D B) (fault : OpenFault)
-      : Type 0 where
+  -- after fewer the file of stopped books could not be opened again, and nothing else has changed since
+  pub record IsLost (loses : OpenFault → Type 0) (asked : ℕ) (old : Service D B) (new_door : D)
+      (left : Option (List ℤ)) (fault : OpenFault) : Type 0 where
     pub count : ℕ
     pub fewer : count < asked
     pub last : Service D B
     pub held : AreHeld count old last
     pub lost : AreLost see loses last.books fault
+    pub door : new_door ≡ last.door
+    pub answers : left ≡ last.answers
 
   -- as many as were asked for, which is all; or fewer, for one of those causes
   abbrev pub AreServed : (OpenFault → Type 0) → ℕ → Service D B → D → Option (List ℤ)
@@ -101,4 +103,4 @@ module _ {D R W B : Type 0} (way : Way D R W) (forward : BlockFunction) (see : B
       AreHeld asked old (service door books answers)
   AreServed loses asked old door answers (Ok (books, false)) =
       IsRefused asked old (service door books answers)
-  AreServed loses asked old door answers (Err fault) = IsLost loses asked old fault
+  AreServed loses asked old door answers (Err fault) = IsLost loses asked old door answers fault

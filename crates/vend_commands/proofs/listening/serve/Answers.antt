@@ -1,4 +1,4 @@
-use Rattle.std.proofs.Common.{arith}
+use Rattle.std.proofs.Common.{arith, refl}
 use Rattle.command_line.specs.Transform.{forward_of}
 use Rattle.vend_commands.specs.Connections.{service}
 use Rattle.vend_commands.specs.Places.{way}
@@ -24,6 +24,8 @@ returns-in-Err g c = record {
   last = service c.loop-connection.door c.loop-connection.books (g.C.Clock.answers c.loop-connection.clock);
   held = c.loop-connection.invariant;
   lost = c.in-Err.ensures;
+  door = refl;
+  answers = refl;
 }
 
 pub returns-then-not-hold : goal.returns-then-not-hold
