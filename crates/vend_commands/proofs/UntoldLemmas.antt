@@ -107,7 +107,7 @@ module _ {S D R W : Type 0} (store : Ghosts S) (way : Way D R W) (at : Text → 
       was_open old opens tt (record {
         listening = tt;
         mid = were.mid;
-        listens = record { port = were.listens.port; is_port = were.listens.is_port; listens = tt; told = were.listens.told };
+        listens = record { port = were.listens.port; is_port = were.listens.is_port; listens = tt; told = were.listens.told; heard = were.listens.heard };
         last = tt;
         left = were.left;
         served = were.served;

@@ -21,13 +21,14 @@ use Rattle.vend_commands.specs.declared.end.End.TheVariants.{Done, Refused}
 abbrev pub IsPortFor : Address → ℕ → Type 0
 IsPortFor address port = address.port ≢ 0 → port ≡ address.port
 
--- the door listens at the address of the words, and at which port is told
+-- the door listens at the address of the words, and at which port was told whole
 pub record Listens {D R W : Type 0} (way : Way D R W) (address : Address) (old new : D) (err_old err_new : Sink)
     : Type 0 where
   pub port : ℕ
   pub is_port : IsPortFor address port
   pub listens : way.listens old address port new
   pub told : Takes err_old err_new (listening_line address port)
+  pub heard : err_new.failed ≡ false
 
 -- why nobody is served: there is no room for the desk, or no listener, and that is told; or where it
 -- listens cannot be told
