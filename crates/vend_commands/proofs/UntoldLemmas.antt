@@ -30,7 +30,7 @@ use Rattle.vend_core.specs.declared.row.Row.{Row}
 use Rattle.vend_commands.specs.declared.read_fault.ReadFault.{ReadFault}
 
 abbrev bare_place : Place → Place
-bare_place place = untold_place place.image place.closes
+bare_place place = untold_place place.image place.opens place.closes
 
 visited_bare : {S : Type 0} (store : Ghosts S) (place : Place) (transform : Shipped) (task : Task) (o : Outputs) (end : End) → IsVisited store place transform task o end → IsVisited store (bare_place place) transform task o end
 visited_bare store place transform task o end (unvisited fault fails told) = unvisited fault tt told

@@ -5,6 +5,7 @@ pub mod Exported
 pub mod Imported
 pub mod Listening
 pub mod Metered
+pub mod Opened
 pub mod Places
 pub mod Printed
 pub mod Quoted

@@ -9,7 +9,7 @@ use Rattle.vend_commands.specs.Connections.{AreServed, service}
 use Rattle.vend_commands.specs.Places.{Place, Way}
 use Rattle.vend_commands.specs.Printed.{listening_line, net_line, opening_line, refusal_line}
 use Rattle.vend_commands.specs.Told.{Outputs, Sink, Takes}
-use Rattle.vend_commands.specs.Visited.{IsOpened, seen_in}
+use Rattle.vend_commands.specs.Visited.{IsOpenedAt, seen_in}
 use Rattle.command_line.specs.Transform.{forward_of}
 use Rattle.command_line.specs.declared.address.Address.{Address}
 use Rattle.command_line.specs.declared.commands.serve.ServeWords.{ServeWords}
@@ -78,11 +78,11 @@ pub data IsServing {S D R W : Type 0} (store : Ghosts S) (way : Way D R W) (at :
   unopened : (fault : OpenFault) → (at words.file.now).fails fault
       → Takes err_old err_new (opening_line fault) → end ≡ Refused
       → IsServing store way at door answers words err_old err_new end
-  unheard : (old : Books S Shipped store) → IsOpened (at words.file.now).image words.transform old
+  unheard : (old : Books S Shipped store) → IsOpenedAt (at words.file.now) words.transform old
       → (at words.file.now).finds → IsDeaf words.listen err_old err_new
       → (at words.file.now).closes (seen_in old) → end ≡ Refused
       → IsServing store way at door answers words err_old err_new end
-  was_open : (old : Books S Shipped store) → IsOpened (at words.file.now).image words.transform old
+  was_open : (old : Books S Shipped store) → IsOpenedAt (at words.file.now) words.transform old
       → (at words.file.now).finds
       → WereOpen store way (at words.file.now) words old door answers err_old err_new end
       → IsServing store way at door answers words err_old err_new end

@@ -10,6 +10,7 @@ use Rattle.books.specs.declared.fault.OpenFault.TheVariants.{Store}
 use Rattle.sts_fields.specs.Text.{Text}
 use Rattle.command_line.specs.declared.address.Address.{Address}
 use Rattle.vend_commands.specs.Closed.{IsClosed}
+use Rattle.vend_commands.specs.Opened.{OpensIn}
 use Rattle.vend_commands.specs.Told.{Held}
 use Rattle.vend_commands.specs.declared.ports.OfficeFile as file
 use Rattle.vend_commands.specs.declared.ports.SaltSource as source
@@ -31,11 +32,12 @@ abbrev pub IsUnreopened : {S : Type 0} → source.Ghosts S → OpenFault → Typ
 IsUnreopened {S} salts fault = (it : S)
     × ((salts.lacks it × (fault ≡ Store)) ⊎ ((salt : ℕ) × salts.draws it salt))
 
--- a file at a path: what it holds, that it was found, why no office was opened there, how it is
--- closed, and why it is not opened again
+-- a file at a path: what it holds, that it was found, how an office was opened there and why none was,
+-- how it is closed, and why it is not opened again
 pub record Place : Type 1 where
   pub image : Image
   pub finds : Type 0
+  pub opens : Seen → Type 0
   pub fails : OpenFault → Type 0
   pub closes : Seen → Type 0
   pub loses : OpenFault → Type 0
@@ -76,6 +78,7 @@ abbrev pub places_of : {H D S : Type 0} → (disk : disk.Ghosts D) → source.Gh
 places_of {H} {D} {S} disk salts of office path = record {
   image = of.image office path;
   finds = (log : D) × (db : D) × of.finds office path log db;
+  opens = OpensIn disk (of.image office path);
   fails = IsUnopened disk salts (of.finds office path) (of.fails office path);
   closes = IsClosed disk of.lets_go;
   loses = IsUnreopened salts;
@@ -97,11 +100,12 @@ abbrev pub untold_way : Way ⊤ Held Held
 untold_way = way (λ old address port new. ⊤) (λ old reader writer new. ⊤) (λ old new. ⊤)
     (λ reader writer. ⊤) (λ unread. unread) (λ held. held)
 
--- a file of which nothing is told but what it holds and how it is closed
-abbrev pub untold_place : Image → (Seen → Type 0) → Place
-untold_place image closes = record {
+-- a file of which nothing is told but what it holds, and how an office is opened there and closed
+abbrev pub untold_place : Image → (opens closes : Seen → Type 0) → Place
+untold_place image opens closes = record {
   image = image;
   finds = ⊤;
+  opens = opens;
   fails = λ fault. ⊤;
   closes = closes;
   loses = λ fault. ⊤;
@@ -110,5 +114,5 @@ untold_place image closes = record {
 -- a machine of which nothing is told but that, and the bytes of each connection
 abbrev pub untold : {D : Type 0} → disk.Ghosts D → Image → Machine ⊤ Held Held
 untold disk image = machine
-    (λ path. untold_place image (IsClosed disk (λ log db. ⊤)))
+    (λ path. untold_place image (OpensIn disk image) (IsClosed disk (λ log db. ⊤)))
     (λ path bytes. ⊤) (λ path fault. ⊤) None untold_way tt

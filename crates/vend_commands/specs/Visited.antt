@@ -2,7 +2,7 @@
 use Rattle.std.specs.Prelude.{◌≡◌, false, []}
 use Rattle.sqlite_trees.specs.declared.store.Store.{Ghosts}
 use Rattle.sqlite_wal.specs.Recovery.{Image}
-use Rattle.books.specs.Keeps.{Represents, Seen, seen}
+use Rattle.books.specs.Keeps.{HaveTables, Represents, Seen, seen}
 use Rattle.books.specs.Path.{StandsIn}
 use Rattle.books.specs.declared.books.Books.{Books}
 use Rattle.books.specs.declared.fault.OpenFault.{OpenFault}
@@ -26,12 +26,19 @@ abbrev pub seen_in : {S : Type 0} → {store : Ghosts S} → Books S Shipped sto
 seen_in {S} {store} books = seen store forward_of books
 
 -- Books that were just opened in these files: they keep the life that opens there, of each office
--- that the files stand for.
-pub record IsOpened {S : Type 0} {store : Ghosts S} (image : Image) (transform : Shipped)
-    (books : Books S Shipped store) : Type 0 where
+-- that the files stand for, and have its tables; and so they were opened.
+pub record IsOpened {S : Type 0} {store : Ghosts S} (image : Image) (Opens : Seen → Type 0)
+    (transform : Shipped) (books : Books S Shipped store) : Type 0 where
   pub opens : (office : Office) → StandsIn image office
       → Represents (opened (forward_of transform) office) (seen_in books)
   pub running : books.stopped ≡ false
+  pub tables : HaveTables (seen_in books)
+  pub finds : Opens (seen_in books)
+
+-- the same, in the file at a place
+abbrev pub IsOpenedAt : {S : Type 0} → {store : Ghosts S} → Place → Shipped → Books S Shipped store
+    → Type 0
+IsOpenedAt place transform books = IsOpened place.image place.opens transform books
 
 -- what is done at books that are open
 abbrev pub IsDone : Task → (old new : Seen) → Outputs → End → Type 0
@@ -45,6 +52,6 @@ pub data IsVisited {S : Type 0} (store : Ghosts S) (place : Place) (transform : 
     (task : Task) (o : Outputs) (end : End) : Type 0 where
   unopened : (fault : OpenFault) → place.fails fault
       → IsTold o [] (opening_line fault) Refused end → IsVisited store place transform task o end
-  visited : (old new : Books S Shipped store) → IsOpened place.image transform old
+  visited : (old new : Books S Shipped store) → IsOpenedAt place transform old
       → place.finds → IsDone task (seen_in old) (seen_in new) o end
       → place.closes (seen_in new) → IsVisited store place transform task o end

@@ -2,6 +2,7 @@
 
 ghost use Rattle.std.specs.Prelude.{IfErr, IfOk};
 ghost use Rattle.vend_commands.specs.Closed.{IsClosed};
+ghost use Rattle.vend_commands.specs.Opened.{OpensIn};
 ghost use Rattle.vend_commands.specs.Places.{places_of};
 ghost use Rattle.vend_commands.specs.Told.{outputs, sink};
 ghost use Rattle.vend_commands.specs.Visited.{IsDone, IsOpened, IsVisited, seen_in};
@@ -62,7 +63,8 @@ pub(crate) fn open_office<H: OfficeFile>(
     path: &str,
     transform: Shipped,
 ) -> Result<Books<FileStore<H::Medium>, Shipped>, OpenFault>
-    ensures opened { IfOk result (IsOpened (H.image office path.now) transform) }
+    ensures opened { IfOk result (IsOpened (H.image office path.now)
+        (OpensIn H.Medium.Disk (H.image office path.now)) transform) }
     ensures finds { IfOk result (λ _. (places_of H.Medium.Disk H.Salts.SaltSource H.OfficeFile office path.now).finds) }
     ensures fails { IfErr result (places_of H.Medium.Disk H.Salts.SaltSource H.OfficeFile office path.now).fails }
 {

@@ -1,5 +1,5 @@
 use Rattle.std.proofs.Common.{refl, subst, sym}
-use Rattle.books.specs.Path.{StandsIn}
+use Rattle.books.specs.Path.{OpensFiles, StandsIn}
 use Rattle.vend_commands.specs.Places.IsUnopened.{refused, unsalted}
 use Rattle.vend_commands.proofs.opening.open_office.Goals as goal
 
@@ -11,6 +11,12 @@ pub returns-in-Ok-open_files-clause-opened : goal.returns-in-Ok-open_files-claus
 returns-in-Ok-open_files-clause-opened g c = record {
   opens = λ office stands. c.in-Ok-open_files.ensures.opens office (subst (λ image. StandsIn image office) (sym c.in-Ok.ensures.image) stands);
   running = c.in-Ok-open_files.ensures.running;
+  tables = c.in-Ok-open_files.ensures.tables;
+  finds = record {
+    conn = c.in-Ok-open_files.books.conn;
+    seen_as = record { now = refl; committed = refl; is_open = refl; is_clean = refl; faults = refl; left = λ trees may. may; leaves = λ trees may. may };
+    opens = subst (λ image. OpensFiles image c.in-Ok-open_files.books.conn) c.in-Ok.ensures.image c.in-Ok-open_files.ensures.finds;
+  };
 }
 
 pub returns-clause-fails : goal.returns-clause-fails
