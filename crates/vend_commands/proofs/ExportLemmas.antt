@@ -8,6 +8,7 @@ use Rattle.papers.specs.Export.{export_of}
 use Rattle.vend_core.specs.Life.{Life, present}
 use Rattle.vend_core.specs.declared.refusal.Refusal.{Refusal}
 use Rattle.vend_core.specs.declared.sale.Sale.{Sale}
+use Rattle.vend_commands.proofs.RefusedLemmas.{stopped_before}
 use Rattle.vend_commands.proofs.TakeLemmas.{takes_last, takes_next, takes_none}
 use Rattle.vend_commands.specs.Exported.{IsExported, IsPage, page_of}
 use Rattle.vend_commands.specs.Printed.{refusal_line}
@@ -52,9 +53,10 @@ pub record SoFar (old now : Seen) (before after : Sink) (page : ℕ) (front : Li
   pub put : Takes before after front
   pub left : HasCleanDisk now.state → (life : Life) → Represents life old → front ++ export_from (present life).sales page ≡ export_of true (present life).sales
   pub keeps : (life : Life) → Represents life old → Represents life now
+  pub stopped : now.stopped ≡ old.stopped
 
 pub no_pages : (books : Seen) (before : Sink) → SoFar books books before before 0 []
-no_pages books before = record { put = takes_none before; left = λ clean life keeps. refl; keeps = λ life keeps. keeps }
+no_pages books before = record { put = takes_none before; left = λ clean life keeps. refl; keeps = λ life keeps. keeps; stopped = refl }
 
 -- a page that no other follows was not full, or a write failed
 ended : (n : ℕ) (failed more : Bool) → more ≡ ((n == 1000) && not failed) → more ≡ false → failed ≡ false → n ≢ 1000
@@ -79,6 +81,7 @@ module _ (old mid new : Seen) (before part after : Sink) (page : ℕ) (front : L
     put = takes_next before part after front (export_of (page == 0) put.0) so_far.put put.2;
     left = behind put.0 put.1;
     keeps = λ life kept. keeps life (so_far.keeps life kept);
+    stopped = put.4 ∙ so_far.stopped;
   }
 
   pub page_last : (err : Sink) (more : Bool) → more ≡ false → IsPage mid new page part after (Ok more) → IsExported old new (outputs before after err err) how.Done
@@ -93,6 +96,7 @@ module _ (old mid new : Seen) (before part after : Sink) (page : ℕ) (front : L
         text = text;
         stop = None;
         told = (takes_next before part after front (export_of (page == 0) put.0) so_far.put put.2, takes_none err, refl);
+        stops = put.4 ∙ so_far.stopped;
         sales = λ clean life kept. record { begins = (_, behind put.0 put.1 clean life kept); whole = λ _ sound. whole sound clean life kept };
         keeps = λ life kept. keeps life (so_far.keeps life kept);
       }
@@ -103,7 +107,8 @@ module _ (old mid new : Seen) (before part after : Sink) (page : ℕ) (front : L
       record {
         text = front;
         stop = Some refusal;
-        told = (takes_last before part after front [] front so_far.put (sym (append-nil front)) same, says, refl);
+        told = (takes_last before part after front [] front so_far.put (sym (append-nil front)) same.0, says, refl);
+        stops = (same.1, stopped_before old mid new refusal so_far.stopped same.2.tells);
         sales = λ clean life kept. record { begins = (_, so_far.left (clean_mid clean) life kept); whole = λ e sound. cc };
         keeps = λ life kept. keeps life (so_far.keeps life kept);
       }
@@ -121,6 +126,7 @@ all_pages old new before after err page front later so_far few =
       text = front;
       stop = None;
       told = (so_far.put, takes_none err, refl);
+      stops = so_far.stopped;
       sales = λ clean life kept. record { begins = ([], append-nil front ∙ whole clean life kept); whole = λ _ sound. whole clean life kept };
       keeps = so_far.keeps;
     }

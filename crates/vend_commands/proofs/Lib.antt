@@ -2,6 +2,7 @@ pub mod ConnectionLemmas
 pub mod CourseLemmas
 pub mod ExportLemmas
 pub mod MeteringLemmas
+pub mod RefusedLemmas
 pub mod RunLemmas
 pub mod SameLemmas
 pub mod SelfcheckLemmas

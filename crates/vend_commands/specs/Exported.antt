@@ -1,13 +1,15 @@
 -- What is printed of all sales of an office: the export of them, in pages.
-use Rattle.std.specs.Prelude.{◌≡◌, ℕ, ◌*◌, ◌==◌, ◌&&◌, not, true, false, Bool, List, [], ◌++◌, length, drop, take, Option, Some, None, Result, Ok, Err}
+use Rattle.std.specs.Prelude.{◌≡◌, ◌⊎◌, ℕ, ◌*◌, ◌==◌, ◌&&◌, not, true, false, Bool, List, [], ◌++◌, length, drop, take, Option, Some, None, Result, Ok, Err}
 use Rattle.sqlite.specs.State.{HasCleanDisk}
 use Rattle.books.specs.Keeps.{Represents, Seen}
 use Rattle.papers.specs.Export.{export_of}
 use Rattle.sts_fields.specs.Text.{Text}
 use Rattle.vend_core.specs.Life.{Life, present}
 use Rattle.vend_core.specs.declared.refusal.Refusal.{Refusal}
+use Rattle.vend_core.specs.declared.refusal.Refusal.TheVariants.{Memory, Stopped, Store}
 use Rattle.vend_core.specs.declared.sale.Sale.{Sale}
 use Rattle.vend_commands.specs.Printed.{refusal_line}
+use Rattle.vend_commands.specs.Refused.{RefusesToRead, TellsStopped}
 use Rattle.vend_commands.specs.Told.{IsTold, Outputs, Sink, Takes}
 use Rattle.vend_commands.specs.declared.end.End.{End}
 use Rattle.vend_commands.specs.declared.end.End.TheVariants as how
@@ -23,14 +25,21 @@ abbrev pub IsPageOf : (old new : Seen) → ℕ → List Sale → Type 0
 IsPageOf old new page sales = HasCleanDisk new.state → (life : Life) → Represents life old
     → sales ≡ page_of (present life).sales page
 
+-- a page is refused for want of memory, for its sales or its text; or as the store failed, or the books
+-- are stopped
+abbrev pub IsPageRefusal : Refusal → Type 0
+IsPageRefusal refusal = (refusal ≡ Memory) ⊎ ((refusal ≡ Store) ⊎ (refusal ≡ Stopped))
+
 -- the sales of the page are printed, the first page behind the header, and another page follows where
--- it is full and no write failed; or it was refused, and nothing was printed
+-- it is full and no write failed; or it was refused for such a cause, and nothing was printed
 abbrev pub IsPage : (old new : Seen) → ℕ → (before after : Sink) → Result Bool Refusal → Type 0
 IsPage old new page before after (Ok more) =
     (sales : List Sale) × IsPageOf old new page sales
     × Takes before after (export_of (page == 0) sales)
-    × (more ≡ ((length sales == 1000) && not after.failed))
-IsPage old new page before after (Err refusal) = Takes before after []
+    × (more ≡ ((length sales == 1000) && not after.failed)) × (new.stopped ≡ old.stopped)
+IsPage old new page before after (Err refusal) =
+    Takes before after [] × IsPageRefusal refusal
+    × RefusesToRead (λ cause. cause ≡ Memory) old new refusal
 
 -- ---- all pages
 
@@ -50,6 +59,11 @@ pub record IsExportOf (sales : List Sale) (text : Text) (stop : Option Refusal) 
   pub begins : (rest : Text) × (text ++ rest ≡ export_of true sales)
   pub whole : stop ≡ None → failed ≡ false → text ≡ export_of true sales
 
+-- it stops at a page that was refused, or at none, and then the books are stopped as they were
+abbrev pub StopsBy : (old new : Seen) → Option Refusal → Type 0
+StopsBy old new None = new.stopped ≡ old.stopped
+StopsBy old new (Some refusal) = IsPageRefusal refusal × TellsStopped old new refusal
+
 -- The export of all sales of the present office is told, or a beginning of it up to a page that is
 -- refused, and then the refusal, or up to a page that the output did not take. The books keep what
 -- they kept.
@@ -57,6 +71,7 @@ pub record IsExported (old new : Seen) (o : Outputs) (end : End) : Type 0 where
   pub text : Text
   pub stop : Option Refusal
   pub told : IsTold o text (stop_errors stop) (export_stop_end stop) end
+  pub stops : StopsBy old new stop
   pub sales : HasCleanDisk new.state → (life : Life) → Represents life old
       → IsExportOf (present life).sales text stop o.new.failed
   pub keeps : (life : Life) → Represents life old → Represents life new

@@ -9,6 +9,7 @@ pub mod Opened
 pub mod Places
 pub mod Printed
 pub mod Quoted
+pub mod Refused
 pub mod Reopened
 pub mod Run
 pub mod Selfchecked

@@ -9,6 +9,7 @@ use Rattle.vend_core.specs.Life.{Life, present}
 use Rattle.vend_core.specs.declared.refusal.Refusal.{Refusal}
 use Rattle.vend_core.specs.declared.refusal.Refusal.TheVariants.{NoSuchShift}
 use Rattle.vend_commands.specs.Printed.{line_of, refusal_line}
+use Rattle.vend_commands.specs.Refused.{RefusesToRead}
 use Rattle.vend_commands.specs.Told.{Outputs, IsTold}
 use Rattle.vend_commands.specs.declared.end.End.{End}
 use Rattle.vend_commands.specs.declared.end.End.TheVariants.{Done, Refused}
@@ -18,13 +19,18 @@ abbrev pub totals_line : ℕ → Totals → Text
 totals_line number totals = line_of (codes "shift" ∷ decimal number ∷ codes "sales" ∷ decimal totals.sales
     ∷ codes "tenths" ∷ decimal totals.tenths ∷ codes "cash" ∷ decimal totals.cash ∷ [])
 
--- these are the totals of the shift in every life that the books kept, or it has none where it is
--- refused as no such shift
+-- the shift has none in every life that the books kept, where it is refused as no such shift; and what
+-- else is refused is so as the tables were not read, or the books are stopped
+pub record HaveNoTotals (number : ℕ) (old new : Seen) (refusal : Refusal) : Type 0 where
+  pub none : HasCleanDisk new.state → (life : Life) → Represents life old
+      → refusal ≡ NoSuchShift → shift_totals (present life) number ≡ None
+  pub refused : RefusesToRead (λ cause. cause ≡ NoSuchShift) old new refusal
+
+-- these are the totals of the shift in every life that the books kept, or there are none to be told
 abbrev pub AreTotals : ℕ → (old new : Seen) → Result Totals Refusal → Type 0
 AreTotals number old new (Ok totals) = HasCleanDisk new.state → (life : Life) → Represents life old
     → shift_totals (present life) number ≡ Some totals
-AreTotals number old new (Err refusal) = HasCleanDisk new.state → (life : Life) → Represents life old
-    → refusal ≡ NoSuchShift → shift_totals (present life) number ≡ None
+AreTotals number old new (Err refusal) = HaveNoTotals number old new refusal
 
 -- they are told, or the refusal is
 abbrev pub TellsTotals : ℕ → Result Totals Refusal → Outputs → End → Type 0
