@@ -11,6 +11,7 @@ use Rattle.tariff.specs.declared.bought.Buy.{Buy}
 use Rattle.vend_core.specs.declared.answer.Answer as core
 use Rattle.vend_core.specs.declared.refusal.Refusal.{Refusal}
 use Rattle.vend_core.specs.declared.refusal.Refusal.TheVariants.{Memory}
+use Rattle.vend_core.specs.declared.request.Request.TheVariants as request
 use Rattle.vend_core.specs.declared.row.Row.{Row}
 use Rattle.papers.specs.declared.row_fault.RowFault.{RowFault}
 use Rattle.tariff.specs.Purchase.{purchase_of}
@@ -30,8 +31,8 @@ use Rattle.vend_commands.specs.Selfchecked.{HasReplies, IsSelfchecked}
 use Rattle.vend_commands.specs.Selfchecked.IsSelfchecked.{agreed, failed}
 use Rattle.vend_commands.specs.Served.{TellsReply}
 use Rattle.vend_commands.specs.Status.{exit_status_of, status_of}
-use Rattle.vend_commands.specs.Tasks.{IsMoved, IsReported, IsShifted, IsSold}
-use Rattle.vend_commands.specs.Timed.{IsDoneAt, IsMomentFor, IsTakenMoment, IsTimed}
+use Rattle.vend_commands.specs.Tasks.{IsAskedAt, IsReported, base_request, shift_request}
+use Rattle.vend_commands.specs.Timed.{IsDoneAt, IsMomentFor, IsTakenMoment, IsTimed, given_moment}
 use Rattle.vend_commands.specs.Told.{IsTold, Outputs, Sink}
 use Rattle.vend_commands.specs.Totalled.{TellsTotals}
 use Rattle.vend_commands.specs.Tried.{IsTried, trial_end}
@@ -58,7 +59,7 @@ not_none : {A : Type 0} (taken : Option ℕ) (moment : ℕ) (answers left : Opti
 not_none taken moment answers left (some, same) none = absurd (cc)
 
 -- where there is none, that is told
-pub no_moment : {S D R W : Type 0} (store : Ghosts S) (m : Machine D R W) (asked : Asked) (left : Option (List ℤ)) (taken : Option ℕ) (o : Outputs) (end : End) → IsMomentFor asked m.answers left taken → taken ≡ None → IsTold o [] clock_line how.Refused end → IsCarriedOut store m asked o end
+pub no_moment : {S D R W : Type 0} (store : Ghosts S) (m : Machine D R W) (asked : Asked) (left : Option (List ℤ)) (taken : Option ℕ) (o : Outputs) (end : End) → IsMomentFor (given_moment asked) m.answers left taken → taken ≡ None → IsTold o [] clock_line how.Refused end → IsCarriedOut store m asked o end
 no_moment store m (asks.Trial words) left taken o end for is told = untimed words.at m.answers taken _ o end for is told
 no_moment store m (asks.Import words) left taken o end for is told = untimed words.at m.answers taken _ o end for is told
 no_moment store m (asks.Base words) left taken o end for is told = untimed words.at m.answers taken _ o end for is told
@@ -77,16 +78,16 @@ timed given answers taken moment At o end for is done = (Some moment, subst (IsT
 abbrev pub IsDoneThen : {S D R W : Type 0} → Ghosts S → Machine D R W → Asked → (left : Option (List ℤ)) → ℕ → Outputs → End → Type 0
 IsDoneThen store m (asks.Trial words) left moment o end = IsTried words moment o end
 IsDoneThen store m (asks.Import words) left moment o end = IsFileImported store m.at m.reads m.lacks words moment o end
-IsDoneThen store m (asks.Base words) left moment o end = IsMoved store m.at words moment o end
-IsDoneThen store m (asks.Shift words) left moment o end = IsShifted store m.at words moment o end
-IsDoneThen store m (asks.Sell words) left moment o end = IsSold store m.at words moment o end
+IsDoneThen store m (asks.Base words) left moment o end = IsAskedAt store m.at words.transform words.file.now moment (base_request words) o end
+IsDoneThen store m (asks.Shift words) left moment o end = IsAskedAt store m.at words.transform words.file.now moment (shift_request words) o end
+IsDoneThen store m (asks.Sell words) left moment o end = IsAskedAt store m.at words.transform words.file.now moment (request.Sell words.order) o end
 IsDoneThen store m (asks.Report words) left moment o end = IsReported store m.at words o end
 IsDoneThen store m (asks.Meter words) left moment o end = IsMetered words o end
 IsDoneThen store m (asks.Quote words) left moment o end = IsQuoted words o end
 IsDoneThen store m (asks.Serve words) left moment o end = IsServedTo store m.way m.at m.door left words o end
 IsDoneThen store m (asks.Selfcheck words) left moment o end = IsSelfchecked (HasReplies words.transform) o end
 
-pub at_moment : {S D R W : Type 0} (store : Ghosts S) (m : Machine D R W) (asked : Asked) (left : Option (List ℤ)) (taken : Option ℕ) (moment : ℕ) (o : Outputs) (end : End) → IsMomentFor asked m.answers left taken → taken ≡ Some moment → IsDoneThen store m asked left moment o end → IsCarriedOut store m asked o end
+pub at_moment : {S D R W : Type 0} (store : Ghosts S) (m : Machine D R W) (asked : Asked) (left : Option (List ℤ)) (taken : Option ℕ) (moment : ℕ) (o : Outputs) (end : End) → IsMomentFor (given_moment asked) m.answers left taken → taken ≡ Some moment → IsDoneThen store m asked left moment o end → IsCarriedOut store m asked o end
 at_moment store m (asks.Trial words) left taken moment o end for is done = timed words.at m.answers taken moment _ o end for is done
 at_moment store m (asks.Import words) left taken moment o end for is done = timed words.at m.answers taken moment _ o end for is done
 at_moment store m (asks.Base words) left taken moment o end for is done = timed words.at m.answers taken moment _ o end for is done
@@ -99,20 +100,21 @@ at_moment store m (asks.Serve words) left taken moment o end for is done = subst
 at_moment store m (asks.Selfcheck words) left taken moment o end for is done = done
 
 -- the same, of what was asked by another name
-pub done_at : {S D R W : Type 0} (store : Ghosts S) (m : Machine D R W) (asked same : Asked) (left : Option (List ℤ)) (taken : Option ℕ) (moment : ℕ) (o : Outputs) (end : End) → asked ≡ same → IsMomentFor asked m.answers left taken → taken ≡ Some moment → IsDoneThen store m same left moment o end → IsCarriedOut store m asked o end
+pub done_at : {S D R W : Type 0} (store : Ghosts S) (m : Machine D R W) (asked same : Asked) (left : Option (List ℤ)) (taken : Option ℕ) (moment : ℕ) (o : Outputs) (end : End) → asked ≡ same → IsMomentFor (given_moment asked) m.answers left taken → taken ≡ Some moment → IsDoneThen store m same left moment o end → IsCarriedOut store m asked o end
 done_at store m asked same left taken moment o end is for some done =
-    subst (λ a. IsCarriedOut store m a o end) (sym is) (at_moment store m same left taken moment o end (subst (λ a. IsMomentFor a m.answers left taken) is for) some done)
+    subst (λ a. IsCarriedOut store m a o end) (sym is) (at_moment store m same left taken moment o end (subst (λ a. IsMomentFor (given_moment a) m.answers left taken) is for) some done)
 
 -- what a selfcheck found is told, by less than it found
 pub selfcheck_done : (o : Outputs) (end : End) (Agrees Has : Type 0) → (Agrees → Has) → IsSelfchecked Agrees o end → IsSelfchecked Has o end
 selfcheck_done o end Agrees Has less (agreed is told) = agreed (less is) told
 selfcheck_done o end Agrees Has less (failed fault told) = failed fault told
 
--- an errand is done as the words have it
-pub errand_done : {S : Type 0} (store : Ghosts S) (at : Text → Place) (errand : Errand) (transform : Shipped) (file : Text) (task : Task) (o : Outputs) (end : End) → errand.transform ≡ transform → errand.file.now ≡ file → errand.task ≡ task
+-- an errand that was made so is done as the words have it
+pub errand_done : {S : Type 0} (store : Ghosts S) (at : Text → Place) (errand made : Errand) (transform : Shipped) (file : Text) (task : Task) (o : Outputs) (end : End) → errand ≡ made → made.transform ≡ transform → made.file.now ≡ file → made.task ≡ task
     → IsVisited store (at errand.file.now) errand.transform errand.task o end → IsVisited store (at file) transform task o end
-errand_done store at errand transform file task o end same_transform same_file same_task done =
-    subst (λ t. IsVisited store (at file) t task o end) same_transform (subst (λ f. IsVisited store (at f) errand.transform task o end) same_file (subst (λ k. IsVisited store (at errand.file.now) errand.transform k o end) same_task done))
+errand_done store at errand made transform file task o end is same_transform same_file same_task done =
+    subst (λ t. IsVisited store (at file) t task o end) same_transform (subst (λ f. IsVisited store (at f) made.transform task o end) same_file (subst (λ k. IsVisited store (at made.file.now) made.transform k o end) same_task
+    (subst (λ e. IsVisited store (at e.file.now) e.transform e.task o end) is done)))
 
 -- what `clap` says of words is a fault of theirs, or there was no room
 pub told_by_clap : {S D R W : Type 0} (store : Ghosts S) (m : Machine D R W) (error : Error) (words : List Text) (Says : Error → Text → Type 0) (o : Outputs) (end : End) → HasKind (faults_in words) error

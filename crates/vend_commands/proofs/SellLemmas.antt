@@ -27,7 +27,7 @@ use Rattle.vend_core.specs.declared.sale.Sale.{Sale}
 use Rattle.vend_core.specs.declared.shift.Shift.{Shift}
 use Rattle.vend_commands.specs.Selling.{EndsSold, TellsSale}
 use Rattle.vend_commands.specs.Served.{TellsReply, answer_text}
-use Rattle.vend_commands.specs.Tasks.{IsSold}
+use Rattle.vend_commands.specs.Tasks.{IsAskedAt}
 use Rattle.vend_commands.specs.Places.{Place}
 use Rattle.vend_commands.specs.Told.{IsTold, Outputs, Takes}
 use Rattle.vend_commands.specs.Visited.{seen_in}
@@ -101,7 +101,7 @@ pub sale_told : (sale : Sale) (o : Outputs) (end : End) → TellsReply (Ok (Sold
 sale_told sale o end (inl told) = told
 sale_told sale o end (inr (none, told)) = absurd none
 
-pub ends_sold : {S : Type 0} (store : Ghosts S) (answers_stand : (forward : BlockFunction) (o : Office) (at : Stamped) → All (Contains (step forward o at).sales) (sales_of (reply forward o at))) (at : Text → Place) (words : SellWords) (moment : ℕ) (office : Office) (o : Outputs) → StandsIn (at words.file.now).image office → IsSold store at words moment o how.Done → EndsSold store (at words.file.now).closes words moment office o
+pub ends_sold : {S : Type 0} (store : Ghosts S) (answers_stand : (forward : BlockFunction) (o : Office) (at : Stamped) → All (Contains (step forward o at).sales) (sales_of (reply forward o at))) (at : Text → Place) (words : SellWords) (moment : ℕ) (office : Office) (o : Outputs) → StandsIn (at words.file.now).image office → IsAskedAt store at words.transform words.file.now moment (Sell words.order) o how.Done → EndsSold store (at words.file.now).closes words moment office o
 ends_sold store answers_stand places words moment office o stands (unopened fault fails told) = absurd (not_refused o _ _ told)
 ends_sold store answers_stand places words moment office o stands (visited old new begins finds done closes) =
     let forward = forward_of words.transform in

@@ -12,14 +12,13 @@ use Rattle.vend_core.specs.declared.request.Request.TheVariants.{Import}
 use Rattle.vend_core.specs.declared.row.Row.{Row}
 use Rattle.vend_commands.specs.Places.{Place}
 use Rattle.vend_commands.specs.Printed.{file_line, refusal_line}
+use Rattle.vend_commands.specs.Tasks.{IsAskedAt}
 use Rattle.vend_commands.specs.Told.{Outputs, IsTold}
-use Rattle.vend_commands.specs.Visited.{IsVisited}
 use Rattle.command_line.specs.declared.commands.import.ImportWords.{ImportWords}
 use Rattle.vend_commands.specs.declared.end.End.{End}
 use Rattle.vend_commands.specs.declared.end.End.TheVariants.{Refused}
 use Rattle.vend_commands.specs.declared.read_fault.ReadFault.{ReadFault}
 use Rattle.vend_commands.specs.declared.read_fault.ReadFault.TheVariants as read
-use Rattle.vend_commands.specs.declared.task.Task.TheVariants.{Ask}
 
 -- how a fault of the rows is told: as the office refuses a row
 abbrev pub refusal_of_rows : RowFault → Refusal
@@ -30,7 +29,7 @@ refusal_of_rows Memory = refusal.Memory
 abbrev pub AreAdded : {S : Type 0} → Ghosts S → (Text → Place) → ImportWords → ℕ
     → Result (List Row) RowFault → Outputs → End → Type 0
 AreAdded store at words moment (Ok rows) o end =
-    IsVisited store (at words.file.now) words.transform (Ask moment (Import rows)) o end
+    IsAskedAt store at words.transform words.file.now moment (Import rows) o end
 AreAdded store at words moment (Err fault) o end =
     IsTold o [] (refusal_line (refusal_of_rows fault)) Refused end
 

@@ -6,6 +6,7 @@ use Rattle.clap.specs.declared.error.kind.ErrorKind.TheVariants.{DisplayHelp, Di
 use Rattle.sqlite_trees.specs.declared.store.Store.{Ghosts}
 use Rattle.sts_fields.specs.Text.{Text}
 use Rattle.vend_core.specs.declared.refusal.Refusal.TheVariants.{Memory}
+use Rattle.vend_core.specs.declared.request.Request.TheVariants as request
 use Rattle.command_line.specs.Asked.{AskFor}
 use Rattle.command_line.specs.Line.{faults_in}
 use Rattle.vend_commands.specs.Imported.{IsFileImported}
@@ -15,7 +16,7 @@ use Rattle.vend_commands.specs.Places.{Machine}
 use Rattle.vend_commands.specs.Printed.{bad_word_line, refusal_line}
 use Rattle.vend_commands.specs.Quoted.{IsQuoted}
 use Rattle.vend_commands.specs.Selfchecked.{HasReplies, IsSelfchecked}
-use Rattle.vend_commands.specs.Tasks.{IsMoved, IsReported, IsShifted, IsSold}
+use Rattle.vend_commands.specs.Tasks.{IsAskedAt, IsReported, base_request, shift_request}
 use Rattle.vend_commands.specs.Timed.{IsTimed}
 use Rattle.vend_commands.specs.Told.{Outputs, IsTold}
 use Rattle.vend_commands.specs.Tried.{IsTried}
@@ -30,12 +31,12 @@ IsCarriedOut store m (Trial words) o end =
     IsTimed words.at m.answers (λ moment. IsTried words moment o end) o end
 IsCarriedOut store m (Import words) o end = IsTimed words.at m.answers
     (λ moment. IsFileImported store m.at m.reads m.lacks words moment o end) o end
-IsCarriedOut store m (Base words) o end =
-    IsTimed words.at m.answers (λ moment. IsMoved store m.at words moment o end) o end
-IsCarriedOut store m (Shift words) o end =
-    IsTimed words.at m.answers (λ moment. IsShifted store m.at words moment o end) o end
-IsCarriedOut store m (Sell words) o end =
-    IsTimed words.at m.answers (λ moment. IsSold store m.at words moment o end) o end
+IsCarriedOut store m (Base words) o end = IsTimed words.at m.answers (λ moment.
+    IsAskedAt store m.at words.transform words.file.now moment (base_request words) o end) o end
+IsCarriedOut store m (Shift words) o end = IsTimed words.at m.answers (λ moment.
+    IsAskedAt store m.at words.transform words.file.now moment (shift_request words) o end) o end
+IsCarriedOut store m (Sell words) o end = IsTimed words.at m.answers (λ moment.
+    IsAskedAt store m.at words.transform words.file.now moment (request.Sell words.order) o end) o end
 IsCarriedOut store m (Report words) o end = IsReported store m.at words o end
 IsCarriedOut store m (Meter words) o end = IsMetered words o end
 IsCarriedOut store m (Quote words) o end = IsQuoted words o end

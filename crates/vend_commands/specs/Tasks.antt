@@ -4,7 +4,7 @@ use Rattle.sqlite_trees.specs.declared.store.Store.{Ghosts}
 use Rattle.sts_fields.specs.Moment.{first_moment}
 use Rattle.sts_fields.specs.Text.{Text}
 use Rattle.vend_core.specs.declared.request.Request.{Request}
-use Rattle.vend_core.specs.declared.request.Request.TheVariants.{MoveBase, OpenShift, CloseShift, Sell, Reprint, ShiftReport}
+use Rattle.vend_core.specs.declared.request.Request.TheVariants.{MoveBase, OpenShift, CloseShift, Reprint, ShiftReport}
 use Rattle.vend_commands.specs.Places.{Place}
 use Rattle.vend_commands.specs.Told.{Outputs}
 use Rattle.vend_commands.specs.Visited.{IsVisited}
@@ -12,13 +12,13 @@ use Rattle.command_line.specs.declared.commands.base.BaseWords.{BaseWords}
 use Rattle.command_line.specs.declared.commands.report.Paper.{Paper}
 use Rattle.command_line.specs.declared.commands.report.Paper.TheVariants.{Shift, Receipt, Totals, Sales}
 use Rattle.command_line.specs.declared.commands.report.ReportWords.{ReportWords}
-use Rattle.command_line.specs.declared.commands.sell.SellWords.{SellWords}
 use Rattle.command_line.specs.declared.commands.shift.Act.{Act}
 use Rattle.command_line.specs.declared.commands.shift.Act.TheVariants.{Open, Close}
 use Rattle.command_line.specs.declared.commands.shift.ShiftWords.{ShiftWords}
 use Rattle.vend_commands.specs.declared.end.End.{End}
 use Rattle.vend_commands.specs.declared.task.Task.{Task}
 use Rattle.vend_commands.specs.declared.task.Task.TheVariants.{Ask, Total, Export}
+use Rattle.command_line.specs.declared.transform.Shipped.{Shipped}
 use Rattle.command_line.specs.declared.transform.Shipped.TheVariants.{Plain}
 
 abbrev pub base_request : BaseWords → Request
@@ -38,22 +38,14 @@ report_task (Receipt number) = Ask first_moment (Reprint number)
 report_task (Totals number) = Total number
 report_task Sales = Export
 
--- `base`, `shift`, `sell` and `report`: each does its task at the office in the file of its words
-abbrev pub IsMoved : {S : Type 0} → Ghosts S → (Text → Place) → BaseWords → (moment : ℕ)
-    → Outputs → End → Type 0
-IsMoved store at words moment o end =
-    IsVisited store (at words.file.now) words.transform (Ask moment (base_request words)) o end
+-- `base`, `shift`, `sell`, and `import` with the rows that it read: each asks one request of the office
+-- in a file
+abbrev pub IsAskedAt : {S : Type 0} → Ghosts S → (Text → Place) → Shipped → (file : Text) → (moment : ℕ)
+    → Request → Outputs → End → Type 0
+IsAskedAt store at transform file moment request o end =
+    IsVisited store (at file) transform (Ask moment request) o end
 
-abbrev pub IsShifted : {S : Type 0} → Ghosts S → (Text → Place) → ShiftWords → (moment : ℕ)
-    → Outputs → End → Type 0
-IsShifted store at words moment o end =
-    IsVisited store (at words.file.now) words.transform (Ask moment (shift_request words)) o end
-
-abbrev pub IsSold : {S : Type 0} → Ghosts S → (Text → Place) → SellWords → (moment : ℕ)
-    → Outputs → End → Type 0
-IsSold store at words moment o end =
-    IsVisited store (at words.file.now) words.transform (Ask moment (Sell words.order)) o end
-
+-- `report` prints its paper of the office in the file of its words
 abbrev pub IsReported : {S : Type 0} → Ghosts S → (Text → Place) → ReportWords → Outputs → End
     → Type 0
 IsReported store at words o end =

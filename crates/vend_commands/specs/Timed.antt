@@ -34,12 +34,17 @@ abbrev pub IsTimed : Option ℕ → Option (List ℤ) → (ℕ → Type 0) → O
 IsTimed given answers At o end =
     (moment : Option ℕ) × IsTakenMoment given answers moment × IsDoneAt At o end moment
 
--- The moment of a command that has one, given or taken from the clock. Without one the clock is not
--- read.
-abbrev pub IsMomentFor : Asked → (answers left : Option (List ℤ)) → Option ℕ → Type 0
-IsMomentFor (Trial words) answers left moment = IsTakenMoment words.at answers moment
-IsMomentFor (Import words) answers left moment = IsTakenMoment words.at answers moment
-IsMomentFor (Base words) answers left moment = IsTakenMoment words.at answers moment
-IsMomentFor (Shift words) answers left moment = IsTakenMoment words.at answers moment
-IsMomentFor (Sell words) answers left moment = IsTakenMoment words.at answers moment
-IsMomentFor _ answers left moment = (moment ≡ Some first_moment) × (left ≡ answers)
+-- the moment that a command may be given, and was or not; none for a command that needs none
+abbrev pub given_moment : Asked → Option (Option ℕ)
+given_moment (Trial words) = Some words.at
+given_moment (Import words) = Some words.at
+given_moment (Base words) = Some words.at
+given_moment (Shift words) = Some words.at
+given_moment (Sell words) = Some words.at
+given_moment _ = None
+
+-- The moment of a command that needs one, given or taken from the clock. Without need of one the clock
+-- is not read.
+abbrev pub IsMomentFor : Option (Option ℕ) → (answers left : Option (List ℤ)) → Option ℕ → Type 0
+IsMomentFor (Some given) answers left moment = IsTakenMoment given answers moment
+IsMomentFor None answers left moment = (moment ≡ Some first_moment) × (left ≡ answers)

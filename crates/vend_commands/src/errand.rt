@@ -1,10 +1,9 @@
 ghost use Rattle.std.specs.Prelude.{◌≡◌};
-ghost use Rattle.vend_commands.specs.Tasks.{base_request, report_task, shift_request};
-ghost use Rattle.vend_core.specs.declared.request.Request.TheVariants.{Sell};
+ghost use Rattle.vend_commands.specs.Tasks.{report_task};
 ghost use Rattle.vend_commands.specs.declared.task.Task.TheVariants.{Ask};
 
 use crate::task::Task;
-use command_line::{Act, BaseWords, Paper, ReportWords, SellWords, ShiftWords, Shipped};
+use command_line::{Paper, ReportWords, Shipped};
 use sts_fields::Moment;
 use vend_core::Request;
 
@@ -18,46 +17,21 @@ pub struct Errand<'a> {
 }
 
 impl<'a> Errand<'a> {
-    /// A meter is moved to a later base date.
-    pub(crate) fn to_move(words: &BaseWords<'a>, moment: Moment) -> Errand<'a>
-        ensures transform { result.transform ≡ words.now.transform }
-        ensures file { result.file.now ≡ words.now.file.now }
-        ensures task { result.task ≡ Ask moment (base_request words.now) }
+    /// A request is made at a moment, to the office in a file.
+    pub(crate) fn asks(
+        transform: Shipped,
+        file: &'a str,
+        moment: Moment,
+        request: Request,
+    ) -> Errand<'a>
+        ensures transform { result.transform ≡ transform }
+        ensures file { result.file.now ≡ file.now }
+        ensures task { result.task ≡ Ask moment request }
     {
         Errand {
-            transform: words.transform,
-            file: words.file,
-            task: Task::Ask(moment, Request::MoveBase(words.meter, words.base)),
-        }
-    }
-
-    /// A shift is opened or closed.
-    pub(crate) fn to_shift(words: &ShiftWords<'a>, moment: Moment) -> Errand<'a>
-        ensures transform { result.transform ≡ words.now.transform }
-        ensures file { result.file.now ≡ words.now.file.now }
-        ensures task { result.task ≡ Ask moment (shift_request words.now) }
-    {
-        let request = match words.act {
-            Act::Open => Request::OpenShift(words.operator),
-            Act::Close => Request::CloseShift(words.operator),
-        };
-        Errand {
-            transform: words.transform,
-            file: words.file,
+            transform,
+            file,
             task: Task::Ask(moment, request),
-        }
-    }
-
-    /// What is ordered is sold.
-    pub(crate) fn to_sell(words: &SellWords<'a>, moment: Moment) -> Errand<'a>
-        ensures transform { result.transform ≡ words.now.transform }
-        ensures file { result.file.now ≡ words.now.file.now }
-        ensures task { result.task ≡ Ask moment (Sell words.now.order) }
-    {
-        Errand {
-            transform: words.transform,
-            file: words.file,
-            task: Task::Ask(moment, Request::Sell(words.order)),
         }
     }
 

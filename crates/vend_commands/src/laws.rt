@@ -11,12 +11,13 @@ ghost use Rattle.vend_commands.specs.Connections.{AreHeld, Service, service};
 ghost use Rattle.vend_commands.specs.Courses.{Course, LiveOn};
 ghost use Rattle.vend_core.specs.Office.{Office};
 ghost use Rattle.vend_core.specs.declared.answer.Answer.TheVariants.{Sold};
+ghost use Rattle.vend_core.specs.declared.request.Request.TheVariants.{Sell};
 ghost use Rattle.vend_core.specs.declared.sale.Sale.{Sale};
 ghost use Rattle.command_line.specs.declared.commands.sell.SellWords.{SellWords};
 ghost use Rattle.vend_commands.specs.Places.{places_of, way};
 ghost use Rattle.vend_commands.specs.Selling.{EndsSold, TellsSale};
 ghost use Rattle.vend_commands.specs.Served.{TellsReply};
-ghost use Rattle.vend_commands.specs.Tasks.{IsSold};
+ghost use Rattle.vend_commands.specs.Tasks.{IsAskedAt};
 ghost use Rattle.vend_commands.specs.Told.{Outputs};
 ghost use Rattle.vend_commands.specs.Visited.{seen_in};
 ghost use Rattle.vend_commands.specs.declared.end.End.{End};
@@ -35,8 +36,8 @@ use vend_core::{history_law, office_law};
 pub fn sell_law<H: OfficeFile>()
     ensures done { (file : H) (words : SellWords) (moment : ℕ) (office : Office) (o : Outputs)
         → StandsIn (H.image file words.file.now) office
-        → IsSold ⟦<FileStore<H::Medium> as Store>⟧ (places_of H.Medium.Disk H.Salts.SaltSource H.OfficeFile file)
-        words moment o Done
+        → IsAskedAt ⟦<FileStore<H::Medium> as Store>⟧ (places_of H.Medium.Disk H.Salts.SaltSource H.OfficeFile file)
+        words.transform words.file.now moment (Sell words.order) o Done
         → EndsSold ⟦<FileStore<H::Medium> as Store>⟧ (IsClosed H.Medium.Disk H.lets_go) words moment office o }
     ensures told { (sale : Sale) (o : Outputs) (end : End)
         → TellsReply (Ok (Sold sale)) o end → TellsSale sale o end }

@@ -7,6 +7,7 @@ ghost use Rattle.vend_commands.specs.Places.{machine, places_of, untold, way};
 ghost use Rattle.vend_commands.specs.Printed.{refusal_line};
 ghost use Rattle.vend_commands.specs.Run.{IsCarriedOut, IsExplained, IsProgramRun};
 ghost use Rattle.vend_commands.specs.Status.{status_of};
+ghost use Rattle.vend_commands.specs.Tasks.{shift_request};
 ghost use Rattle.vend_commands.specs.Told.{IsTold, Takes, outputs, sink, writer};
 ghost use Rattle.vend_commands.specs.Unread.{bad_words_end, bad_words_line};
 ghost use Rattle.command_line.specs.declared.asked.Asked.{Asked};
@@ -26,7 +27,7 @@ use crate::ports::{OfficeFile, Ports, TextFiles};
 use crate::printed::{put_line, put_refusal};
 use crate::watched::Watched;
 use clap::error::ErrorKind;
-use command_line::{Asked, BadWords, parse};
+use command_line::{Act, Asked, BadWords, ShiftWords, parse};
 use desk::{Clock, MachineClock};
 use sqlite::{FileFrom, FileStore, Start};
 use sqlite_disk::Disk;
@@ -34,7 +35,7 @@ use sqlite_trees::store::Store;
 use std::alloc::Global;
 use std::io::Write;
 use std::net::Net;
-use vend_core::Refusal;
+use vend_core::{Refusal, Request};
 
 /// Runs the command that some words give, the program's own name left out, and answers the exit
 /// status.
@@ -132,21 +133,40 @@ fn answer<H: OfficeFile, F: TextFiles, C: Clock + Drop, D: Door, N: Net, O: Writ
         put_line(&[b"refused", b"clock"], err);
         return End::Refused;
     };
-    match asked {
-        Asked::Trial(words) => commands::trial::run(words, alloc, moment, out, err),
+    let errand = match asked {
+        Asked::Trial(words) => return commands::trial::run(words, alloc, moment, out, err),
         Asked::Import(words) => {
-            commands::import::run(words, alloc, office, &texts, moment, out, err)
+            return commands::import::run(words, alloc, office, &texts, moment, out, err);
         }
-        Asked::Base(words) => visit(alloc, office, Errand::to_move(words, moment), out, err),
-        Asked::Shift(words) => visit(alloc, office, Errand::to_shift(words, moment), out, err),
-        Asked::Sell(words) => visit(alloc, office, Errand::to_sell(words, moment), out, err),
-        Asked::Report(words) => visit(alloc, office, Errand::to_report(words), out, err),
-        Asked::Meter(words) => commands::meter::run(words, out),
-        Asked::Quote(words) => commands::quote::run(words, out, err),
-        Asked::Serve(words) => commands::serve::run(
-            words, alloc, office, &mut door, &mut clock, err,
-        ),
-        Asked::Selfcheck(words) => run_selfcheck(words, alloc, net, out, err),
+        Asked::Base(words) => {
+            let request = Request::MoveBase(words.meter, words.base);
+            Errand::asks(words.transform, words.file, moment, request)
+        }
+        Asked::Shift(words) => {
+            Errand::asks(words.transform, words.file, moment, shift_request(words))
+        }
+        Asked::Sell(words) => {
+            let request = Request::Sell(words.order);
+            Errand::asks(words.transform, words.file, moment, request)
+        }
+        Asked::Report(words) => Errand::to_report(words),
+        Asked::Meter(words) => return commands::meter::run(words, out),
+        Asked::Quote(words) => return commands::quote::run(words, out, err),
+        Asked::Serve(words) => {
+            return commands::serve::run(words, alloc, office, &mut door, &mut clock, err);
+        }
+        Asked::Selfcheck(words) => return run_selfcheck(words, alloc, net, out, err),
+    };
+    visit(alloc, office, errand, out, err)
+}
+
+// What `shift` asks of an office.
+fn shift_request(words: &ShiftWords) -> Request
+    ensures { result ≡ shift_request words.now }
+{
+    match words.act {
+        Act::Open => Request::OpenShift(words.operator),
+        Act::Close => Request::CloseShift(words.operator),
     }
 }
 

@@ -11,7 +11,6 @@ use crate::opening::visit;
 use crate::ports::{OfficeFile, TextFiles};
 use crate::printed::{put_line, put_refusal};
 use crate::read_fault::ReadFault;
-use crate::task::Task;
 use crate::watched::Watched;
 use command_line::ImportWords;
 use papers::{FileKind, RowFault, read_meters, read_tariffs};
@@ -63,11 +62,8 @@ fn add<H: OfficeFile, O: Write, E: Write>(
 {
     match rows_of(words, alloc, bytes) {
         Ok(rows) => {
-            let errand = Errand {
-                transform: words.transform,
-                file: words.file,
-                task: Task::Ask(moment, Request::Import(rows)),
-            };
+            let request = Request::Import(rows);
+            let errand = Errand::asks(words.transform, words.file, moment, request);
             visit(alloc, office, errand, out, err)
         }
         Err(fault) => {
