@@ -33,7 +33,7 @@ pub(crate) fn describe<'a>(alloc: Global) -> Result<Command<'a>, AllocError>
         new";
     let kind = "What the rows are: tariffs or meters";
     let csv = "The CSV file of at most 10000 rows, under the header name,steps or \
-        meter,base,tariff,key, e.g. tariffs.csv";
+        name,steps,from, or meter,base,tariff,key, e.g. tariffs.csv";
     let command = options::command(alloc, "import", about);
     let command = with(command, options::transform(alloc))?;
     let command = with(command, options::file(alloc))?;
