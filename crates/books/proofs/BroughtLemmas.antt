@@ -9,12 +9,12 @@ use Rattle.one_table.specs.Committing.{LeavesMade}
 use Rattle.vend_core.specs.Office.{Office}
 use Rattle.book_tables.proofs.HoldsLemmas.{held_as, stands_present}
 use Rattle.book_tables.specs.Holds.{HasOffice, HasOfficeOf, HoldsMembers, StandsFor}
-use Rattle.book_tables.specs.Format.{HasFormat}
+use Rattle.book_tables.specs.Format.{HasFormat, TellsFormat}
 use Rattle.books.specs.Keeps.{RecoversTo, StoreStandsFor}
 use Rattle.book_tables.specs.Making.{BringsOffice}
 use Rattle.book_tables.specs.Reading.{HasTables}
 use Rattle.book_tables.specs.Rows.{present_format}
-use Rattle.books.specs.Opening.{BringsAny, BringsTold, EndsOpening, HasSoundDatabase, HasTablesOf, IsBrought, IsNextSale, LeavesBrought, LeavesRefused, LooksAt, OpensAs, OpensAt, Refuses, ShowsNoOffice, TellsFormat, TellsNoOffice}
+use Rattle.books.specs.Opening.{BringsAny, BringsTold, EndsOpening, HasSoundDatabase, HasTablesOf, IsBrought, IsNextSale, LeavesBrought, LeavesRefused, LooksAt, OpensAs, OpensAt, Refuses, ShowsNoOffice, TellsNoOffice}
 use Rattle.books.specs.Same.{IsSame}
 use Rattle.books.specs.declared.fault.OpenFault.{OpenFault}
 use Rattle.books.specs.declared.fault.OpenFault.TheVariants.{NotAnOffice, Store, Memory}

@@ -1,5 +1,5 @@
 -- What the opening of an office makes of a database.
-use Rattle.std.specs.Prelude.{◌≡◌, ◌<◌, ◌⊎◌, ℕ, zero, suc, ◌+◌, length, Result, IfErr, IfOk, IsTrue, OnErr, OnOk}
+use Rattle.std.specs.Prelude.{◌≡◌, ◌<◌, ◌⊎◌, ℕ, ◌+◌, length, Result, IfErr, IfOk, IsTrue, OnErr, OnOk}
 use Rattle.sqlite.specs.Effect.{Database, IsDatabase}
 use Rattle.sqlite.specs.State.{HasCleanDisk, IsUnchanged, State, Survives}
 use Rattle.sqlite.specs.declared.error.Error.{Error}
@@ -9,7 +9,7 @@ use Rattle.sqlite_trees.specs.Tree.{Trees}
 use Rattle.one_table.specs.Answer.{IsLeft}
 use Rattle.one_table.specs.Committing.{LeavesMade}
 use Rattle.vend_core.specs.Office.{Office}
-use Rattle.book_tables.specs.Format.{HasFormat}
+use Rattle.book_tables.specs.Format.{HasFormat, TellsFormat}
 use Rattle.book_tables.specs.Holds.{HasOffice, HasOfficeOf, StandsFor}
 use Rattle.book_tables.specs.Making.{BringsOffice}
 use Rattle.book_tables.specs.Rows.{present_format}
@@ -24,11 +24,6 @@ use Rattle.books.specs.declared.fault.OpenFault.TheVariants.{NotAnOffice, Store,
 -- format.
 abbrev pub BringsAny : Database → Database → Type 0
 BringsAny old new = (from : ℕ) × (from < present_format) × BringsOffice from old new
-
--- `about` tells the format of the tables, where there are tables
-abbrev pub TellsFormat : ℕ → Database → Type 0
-TellsFormat zero db = Unit {0}
-TellsFormat (suc n) db = HasFormat db (suc n)
 
 -- they were brought to it, and had told their format
 abbrev pub BringsTold : Database → Database → Type 0

@@ -2,6 +2,7 @@ use Rattle.std.proofs.Common.{inl, inr, refl, subst}
 use Rattle.sqlite.specs.Held.{state}
 use Rattle.vend_core.specs.Office.{IsOffice}
 use Rattle.books.specs.Keeps.{seen}
+use Rattle.books.specs.Serving.{IsDecidedFor}
 use Rattle.books.proofs.AttemptLemmas.{committed_ends, failed_ends, handed_on, is_applied, is_decision, none_of, refused_ends, unchanged_ends}
 use Rattle.books.proofs.CommitLemmas.{commits_others, fails_after}
 use Rattle.books.proofs.OthersLemmas.{nothing_others, others_then, tables_stay}
@@ -116,7 +117,7 @@ returns-in_err-commit-clause-failures g c clean tables =
     let early = c.commit.ensures.clean clean in
     let nothing = c.decided.ensures.nothing early tables in
     let commits = c.in_err-commit.ensures.commits clean (tables_stay old mid (nothing_others old mid early nothing) tables) in
-    let decided = λ o held. (
+    let decided : IsDecidedFor c.args.at.now (seen g.S.Store g.T.BlockTransform.forwards c.args.self.now) c.in-Some.edit = λ o held. (
       c.in_ok-change.field-0.change,
       is_decision (g.T.BlockTransform.forwards c.args.self.now.transform) o c.args.at.now c.in_ok-change.field-0.change (c.in_ok-change.ensures.decides early o held.at held.next),
       c.in-Some.is,

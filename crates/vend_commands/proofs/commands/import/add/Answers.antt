@@ -9,7 +9,7 @@ pub returns-in-Ok : goal.returns-in-Ok
 returns-in-Ok g c =
     let at = places_of g.H.Medium.Disk g.H.Salts.SaltSource g.H.OfficeFile c.args.office in
     let o = outputs (sink g.O.Write.contents c.args.out.now) (sink g.O.Write.contents c.visit.new.out) (sink g.E.Write.contents c.args.err.now) (sink g.E.Write.contents c.visit.new.err) in
-    let errand = c.asks in (
+    let errand = c.asks-errand in (
       c.in-Ok.ensures.0,
       Ok c.in-Ok.rows,
       c.in-Ok.ensures.1,
