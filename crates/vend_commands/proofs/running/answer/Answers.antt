@@ -47,14 +47,14 @@ returns g c =
     elim c.match-asked.branch [
       | in-Base w ↦
           done_at store m c.args.asked.now (asks.Base w.in-Base.words) left c.moment_for.result c.in-Some.moment o c.visit.result w.in-Base.is c.moment_for.ensures c.in-Some.is
-          (errand_done store at errand w.asks.result _ _ _ o c.visit.result w.errand-is w.asks.ensures.transform w.asks.ensures.file w.asks.ensures.task c.visit.ensures)
+          (errand_done store at errand w.asks-errand.result _ _ _ o c.visit.result w.errand-is w.asks-errand.ensures.transform w.asks-errand.ensures.file w.asks-errand.ensures.task c.visit.ensures)
       | in-Shift w ↦
           done_at store m c.args.asked.now (asks.Shift w.in-Shift.words) left c.moment_for.result c.in-Some.moment o c.visit.result w.in-Shift.is c.moment_for.ensures c.in-Some.is
-          (errand_done store at errand w.asks.result _ _ _ o c.visit.result w.errand-is w.asks.ensures.transform w.asks.ensures.file (w.asks.ensures.task ∙ ap (Ask c.in-Some.moment) w.shift_request.ensures) c.visit.ensures)
+          (errand_done store at errand w.asks-errand-in-Shift.result _ _ _ o c.visit.result w.errand-is w.asks-errand-in-Shift.ensures.transform w.asks-errand-in-Shift.ensures.file (w.asks-errand-in-Shift.ensures.task ∙ ap (Ask c.in-Some.moment) w.shift_request.ensures) c.visit.ensures)
       | in-Sell w ↦
           done_at store m c.args.asked.now (asks.Sell w.in-Sell.words) left c.moment_for.result c.in-Some.moment o c.visit.result w.in-Sell.is c.moment_for.ensures c.in-Some.is
-          (errand_done store at errand w.asks.result _ _ _ o c.visit.result w.errand-is w.asks.ensures.transform w.asks.ensures.file w.asks.ensures.task c.visit.ensures)
+          (errand_done store at errand w.asks-errand-in-Sell.result _ _ _ o c.visit.result w.errand-is w.asks-errand-in-Sell.ensures.transform w.asks-errand-in-Sell.ensures.file w.asks-errand-in-Sell.ensures.task c.visit.ensures)
       | in-Report w ↦
           done_at store m c.args.asked.now (asks.Report w.in-Report.words) left c.moment_for.result c.in-Some.moment o c.visit.result w.in-Report.is c.moment_for.ensures c.in-Some.is
-          (errand_done store at errand w.to_report.result _ _ _ o c.visit.result w.errand-is w.to_report.ensures.transform w.to_report.ensures.file w.to_report.ensures.task c.visit.ensures)
+          (errand_done store at errand w.to_report-errand.result _ _ _ o c.visit.result w.errand-is w.to_report-errand.ensures.transform w.to_report-errand.ensures.file w.to_report-errand.ensures.task c.visit.ensures)
     ]
