@@ -1,12 +1,13 @@
 -- What a command has of the machine beside its outputs.
 use Rattle.std.specs.Prelude.{◌≡◌, ◌⊎◌, ℕ, ℤ, ⊤, List, Option, None}
 use Rattle.sqlite_disk.specs.declared.Disk as disk
-use Rattle.sqlite_wal.specs.Files.{seen_image}
+use Rattle.sqlite_disk.specs.declared.Files.{Files}
 use Rattle.sqlite_wal.specs.Recovery.{Image}
 use Rattle.books.specs.Keeps.{Seen}
-use Rattle.books.specs.Path.{RefusedAt}
+use Rattle.books.specs.Path.{AreTakenFrom, RefusesFiles}
 use Rattle.books.specs.declared.fault.OpenFault.{OpenFault}
 use Rattle.books.specs.declared.fault.OpenFault.TheVariants.{Store}
+use Rattle.books.specs.declared.refused_files.RefusedFiles.{RefusedFiles}
 use Rattle.sts_fields.specs.Text.{Text}
 use Rattle.command_line.specs.declared.address.Address.{Address}
 use Rattle.vend_commands.specs.Closed.{IsClosed}
@@ -17,14 +18,16 @@ use Rattle.vend_commands.specs.declared.ports.SaltSource as source
 use Rattle.vend_commands.specs.declared.read_fault.ReadFault.{ReadFault}
 
 -- No office was opened: no files were found at its path, or two were, and there was no salt for a new
--- log, or the office in them was refused.
+-- log, or the office in them was refused. Then these are taken from what the refusal gave back, which
+-- says what they hold, and let go.
 pub data IsUnopened {D S : Type 0} (disk : disk.Ghosts D) (salts : source.Ghosts S)
-    (finds : D → D → Type 0) (fails : OpenFault → Type 0) (fault : OpenFault) : Type 0 where
-  unfound : fails fault → IsUnopened disk salts finds fails fault
+    (finds lets_go : D → D → Type 0) (fails : OpenFault → Type 0) (fault : OpenFault) : Type 0 where
+  unfound : fails fault → IsUnopened disk salts finds lets_go fails fault
   unsalted : (log db : D) → finds log db → (it : S) → salts.lacks it → fault ≡ Store
-      → IsUnopened disk salts finds fails fault
-  refused : (log db : D) → finds log db → RefusedAt disk (seen_image disk log db) fault
-      → IsUnopened disk salts finds fails fault
+      → IsUnopened disk salts finds lets_go fails fault
+  refused : (found left : Files D) → finds found.log found.db → (refused : RefusedFiles D disk)
+      → RefusesFiles found fault refused → AreTakenFrom refused left → lets_go left.log left.db
+      → IsUnopened disk salts finds lets_go fails fault
 
 -- Stopped books lost their file: there was no salt for a new log, or with a salt that was drawn the
 -- office was not opened again.
@@ -79,7 +82,7 @@ places_of {H} {D} {S} disk salts of office path = record {
   image = of.image office path;
   finds = (log : D) × (db : D) × of.finds office path log db;
   opens = OpensIn disk (of.image office path);
-  fails = IsUnopened disk salts (of.finds office path) (of.fails office path);
+  fails = IsUnopened disk salts (of.finds office path) of.lets_go (of.fails office path);
   closes = IsClosed disk of.lets_go;
   loses = IsUnreopened salts;
 }

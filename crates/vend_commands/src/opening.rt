@@ -77,7 +77,11 @@ pub(crate) fn open_office<H: OfficeFile>(
     };
     match Books::open_files(alloc, Files { log, db }, Options::new(salt), transform) {
         Ok(books) => Ok(books),
-        Err((fault, _)) => Err(fault),
+        Err((fault, refused)) => {
+            let files = refused.into_files();
+            H::let_go(files.log, files.db);
+            Err(fault)
+        }
     }
 }
 

@@ -19,6 +19,6 @@ returns-in-Ok-open_files-clause-opened g c = record {
   };
 }
 
-pub returns-clause-fails : goal.returns-clause-fails
-returns-clause-fails g c =
-    refused c.in-Ok.files.0 c.in-Ok.files.1 c.in-Ok.ensures.finds (c.in-Err-open_files.field-0-1, c.in-Err-open_files.ensures.refused)
+pub returns-in-Err-open_files-clause-fails : goal.returns-in-Err-open_files-clause-fails
+returns-in-Err-open_files-clause-fails g c =
+    refused (record { log = c.in-Ok.files.0; db = c.in-Ok.files.1 }) c.into_files-files.result c.in-Ok.ensures.finds c.in-Err-open_files.refused c.in-Err-open_files.ensures.refused c.into_files-files.ensures c.let_go.ensures
