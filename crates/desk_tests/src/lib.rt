@@ -39,6 +39,4 @@ mod rows;
 #[cfg(test)]
 mod streams;
 #[cfg(test)]
-mod telling;
-#[cfg(test)]
 mod wanted;
