@@ -1,10 +1,13 @@
 //! A store that fails within `serve`: the next connection is served, and a repeated ref is one sale.
+//! Or it fails for good: then nobody is served after it.
 mod lapse;
+mod lost;
 mod ports;
 
 use crate::folder;
-use crate::lapses::ports::{LapsingOffice, NoTexts, Texts};
-use crate::support::words_of;
+use crate::lapses::lapse::{Faults, NO_FAULTS};
+use crate::lapses::ports::{LapsingOffice, NoTexts, Texts, Trouble};
+use crate::support::{Failing, words_of};
 use desk::Script;
 use std::fs;
 use std::test::Fail;
@@ -45,32 +48,49 @@ struct Outcome {
     replies: String,
 }
 
-// The messages are served by a new office of which one call fails, of the log or of the other file.
-fn served(rt: &HostRuntime, is_log: bool, before: u64, failing: u64) -> Result<Outcome, Fail> {
+// What is told once the door listens.
+const LISTENING: &str = "listening 127.0.0.1:80\n";
+
+// The messages are served by a new office with some trouble.
+fn served(rt: &HostRuntime, trouble: Trouble, errors_room: usize) -> Result<Outcome, Fail> {
+    served_all(rt, trouble, MESSAGES, errors_room)
+}
+
+// So are these, on a connection each. The error output takes so many bytes.
+fn served_all(
+    rt: &HostRuntime,
+    trouble: Trouble,
+    messages: &[&str],
+    errors_room: usize,
+) -> Result<Outcome, Fail> {
     fs::write(rt, "replies", "")?;
     let ports = Ports {
         office: LapsingOffice {
             alloc: rt.alloc(),
-            is_log,
-            before,
-            failing,
+            trouble,
         },
         texts: NoTexts,
         clock: Script::new(1388534430, &[]),
         door: Texts {
             rt,
-            texts: MESSAGES,
+            texts: messages,
             next: 0,
         },
     };
-    let line = "serve --file office.db --listen 127.0.0.1:80 --connections 10";
+    let line = format!(in rt.alloc();
+        "serve --file office.db --listen 127.0.0.1:80 --connections {}",
+        messages.len()
+    )?;
     let mut out = Vec::new(rt.alloc());
-    let mut err = Vec::new(rt.alloc());
+    let mut err = Failing {
+        taken: Vec::new(rt.alloc()),
+        room: errors_room,
+    };
     let end = run_over(
         rt.alloc(),
         rt,
         ports,
-        &words_of(rt, line)?,
+        &words_of(rt, line.as_str())?,
         &mut Watched::new(&mut out),
         &mut Watched::new(&mut err),
     );
@@ -79,9 +99,18 @@ fn served(rt: &HostRuntime, is_log: bool, before: u64, failing: u64) -> Result<O
     }
     Ok(Outcome {
         end,
-        errors: String::from_utf8(err)?,
+        errors: String::from_utf8(err.taken)?,
         replies: fs::read_to_string(rt, "replies")?,
     })
+}
+
+// Some calls of one file fail, and no sync.
+fn calls_fail(is_log: bool, before: u64, failing: u64) -> Trouble {
+    Trouble {
+        is_log,
+        calls: Faults { before, failing },
+        syncs: NO_FAULTS,
+    }
 }
 
 // How often a text stands in another.
@@ -101,7 +130,7 @@ fn has_failed(ran: &Outcome) -> Result<bool, Fail> {
     let sold = count_in(replies, SOLD);
     let shown = count_in(replies, TOTALS);
     let is_right = ran.end == End::Done
-        && ran.errors.as_str() == "listening 127.0.0.1:80\n"
+        && ran.errors.as_str() == LISTENING
         && failed <= 1
         && sold >= 1
         && shown >= 1
@@ -124,7 +153,7 @@ fn sweep(rt: &HostRuntime, is_log: bool) -> Result<u64, Fail> {
     let path = folder::enter(rt)?;
     let mut failures: u64 = 0;
     for before in 0..CALLS {
-        let ran = served(rt, is_log, before, 1)?;
+        let ran = served(rt, calls_fail(is_log, before, 1), usize::MAX)?;
         if has_failed(&ran)? {
             if before >= PAST {
                 return Err(Fail::new(format_args!("there are calls past {before}")));
@@ -139,10 +168,25 @@ fn sweep(rt: &HostRuntime, is_log: bool) -> Result<u64, Fail> {
 #[test]
 fn without_a_failure(rt: HostRuntime) -> Result<(), Fail> {
     let path = folder::enter(&rt)?;
-    let ran = served(&rt, true, 0, 0)?;
+    let ran = served(&rt, calls_fail(true, 0, 0), usize::MAX)?;
     assert!(rt; !has_failed(&ran)?);
     assert_eq!(rt; count_in(ran.replies.as_str(), SOLD), 2);
     assert_eq!(rt; count_in(ran.replies.as_str(), TOTALS), 2);
+    folder::remove(&rt, path)
+}
+
+#[test]
+fn many_connections(rt: HostRuntime) -> Result<(), Fail> {
+    let path = folder::enter(&rt)?;
+    let mut messages = Vec::from_slice(rt.alloc(), &[TARIFF, METER, SHIFT, SALE])?;
+    for _ in 0..1_000 {
+        messages.push(SHOWN)?;
+    }
+    let ran = served_all(&rt, calls_fail(true, 0, 0), &messages, usize::MAX)?;
+    assert_eq!(rt; ran.end, End::Done);
+    assert_eq!(rt; ran.errors.as_str(), LISTENING);
+    assert_eq!(rt; count_in(ran.replies.as_str(), SOLD), 1);
+    assert_eq!(rt; count_in(ran.replies.as_str(), TOTALS), 1_000);
     folder::remove(&rt, path)
 }
 

@@ -7,9 +7,9 @@ use vend_commands::run;
 
 /// Takes so many bytes, at most three a call, and then fails.
 #[derive(Drop)]
-struct Failing {
-    taken: Vec<u8>,
-    room: usize,
+pub(crate) struct Failing {
+    pub(crate) taken: Vec<u8>,
+    pub(crate) room: usize,
 }
 
 impl Write for Failing {

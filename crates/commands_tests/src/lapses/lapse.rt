@@ -1,47 +1,63 @@
 //! A disk that lapses: some of its calls fail, and it goes on as before.
-ghost use Rattle.std.specs.Prelude.{◌+◌, ◌≡◌, false};
+ghost use Rattle.std.specs.Prelude.{◌+◌, ◌≡◌, ◌&&◌, false, not};
 ghost use Rattle.sqlite_disk.specs.Disk.{CountsFault};
 ghost use Rattle.sqlite_disk.specs.Refusal.{finds_no_room};
 
 use sqlite_disk::{Disk, Tally};
 use std::io;
 
-/// Passes so many calls on, then fails some, and passes all others on. A sync does not fail, since
-/// nothing may go on after one that did.
+/// Which calls fail: after so many that do not, so many.
+#[derive(Clone, Copy)]
+pub(crate) struct Faults {
+    pub(crate) before: u64,
+    pub(crate) failing: u64,
+}
+
+/// No call fails.
+pub(crate) const NO_FAULTS: Faults = Faults {
+    before: 0,
+    failing: 0,
+};
+
+/// Passes its calls on, but for those that fail. After a failed sync it is not used any more.
 #[derive(Drop)]
 pub(crate) struct Lapse<D: Disk> {
     inner: D,
-    before: u64,
-    failing: u64,
+    calls: Faults,
+    syncs: Faults,
     refused: u64,
+    sync_refused: bool,
 }
 
 impl<D: Disk> Lapse<D> {
-    pub(crate) fn new(inner: D, before: u64, failing: u64) -> Lapse<D>
-        ensures { result.inner ≡ inner }
+    /// Of its syncs some fail, and of all its other calls some.
+    pub(crate) fn new(inner: D, calls: Faults, syncs: Faults) -> Lapse<D>
+        ensures inner { result.inner ≡ inner }
+        ensures usable { result.sync_refused ≡ false }
     {
         Lapse {
             inner,
-            before,
-            failing,
+            calls,
+            syncs,
             refused: 0,
+            sync_refused: false,
         }
     }
 }
 
 // Counts a call, which fails where it is one of those.
-fn count(before: &mut u64, failing: &mut u64, refused: &mut u64) -> io::Result<()>
+fn count(faults: &mut Faults, refused: &mut u64) -> io::Result<()>
     ensures faults { CountsFault result refused.old refused.new }
     ensures kind { finds_no_room result ≡ false }
 {
-    if *before > 0 {
-        *before -= 1;
+    if faults.before > 0 {
+        faults.before -= 1;
         return Ok(());
     }
-    if *failing == 0 {
+    if faults.failing == 0 {
         return Ok(());
     }
-    *failing -= 1;
+    faults.failing -= 1;
     *refused = refused.saturating_add(1);
     Err(io::Error::other("the disk lapses"))
 }
@@ -51,7 +67,7 @@ impl<D: Disk> Disk for Lapse<D> {
 
     ghost may_leave = { λ l. D.Disk.may_leave l.inner };
 
-    ghost is_usable = { λ l. D.Disk.is_usable l.inner };
+    ghost is_usable = { λ l. D.Disk.is_usable l.inner && not l.sync_refused };
 
     ghost faults = { λ l. D.Disk.faults l.inner + l.refused };
 
@@ -84,35 +100,39 @@ impl<D: Disk> Disk for Lapse<D> {
     }
 
     fn may_be_used(&self) -> bool {
-        self.inner.may_be_used()
+        self.inner.may_be_used() && !self.sync_refused
     }
 
     fn len(&mut self) -> io::Result<usize> {
-        count(&mut self.before, &mut self.failing, &mut self.refused)?;
+        count(&mut self.calls, &mut self.refused)?;
         self.inner.len()
     }
 
     fn read_at(&mut self, at: usize, buf: &mut [u8]) -> io::Result<()> {
-        count(&mut self.before, &mut self.failing, &mut self.refused)?;
+        count(&mut self.calls, &mut self.refused)?;
         self.inner.read_at(at, buf)
     }
 
     fn read_checked(&mut self, key: u64, want: u64, at: usize, buf: &mut [u8]) -> io::Result<()> {
-        count(&mut self.before, &mut self.failing, &mut self.refused)?;
+        count(&mut self.calls, &mut self.refused)?;
         self.inner.read_checked(key, want, at, buf)
     }
 
     fn write_at(&mut self, at: usize, bytes: &[u8]) -> io::Result<()> {
-        count(&mut self.before, &mut self.failing, &mut self.refused)?;
+        count(&mut self.calls, &mut self.refused)?;
         self.inner.write_at(at, bytes)
     }
 
     fn set_len(&mut self, len: usize) -> io::Result<()> {
-        count(&mut self.before, &mut self.failing, &mut self.refused)?;
+        count(&mut self.calls, &mut self.refused)?;
         self.inner.set_len(len)
     }
 
     fn sync(&mut self) -> io::Result<()> {
+        if let Err(error) = count(&mut self.syncs, &mut self.refused) {
+            self.sync_refused = true;
+            return Err(error);
+        }
         self.inner.sync()
     }
 }

@@ -1,7 +1,7 @@
 //! A machine in memory: an office's file that lapses, and connections that are texts.
 ghost use Rattle.std.specs.Prelude.{⊤, []};
 
-use crate::lapses::lapse::Lapse;
+use crate::lapses::lapse::{Faults, Lapse, NO_FAULTS};
 use books::OpenFault;
 use command_line::Address;
 use sqlite_disk::Memory;
@@ -10,14 +10,19 @@ use std::fs::OpenOptions;
 use std::io::{self, Read, Write};
 use vend_commands::{Door, OfficeFile, ReadFault, SaltSource, TextFiles};
 
-/// The file of a new office. So many calls of its log, or of its database file, succeed, and then
-/// some fail.
+/// What fails of an office's file: some calls of its log, or of its database file.
+#[derive(Clone, Copy)]
+pub(crate) struct Trouble {
+    pub(crate) is_log: bool,
+    pub(crate) calls: Faults,
+    pub(crate) syncs: Faults,
+}
+
+/// The file of a new office.
 #[derive(Drop)]
 pub(crate) struct LapsingOffice {
     pub(crate) alloc: Global,
-    pub(crate) is_log: bool,
-    pub(crate) before: u64,
-    pub(crate) failing: u64,
+    pub(crate) trouble: Trouble,
 }
 
 /// The same salt each time.
@@ -52,14 +57,17 @@ impl OfficeFile for LapsingOffice {
     }
 
     fn find(self, _path: &str) -> Result<(Lapse<Memory>, Lapse<Memory>), OpenFault> {
-        let (of_log, of_db) = if self.is_log {
-            (self.failing, 0)
-        } else {
-            (0, self.failing)
-        };
-        let log = Lapse::new(Memory::new(self.alloc), self.before, of_log);
-        let db = Lapse::new(Memory::new(self.alloc), self.before, of_db);
-        Ok((log, db))
+        let Trouble {
+            is_log,
+            calls,
+            syncs,
+        } = self.trouble;
+        let sound = Lapse::new(Memory::new(self.alloc), NO_FAULTS, NO_FAULTS);
+        let lapsing = Lapse::new(Memory::new(self.alloc), calls, syncs);
+        if is_log {
+            return Ok((lapsing, sound));
+        }
+        Ok((sound, lapsing))
     }
 
     fn let_go(log: Lapse<Memory>, db: Lapse<Memory>)

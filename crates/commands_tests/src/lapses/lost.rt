@@ -1,0 +1,142 @@
+//! A store that fails for good: what was answered stands, and nobody is served after it.
+use crate::folder;
+use crate::lapses::lapse::{Faults, NO_FAULTS};
+use crate::lapses::ports::Trouble;
+use crate::lapses::{CALLS, LISTENING, MESSAGES, Outcome, calls_fail, count_in, served};
+use std::test::Fail;
+use vend_commands::End;
+
+const FAILED_REPLY: &str = "HTTP/1.1 503 Service Unavailable\r\nContent-Type: application/json\r\n\
+    Content-Length: 30\r\n\r\n{\"error\":\"Store\",\"refusal\":16}";
+
+// The calls of the opening fail: nobody is served.
+fn is_unopened(ran: &Outcome) -> bool {
+    ran.end == End::Refused && ran.errors.as_str() == "open 3 Store\n" && ran.replies.is_empty()
+}
+
+// The file cannot be opened again after a connection that is not the last.
+fn is_lost(ran: &Outcome, connections: usize) -> bool {
+    ran.end == End::Refused
+        && ran.errors.as_str() == "listening 127.0.0.1:80\nopen 3 Store\n"
+        && connections < MESSAGES.len()
+}
+
+// All connections are served.
+fn is_served(ran: &Outcome, connections: usize) -> bool {
+    ran.end == End::Done && ran.errors.as_str() == LISTENING && connections == MESSAGES.len()
+}
+
+// Which way a run went.
+#[derive(Clone, Copy, PartialEq, Eq)]
+enum Way {
+    /// Nobody met a failure.
+    Whole,
+    /// It was not opened, or the last connection met the failure.
+    Failed,
+    /// The office could not be opened again.
+    Lost,
+}
+
+// A reply that tells of the failure is the last one, and those before it are the first of a run
+// without a failure.
+fn way_of(ran: &Outcome, whole: &str) -> Result<Way, Fail> {
+    if is_unopened(ran) {
+        return Ok(Way::Failed);
+    }
+    let replies = ran.replies.as_str();
+    let connections = count_in(replies, "HTTP/1.1 ");
+    if replies == whole && is_served(ran, connections) {
+        return Ok(Way::Whole);
+    }
+    let answered = replies.strip_suffix(FAILED_REPLY);
+    if answered.is_some_and(|before| whole.starts_with(before)) {
+        if is_served(ran, connections) {
+            return Ok(Way::Failed);
+        }
+        if is_lost(ran, connections) {
+            return Ok(Way::Lost);
+        }
+    }
+    Err(Fail::new(format_args!("{ran:?}")))
+}
+
+// Of one file each call but a sync fails from one on, or each sync.
+fn failing_from(is_log: bool, is_sync: bool, before: u64) -> Trouble {
+    let faults = Faults {
+        before,
+        failing: u64::MAX,
+    };
+    if is_sync {
+        return Trouble {
+            is_log,
+            calls: NO_FAULTS,
+            syncs: faults,
+        };
+    }
+    Trouble {
+        is_log,
+        calls: faults,
+        syncs: NO_FAULTS,
+    }
+}
+
+// Answers how often the office could not be opened again. There are more runs than calls.
+fn sweep(rt: &HostRuntime, is_log: bool, is_sync: bool, runs: u64) -> Result<u64, Fail> {
+    let path = folder::enter(rt)?;
+    let whole = served(rt, calls_fail(is_log, 0, 0), usize::MAX)?.replies;
+    let mut lost: u64 = 0;
+    let mut last = Way::Whole;
+    for before in 0..runs {
+        let ran = served(rt, failing_from(is_log, is_sync, before), usize::MAX)?;
+        last = way_of(&ran, whole.as_str())?;
+        if last == Way::Lost {
+            lost = lost.saturating_add(1);
+        }
+    }
+    folder::remove(rt, path)?;
+    if last == Way::Whole {
+        return Ok(lost);
+    }
+    Err(Fail::new("there are calls past the last run"))
+}
+
+#[test]
+fn the_log_fails_for_good(rt: HostRuntime) -> Result<(), Fail> {
+    assert!(rt; sweep(&rt, true, false, CALLS)? > 0);
+    Ok(())
+}
+
+// What a request writes goes to the log, so none need meet this.
+#[test]
+fn the_database_file_fails_for_good(rt: HostRuntime) -> Result<(), Fail> {
+    let _ = sweep(&rt, false, false, CALLS)?;
+    Ok(())
+}
+
+#[test]
+fn syncs_of_the_log_fail(rt: HostRuntime) -> Result<(), Fail> {
+    assert!(rt; sweep(&rt, true, true, 60)? > 0);
+    Ok(())
+}
+
+#[test]
+fn syncs_of_the_database_file_fail(rt: HostRuntime) -> Result<(), Fail> {
+    let _ = sweep(&rt, false, true, 60)?;
+    Ok(())
+}
+
+// The line that says where it listens is cut after each of its bytes.
+#[test]
+fn nobody_is_served_where_it_is_not_told(rt: HostRuntime) -> Result<(), Fail> {
+    let path = folder::enter(&rt)?;
+    for room in 0..LISTENING.len() {
+        let ran = served(&rt, calls_fail(true, 0, 0), room)?;
+        let told = LISTENING.get(..room).unwrap_or("no text ends here");
+        if ran.end != End::Refused || ran.errors.as_str() != told || !ran.replies.is_empty() {
+            return Err(Fail::new(format_args!("{room}: {ran:?}")));
+        }
+    }
+    let ran = served(&rt, calls_fail(true, 0, 0), LISTENING.len())?;
+    assert!(rt; is_served(&ran, count_in(ran.replies.as_str(), "HTTP/1.1 ")));
+    folder::remove(&rt, path)
+}
