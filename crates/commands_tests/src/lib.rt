@@ -6,6 +6,8 @@ mod bases;
 #[cfg(test)]
 mod cuts;
 #[cfg(test)]
+mod dated;
+#[cfg(test)]
 mod faults;
 #[cfg(test)]
 mod files;
