@@ -45,3 +45,38 @@ fn help_names_each_option(rt: HostRuntime) -> Result<(), Fail> {
     ];
     expect_help(&rt, "quote --help", &texts)
 }
+
+// The words for later years, as the office's documents have them.
+#[test]
+fn help_names_the_later_words(rt: HostRuntime) -> Result<(), Fail> {
+    expect_help(&rt, "--help", &["\n  base "])?;
+    let texts = [
+        "Usage: vend base",
+        "--transform <NAME>",
+        "plain or demo",
+        "--file <FILE>",
+        "--meter <NUMBER>",
+        "--base <YEAR>",
+        "1993, 2014 or 2035",
+        "--at <SECONDS>",
+        "725846400 to 4102444799",
+        "Exit status",
+    ];
+    for line in ["base --help", "base -h", "help base"] {
+        expect_help(&rt, line, &texts)?;
+    }
+    let texts = [
+        "Usage: vend report",
+        "totals",
+        "shift, receipt, totals or sales",
+        "1 to 1000000000",
+    ];
+    for line in ["report --help", "report -h", "help report"] {
+        expect_help(&rt, line, &texts)?;
+    }
+    let texts = ["Usage: vend meter", "clear", "<TOKEN>"];
+    for line in ["meter --help", "meter -h", "help meter"] {
+        expect_help(&rt, line, &texts)?;
+    }
+    Ok(())
+}
