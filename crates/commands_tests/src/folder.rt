@@ -59,9 +59,10 @@ pub(crate) fn fill(rt: &HostRuntime) -> Result<(), Fail> {
     expect_done(rt, &rows)
 }
 
-/// Does what a text of SQL says in `office.db`.
+/// Does what a text of SQL says in `office.db`, which then is one file.
 pub(crate) fn make(rt: &HostRuntime, sql: &str) -> Result<(), Fail> {
     let mut conn = Connection::open(rt, "office.db")?;
     conn.execute_batch(sql)?;
+    conn.close()?;
     Ok(())
 }

@@ -26,6 +26,8 @@ mod office_words;
 #[cfg(test)]
 mod offices;
 #[cfg(test)]
+mod older;
+#[cfg(test)]
 mod openings;
 #[cfg(test)]
 mod quotes;
