@@ -1,11 +1,13 @@
 //! The desk over sockets of this machine: what is served, and what is told.
 use crate::folder;
 use crate::support::{
-    expect, expect_bad_word, expect_done, expect_help, expect_no_command, expect_refused, words_of,
+    expect, expect_bad_word, expect_done, expect_help, expect_no_command, expect_refused,
+    run_within, words_of,
 };
 use books::Books;
 use desk::{Desk, Script};
 use sqlite::Unknown;
+use std::fs;
 use std::io::{self, ErrorKind, Read, Write};
 use std::net::{OpenListener, OpenStream, Shutdown, SocketAddr, TcpListener, TcpStream};
 use std::test::Fail;
@@ -164,6 +166,27 @@ fn a_sale_is_asked_for_again(rt: HostRuntime) -> Result<(), Fail> {
     folder::remove(&rt, path)
 }
 
+// Once it has ended, the database file alone holds what was sold.
+#[test]
+fn one_file_is_left(rt: HostRuntime) -> Result<(), Fail> {
+    let path = folder::enter(&rt)?;
+    folder::fill(&rt)?;
+    let sale = "POST /sales HTTP/1.1\r\nHost: d\r\nContent-Length: 64\r\n\r\n\
+        {\"meter\":\"12345678903\",\"operator\":\"ann\",\"ref\":\"B-1\",\"tender\":10}";
+    let _ = replies_to(&rt, &[sale])?;
+    fs::copy(&rt, "office.db", "copy.db")?;
+    let line = "report --file copy.db --kind totals";
+    expect_done(&rt, &[(line, "shift 1 sales 2 tenths 2 cash 20\n")])?;
+    // So too where nobody was served: an older file was brought to the present format.
+    folder::make(&rt, "DROP TABLE dated_steps; UPDATE about SET format = 3")?;
+    let line = "serve --file office.db --listen 127.0.0.1:0 --connections 1";
+    let ran = run_within(&rt, &words_of(&rt, line)?, usize::MAX, 5)?;
+    assert_eq!(rt; ran.status, 1);
+    let _ = fs::remove_file(&rt, "office.db-wal");
+    folder::make(&rt, "DELETE FROM dated_steps")?;
+    folder::remove(&rt, path)
+}
+
 #[test]
 fn a_port_that_is_taken(rt: HostRuntime) -> Result<(), Fail> {
     let path = folder::enter(&rt)?;
@@ -174,6 +197,24 @@ fn a_port_that_is_taken(rt: HostRuntime) -> Result<(), Fail> {
         listener.local_addr()?.port()
     )?;
     expect(&rt, &words_of(&rt, line.as_str())?, "", "net\n", 1)?;
+    folder::remove(&rt, path)
+}
+
+// Nobody is waited for where the error output does not take the line that says where it listens.
+#[test]
+fn where_it_listens_is_cut(rt: HostRuntime) -> Result<(), Fail> {
+    let path = folder::enter(&rt)?;
+    folder::fill(&rt)?;
+    let line = "serve --file office.db --listen 127.0.0.1:0 --connections 1";
+    let told = "listening 127.0.0.1:";
+    for room in 0..=told.len() {
+        let ran = run_within(&rt, &words_of(&rt, line)?, usize::MAX, room)?;
+        let is_right = ran.output.is_empty() && told.get(..room) == Some(ran.errors.as_str());
+        if !is_right || ran.status != 1 {
+            return Err(Fail::new(format_args!("{room}: {ran:?}")));
+        }
+    }
+    expect_replies(&rt, &[(RECEIPT_ASKED, RECEIPT_REPLY)])?;
     folder::remove(&rt, path)
 }
 
@@ -243,7 +284,7 @@ fn words_of_serve(rt: HostRuntime) -> Result<(), Fail> {
     expect_bad_word(&rt, &lines)?;
     // None of them made the file.
     expect_done(&rt, &[("quote :100 0 10", "1 10 0\n")])?;
-    if std::fs::exists(&rt, "office.db")? {
+    if fs::exists(&rt, "office.db")? {
         return Err(Fail::new("a file was made"));
     }
     folder::remove(&rt, path)
