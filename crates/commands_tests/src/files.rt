@@ -41,6 +41,29 @@ fn files_have_any_name(rt: HostRuntime) -> Result<(), Fail> {
     folder::remove(&rt, path)
 }
 
+// As long as a name may be, and a byte longer.
+#[test]
+fn a_long_name(rt: HostRuntime) -> Result<(), Fail> {
+    let path = folder::enter(&rt)?;
+    let name = "n".repeat(rt.alloc(), 247)?;
+    let folder = "d".repeat(rt.alloc(), 255)?;
+    fs::create_dir(&rt, folder.as_str())?;
+    for file in [
+        &name,
+        &format!(in rt.alloc(); "./{folder}/../{folder}/{name}")?,
+    ] {
+        let line = format!(in rt.alloc();
+            "shift --file {file} --operator ann --at 1388534430 open"
+        )?;
+        expect_done(&rt, &[(line.as_str(), "shift 1\n")])?;
+        let line = format!(in rt.alloc(); "report --kind totals --file {file}")?;
+        expect_done(&rt, &[(line.as_str(), "shift 1 sales 0 tenths 0 cash 0\n")])?;
+    }
+    let line = format!(in rt.alloc(); "report --kind sales --file n{name}")?;
+    expect_refused(&rt, &[(line.as_str(), "", "open 3 Store\n")])?;
+    folder::remove(&rt, path)
+}
+
 // Above 64 KiB, with its last row behind them.
 #[test]
 fn a_long_file_is_read_whole(rt: HostRuntime) -> Result<(), Fail> {

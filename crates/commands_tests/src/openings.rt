@@ -46,6 +46,7 @@ fn a_path_that_cannot_be_opened(rt: HostRuntime) -> Result<(), Fail> {
             "open 3 Store\n",
         ),
         ("report --file . --kind sales", "", "open 3 Store\n"),
+        ("report --file :memory: --kind sales", "", "open 3 Store\n"),
     ];
     expect_refused(&rt, &rows)?;
     folder::remove(&rt, path)
