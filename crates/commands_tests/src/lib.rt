@@ -36,6 +36,8 @@ mod selfchecks;
 #[cfg(test)]
 mod serving;
 #[cfg(test)]
+mod sizes;
+#[cfg(test)]
 mod support;
 #[cfg(test)]
 mod trials;
