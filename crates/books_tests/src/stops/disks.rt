@@ -66,6 +66,16 @@ impl Stopping {
             },
         }
     }
+
+    /// As it is told.
+    pub(crate) fn name(self) -> &'static str {
+        match self {
+            Stopping::Log(Room::Ample) => "the log stops",
+            Stopping::Log(Room::Little) => "the log stops, with little room",
+            Stopping::Database(Room::Ample) => "the database stops",
+            Stopping::Database(Room::Little) => "the database stops, with little room",
+        }
+    }
 }
 
 /// What a life ends with.

@@ -15,6 +15,7 @@ use std::test::Fail;
 // What is sent in each life, and what the tables have at the end.
 #[derive(Clone, Copy)]
 struct Sending {
+    name: &'static str,
     // The statements that make the file of the first life; none, and there is no file.
     begin: &'static [&'static str],
     script: &'static str,
@@ -23,6 +24,7 @@ struct Sending {
 
 // A tariff, a meter, a shift, and three orders.
 const THREE_SALES: Sending = Sending {
+    name: "three sales",
     begin: &[],
     script: "
 > 1388534430 add-tariff flat :100
@@ -67,6 +69,7 @@ const FIRST_ROWS: &str = "INSERT INTO about VALUES (1, 1); \
 // The same in a file of format 1 that has the first of the sales, with a meter that is moved, and with
 // steps of a later day for two tariffs, of which one comes with an import.
 const LATER: Sending = Sending {
+    name: "later requests",
     begin: &[FIRST_TABLES, FIRST_ROWS],
     script: "
 > 1388534430 add-tariff flat :100
@@ -368,9 +371,12 @@ fn later_by_database() -> &'static [Sweep] {
     &LATER_BY_DATABASE
 }
 
-fn all(rt: &(impl Abort + AllocGlobal), sweeps: &[Sweep]) -> Result<(), Fail> {
+fn all(rt: &(impl Abort + AllocGlobal + Print), sweeps: &[Sweep]) -> Result<(), Fail> {
     for sweep in sweeps {
-        assert_eq!(rt; first_lives(rt, sweep)?, sweep.pairs);
+        let pairs = first_lives(rt, sweep)?;
+        let (sent, stops) = (sweep.sending.name, sweep.stopping.name());
+        println!(rt; "{pairs} pairs of lives, {sent}: {stops}")?;
+        assert_eq!(rt; pairs, sweep.pairs);
     }
     Ok(())
 }
