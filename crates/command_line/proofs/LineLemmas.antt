@@ -12,12 +12,12 @@ use Rattle.clap.specs.Matches.{found_of, subcommand_name_of}
 use Rattle.clap.specs.declared.builder.command.Command.{Command}
 use Rattle.clap.specs.declared.parser.matches.SubCommand.{SubCommand}
 use Rattle.clap.specs.declared.parser.matches.ArgMatches.TheViews.{out-ArgMatches, out-SubCommand}
-use Rattle.clap.specs.Simple.{App, HasMatchesOf, Shape, app_of, is_simple, subcommand_rows, subcommand_rows_of, with_subcommand}
+use Rattle.clap.specs.Simple.{App, HasMatchesOf, Shape, app_of, is_simple, subcommand_of, subcommand_rows, subcommand_rows_of, with_subcommand}
 use Rattle.clap.specs.Walk.{Row, rows_of}
 use Rattle.clap.specs.declared.error.Error.{Error}
 use Rattle.clap.specs.declared.parser.matches.ArgMatches.{ArgMatches}
 use Rattle.sts_fields.specs.Text.{Text}
-use Rattle.command_line.specs.Line.{IsDescribed, command_in, faults_in, line_of_commands, vend_line}
+use Rattle.command_line.specs.Line.{IsDescribed, command_in, faults_in, line_of_commands, meant_by, vend_line}
 use Rattle.command_line.specs.Said.{argument_rows}
 
 pub is_simple_line : is_simple vend_line ≡ true
@@ -29,14 +29,16 @@ unfolding clap_on_literals
 is_free_line = refl
 
 -- what a parse of the line gives
-pub parsed : (r : Result ArgMatches Error) (app : App) (words : List Text) → app ≡ vend_line → (is_simple_and_free app ≡ true → FailsBy (fault_of app words) r) → IfOk r (HasMatchesOf app words)
+pub parsed : (r : Result ArgMatches Error) (app : App) (meant words : List Text) → meant ≡ meant_by words → app ≡ vend_line → (is_simple_and_free app ≡ true → FailsBy (fault_of app meant) r) → IfOk r (HasMatchesOf app meant)
     → MatchResult r (λ matches. (faults_in words ≡ []) × (subcommand_rows_of matches ≡ command_in words)) (HasKind (faults_in words))
 unfolding faults_in command_in
-parsed (Ok m) app words is kinds matches =
-    let same = subst (λ (a : App). FailsBy (fault_of a words) (Ok m)) is (kinds (ap is_simple_and_free is ∙ is_free_line)) in
-    let rows = subst (λ (a : App). HasMatchesOf a words m) is matches in
-    (same, (rows is_simple_line).1)
-parsed (Err e) app words is kinds matches = subst (λ (a : App). HasKind (fault_of a words) e) is (kinds (ap is_simple_and_free is ∙ is_free_line))
+parsed (Ok m) app meant words means is kinds matches =
+    let same = subst (λ (a : App). FailsBy (fault_of a meant) (Ok m)) is (kinds (ap is_simple_and_free is ∙ is_free_line)) in
+    let rows = subst (λ (a : App). HasMatchesOf a meant m) is matches in
+    subst (λ (texts : List Text). (fault_of vend_line texts ≡ []) × (subcommand_rows_of m ≡ subcommand_of vend_line texts)) means (same, (rows is_simple_line).1)
+parsed (Err e) app meant words means is kinds matches =
+    let same = subst (λ (a : App). HasKind (fault_of a meant) e) is (kinds (ap is_simple_and_free is ∙ is_free_line)) in
+    subst (λ (texts : List Text). HasKind (fault_of vend_line texts) e) means same
 
 -- a command more
 pub one_more : (before : List Shape) (shape : Shape) (line sub : Command) (r : Result Command AllocError) → app_of line ≡ line_of_commands before → IsDescribed shape sub → IfOk r (λ new. AddsSubcommand line sub new)

@@ -1,5 +1,7 @@
 -- The command line: the options and the words of each command, as `clap` has them.
-use Rattle.std.specs.Prelude.{◌≡◌, Bool, true, false, List, [], ◌∷◌, Option, Some, codes}
+use Rattle.std.specs.Prelude.{◌≡◌, ◌&&◌, ◌||◌, Bool, true, false, if◌then◌else◌, eqb, List, [], ◌∷◌, Option, Some, codes}
+use Rattle.std.specs.Cmp.Lexicographic.{pointwise}
+use Rattle.std.specs.List.{starts_with}
 use Rattle.clap.specs.Lexer.{usize_max}
 use Rattle.clap.specs.Walk.{Row, Rule}
 use Rattle.clap.specs.Simple.{App, Shape, app_of, new_rule, new_shape, subcommand_of}
@@ -100,6 +102,7 @@ abbrev pub line_of_commands : List Shape → App
 line_of_commands shapes = record {
   top = record (new_shape (codes "vend")) {
     is_leaf = has_none shapes;
+    has_version = true;
     no_binary_name = true;
     subcommand_required = true;
     arg_required_else_help = true;
@@ -110,13 +113,29 @@ line_of_commands shapes = record {
 abbrev pub vend_line : App
 vend_line = line_of_commands commands
 
+-- ---- what words mean
+
+-- `--base`, alone or with its value after `=`
+abbrev pub is_base_option : Text → Bool
+is_base_option word = pointwise eqb word (codes "--base") || starts_with eqb word (codes "--base=")
+
+-- `sell`, and the option `--base` right after it
+abbrev pub sells_by_base : List Text → Bool
+sells_by_base (command ∷ next ∷ rest) = pointwise eqb command (codes "sell") && is_base_option next
+sells_by_base words = false
+
+-- the words as they are meant: `sell` is `trial` where `--base` comes next
+abbrev pub meant_by : List Text → List Text
+meant_by (command ∷ rest) = (if sells_by_base (command ∷ rest) then codes "trial" else command) ∷ rest
+meant_by [] = []
+
 -- the faults that `clap` finds in the words; none where they are those of a command
 unfoldable pub faults_in : List Text → Kinds
-faults_in words = fault_of vend_line words
+faults_in words = fault_of vend_line (meant_by words)
 
 -- the name of the command, and its rows
 unfoldable pub command_in : List Text → Option (Text × List Row)
-command_in words = subcommand_of vend_line words
+command_in words = subcommand_of vend_line (meant_by words)
 
 -- ---- what is described
 

@@ -16,7 +16,7 @@ pub use commands::sell::SellWords;
 pub use commands::serve::ServeWords;
 pub use commands::shift::{Act, ShiftWords};
 pub use commands::trial::TrialWords;
-pub use line::parse;
+pub use line::{meant, parse};
 pub use transform::Shipped;
 pub use words::BadWords;
 

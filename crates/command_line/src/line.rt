@@ -2,6 +2,8 @@ ghost use Rattle.std.specs.Prelude.{◌≡◌, List, [], ◌∷◌, ◌++◌, If
 ghost use Rattle.clap.specs.Kinds.{HasKind};
 ghost use Rattle.clap.specs.Simple.{Shape, app_of, subcommand_rows_of};
 ghost use Rattle.command_line.specs.Line.{IsDescribed, command_in, faults_in, line_of_commands, vend_line};
+ghost use Rattle.command_line.specs.Line.{is_base_option, meant_by, sells_by_base};
+ghost use Rattle.sts_fields.specs.Text.{Text};
 
 use crate::commands::{base, import, meter, quote, report, selfcheck, sell, serve, shift, trial};
 use clap::{ArgMatches, Command, Error};
@@ -9,17 +11,51 @@ use std::alloc::{AllocError, Global};
 
 const ABOUT: &str = "Vends credit tokens for prepayment electricity meters";
 
+// What `--version` prints after the program's name: its version (`CHANGELOG.md`), and the format of
+// the files that it writes (`docs/OFFICE.md`, "Tables").
+const VERSION: &str = "0.1.0 (file format 4)";
+
 const STATUSES: &str = "Exit status: 0 done; 1 refused or failed (a line on the error output says \
     why); 2 bad words.\n'vend COMMAND --help' says more of a command.";
 
-/// The matches of the words, the program's own name left out, or what `clap` says of them.
-pub fn parse<'a>(alloc: Global, words: &'a [&'a str]) -> Result<ArgMatches<'a>, Error>
-    ensures { MatchResult result
-        (λ matches. (faults_in (map (λ w. w.now) words.entry.now) ≡ [])
-        × (subcommand_rows_of matches ≡ command_in (map (λ w. w.now) words.entry.now)))
-        (HasKind (faults_in (map (λ w. w.now) words.entry.now))) }
+/// The words of a line as they are meant, the program's own name left out: `sell` right before
+/// `--base` means `trial`.
+pub fn meant<'a>(alloc: Global, words: &[&'a str]) -> Result<Vec<&'a str>, AllocError>
+    ensures { IfOk result (λ meant. map (λ w. w.now) meant.items
+        ≡ meant_by (map (λ w. w.now) words.now)) }
 {
-    describe(alloc)?.try_get_matches_from(words)
+    let mut meant = words.to_vec(alloc)?;
+    if sells_by_base(words) {
+        meant[0] = "trial";
+    }
+    Ok(meant)
+}
+
+// `sell`, and the option `--base` right after it.
+fn sells_by_base(words: &[&str]) -> bool
+    ensures { result ≡ sells_by_base (map (λ w. w.now) words.now) }
+{
+    match words {
+        [command, next, ..] => *command == "sell" && is_base_option(next),
+        _ => false,
+    }
+}
+
+// `--base`, alone or with its value after `=`.
+fn is_base_option(word: &str) -> bool
+    ensures { result ≡ is_base_option word.now }
+{
+    word == "--base" || word.as_bytes().starts_with(b"--base=")
+}
+
+/// The matches of words as they are meant, or what `clap` says of them.
+pub fn parse<'a>(alloc: Global, meant: &'a [&'a str]) -> Result<ArgMatches<'a>, Error>
+    ensures { (words : List Text) → map (λ w. w.now) meant.entry.now ≡ meant_by words
+        → MatchResult result
+        (λ matches. (faults_in words ≡ []) × (subcommand_rows_of matches ≡ command_in words))
+        (HasKind (faults_in words)) }
+{
+    describe(alloc)?.try_get_matches_from(meant)
 }
 
 // The whole command line.
@@ -46,6 +82,7 @@ fn start<'a>(alloc: Global) -> Result<Command<'a>, AllocError>
     Command::new(alloc, "vend")
         .about(ABOUT)
         .after_help(STATUSES)
+        .version(VERSION)
         .no_binary_name(true)
         .subcommand_required(true)
         .arg_required_else_help(true)

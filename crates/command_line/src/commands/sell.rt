@@ -28,7 +28,7 @@ pub(crate) fn describe<'a>(alloc: Global) -> Result<Command<'a>, AllocError>
     ensures { IfOk result (IsDescribed sell_command) }
 {
     let about = "Sells electricity to a meter for a tender, and prints the receipt; the same words \
-        again print it again";
+        again print it again. With --base as its first option it means 'trial'";
     let order_ref = "The order's name among the operator's, 1 to 32 ASCII letters, digits or \
         hyphens, e.g. A-1";
     let tender = "The money in whole cents, 1 to 100000000, e.g. 1000";

@@ -28,7 +28,7 @@ pub(crate) fn describe<'a>(alloc: Global) -> Result<Command<'a>, AllocError>
 {
     let about =
         "Sells amounts to one meter from an empty list, in memory alone, and prints a token \
-        of twenty digits a line";
+        of twenty digits a line; 'sell --base ..' means the same";
     let help = "An amount in tenths of a kWh that a token can carry, 1 to 18201624, e.g. 105 for \
         10.5 kWh";
     let amounts = options::words(alloc, "amounts", "TENTHS", help);
