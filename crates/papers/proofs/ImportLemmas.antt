@@ -3,7 +3,7 @@ use Rattle.std.proofs.Common.{◌≡◌, ◌≢◌, ◌∙◌, ◌+◌, ◌-◌,
 use Rattle.std.specs.Prelude.{◌==◌}
 use Rattle.std.specs.Result.{IfErr, IsErrAnd, OnOk, is_ok}
 use Rattle.papers.specs.File.{Fields, IsFirstOutside, IsFromText, IsTariffText, KeepsRuleAt, RecordSays, RecordSaysTariff, base_text, header_of, kind_of}
-use Rattle.papers.specs.Import.{AreRowsIn, AreSaid, HasCause, HasForm, FileHasFault, IsFault, IsFirstFault, IsNoRow, IsRowAt, IsRowFault}
+use Rattle.papers.specs.Import.{AreRowsIn, AreSaid, HasCause, HasForm, FileHasFault, IsFault, IsFirstFault, IsNoRow, IsRowAt, IsRowFault, TakesRoom, looked_at}
 use Rattle.papers.specs.declared.row_fault.RowFault.{RowFault}
 use Rattle.papers.specs.declared.row_fault.RowFault.TheVariants.{At, Memory}
 use Rattle.vend_core.specs.Names.{IsName}
@@ -252,6 +252,33 @@ no-row form before after rows fields number cause so_far at few has =
     fault Differs mine row h = absurd h
     fault NoTariff mine row h = absurd h
     fault DayPast mine row h = absurd h
+
+-- a name and steps that are good take room, and so does a record that says a row
+pub steps-take : (form : FileForm) (fields : Fields) → kind_of form ≡ kinds.Tariffs → length fields ≡ length (header_of form) → IsName (get_or fields 0 [])
+    → IsTariffText (get_or fields 1 []) → TakesRoom form fields
+steps-take Meters fields tariffs count named priced = cc
+steps-take Tariffs fields tariffs count named priced = record { count = count; good = good }
+  where
+    good : (place : ℕ) → place < 2 → KeepsRuleAt Tariffs fields place
+    good zero h = named
+    good (suc zero) h = priced
+    good (suc (suc n)) h = absurd (omega (arith, h))
+steps-take DatedTariffs fields tariffs count named priced = record { count = count; good = good }
+  where
+    good : (place : ℕ) → place < 2 → KeepsRuleAt DatedTariffs fields place
+    good zero h = named
+    good (suc zero) h = priced
+    good (suc (suc n)) h = absurd (omega (arith, h))
+
+looked-within : (form : FileForm) (place : ℕ) → place < looked_at form → place < length (header_of form)
+looked-within Meters place h = h
+looked-within Tariffs place h = h
+looked-within DatedTariffs place h = omega (arith, h)
+
+pub row-takes : (form : FileForm) (fields : Fields) (row : Row) → RecordSays form fields row → TakesRoom form fields
+row-takes form fields row says =
+    let count = says-count form fields row says in
+    record { count = count; good = λ place h. says-rules form fields row place says (omega (arith, count, looked-within form place h)) }
 
 -- the same of the fault that a row has
 pub row-fault : (form : FileForm) (before after : List Fields) (rows : List Row) (fields : Fields) (number : ℕ) (fault : RowFault) → AreRowsIn form before rows

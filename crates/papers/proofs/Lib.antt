@@ -1,6 +1,7 @@
 mod OutputLemmas
 mod TextLemmas
 mod ExportLemmas
+mod PlainLemmas
 mod FieldLemmas
 mod ImportLemmas
 mod RecordLemmas

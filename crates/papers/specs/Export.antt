@@ -1,12 +1,13 @@
 -- The export of sales as CSV.
 use Rattle.std.specs.Prelude.{◌≡◌, ℕ, Bool, false, Some, List, [], ◌∷◌, ◌++◌, codes, decimal, if◌then◌else◌}
-use Rattle.std.specs.List.{flat_map}
+use Rattle.std.specs.List.{AllPass, flat_map}
 use Rattle.std.specs.declared.vec.Vec.{Vec}
 use Rattle.std.specs.declared.alloc.Global.{Global}
 use Rattle.csv.specs.Writing.{default_writer, fields_written, has_written, row_text, text_written, writer_setup}
 use Rattle.csv.specs.declared.writer.Writer.{Writer}
 use Rattle.papers.specs.Text.{change_of}
 use Rattle.sts_fields.specs.Base.{year_of}
+use Rattle.vend_core.specs.Names.{is_name_byte}
 use Rattle.vend_core.specs.declared.sale.Sale.{Sale}
 
 -- the names of the fields
@@ -34,6 +35,20 @@ header_text header = if header then record_text export_header else []
 -- the record of a sale
 abbrev pub sale_record : Sale → List ℕ
 sale_record s = record_text (export_fields s)
+
+-- a field that needs no quotes: letters, digits and hyphens
+abbrev pub IsPlainField : List ℕ → Type 0
+IsPlainField = AllPass is_name_byte
+
+-- fields as they are, each behind a comma
+unfoldable pub behind_commas : List (List ℕ) → List ℕ
+behind_commas [] = []
+behind_commas (field ∷ rest) = 44 ∷ (field ++ behind_commas rest)
+
+-- fields as they are, with commas between and a line feed behind
+abbrev pub plain_record : List (List ℕ) → List ℕ
+plain_record [] = 10 ∷ []
+plain_record (field ∷ rest) = (field ++ behind_commas rest) ++ 10 ∷ []
 
 -- the header, where it is asked for, and a record for each sale
 unfoldable pub export_of : Bool → List Sale → List ℕ

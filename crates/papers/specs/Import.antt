@@ -1,7 +1,8 @@
 -- What a file of rows reads as: its rows, or the first fault.
 use Rattle.std.specs.Prelude.{◌≡◌, ◌≢◌, ℕ, ◌+◌, ◌<◌, ◌≤◌, ⊤, List, [], ◌∷◌, length, slice_get, Some, Result, Ok, Err}
-use Rattle.papers.specs.File.{Fields, IsFirstOutside, RecordSays, header_of, kind_of}
+use Rattle.papers.specs.File.{Fields, IsFirstOutside, KeepsRuleAt, RecordSays, header_of, kind_of}
 use Rattle.papers.specs.declared.file_form.FileForm.{FileForm}
+use Rattle.papers.specs.declared.file_form.FileForm.TheVariants.{Meters, Tariffs, DatedTariffs}
 use Rattle.papers.specs.declared.file_kind.FileKind.{FileKind}
 use Rattle.papers.specs.declared.row_fault.RowFault.{RowFault}
 use Rattle.papers.specs.declared.row_fault.RowFault.TheVariants.{At, Memory}
@@ -52,10 +53,23 @@ HasCause form fields Differs = ⊥
 HasCause form fields NoTariff = ⊥
 HasCause form fields DayPast = ⊥
 
--- the fault that a row with these fields has; want of memory tells nothing of them
+-- how many fields of a record are looked at before memory is taken for its row: all, but for the
+-- first day of steps
+abbrev pub looked_at : FileForm → ℕ
+looked_at Meters = 4
+looked_at Tariffs = 2
+looked_at DatedTariffs = 2
+
+-- a record for which memory is taken: it has as many fields as the header, and those that were
+-- looked at by then keep their rules
+pub record TakesRoom (form : FileForm) (fields : Fields) : Type 0 where
+  pub count : length fields ≡ length (header_of form)
+  pub good : (place : ℕ) → place < looked_at form → KeepsRuleAt form fields place
+
+-- the fault that a row with these fields has; want of memory comes only where memory is taken
 abbrev pub IsRowFault : FileForm → Fields → ℕ → RowFault → Type 0
 IsRowFault form fields number (At row cause) = (row ≡ number) × HasCause form fields cause
-IsRowFault form fields number Memory = ⊤
+IsRowFault form fields number Memory = TakesRoom form fields
 
 -- the record of a row says none in the form that the file has, for this cause
 abbrev pub IsNoRow : FileKind → List Fields → ℕ → RowCause → Type 0

@@ -1,7 +1,7 @@
-ghost use Rattle.std.specs.Prelude.{ℕ, List, IfErr, OnOk, ◌≡◌, ◌∷◌, [], ◌++◌, length};
+ghost use Rattle.std.specs.Prelude.{ℕ, List, Err, IfErr, OnOk, ◌≡◌, ◌∷◌, [], ◌++◌, length};
 ghost use Rattle.csv.specs.Records.{fields_of};
 ghost use Rattle.papers.specs.File.{AreFileRecords, Fields, kind_of};
-ghost use Rattle.papers.specs.Import.{AreRowsIn, IsFault, IsReading};
+ghost use Rattle.papers.specs.Import.{AreRowsIn, IsFault, IsReading, TakesRoom};
 ghost use Rattle.papers.specs.Reader.{HasGiven};
 
 use crate::file_form::FileForm;
@@ -86,6 +86,7 @@ fn take_row(
     ensures fault { (before after : List Fields)
         → AreRowsIn form before rows.old.items → number ≡ length before
         → IfErr result (IsFault (kind_of form) (before ++ fields_of raw.now ∷ after)) }
+    ensures memory { result ≡ Err RowFault.Memory → TakesRoom form (fields_of raw.now) }
 {
     if number > LAST_ROW {
         return Err(RowFault::At(number, RowCause::TooManyRows));

@@ -1,13 +1,15 @@
-ghost use Rattle.std.specs.Prelude.{◌≡◌, ◌++◌, ℕ, List, Bool, false};
-ghost use Rattle.papers.specs.Export.{export_of};
+ghost use Rattle.std.specs.Prelude.{◌≡◌, ◌++◌, ℕ, All, Contains, List, Bool, false};
+ghost use Rattle.papers.specs.Export.{IsPlainField, export_fields, export_of, plain_record, sale_record};
 ghost use Rattle.papers.specs.File.{AreFileRecords, Fields};
 ghost use Rattle.papers.specs.Import.{AreRows, FileHasFault, IsFirstFault};
 ghost use Rattle.papers.specs.declared.file_kind.FileKind.{FileKind};
+ghost use Rattle.vend_core.specs.Office.{IsOffice, Office};
 ghost use Rattle.vend_core.specs.declared.row.Row.{Row};
 ghost use Rattle.vend_core.specs.declared.row_cause.RowCause.{RowCause};
 ghost use Rattle.vend_core.specs.declared.sale.Sale.{Sale};
 
-use sts_fields::day_law;
+use crate::receipts::RECEIPT_ROOM;
+use sts_fields::{amount_law, day_law};
 use tariff::steps_text_law;
 
 /// What a file of rows means: it has one list of records, and they have one list of rows or one
@@ -32,4 +34,20 @@ pub fn import_law()
 pub fn export_law()
     ensures pages { (header : Bool) (front back : List Sale)
         → export_of header (front ++ back) ≡ export_of header front ++ export_of false back }
+{}
+
+/// What a record of an export is: the fields of an office's sale are letters, digits and hyphens,
+/// so none of them needs quotes, and they stand as they are between commas.
+pub fn export_fields_law()
+    ensures plain { (o : Office) (s : Sale)
+        → IsOffice o → Contains o.sales s → All IsPlainField (export_fields s) }
+    ensures unquoted { (o : Office) (s : Sale)
+        → IsOffice o → Contains o.sales s → sale_record s ≡ plain_record (export_fields s) }
+{
+    amount_law();
+}
+
+/// A receipt has at most the room that `receipt_in_place` gives it.
+pub fn receipt_law()
+    ensures room { RECEIPT_ROOM ≡ 192 }
 {}

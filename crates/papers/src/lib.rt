@@ -7,7 +7,7 @@ pub use exports::{export, sales_csv};
 pub use fault::TextFault;
 pub use file_kind::FileKind;
 pub use imports::{read_meters, read_tariffs};
-pub use laws::{export_law, import_law};
+pub use laws::{export_fields_law, export_law, import_law, receipt_law};
 pub use output::write_whole;
 pub use receipts::{RECEIPT_ROOM, receipt, receipt_in_place, receipt_text};
 pub use reports::{report_law, shift_report, shift_text};

@@ -9,6 +9,7 @@ pub use calendar::{Civil, Memory, calendar_law, civil, month_of};
 pub use day::{Day, day_law, day_of};
 pub use day_fault::DayFault;
 pub use fault::TidFault;
+pub use limits::limits_law;
 pub use moment::Moment;
 pub use tid::{LAST_TID, fresh_law, minute, next_tid};
 
@@ -18,5 +19,6 @@ mod calendar;
 mod day;
 mod day_fault;
 mod fault;
+mod limits;
 mod moment;
 mod tid;

@@ -6,6 +6,7 @@
 pub use bought::Buy;
 pub use cost::{MAX_PRIOR, price, price_law};
 pub use fault::StepsFault;
+pub use limits::limits_law;
 pub use purchase::{buy, purchase_law};
 pub use step::Step;
 pub use steps::{Steps, steps_text_law};
@@ -15,6 +16,7 @@ mod bought;
 mod check;
 mod cost;
 mod fault;
+mod limits;
 mod purchase;
 mod step;
 mod steps;

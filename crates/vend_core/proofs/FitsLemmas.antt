@@ -1,6 +1,5 @@
 -- The edit of a granted request fits the office: its meter's tariff is there, its identifier is in range, and there is room.
 use Rattle.std.proofs.Common.{◌≡◌, ℕ, ◌<◌, ◌≤◌, Bool, true, false, List, [], ◌∷◌, Option, Some, None, Result, Ok, Err, IsSome, bytes_eq, is_some, length, nat_lt, refl, sym, subst, inl, inr, if◌then◌else◌, arith}
-use Rattle.std.proofs.lemmas.Bool.{false≢true}
 use Rattle.std.proofs.lemmas.Bool.Decides.{nat_tests}
 use Rattle.std.proofs.lemmas.Option.{none-some, same_Some}
 use Rattle.std.specs.Option.{ok_or}
@@ -11,8 +10,8 @@ use Rattle.sts_fields.specs.declared.base.Base.{Base}
 use Rattle.tariff.specs.Purchase.{purchase_of}
 use Rattle.tariff.specs.declared.step.Step.{Step}
 use Rattle.vend_core.specs.Decision.{◌>>=◌, MeterAccount, add_meter, add_rows, add_steps, add_tariff, changed, close_shift, decision, decision_of, import, is_earlier, meter_eq, move_base, new_rows, account_of, next_number, open_a_shift, or_refusal, report, reprint, sell, sell_again, sell_once, set_tariff, steps_eq, unchanged}
-use Rattle.vend_core.specs.Facts.{IsUnlessMemory, keeps_lists}
-use Rattle.vend_core.specs.Lists.{Fits, RowsFit, sets_only}
+use Rattle.vend_core.specs.Facts.{IsUnlessMemory}
+use Rattle.vend_core.specs.Lists.{AddsRow, Fits, RowsFit, sets_only}
 use Rattle.vend_core.specs.Lookup.{open_shift, sale_numbered, sale_of_ref, sales_of_shift, shift_numbered}
 use Rattle.vend_core.specs.Office.{Office, greatest_count}
 use Rattle.vend_core.specs.declared.answer.Answer.{Answer}
@@ -161,42 +160,13 @@ fits_if_decided forward o at change edit (inl is) edits =
     subst (EditFits o) (sym is) (decision_fits forward o at.moment at.nibble at.request) edit edits
 fits_if_decided forward o at change edit (inr is) edits = cc
 
--- SetTariff, CloseShift and Reprint add no row
-abbrev OnlySets : Result Change Refusal → Type 0
-OnlySets (Ok change) = (edit : Edit) → change.edit ≡ Some edit → sets_only edit ≡ true
-OnlySets (Err refusal) = Unit {0}
+-- an edit that was decided, and that does more than set a row, adds one
+adds_if_not_set : (edit : Edit) (b : Bool) → b ≡ sets_only edit → (sets_only edit ≡ true → ⊥) → sets_only edit ≡ false
+adds_if_not_set edit true is sets_not = absurd (sets_not (sym is))
+adds_if_not_set edit false is sets_not = sym is
 
-none_sets : (edit : Edit) → ◌≡◌ {A = Option Edit} None (Some edit) → sets_only edit ≡ true
-none_sets edit is = absurd (none-some edit is)
-
-this_sets : (e : Edit) → sets_only e ≡ true → (edit : Edit) → Some e ≡ Some edit → sets_only edit ≡ true
-this_sets e sets edit is = subst (λ (k : Edit). sets_only k ≡ true) (same_Some e edit is) sets
-
-setting_sets : (number name : List ℕ) (b : Bool) → OnlySets (if b then unchanged answers.Done else changed (edits.SetTariff number name) answers.Done)
-setting_sets number name true = none_sets
-setting_sets number name false = this_sets (edits.SetTariff number name) refl
-
-set_tariff_sets : (number name : List ℕ) (there : Option Meter) (has : Bool) → OnlySets (set_tariff number name there has)
-set_tariff_sets number name None has = tt
-set_tariff_sets number name (Some m) false = tt
-set_tariff_sets number name (Some m) true = setting_sets number name (bytes_eq m.tariff name)
-
-close_shift_sets : (moment : ℕ) (shift : Option Shift) → OnlySets (close_shift moment shift)
-close_shift_sets moment None = tt
-close_shift_sets moment (Some s) = this_sets (edits.CloseShift s.number moment) refl
-
-reprint_sets : (sale : Option Sale) → OnlySets (reprint sale)
-reprint_sets None = tt
-reprint_sets (Some s) = none_sets
-
-decision_sets : (forward : ℕ → ℕ → ℕ) (o : Office) (moment nibble : ℕ) (request : Request) → keeps_lists request ≡ true → OnlySets (decision_of forward o moment nibble request)
-decision_sets forward o moment nibble (SetTariff number name) keeps = set_tariff_sets number name (o.meters number) (is_some (o.tariffs name))
-decision_sets forward o moment nibble (CloseShift operator) keeps = close_shift_sets moment (open_shift o operator)
-decision_sets forward o moment nibble (Reprint number) keeps = reprint_sets (sale_numbered o number)
-decision_sets forward o moment nibble request keeps = absurd (false≢true keeps)
-
-pub sets_if_decided : (forward : ℕ → ℕ → ℕ) (o : Office) (at : Stamped) (change : Change) (edit : Edit) → keeps_lists at.request ≡ true
-    → IsUnlessMemory (Ok change) (decision forward o at) → change.edit ≡ Some edit → sets_only edit ≡ true
-sets_if_decided forward o at change edit keeps (inl is) changes =
-    subst OnlySets (sym is) (decision_sets forward o at.moment at.nibble at.request keeps) edit changes
-sets_if_decided forward o at change edit keeps (inr is) changes = cc
+pub adds_if_decided : (forward : ℕ → ℕ → ℕ) (o : Office) (at : Stamped) (change : Change) (edit : Edit)
+    → IsUnlessMemory (Ok change) (decision forward o at) → change.edit ≡ Some edit → (sets_only edit ≡ true → ⊥) → AddsRow (decision forward o at)
+adds_if_decided forward o at change edit (inl is) edits sets_not =
+    subst AddsRow is (edit, edits, adds_if_not_set edit (sets_only edit) refl sets_not)
+adds_if_decided forward o at change edit (inr is) edits sets_not = cc

@@ -2,12 +2,13 @@
 use Rattle.std.proofs.Common.{◌≡◌, ℕ, ◌+◌, ◌<◌, ◌≤◌, ◌⊎◌, inl, inr, Bool, true, false, List, [], ◌∷◌, ◌++◌, append_assoc, length, get_or, drop, Option, Some, None, Result, Ok, Err, is_some, refl, sym, ◌∙◌, ap, subst, arith, Bor}
 use Rattle.std.specs.Prelude.{if◌then◌else◌, nat_lt, slice_get}
 use Rattle.std.specs.Option.{IfSome, option_copied}
+use Rattle.std.specs.Result.{IsErrAnd}
 use Rattle.std.proofs.lemmas.Bool.Decides.{nat_tests}
 use Rattle.std.proofs.lemmas.List.{append-nil, drop_all, drop_more, length-drop}
 use Rattle.std.proofs.lemmas.Option.{slice_get-get_or, slice_get_past, slice_get_read}
-use Rattle.vend_core.specs.Decision.{◌>>=◌, at_row, new_rows, row_decision}
+use Rattle.vend_core.specs.Decision.{◌>>=◌, at_row, is_new, new_rows, row_decision}
 use Rattle.vend_core.specs.Edits.{office_after, with_rows}
-use Rattle.vend_core.specs.Facts.{AreRowsFacts, row_facts}
+use Rattle.vend_core.specs.Facts.{AreRowsFacts, HasNewRow, row_facts}
 use Rattle.vend_core.specs.Growth.{HaveStayed}
 use Rattle.vend_core.specs.Office.{Office}
 use Rattle.vend_core.specs.declared.change.Change.{Change}
@@ -111,3 +112,32 @@ pub walked : (o : Office) (today : ℕ) (rows taken : List Row) (i : ℕ) → le
 walked o today rows taken i past invariant =
     invariant ∙ ap (λ (l : List Row). ahead taken (new_rows (with_rows taken o) today (i + 1) l)) (drop_all i rows past)
     ∙ ap (λ (l : List Row). let r : Result (List Row) Refusal = Ok l in r) (append-nil taken)
+
+-- a row is new of which there is none before it, or none of the rows taken is
+abbrev pub SeesNew : Office → ℕ → List Row → List Row → ℕ → Type 0
+SeesNew o today rows taken i = HasNewRow o today rows ⊎ ((taken ≡ []) × (HasNewRow o today (drop i rows) → HasNewRow o today rows))
+
+module _ (o : Office) (today : ℕ) (rows : List Row) (taken : List Row) (i : ℕ) (row : Row) (within : i < length rows) (is : row ≡ get_or rows i row) where
+  from_here : (HasNewRow o today (drop i rows) → HasNewRow o today rows) → HasNewRow o today (row ∷ drop (i + 1) rows) → HasNewRow o today rows
+  from_here back here = back (subst (HasNewRow o today) (sym (rows_at rows i row within is)) here)
+
+  -- what a row taken after none is in the office
+  in_office : (r : Result Bool Refusal) → taken ≡ [] → is_new (row_decision (with_rows taken o) today row) ≡ r → is_new (row_decision o today row) ≡ r
+  in_office r none new = subst (λ (l : List Row). is_new (row_decision (with_rows l o) today row) ≡ r) none new
+
+  pub new_here : SeesNew o today rows taken i → is_new (row_decision (with_rows taken o) today row) ≡ Ok true → HasNewRow o today rows
+  new_here (inl has) new = has
+  new_here (inr (none, back)) new = from_here back (inl (in_office (Ok true) none new))
+
+  sees_after : (b : Bool) → SeesNew o today rows taken i → is_new (row_decision (with_rows taken o) today row) ≡ Ok b → SeesNew o today rows (taken ++ (if b then row ∷ [] else [])) (i + 1)
+  sees_after b (inl has) new = inl has
+  sees_after true (inr (none, back)) new = inl (from_here back (inl (in_office (Ok true) none new)))
+  sees_after false (inr (none, back)) new = inr (append-nil taken ∙ none, λ rest. from_here back (inr (in_office (Ok false) none new, rest)))
+
+  pub sees_further : (change : Change) → SeesNew o today rows taken i → row_decision (with_rows taken o) today row ≡ Ok change → SeesNew o today rows (taken_more taken row change) (i + 1)
+  sees_further change sees granted = sees_after (is_some change.edit) sees (ap is_new granted)
+
+-- the error that a result is, and has
+pub same_err : {T : Type 0} (r : Result T Refusal) (e f : Refusal) → IsErrAnd r (λ x. x ≡ e) → r ≡ Err f → e ≡ f
+same_err (Ok x) e f is has = absurd is
+same_err (Err x) e f is has = cc

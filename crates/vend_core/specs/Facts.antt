@@ -1,7 +1,7 @@
 -- What the tests of a request look at, and how an answer may fall short of the decision.
-use Rattle.std.specs.Prelude.{◌≡◌, ◌⊎◌, ℕ, Bool, true, false, List, [], ◌∷◌, Option, Some, None, IsNone, IsSome, Result, Err, is_some, length, option_map}
+use Rattle.std.specs.Prelude.{◌≡◌, ◌⊎◌, ℕ, Bool, true, false, List, [], ◌∷◌, Option, Some, None, IsNone, IsSome, Result, Ok, Err, is_some, length, option_map}
 use Rattle.sts_fields.specs.Day.{day_at}
-use Rattle.vend_core.specs.Decision.{account_of, row_decision, unchanged}
+use Rattle.vend_core.specs.Decision.{account_of, add_steps, add_tariff, is_new, row_decision, unchanged}
 use Rattle.vend_core.specs.Lookup.{open_shift, sale_numbered, sale_of_ref, sales_of_shift, shift_numbered}
 use Rattle.vend_core.specs.Office.{Office}
 use Rattle.vend_core.specs.declared.answer.Answer.TheVariants.{Report}
@@ -113,20 +113,25 @@ AreFactsOf o moment (ShiftReport number) f = f.report ≡ report_of o number
 abbrev pub AreFacts : Office → Stamped → Facts → Type 0
 AreFacts o at f = AreFactsOf o at.moment at.request f
 
--- the requests that take memory to be decided: they add steps, or hand out a list
-abbrev pub takes_memory : Request → Bool
-takes_memory (AddTariff name steps) = true
-takes_memory (AddSteps name day steps) = true
-takes_memory (Import rows) = true
-takes_memory (ShiftReport number) = true
-takes_memory request = false
+-- a row is new in the office, and each row before it stands there already
+abbrev pub HasNewRow : Office → ℕ → List Row → Type 0
+HasNewRow o today [] = ⊥
+HasNewRow o today (row ∷ rest) =
+    (is_new (row_decision o today row) ≡ Ok true)
+    ⊎ ((is_new (row_decision o today row) ≡ Ok false) × HasNewRow o today rest)
 
--- the requests that add no row and hand out no list: over plain lists they take no memory at all
-abbrev pub keeps_lists : Request → Bool
-keeps_lists (SetTariff number name) = true
-keeps_lists (CloseShift operator) = true
-keeps_lists (Reprint number) = true
-keeps_lists request = false
+-- the requests that take memory to be decided: new steps are copied, and so are the new rows of an
+-- import, up to a row that is refused, and the sales of a shift that is there
+abbrev pub TakesMemory : Office → ℕ → Request → Type 0
+TakesMemory o moment (AddTariff name steps) =
+    is_new (add_tariff name steps (o.tariffs name)) ≡ Ok true
+TakesMemory o moment (AddSteps name day steps) =
+    is_new
+    (add_steps name day steps (day_at moment) (is_some (o.tariffs name)) (o.dated_steps name day))
+    ≡ Ok true
+TakesMemory o moment (Import rows) = HasNewRow o (day_at moment) rows
+TakesMemory o moment (ShiftReport number) = IsSome (report_of o number)
+TakesMemory o moment request = ⊥
 
 -- the result is the decision, or want of memory
 abbrev pub IsUnlessMemory : Result Change Refusal → Result Change Refusal → Type 0

@@ -1,18 +1,24 @@
 -- The office that plain lists keep, and what serving a request does to it.
-use Rattle.std.specs.Prelude.{◌≡◌, ◌⊎◌, ◌<◌, ◌≤◌, Bool, true, false, List, [], ◌∷◌, Result, Err, IsSome, length}
+use Rattle.std.specs.Prelude.{◌≡◌, ◌⊎◌, ◌<◌, ◌≤◌, Bool, true, false, ℕ, List, [], ◌∷◌, Some, Result, Ok, Err, IsNone, IsSome, length}
 use Rattle.sts_fields.specs.Tid.{last_tid}
 use Rattle.sts_token.specs.Token.{BlockFunction}
+use Rattle.vend_core.specs.Decision.{account_of, decision}
 use Rattle.vend_core.specs.Edits.{with_row}
+use Rattle.vend_core.specs.Facts.{report_of}
 use Rattle.vend_core.specs.Fold.{reply, step}
+use Rattle.vend_core.specs.Lookup.{open_shift, sale_of_ref}
 use Rattle.vend_core.specs.Office.{Office, greatest_count}
 use Rattle.vend_core.specs.PlainRows.{office_of_rows}
 use Rattle.vend_core.specs.declared.answer.Answer.{Answer}
+use Rattle.vend_core.specs.declared.change.Change.{Change}
 use Rattle.vend_core.specs.declared.change.Edit.{Edit}
 use Rattle.vend_core.specs.declared.change.Edit.TheVariants.{AddTariff, AddSteps, AddMeter, AddRows, SetTariff, MoveBase, OpenShift, CloseShift, AddSale}
 use Rattle.vend_core.specs.declared.lists.Lists.{Lists}
 use Rattle.vend_core.specs.declared.records.Records.{Records}
 use Rattle.vend_core.specs.declared.refusal.Refusal.{Refusal}
 use Rattle.vend_core.specs.declared.refusal.Refusal.TheVariants.{Memory}
+use Rattle.vend_core.specs.declared.request.Request.{Request}
+use Rattle.vend_core.specs.declared.request.Request.TheVariants as requests
 use Rattle.vend_core.specs.declared.request.Stamped.{Stamped}
 use Rattle.vend_core.specs.declared.row.Row.{Row}
 use Rattle.vend_core.specs.declared.row.Row.TheVariants as kinds
@@ -50,6 +56,29 @@ abbrev pub sets_only : Edit → Bool
 sets_only (SetTariff number name) = true
 sets_only (CloseShift number moment) = true
 sets_only edit = false
+
+-- what plain lists copy to look at it: steps, what the office has of the names of rows, and the sales
+-- of a shift
+abbrev pub CopiesList : Office → ℕ → Request → Type 0
+CopiesList o moment (requests.AddTariff name steps) = IsSome (o.tariffs name)
+CopiesList o moment (requests.AddSteps name day steps) =
+    IsSome (o.tariffs name) × IsSome (o.dated_steps name day)
+CopiesList o moment (requests.Import rows) = Unit {0}
+CopiesList o moment (requests.Sell order) =
+    IsNone (sale_of_ref o order.operator order.order_ref)
+    × IsSome (open_shift o order.operator) × IsSome (account_of o order.meter moment)
+CopiesList o moment (requests.ShiftReport number) = IsSome (report_of o number)
+CopiesList o moment request = ⊥
+
+-- a decision whose edit adds a row
+abbrev pub AddsRow : Result Change Refusal → Type 0
+AddsRow (Ok change) = (edit : Edit) × (change.edit ≡ Some edit) × (sets_only edit ≡ false)
+AddsRow (Err refusal) = ⊥
+
+-- the requests that plain lists take memory for: to look at a list, or to add a row
+abbrev pub NeedsRoom : BlockFunction → Office → Stamped → Type 0
+NeedsRoom forward o at =
+    CopiesList o at.moment at.request ⊎ AddsRow (decision forward o at)
 
 -- one request is served with the step's reply and office
 abbrev pub IsStep : BlockFunction → Office → Stamped → Result Answer Refusal → Office → Type 0

@@ -1,10 +1,10 @@
-ghost use Rattle.std.specs.Prelude.{◌≡◌, ◌≢◌, Ok, Err, Some, None, false, nat_lt};
+ghost use Rattle.std.specs.Prelude.{◌≡◌, ◌≢◌, ◌^◌, IsSome, Ok, Err, Some, None, true, nat_lt};
 ghost use Rattle.std.specs.Option.{option_copied};
 ghost use Rattle.sts_fields.specs.Base.{base_date};
 ghost use Rattle.sts_fields.specs.Day.{day_at};
 ghost use Rattle.tariff.specs.Purchase.{purchase_of};
-ghost use Rattle.vend_core.specs.Decision.{add_meter, add_steps, add_tariff, changed, close_shift, decision, move_base, next_number, open_a_shift, reprint, sell, sell_again, set_tariff};
-ghost use Rattle.vend_core.specs.Facts.{AreFacts, IsUnlessMemory, report_found, takes_memory};
+ghost use Rattle.vend_core.specs.Decision.{add_meter, add_steps, add_tariff, changed, close_shift, decision, is_new, move_base, next_number, open_a_shift, reprint, sell, sell_again, set_tariff};
+ghost use Rattle.vend_core.specs.Facts.{AreFacts, IsUnlessMemory, TakesMemory, report_found};
 ghost use Rattle.vend_core.specs.Office.{Office};
 
 use crate::additions::{is_new_meter, is_new_steps, is_new_tariff};
@@ -30,9 +30,16 @@ use tariff::{Buy, Steps, Tender, buy};
 /// The greatest number of shifts, and of sales.
 pub const GREATEST_COUNT: u64 = 1_000_000_000;
 
+/// The limits of an office have these values.
+pub fn limits_law()
+    ensures greatest_count { GREATEST_COUNT ≡ 10 ^ 9 }
+{}
+
 /// How an office with these facts decides a request: what changes, and the answer.
 ///
-/// Besides the refusals of `docs/OFFICE.md` only `Refusal::Memory` comes, for want of memory.
+/// Besides the refusals of `docs/OFFICE.md` only `Refusal::Memory` comes, for want of memory, and
+/// only to a request that is granted with new steps, new rows or a report, or to an import of which
+/// a row is new before the first one that is refused.
 pub fn decide<T: BlockTransform>(
     alloc: Global,
     transform: &T,
@@ -41,8 +48,8 @@ pub fn decide<T: BlockTransform>(
 ) -> Result<Change, Refusal>
     ensures decided { (o : Office) → AreFacts o at.now facts.now
         → IsUnlessMemory result (decision (T.forwards transform.now) o at.now) }
-    ensures exact { (o : Office) → AreFacts o at.now facts.now → takes_memory at.now.request ≡ false
-        → result ≡ decision (T.forwards transform.now) o at.now }
+    ensures memory { (o : Office) → AreFacts o at.now facts.now → result ≡ Err Refusal.Memory
+        → TakesMemory o at.now.moment at.now.request }
     ensures no_store { (result ≢ Err Refusal.Store) × (result ≢ Err Refusal.Stopped) }
 {
     match &at.request {
@@ -121,7 +128,10 @@ fn next_number(count: u64) -> Result<u32, Refusal>
 }
 
 fn add_tariff(name: TariffName, steps: &Steps, there: Option<&Steps>) -> Result<Change, Refusal>
-    ensures { IsUnlessMemory result (add_tariff name steps.now (option_copied there.entry)) }
+    ensures decided { IsUnlessMemory result
+        (add_tariff name steps.now (option_copied there.entry)) }
+    ensures memory { result ≡ Err Refusal.Memory
+        → is_new (add_tariff name steps.now (option_copied there.entry)) ≡ Ok true }
 {
     if is_new_tariff(steps, there)? {
         let steps = steps.clone()?;
@@ -139,8 +149,11 @@ fn add_steps(
     has_tariff: bool,
     there: Option<&Steps>,
 ) -> Result<Change, Refusal>
-    ensures { IsUnlessMemory result
+    ensures decided { IsUnlessMemory result
         (add_steps name day steps.now (day_at moment) has_tariff (option_copied there.entry)) }
+    ensures memory { result ≡ Err Refusal.Memory → is_new
+        (add_steps name day steps.now (day_at moment) has_tariff (option_copied there.entry))
+        ≡ Ok true }
 {
     let today = day_of(moment);
     if is_new_steps(day, steps, today, has_tariff, there)? {
@@ -322,7 +335,8 @@ fn reprint(sale: Option<Sale>) -> Result<Change, Refusal>
 }
 
 fn report(alloc: Global, found: Option<&(Shift, Sales)>) -> Result<Change, Refusal>
-    ensures { IsUnlessMemory result (report_found (option_copied found.entry)) }
+    ensures decided { IsUnlessMemory result (report_found (option_copied found.entry)) }
+    ensures memory { result ≡ Err Refusal.Memory → IsSome (option_copied found.entry) }
 {
     let (shift, sales) = found.ok_or(Refusal::NoSuchShift)?;
     let sales = Vec::from_slice(alloc, sales.as_slice())?;

@@ -1,9 +1,9 @@
-ghost use Rattle.std.specs.Prelude.{◌≡◌, ℕ, IfOk, IsNone, IsOk, List, Err, Some, is_some, length, true};
+ghost use Rattle.std.specs.Prelude.{◌≡◌, ℕ, IfOk, IsNone, IsSome, List, OnErr, Err, Some, is_some, length, true};
 ghost use Rattle.std.specs.Option.{option_copied};
 ghost use Rattle.vend_core.specs.Decision.{account_of, row_decision};
-ghost use Rattle.vend_core.specs.Facts.{AreDatedFacts, AreFacts, AreMeterFacts, AreNewSaleFacts, AreOpeningFacts, AreRowsFacts, AreSaleFacts, AreSettingFacts, keeps_lists, report_of, row_facts};
-ghost use Rattle.vend_core.specs.Lists.{recorded};
-ghost use Rattle.vend_core.specs.Lookup.{steps_on};
+ghost use Rattle.vend_core.specs.Facts.{AreDatedFacts, AreFacts, AreMeterFacts, AreNewSaleFacts, AreOpeningFacts, AreRowsFacts, AreSaleFacts, AreSettingFacts, report_of, row_facts};
+ghost use Rattle.vend_core.specs.Lists.{CopiesList, recorded};
+ghost use Rattle.vend_core.specs.Lookup.{open_shift, sale_of_ref, steps_on};
 ghost use Rattle.vend_core.specs.Office.{Office};
 ghost use Rattle.vend_core.specs.declared.row_facts.RowFacts.{RowFacts};
 
@@ -29,7 +29,8 @@ use tariff::Steps;
 /// What the tests of a request look at in these records.
 pub(crate) fn facts(alloc: Global, records: &Records, at: &Stamped) -> Result<Facts, AllocError>
     ensures facts { IfOk result (AreFacts (recorded records.now) at.now) }
-    ensures exact { keeps_lists at.now.request ≡ true → IsOk result }
+    ensures memory { OnErr result
+        (CopiesList (recorded records.now) at.now.moment at.now.request) }
 {
     match &at.request {
         Request::AddTariff(name, _) => tariff_facts(records, name),
@@ -56,7 +57,8 @@ pub(crate) fn facts(alloc: Global, records: &Records, at: &Stamped) -> Result<Fa
 }
 
 fn tariff_facts(records: &Records, name: &TariffName) -> Result<Facts, AllocError>
-    ensures { IfOk result (λ f. f.tariff ≡ (recorded records.now).tariffs name.now) }
+    ensures facts { IfOk result (λ f. f.tariff ≡ (recorded records.now).tariffs name.now) }
+    ensures memory { OnErr result (IsSome ((recorded records.now).tariffs name.now)) }
 {
     Ok(Facts {
         tariff: owned(look_up::steps_under(&records.tariffs, name))?,
@@ -66,7 +68,8 @@ fn tariff_facts(records: &Records, name: &TariffName) -> Result<Facts, AllocErro
 
 // Steps of one's own.
 fn owned(steps: Option<&Steps>) -> Result<Option<Steps>, AllocError>
-    ensures { IfOk result (λ own. own ≡ option_copied steps.entry) }
+    ensures own { IfOk result (λ own. own ≡ option_copied steps.entry) }
+    ensures memory { OnErr result (IsSome (option_copied steps.entry)) }
 {
     match steps {
         Some(steps) => Ok(Some(steps.clone()?)),
@@ -81,10 +84,15 @@ fn has_tariff(records: &Records, name: &TariffName) -> bool
 }
 
 fn dated_facts(records: &Records, name: &TariffName, day: Day) -> Result<Facts, AllocError>
-    ensures { IfOk result (AreDatedFacts (recorded records.now) name.now day) }
+    ensures facts { IfOk result (AreDatedFacts (recorded records.now) name.now day) }
+    ensures has_tariff { OnErr result (IsSome ((recorded records.now).tariffs name.now)) }
+    ensures has_steps { OnErr result (IsSome ((recorded records.now).dated_steps name.now day)) }
 {
+    if !has_tariff(records, name) {
+        return Ok(Facts::none());
+    }
     Ok(Facts {
-        has_tariff: has_tariff(records, name),
+        has_tariff: true,
         dated_steps: owned(look_up::steps_from(&records.dated_steps, name, day.days()))?,
         ..Facts::none()
     })
@@ -183,7 +191,13 @@ fn opening_facts(records: &Records, operator: &Operator) -> Facts
 }
 
 fn sale_facts(records: &Records, moment: Moment, order: &Order) -> Result<Facts, AllocError>
-    ensures { IfOk result (AreSaleFacts (recorded records.now) moment order.now) }
+    ensures facts { IfOk result (AreSaleFacts (recorded records.now) moment order.now) }
+    ensures new { OnErr result
+        (IsNone (sale_of_ref (recorded records.now) order.now.operator order.now.order_ref)) }
+    ensures shift { OnErr result
+        (IsSome (open_shift (recorded records.now) order.now.operator)) }
+    ensures meter { OnErr result
+        (IsSome (account_of (recorded records.now) order.now.meter moment)) }
 {
     let first_sale = look_up::sale_of_ref(&records.sales, &order.operator, &order.order_ref);
     if first_sale.is_some() {
@@ -198,6 +212,10 @@ fn sale_facts(records: &Records, moment: Moment, order: &Order) -> Result<Facts,
 fn new_sale_facts(records: &Records, moment: Moment, order: &Order) -> Result<Facts, AllocError>
     ensures none { IfOk result (λ f. IsNone f.first_sale) }
     ensures facts { IfOk result (AreNewSaleFacts (recorded records.now) moment order.now) }
+    ensures shift { OnErr result
+        (IsSome (open_shift (recorded records.now) order.now.operator)) }
+    ensures meter { OnErr result
+        (IsSome (account_of (recorded records.now) order.now.meter moment)) }
 {
     let open_shift = look_up::open_shift(&records.shifts, &order.operator);
     if open_shift.is_none() {
@@ -217,7 +235,10 @@ fn account(
     number: &MeterNo,
     moment: Moment,
 ) -> Result<Option<MeterAccount>, AllocError>
-    ensures { IfOk result (λ found. found ≡ account_of (recorded records.now) number.now moment) }
+    ensures found { IfOk result
+        (λ found. found ≡ account_of (recorded records.now) number.now moment) }
+    ensures memory { OnErr result
+        (IsSome (account_of (recorded records.now) number.now moment)) }
 {
     let Some(meter) = look_up::meter_under(&records.meters, number) else {
         return Ok(None);
@@ -266,7 +287,8 @@ fn own_steps_on(
 }
 
 fn report_facts(alloc: Global, records: &Records, number: u32) -> Result<Facts, AllocError>
-    ensures { IfOk result (λ f. f.report ≡ report_of (recorded records.now) number) }
+    ensures facts { IfOk result (λ f. f.report ≡ report_of (recorded records.now) number) }
+    ensures memory { OnErr result (IsSome (report_of (recorded records.now) number)) }
 {
     let report = match look_up::shift_numbered(&records.shifts, number) {
         Some(shift) => Some((

@@ -4,7 +4,7 @@ ghost use Rattle.std.specs.Option.{option_copied, option_or};
 ghost use Rattle.sts_fields.specs.Day.{day_at};
 ghost use Rattle.vend_core.specs.Decision.{at_row, import, new_rows};
 ghost use Rattle.vend_core.specs.Edits.{with_rows};
-ghost use Rattle.vend_core.specs.Facts.{AreRowsFacts, IsUnlessMemory, row_facts};
+ghost use Rattle.vend_core.specs.Facts.{AreRowsFacts, HasNewRow, IsUnlessMemory, row_facts};
 ghost use Rattle.vend_core.specs.Office.{Office};
 ghost use Rattle.vend_core.specs.Rows.{greatest_rows};
 ghost use Rattle.vend_core.specs.Taken.{dated_under, under};
@@ -48,7 +48,7 @@ struct Taken<'a> {
 }
 
 impl<'a> Taken<'a> {
-    ghost use Rattle.std.specs.Prelude.{◌≡◌, ◌≢◌, ◌+◌, ◌≤◌, ◌⊎◌, ◌++◌, ◌∷◌, [], IfErr, OnOk, Ok, Err, Some, is_some, length, if◌then◌else◌};
+    ghost use Rattle.std.specs.Prelude.{◌≡◌, ◌≢◌, ◌+◌, ◌≤◌, ◌⊎◌, ◌++◌, ◌∷◌, [], IfErr, OnOk, Ok, Err, Some, is_some, length, true, if◌then◌else◌};
     ghost use Rattle.std.specs.Option.{option_copied};
     ghost use Rattle.vend_core.specs.Decision.{at_row, is_new, row_decision};
     ghost use Rattle.vend_core.specs.Edits.{with_rows};
@@ -157,6 +157,9 @@ impl<'a> Taken<'a> {
             → IfErr result (λ refusal.
             (at_row number (row_decision (with_rows self.old.rows.items o) today row.now)
             ≡ Err refusal) ⊎ (refusal ≡ Refusal.Memory)) }
+        ensures memory { (o : Office) → option_copied found.entry ≡ Some (row_facts o row.now)
+            → IfErr result (λ refusal. refusal ≡ Refusal.Memory
+            → is_new (row_decision (with_rows self.old.rows.items o) today row.now) ≡ Ok true) }
         ensures one { OnOk result (length self.new.rows.items ≤ length self.old.rows.items + 1) }
         ensures no_store { (result ≢ Err Refusal.Store) × (result ≢ Err Refusal.Stopped) }
     {
@@ -272,6 +275,9 @@ pub(crate) fn import<'a>(
     ensures decided { (o : Office) (fs : List RowFacts) → option_copied found.entry ≡ Some fs
         → AreRowsFacts o (day_at moment) rows.now fs
         → IsUnlessMemory result (import o (day_at moment) rows.now) }
+    ensures memory { (o : Office) (fs : List RowFacts) → option_copied found.entry ≡ Some fs
+        → AreRowsFacts o (day_at moment) rows.now fs → result ≡ Err Refusal.Memory
+        → HasNewRow o (day_at moment) rows.now }
     ensures no_store { (result ≢ Err Refusal.Store) × (result ≢ Err Refusal.Stopped) }
 {
     let found = match found {
@@ -305,6 +311,8 @@ fn new_rows<'a>(
     ensures err { (o : Office) → AreRowsFacts o today rows.now found.now
         → IfErr result (λ refusal.
         (new_rows o today 1 rows.now ≡ Err refusal) ⊎ (refusal ≡ Refusal.Memory)) }
+    ensures memory { (o : Office) → AreRowsFacts o today rows.now found.now
+        → result ≡ Err Refusal.Memory → HasNewRow o today rows.now }
     ensures few { IfOk result (λ new. length new.items ≤ length rows.now) }
     ensures no_store { (result ≢ Err Refusal.Store) × (result ≢ Err Refusal.Stopped) }
 {

@@ -5,7 +5,7 @@
 
 pub use answer::{Answer, Reply};
 pub use change::{Change, Edit};
-pub use decisions::{GREATEST_COUNT, decide};
+pub use decisions::{GREATEST_COUNT, decide, limits_law};
 pub use facts::Facts;
 pub use history::history_law;
 pub use import_facts::ImportFacts;

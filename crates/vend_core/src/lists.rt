@@ -68,22 +68,21 @@ impl<T> Lists<T> {
 }
 
 impl<T: BlockTransform> Lists<T> {
-    ghost use Rattle.std.specs.Prelude.{◌≡◌, true};
-    ghost use Rattle.vend_core.specs.Facts.{keeps_lists};
-    ghost use Rattle.vend_core.specs.Lists.{IsServed, IsStep, office_of, transform_of};
+    ghost use Rattle.std.specs.Prelude.{◌≡◌, Err};
+    ghost use Rattle.vend_core.specs.Lists.{IsServed, NeedsRoom, office_of, transform_of};
     ghost use Rattle.vend_core.specs.Office.{IsOffice};
+    ghost use Rattle.vend_core.specs.declared.refusal.Refusal.{Refusal};
 
     /// Serves a request: its answer, or why it is refused.
     ///
     /// A refused request leaves the office as it was. Besides the refusals of `docs/OFFICE.md` only
-    /// `Refusal::Memory` comes, where a vector found no memory, and never to a SetTariff, a
-    /// CloseShift or a Reprint: they add no row and hand out no list.
+    /// `Refusal::Memory` comes, where a vector found no memory, and only to a request that adds a row
+    /// or looks at a list, which it copies: steps, the rows of an import, the sales of a shift.
     pub fn serve(&mut self, at: &Stamped) -> Reply
         ensures served { IsServed (T.forwards (transform_of self.old))
             (office_of self.old) at.now result (office_of self.new) }
-        ensures exact { keeps_lists at.now.request ≡ true
-            → IsStep (T.forwards (transform_of self.old))
-            (office_of self.old) at.now result (office_of self.new) }
+        ensures memory { result ≡ Err Refusal.Memory
+            → NeedsRoom (T.forwards (transform_of self.old)) (office_of self.old) at.now }
         ensures office { IsOffice (office_of self.old) → IsOffice (office_of self.new) }
         ensures transform { transform_of self.new ≡ transform_of self.old }
     {
@@ -96,9 +95,8 @@ impl<T: BlockTransform> Lists<T> {
     fn served(&mut self, at: &Stamped) -> Reply
         ensures served { IsServed (T.forwards (transform_of self.old))
             (office_of self.old) at.now result (office_of self.new) }
-        ensures exact { keeps_lists at.now.request ≡ true
-            → IsStep (T.forwards (transform_of self.old))
-            (office_of self.old) at.now result (office_of self.new) }
+        ensures memory { result ≡ Err Refusal.Memory
+            → NeedsRoom (T.forwards (transform_of self.old)) (office_of self.old) at.now }
         ensures transform { transform_of self.new ≡ transform_of self.old }
     {
         let facts = facts(self.alloc, &self.records, at)?;

@@ -7,8 +7,9 @@ use Rattle.vend_core.specs.Facts.{AreRowsFacts}
 use Rattle.vend_core.specs.Growth.{HaveStayed}
 use Rattle.vend_core.specs.Office.{Office}
 use Rattle.vend_core.specs.declared.row.Row.{Row}
+use Rattle.vend_core.specs.declared.refusal.Refusal.TheVariants as refusals
 use Rattle.vend_core.proofs.ImportLemmas.{ahead}
-use Rattle.vend_core.proofs.ImportWalkLemmas.{FactsAt, facts_at, facts_further, get_copied, stays_on, walks_on}
+use Rattle.vend_core.proofs.ImportWalkLemmas.{FactsAt, SeesNew, facts_at, facts_further, get_copied, new_here, same_err, sees_further, stays_on, walks_on}
 use Rattle.vend_core.proofs.import.new_rows.Goals as goal
 
 -- the facts at this row, and what was found of it
@@ -32,7 +33,20 @@ loop-row-preserved c =
           subst (λ (l : List Row). HaveStayed o (with_rows l o)) (sym g.2) (stays_on o c.args.today taken row g.0 (c.loop-row.invariant.stayed o facts) g.1);
       facts = λ o facts. let g = granted o facts in
           facts_further o c.args.today c.args.rows.now c.args.found.now taken i row g.0 (c.loop-row.invariant.stayed o facts) g.1 (facts_here c o facts);
+      seen = λ o facts. let g = granted o facts in
+          subst (λ (l : List Row). SeesNew o c.args.today rows l (i + 1)) (sym g.2)
+          (sees_further o c.args.today rows taken i row (omega arith) c.row-item.is g.0 (c.loop-row.invariant.seen o facts) g.1);
       rest = λ o facts. let g = granted o facts in
           walks_on o c.args.today rows taken i row (omega arith) c.row-item.is (c.loop-row.invariant.rest o facts) g.0 g.1
           ∙ ap (λ (l : List Row). ahead l (new_rows (with_rows l o) c.args.today (i + 1 + 1) (drop (i + 1) rows))) (sym g.2);
     }
+
+pub returns-in_err-go_on-clause-memory : goal.returns-in_err-go_on-clause-memory
+returns-in_err-go_on-clause-memory c = λ o facts none.
+    let i = c.loop-row.row-index in
+    let rows = c.args.rows.now in
+    let row = c.row-item.result in
+    let at = facts_at o c.args.today rows c.args.found.now i row (omega arith) c.row-item.is (c.loop-row.invariant.facts o facts) in
+    let failed = same_err c.from_residual.result c.in_err-go_on.field-0.0 refusals.Memory c.from_residual.ensures.1 none in
+    let found = get_copied c.get-facts.result c.args.found.now c.loop-row.number c.get-facts.ensures.lookup.0 c.get-facts.ensures.lookup.1 ∙ ap (slice_get c.args.found.now) c.loop-row.invariant.numbered ∙ at.found in
+    new_here o c.args.today rows c.loop-row.taken.rows.items i row (omega arith) c.row-item.is (c.loop-row.invariant.seen o facts) (c.in_err-go_on.ensures.memory o found failed)

@@ -1,6 +1,7 @@
+use Rattle.std.proofs.Common.{inr}
 use Rattle.std.proofs.lemmas.Bool.{false≢true}
 use Rattle.vend_core.specs.Lists.{recorded}
-use Rattle.vend_core.proofs.FitsLemmas.{fits_if_decided, sets_if_decided}
+use Rattle.vend_core.proofs.FitsLemmas.{adds_if_decided, fits_if_decided}
 use Rattle.vend_core.proofs.lists.Lists.served.Goals as goal
 
 pub apply-requires : goal.apply-requires
@@ -10,10 +11,9 @@ apply-requires g c =
     fits_if_decided (g.T.BlockTransform.forwards now.transform) o c.args.at.now c.in_ok-edit.field-0 c.in-Some.edit
     (c.in_ok-edit.ensures.decided o c.in_ok-facts.ensures.facts) c.in-Some.is
 
-pub returns-in_err-apply-clause-exact : goal.returns-in_err-apply-clause-exact
-returns-in_err-apply-clause-exact g c = λ keeps.
+pub returns-in_err-apply-clause-memory : goal.returns-in_err-apply-clause-memory
+returns-in_err-apply-clause-memory g c = λ none.
     let now = c.args.self.now in
     let o = recorded now.records in
-    let sets = sets_if_decided (g.T.BlockTransform.forwards now.transform) o c.args.at.now c.in_ok-edit.field-0 c.in-Some.edit keeps
-    (c.in_ok-edit.ensures.decided o c.in_ok-facts.ensures.facts) c.in-Some.is in
-    absurd (false≢true (c.in_err-apply.ensures.exact sets))
+    inr (adds_if_decided (g.T.BlockTransform.forwards now.transform) o c.args.at.now c.in_ok-edit.field-0 c.in-Some.edit
+    (c.in_ok-edit.ensures.decided o c.in_ok-facts.ensures.facts) c.in-Some.is (λ sets. absurd (false≢true (c.in_err-apply.ensures.exact sets))))
