@@ -4,6 +4,7 @@ pub mod AfterLemmas
 pub mod BaseLemmas
 pub mod BaseTexts
 pub mod BringingLemmas
+pub mod CauseLemmas
 pub mod DatedDayLemmas
 pub mod DatedLemmas
 pub mod DatedListLemmas

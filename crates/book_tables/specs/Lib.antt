@@ -1,4 +1,5 @@
 pub mod Edited
+pub mod Failing
 pub mod Filling
 pub mod Format
 pub mod Found

@@ -1,9 +1,10 @@
 //! The statements on the bases of meters.
 
-ghost use Rattle.std.specs.Prelude.{◌≡◌, OnOk};
+ghost use Rattle.std.specs.Prelude.{◌≡◌, IfErr, OnOk};
 ghost use Rattle.sqlite.specs.State.{HasCleanDisk};
 ghost use Rattle.sqlite.specs.Held.{state};
-ghost use Rattle.one_table.specs.InTransaction.{KeepsTransaction};
+ghost use Rattle.one_table.specs.InTransaction.{IsUnderWay, KeepsTransaction};
+ghost use Rattle.book_tables.specs.Failing.{FailsToWriteAll};
 ghost use Rattle.book_tables.specs.Reading.{HasTables};
 ghost use Rattle.book_tables.specs.Writing.{AddsBase, MovesBase, SetsBase, WritesTables};
 
@@ -63,6 +64,11 @@ pub fn move_base<S: Alter>(
     ensures moved { HasCleanDisk (state S.Store tx.new.conn.now)
         → HasTables (state S.Store tx.old.conn.now)
         → OnOk result (MovesBase number.now base
+        (state S.Store tx.old.conn.now) (state S.Store tx.new.conn.now)) }
+    ensures refused { HasCleanDisk (state S.Store tx.new.conn.now)
+        → IsUnderWay (state S.Store tx.old.conn.now)
+        → HasTables (state S.Store tx.old.conn.now)
+        → IfErr result (FailsToWriteAll
         (state S.Store tx.old.conn.now) (state S.Store tx.new.conn.now)) }
     ensures transaction { KeepsTransaction
         (state S.Store tx.old.conn.now) (state S.Store tx.new.conn.now) result }

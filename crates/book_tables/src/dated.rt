@@ -1,12 +1,13 @@
 //! The statements on the steps that tariffs have from later days on.
 
-ghost use Rattle.std.specs.Prelude.{◌≡◌, ◌≤◌, length, IfOk, OnOk};
+ghost use Rattle.std.specs.Prelude.{◌≡◌, ◌≤◌, length, IfErr, IfOk, OnOk};
 ghost use Rattle.sqlite.specs.State.{HasCleanDisk};
 ghost use Rattle.sqlite.specs.Held.{state};
 ghost use Rattle.sts_fields.specs.Day.{IsDay};
 ghost use Rattle.vend_core.specs.Lookup.{latest};
 ghost use Rattle.vend_core.specs.Office.{IsOffice, Office};
-ghost use Rattle.one_table.specs.InTransaction.{KeepsTransaction};
+ghost use Rattle.one_table.specs.InTransaction.{IsUnderWay, KeepsTransaction};
+ghost use Rattle.book_tables.specs.Failing.{FailsToWriteAll};
 ghost use Rattle.book_tables.specs.Kept.{dated_steps_kept};
 ghost use Rattle.book_tables.specs.Reading.{HasTableRows, HasTables, IsFirstDay, ReadsTable};
 ghost use Rattle.book_tables.specs.Rows.{Rows, shown_number};
@@ -157,6 +158,11 @@ pub fn add_steps<S: Alter>(
     ensures added { HasCleanDisk (state S.Store tx.new.conn.now)
         → HasTables (state S.Store tx.old.conn.now)
         → OnOk result (AddsSteps name.now day steps.now
+        (state S.Store tx.old.conn.now) (state S.Store tx.new.conn.now)) }
+    ensures refused { HasCleanDisk (state S.Store tx.new.conn.now)
+        → IsUnderWay (state S.Store tx.old.conn.now)
+        → HasTables (state S.Store tx.old.conn.now)
+        → 1 ≤ length steps.now → IfErr result (FailsToWriteAll
         (state S.Store tx.old.conn.now) (state S.Store tx.new.conn.now)) }
     ensures transaction { KeepsTransaction
         (state S.Store tx.old.conn.now) (state S.Store tx.new.conn.now) result }

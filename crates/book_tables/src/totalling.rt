@@ -1,11 +1,12 @@
 //! The statements that keep the running totals. Each puts the row of its key in, or merges it into
 //! the one that is there.
 
-ghost use Rattle.std.specs.Prelude.{◌≡◌, IfOk};
+ghost use Rattle.std.specs.Prelude.{◌≡◌, IfErr, IfOk};
 ghost use Rattle.sqlite.specs.Held.{state};
 ghost use Rattle.sqlite.specs.State.{HasCleanDisk};
 ghost use Rattle.sts_fields.specs.Calendar.{month_at};
 ghost use Rattle.one_table.specs.InTransaction.{IsUnderWay, KeepsTransaction};
+ghost use Rattle.book_tables.specs.Failing.{FailsToMergeAll};
 ghost use Rattle.book_tables.specs.Reading.{HasTables};
 ghost use Rattle.book_tables.specs.Writing.{AddsTenths, AddsToShift, FindsNoFalseRow, MayAddSold, MayAddTenths, MayAddToShift, MayAddTotals, MaySetLastId, MergesTables, SetsLastId, TellsSold, TellsTotals};
 
@@ -107,6 +108,11 @@ pub fn add_totals<S: Alter>(
         → HasTables (state S.Store tx.old.conn.now)
         → IfOk result (λ shown. TellsTotals sale.now last shown
         (state S.Store tx.old.conn.now) (state S.Store tx.new.conn.now)) }
+    ensures refused { HasCleanDisk (state S.Store tx.new.conn.now)
+        → IsUnderWay (state S.Store tx.old.conn.now)
+        → HasTables (state S.Store tx.old.conn.now)
+        → IfErr result (FailsToMergeAll
+        (state S.Store tx.old.conn.now) (state S.Store tx.new.conn.now)) }
     ensures transaction { KeepsTransaction
         (state S.Store tx.old.conn.now) (state S.Store tx.new.conn.now) result }
     ensures no_false_row { FindsNoFalseRow (MayAddTotals sale.now last)
@@ -138,6 +144,11 @@ pub fn add_sold<S: Alter>(
         → IsUnderWay (state S.Store tx.old.conn.now)
         → HasTables (state S.Store tx.old.conn.now)
         → IfOk result (λ shown. TellsSold sale.now shown
+        (state S.Store tx.old.conn.now) (state S.Store tx.new.conn.now)) }
+    ensures refused { HasCleanDisk (state S.Store tx.new.conn.now)
+        → IsUnderWay (state S.Store tx.old.conn.now)
+        → HasTables (state S.Store tx.old.conn.now)
+        → IfErr result (FailsToMergeAll
         (state S.Store tx.old.conn.now) (state S.Store tx.new.conn.now)) }
     ensures transaction { KeepsTransaction
         (state S.Store tx.old.conn.now) (state S.Store tx.new.conn.now) result }

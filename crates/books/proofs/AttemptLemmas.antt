@@ -1,5 +1,5 @@
 -- A request that was decided, and how its commit ends.
-use Rattle.std.proofs.Common.{◌≡◌, ◌+◌, List, [], ◌∷◌, length, Option, Some, None, Result, Ok, Err, refl, sym, ap, subst, ◌∙◌, inl, inr}
+use Rattle.std.proofs.Common.{◌≡◌, ◌⊎◌, ◌+◌, List, [], ◌∷◌, length, Option, Some, None, Result, Ok, Err, refl, sym, ap, subst, ◌∙◌, inl, inr, length-append}
 use Rattle.std.specs.Option.{option_map_or}
 use Rattle.std.specs.Prelude.{IsErrAnd}
 use Rattle.sqlite.specs.State.{HasCleanDisk, State}
@@ -50,6 +50,27 @@ next_stays (OpenShift s) o none = refl
 next_stays (CloseShift number moment) o none = refl
 next_stays (AddSale s) o none = absurd (none s refl)
 
+-- no edit adds more than one sale
+sales_after : (edit : Edit) (o : Office) → (length (applied edit o).sales ≡ length o.sales) ⊎ (length (applied edit o).sales ≡ length o.sales + 1)
+sales_after (AddTariff name steps) o = inl refl
+sales_after (AddSteps name day steps) o = inl refl
+sales_after (AddMeter number m) o = inl refl
+sales_after (AddRows rows) o = inl (ap length (rows_add_no_sale rows o))
+sales_after (SetTariff number name) o = inl refl
+sales_after (MoveBase number base) o = inl refl
+sales_after (OpenShift s) o = inl refl
+sales_after (CloseShift number moment) o = inl refl
+sales_after (AddSale s) o = inr (length-append o.sales (s ∷ []))
+
+-- nor does a request
+pub sales_step : (o : Office) (decided : Result Change Refusal) → (length (office_after o decided).sales ≡ length o.sales) ⊎ (length (office_after o decided).sales ≡ length o.sales + 1)
+sales_step o (Err refusal) = inl refl
+sales_step o (Ok change) = by_edit change.edit
+  where
+    by_edit : (e : Option Edit) → (length (option_map_or (λ edit. applied edit o) e o).sales ≡ length o.sales) ⊎ (length (option_map_or (λ edit. applied edit o) e o).sales ≡ length o.sales + 1)
+    by_edit None = inl refl
+    by_edit (Some edit) = sales_after edit o
+
 -- a request that was refused before it changed anything
 pub refused_ends : (forward : BlockFunction) (o : Office) (at : Stamped) (refusal : Refusal) (old new : Seen) → HoldsOffice o old → IsDecided forward o at (Err refusal) → HasCleanDisk new.state
     → ChangesNothing old.state new.state → new.next_number ≡ old.next_number → ServingEnds forward o at (Err refusal) new
@@ -59,7 +80,7 @@ refused_ends forward o at refusal old new held decided clean nothing next =
     elim decided [
       | inl is ↦ inl (ap reply_of is, subst (λ (p : Office). HoldsOffice p new) (ap (office_after o) is) holds)
       | inr (inl none) ↦ inr (inl (ap (λ (r : Result Change Refusal). reply_of r) none, holds))
-      | inr (inr failed) ↦ inr (inr (ap (λ (r : Result Change Refusal). reply_of r) failed, λ trees may. inl (here.left trees may)))
+      | inr (inr failed) ↦ inr (inr (ap (λ (r : Result Change Refusal). reply_of r) failed, λ trees may. inl (here.left trees may), holds.next))
     ]
 
 module _ (forward : BlockFunction) (o : Office) (at : Stamped) (change : Change) (granted : IsDecided forward o at (Ok change)) where
@@ -91,7 +112,7 @@ module _ (forward : BlockFunction) (o : Office) (at : Stamped) (change : Change)
               (let here = still_held o mid new.state clean held unmade.nothing in
               elim unmade.either [
                 | inl memory ↦ inr (inl (ap (λ r. Err r) memory, record { at = here; next = next }))
-                | inr failed ↦ inr (inr (ap (λ r. Err r) failed, λ trees may. inl (here.left trees may)))
+                | inr failed ↦ inr (inr (ap (λ r. Err r) failed, λ trees may. inl (here.left trees may), next))
               ])
-          | inr (failed, doubted) ↦ inr (inr (ap (λ r. Err r) failed, subst (MayBeLeft new.state o) (sym is_applied) (edit_doubted edit o mid new.state held meets office clean doubted)))
+          | inr (failed, doubted) ↦ inr (inr (ap (λ r. Err r) failed, subst (MayBeLeft new.state o) (sym is_applied) (edit_doubted edit o mid new.state held meets office clean doubted), next))
         ]

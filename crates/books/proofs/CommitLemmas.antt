@@ -22,11 +22,12 @@ use Rattle.books.proofs.OthersLemmas.{nothing_others, same_trees}
 module _ (edit : Edit) (old new : State) (tables : HasTables old) (settled : IsTrue old.is_open → old.now ≡ old.committed) where
   -- an open connection has the database, which is committed, and so a crash leaves no other
   pub has_edit : (db : Database) → Makes edit old.now db → HasCommitted db old new
-      → (IsTrue new.is_open → (trees : Trees) → new.may_leave trees → trees ≡ new.committed.trees) → HasEdit edit old new
-  has_edit db makes committed exact = record {
+      → (IsTrue new.is_open → (trees : Trees) → new.may_leave trees → trees ≡ new.committed.trees) → new.step_limit ≡ old.step_limit → HasEdit edit old new
+  has_edit db makes committed exact limit = record {
     was_open = committed.was_open;
     makes = subst (MakesEdit edit old.now) (sym committed.now_is) (makes (tables committed.was_open));
     exact = λ trees may. exact committed.is_open trees may ∙ ap (λ (d : Database). d.trees) (committed.committed_is ∙ sym committed.now_is);
+    limit = limit;
   }
 
   -- what was undone is as it was
@@ -65,6 +66,7 @@ edit_others edit old new has = record {
   schema = λ _. has.makes.schema;
   now = λ _. has.makes.others;
   crash = λ trees may. inr (has.was_open, same_others edit old new.now has.makes trees (has.exact trees may));
+  limit = has.limit;
 }
 
 doubt_others : (edit : Edit) (old new : State) → HasCleanDisk new → DoubtsEdit edit old new → LeavesOthers old new
@@ -73,6 +75,7 @@ doubt_others edit old new clean h = record {
   schema = λ is_open. ap (λ (d : Database). d.schema) (h.same.now_is is_open);
   now = λ is_open. same_trees old.now.schema old.now.trees new.now.trees (ap (λ (d : Database). d.trees) (h.same.now_is is_open));
   crash = λ trees may. elim (h.survives.crash clean trees may) [ inl was ↦ inl was | inr made ↦ inr (h.was_open, same_others edit old made.0 made.1 trees made.2) ];
+  limit = h.survives.limit;
 }
 
 -- however the commit of an edit ends, it leaves the tables of other names as they were
@@ -96,6 +99,14 @@ module _ (edit : Edit) (old mid new : State) (clean : HasCleanDisk new) (before 
       now_is = λ is_open. after.same.now_is is_open ∙ before.same.now_is (after.same.was_open is_open);
     };
     survives = survives_then old mid new _ _ (λ _. ⊥) (λ _ _ none. none) (λ _ _ none. none) before.survives after.survives;
+  }
+
+  pub has_after : HasEdit edit mid new → HasEdit edit old new
+  has_after h = record {
+    was_open = before.same.was_open h.was_open;
+    makes = subst (λ (db : Database). MakesEdit edit db new.now) (before.same.now_is h.was_open) h.makes;
+    exact = h.exact;
+    limit = h.limit ∙ before.survives.limit;
   }
 
   doubts_after : DoubtsEdit edit mid new → DoubtsEdit edit old new

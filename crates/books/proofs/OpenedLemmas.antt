@@ -1,5 +1,5 @@
 -- Books that have just opened an office keep the life that begins there.
-use Rattle.std.proofs.Common.{◌≡◌, ◌↔◌, ◌+◌, length, refl, sym, subst, inl, inr}
+use Rattle.std.proofs.Common.{◌≡◌, ◌↔◌, ◌+◌, length, refl, sym, ap, subst, ◌∙◌, inl, inr}
 use Rattle.sqlite.specs.Effect.{Database}
 use Rattle.sqlite.specs.State.{State}
 use Rattle.sts_token.specs.Token.{BlockFunction}
@@ -19,6 +19,7 @@ keeps_opened forward o books running leaves same at = record {
   forward = same;
   left = λ trees may. (o, (leaves o).1 refl, at.0.left trees may);
   running = λ _. record { present = o; running = running; at = at.0; next = at.1 };
+  numbered = λ p may. inl (at.1 ∙ ap (λ (q : Office). length q.sales + 1) (sym ((leaves p).0 may)));
 }
 
 -- what is opened has the office's tables

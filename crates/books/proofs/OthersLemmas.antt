@@ -35,6 +35,7 @@ others_then a b c p q = record {
     | inl was ↦ p.crash trees was
     | inr made ↦ inr (p.was_open made.0, on_top made.0 trees made.1)
   ];
+  limit = q.limit ∙ p.limit;
 }
   where
     on_top : IsTrue b.is_open → (trees : Trees) → SameOthers b.now.schema b.now.trees trees → SameOthers a.now.schema a.now.trees trees
@@ -47,6 +48,7 @@ others_same s = record {
   schema = λ _. refl;
   now = λ _. same_trees s.now.schema s.now.trees s.now.trees refl;
   crash = λ trees may. inl may;
+  limit = refl;
 }
 
 pub nothing_others : (old new : State) → HasCleanDisk new → ChangesNothing old new → LeavesOthers old new
@@ -55,6 +57,7 @@ nothing_others old new clean h = record {
   schema = λ is_open. ap (λ (d : Database). d.schema) (h.same.now_is is_open);
   now = λ is_open. same_trees old.now.schema old.now.trees new.now.trees (ap (λ (d : Database). d.trees) (h.same.now_is is_open));
   crash = λ trees may. elim (h.survives.crash clean trees may) [ inl was ↦ inl was | inr none ↦ absurd none ];
+  limit = h.survives.limit;
 }
 
 -- ---- the office's own tables

@@ -27,4 +27,5 @@ kept_read life old new kept here forward next at = record {
   forward = rw forward kept.forward;
   left = λ trees may. (here.present, inl (sym here.running.present), at.left trees may);
   running = λ _. record { present = here.present; running = here.running; at = at; next = next ∙ here.next };
+  numbered = λ o may. rw next (kept.numbered o may);
 }

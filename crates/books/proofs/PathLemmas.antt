@@ -1,10 +1,11 @@
 -- An opening over a connection that was just made to the files of a path.
-use Rattle.std.proofs.Common.{◌≡◌, false, arith}
-use Rattle.sqlite.specs.Files.{file_state}
+use Rattle.std.proofs.Common.{◌≡◌, false, None, arith, ◌∙◌}
+use Rattle.sqlite.specs.Files.{IsBlankAs, file_state}
 use Rattle.sqlite.specs.Held.{Held}
 use Rattle.sqlite.specs.Start.{FindsIn}
 use Rattle.sqlite.specs.State.{HasCleanDisk, IsLive, Opens, Survives}
 use Rattle.sqlite_disk.specs.declared.Disk.{Ghosts}
+use Rattle.sqlite_store.specs.FileStore.{view}
 use Rattle.sqlite_store.specs.declared.store.FileStore.{FileStore}
 use Rattle.sqlite_wal.specs.Recovery.{Image}
 use Rattle.vend_core.specs.Office.{Office}
@@ -28,9 +29,9 @@ module _ {D : Type 0} {g : Ghosts D} where
         let open_is = opens clean in
         record { opens = open_is.0; live = open_is.1; found = record { holds = it.holds; reads = it.reads } }
 
-    pub opens_files : (HasCleanDisk (file_state last) → OpensAs (file_state first) (file_state last))
+    pub opens_files : (HasCleanDisk (file_state first) → IsBlankAs false image → (view first.store).has_sums ≡ false) → (file_state first).step_limit ≡ None → (HasCleanDisk (file_state last) → OpensAs (file_state first) (file_state last))
         → Survives (file_state first) (file_state last) (LeavesBrought (file_state first)) → OpensFiles image last
-    opens_files finds survives = record { first = first; connected = connected; finds = finds; survives = survives }
+    opens_files plain none finds survives = record { first = first; connected = connected; plain = plain; finds = finds; survives = survives; unlimited = survives.limit ∙ none }
 
     module _ (again : OpensAgain D g) where
       pub stands_first : (o : Office) → HasCleanDisk (file_state first) → StandsIn image o → StoreStandsFor (file_state first) o

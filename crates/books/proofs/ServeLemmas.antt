@@ -1,7 +1,8 @@
 -- What a request at books makes of the life that they keep.
-use Rattle.std.proofs.Common.{◌≡◌, ◌≢◌, ◌⊎◌, ◌↔◌, Bool, true, IsTrue, Result, Err, refl, sym, subst, ◌∙◌, inl, inr}
+use Rattle.std.proofs.Common.{◌≡◌, ◌≢◌, ◌⊎◌, ◌↔◌, ℕ, ◌+◌, Bool, true, IsTrue, Result, Err, length, refl, sym, ap, subst, ◌∙◌, inl, inr}
 use Rattle.std.proofs.lemmas.Bool.{false≢true}
 use Rattle.sts_token.specs.Token.{BlockFunction}
+use Rattle.vend_core.specs.Decision.{decision}
 use Rattle.vend_core.specs.Fold.{reply, step}
 use Rattle.vend_core.specs.Life.{IsLife, Life, MayLeave}
 use Rattle.vend_core.specs.LifeLaws.{IsRunning, extended_by}
@@ -10,8 +11,9 @@ use Rattle.vend_core.specs.declared.answer.Answer.{Answer}
 use Rattle.vend_core.specs.declared.refusal.Refusal.{Refusal}
 use Rattle.vend_core.specs.declared.refusal.Refusal.TheVariants.{Memory, Store, Stopped}
 use Rattle.vend_core.specs.declared.request.Stamped.{Stamped}
-use Rattle.books.specs.Keeps.{IsRepresented, Seen}
+use Rattle.books.specs.Keeps.{IsNextOrOneBefore, IsRepresented, Seen}
 use Rattle.books.specs.Serving.{HoldsOffice, ServingEnds, MayBeLeft}
+use Rattle.books.proofs.AttemptLemmas.{sales_step}
 
 -- books are stopped where the store failed, which answer none as stopped
 pub stops_on : {A : Type 0} (stopped : Bool) (answer : Result A Refusal) → (IsTrue stopped ↔ (answer ≡ Err Store)) → answer ≢ Err Stopped → (stopped ≡ true) ↔ ((answer ≡ Err Store) ⊎ (answer ≡ Err Stopped))
@@ -25,17 +27,27 @@ kept_on life o books opening forward running law held = record {
   forward = forward;
   left = λ trees may. (o, (law o).1 refl, held.at.left trees may);
   running = λ _. record { present = o; running = running; at = held.at; next = held.next };
+  numbered = λ p may. inl (held.next ∙ ap (λ (q : Office). length q.sales + 1) (sym ((law p).0 may)));
 }
+
+-- an office with at most one sale more has this next number, or one that is greater by one
+near : (o p : Office) (next : ℕ) → next ≡ length o.sales + 1 → (length p.sales ≡ length o.sales) ⊎ (length p.sales ≡ length o.sales + 1) → IsNextOrOneBefore p next
+near o p next is (inl same) = inl (is ∙ ap (λ n. n + 1) (sym same))
+near o p next is (inr more) = inr (is ∙ sym more)
 
 -- the store failed, and the books are stopped
 pub kept_in_doubt : (life : Life) (o p : Office) (books : Seen) → IsOffice life.opening → life.forward ≡ books.forward → IsLife life → ((q : Office) → MayLeave life q ↔ ((q ≡ o) ⊎ (q ≡ p))) → MayBeLeft books.state o p
-    → books.stopped ≡ true → IsRepresented life books
-kept_in_doubt life o p books opening forward is_life law left stopped = record {
+    → books.next_number ≡ length o.sales + 1 → (length p.sales ≡ length o.sales) ⊎ (length p.sales ≡ length o.sales + 1) → books.stopped ≡ true → IsRepresented life books
+kept_in_doubt life o p books opening forward is_life law left next more stopped = record {
   opening = opening;
   is_life = is_life;
   forward = forward;
   left = λ trees may. elim (left trees may) [ inl was ↦ (o, (law o).1 (inl refl), was) | inr after ↦ (p, (law p).1 (inr refl), after) ];
   running = λ runs. absurd (false≢true (sym runs ∙ stopped));
+  numbered = λ q may. elim ((law q).0 may) [
+    | inl was ↦ inl (next ∙ ap (λ (r : Office). length r.sales + 1) (sym was))
+    | inr after ↦ subst (λ (r : Office). IsNextOrOneBefore r books.next_number) (sym after) (near o p books.next_number next more)
+  ];
 }
 
 -- books that are stopped stay as they are
@@ -47,6 +59,7 @@ kept_stopped life at books is_life law stopped kept = record {
   forward = kept.forward;
   left = λ trees may. let it = kept.left trees may in (it.0, (law it.0).1 it.1, it.2);
   running = λ runs. absurd (false≢true (sym runs ∙ stopped));
+  numbered = λ p may. kept.numbered p ((law p).0 may);
 }
 
 -- the laws of a life that goes on and gets one exchange more
@@ -74,4 +87,5 @@ kept_attempted life o at answer new laws opening forward (inr (inl none)) stops 
     subst (λ (r : Result Answer Refusal). IsRepresented (extended_by life at r) new) (sym none.0) (kept_on (extended_by life at (Err Memory)) o new opening forward laws.no_memory (λ p. laws.alone _ _ p laws.no_memory) none.1)
 kept_attempted life o at answer new laws opening forward (inr (inr failed)) stops =
     subst (λ (r : Result Answer Refusal). IsRepresented (extended_by life at r) new) (sym failed.0)
-    (kept_in_doubt (extended_by life at (Err Store)) o (step life.forward o at) new opening forward laws.failed laws.doubted failed.1 (stops failed.0))
+    (kept_in_doubt (extended_by life at (Err Store)) o (step life.forward o at) new opening forward laws.failed laws.doubted failed.1 failed.2
+    (sales_step o (decision life.forward o at)) (stops failed.0))

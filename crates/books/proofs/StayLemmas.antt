@@ -1,5 +1,5 @@
 -- A read leaves a store that holds an office as it was, whether it is answered or fails.
-use Rattle.std.proofs.Common.{◌≡◌, false, IsTrue, sym, ◌∙◌, inl, inr, arith}
+use Rattle.std.proofs.Common.{◌≡◌, false, IsTrue, refl, sym, ◌∙◌, inl, inr, arith}
 use Rattle.std.proofs.lemmas.Bool.{cases_Bool, false≢true}
 use Rattle.sqlite.specs.State.{HasCleanDisk, IsUnchanged, State, Survives}
 use Rattle.sqlite_trees.specs.Tree.{Trees}
@@ -22,6 +22,12 @@ clean_before old new P shut survives clean = elim (cases_Bool old.is_clean) [
 
 pub unchanged_same : (old new : State) → IsUnchanged old new → IsSame old new
 unchanged_same old new same = record { was_open = λ _. same.0.was_open; now_is = λ _. same.0.now_is }
+
+pub nothing_same : (s : State) → ChangesNothing s s
+nothing_same s = record {
+  same = record { was_open = λ is_open. is_open; now_is = λ _. refl };
+  survives = record { clean = omega arith; shield = λ is. is; counts = omega arith; limit = refl; closes = λ _ is_open. inl is_open; crash = λ _ trees may. inl may };
+}
 
 -- a read that failed undoes at most a transaction in which nothing was written
 pub left_same : (old new : State) → (IsTrue old.is_open → old.now ≡ old.committed) → IsLeft old new → IsSame old new

@@ -1,5 +1,5 @@
 -- What books make of a request that they are asked at a moment.
-use Rattle.std.specs.Prelude.{◌≡◌, ◌↔◌, ◌⊎◌, ℕ, ◌%◌, false, true, List, [], ◌∷◌, Result, Err, IfErr}
+use Rattle.std.specs.Prelude.{◌≡◌, ◌↔◌, ◌⊎◌, ℕ, ◌%◌, false, true, List, [], ◌∷◌, Result, Err, IfErr, OnOk}
 use Rattle.sqlite.specs.State.{HasCleanDisk}
 use Rattle.vend_core.specs.Life.{Life}
 use Rattle.vend_core.specs.LifeLaws.{extended_by}
@@ -10,7 +10,7 @@ use Rattle.vend_core.specs.declared.request.Request.{Request}
 use Rattle.vend_core.specs.declared.request.Stamped.{Stamped}
 use Rattle.books.specs.Keeps.{HaveTables, Represents, Seen}
 use Rattle.books.specs.Others.{LeavesOthers}
-use Rattle.books.specs.Serving.{FailsToServe}
+use Rattle.books.specs.Serving.{FailsToServe, ServesGranted}
 
 -- the stamped request is this request at this moment, with the nibble of the next sale's number
 pub record IsAsked (moment : ℕ) (request : Request) (books : Seen) (at : Stamped) : Type 0 where
@@ -19,13 +19,15 @@ pub record IsAsked (moment : ℕ) (request : Request) (books : Seen) (at : Stamp
   pub for_request : at.request ≡ request
 
 -- Books replied so to a stamped request. Every life that they kept, they keep with this request and
--- this reply. They leave the tables of other names alone. They answer as stopped exactly where they
--- were, and are stopped after a failure.
+-- this reply. They leave the tables of other names alone. A granted request that changes nothing
+-- commits nothing. They answer as stopped exactly where they were, and are stopped after a failure.
 pub record Replies (at : Stamped) (reply : Result Answer Refusal) (old new : Seen) : Type 0 where
   pub keeps : (life : Life) → Represents life old → Represents (extended_by life at reply) new
   pub tables : HaveTables old → HaveTables new
   pub others : HasCleanDisk new.state → HaveTables old → LeavesOthers old.state new.state
   pub clean : HasCleanDisk new.state → HasCleanDisk old.state
+  pub granted : HasCleanDisk new.state → HaveTables old → old.stopped ≡ false
+      → OnOk reply (ServesGranted at old new)
   pub failures : HasCleanDisk new.state → HaveTables old → old.stopped ≡ false
       → IfErr reply (FailsToServe at old new)
   pub stopped : (reply ≡ Err Stopped) ↔ (old.stopped ≡ true)

@@ -1,5 +1,5 @@
 -- How books keep a life: what their connection has, and what a crash may leave.
-use Rattle.std.specs.Prelude.{◌≡◌, ℕ, ◌+◌, Bool, false, length, IsTrue}
+use Rattle.std.specs.Prelude.{◌≡◌, ◌⊎◌, ℕ, ◌+◌, Bool, false, length, IsTrue}
 use Rattle.sqlite.specs.Effect.{Database, IsDatabase}
 use Rattle.sqlite.specs.Held.{state}
 use Rattle.sqlite.specs.State.{HasCleanDisk, State}
@@ -50,6 +50,10 @@ seen g forwards books = record {
 abbrev pub HaveTables : Seen → Type 0
 HaveTables books = HasCleanDisk books.state → books.stopped ≡ false → HasTables books.state
 
+-- this is the number of the office's next sale, or one too small
+abbrev pub IsNextOrOneBefore : Office → ℕ → Type 0
+IsNextOrOneBefore o next = (next ≡ length o.sales + 1) ⊎ (next ≡ length o.sales)
+
 -- while no request is in doubt, the tables hold the present office of the life
 pub record IsPresent (life : Life) (books : Seen) : Type 0 where
   pub present : Office
@@ -58,7 +62,8 @@ pub record IsPresent (life : Life) (books : Seen) : Type 0 where
   pub next : books.next_number ≡ length present.sales + 1
 
 -- The life is that of the books. All that a crash may leave stands for an office that the life may
--- leave, and books that are not stopped hold its present office.
+-- leave, and books that are not stopped hold its present office. Of each of these offices the next
+-- number is at most one too small.
 pub record IsRepresented (life : Life) (books : Seen) : Type 0 where
   pub opening : IsOffice life.opening
   pub is_life : IsLife life
@@ -66,6 +71,7 @@ pub record IsRepresented (life : Life) (books : Seen) : Type 0 where
   pub left : (trees : Trees) → books.state.may_leave trees
       → (o : Office) × MayLeave life o × RecoversTo trees o
   pub running : books.stopped ≡ false → IsPresent life books
+  pub numbered : (o : Office) → MayLeave life o → IsNextOrOneBefore o books.next_number
 
 -- books keep a life, as long as the disk returns what was written
 abbrev pub Represents : Life → Seen → Type 0

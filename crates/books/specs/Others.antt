@@ -1,4 +1,4 @@
--- What is left of the tables that are not the office's.
+-- What is left of the tables that are not the office's, and of the connection.
 use Rattle.std.specs.Prelude.{◌≡◌, ◌⊎◌, IsTrue}
 use Rattle.std.specs.List.{AllByRecursion}
 use Rattle.sqlite.specs.State.{State}
@@ -13,7 +13,8 @@ SameOthers s old new =
     AllByRecursion (λ u. IsOfNone s table_names u.tree → new u.tree ≡ old u.tree) s.tables
 
 -- No table of another name has changed: an open connection has the tables that it had and the same
--- rows in those of other names, and a crash leaves what it left before, or such rows.
+-- rows in those of other names, and a crash leaves what it left before, or such rows. Nor has the
+-- limit on the steps of a statement, which would make a later read fail.
 pub record LeavesOthers (old new : State) : Type 0 where
   pub was_open : IsTrue new.is_open → IsTrue old.is_open
   pub schema : IsTrue new.is_open → new.now.schema ≡ old.now.schema
@@ -21,3 +22,4 @@ pub record LeavesOthers (old new : State) : Type 0 where
   pub crash : (trees : Trees) → new.may_leave trees
       → old.may_leave trees
       ⊎ (IsTrue old.is_open × SameOthers old.now.schema old.now.trees trees)
+  pub limit : new.step_limit ≡ old.step_limit

@@ -1,14 +1,14 @@
 -- What the files at a path stand for, by what they hold, and what an opening makes of them.
 use Rattle.std.specs.Prelude.{◌≡◌, ◌⊎◌, false, Option, Some, None}
 use Rattle.sqlite.specs.Closing.{files_left}
-use Rattle.sqlite.specs.Files.{AreFoundIn, FailsToOpenFiles, HoldsDatabase, IsCleanLeft, IsClosed, LeavesFiles, file_state, image_of}
+use Rattle.sqlite.specs.Files.{AreFoundIn, FailsToOpenFiles, HoldsDatabase, IsBlankAs, IsCleanLeft, IsClosed, LeavesFiles, file_state, image_of}
 use Rattle.sqlite.specs.Held.{Held}
 use Rattle.sqlite.specs.State.{HasCleanDisk, IsLive, Opens, State, Survives}
 use Rattle.sqlite.specs.declared.error.Error.{Error}
 use Rattle.sqlite.specs.declared.file.Leftover.{Leftover}
 use Rattle.sqlite_disk.specs.declared.Disk.{Ghosts}
 use Rattle.sqlite_disk.specs.declared.Files.{Files}
-use Rattle.sqlite_store.specs.FileStore.{files as store_files}
+use Rattle.sqlite_store.specs.FileStore.{files as store_files, view}
 use Rattle.sqlite_store.specs.declared.store.FileStore.{FileStore}
 use Rattle.sqlite_trees.specs.Tree.{Trees}
 use Rattle.sqlite_wal.specs.Recovery.{Image}
@@ -38,12 +38,16 @@ pub record IsConnected (image : Image) (s : State) : Type 0 where
   pub found : MayFind image s.committed.trees
 
 module _ {D : Type 0} {g : Ghosts D} where
-  -- an office was opened over a connection that was just made to the files
+  -- An office was opened over a connection that was just made to the files, and a new file was made
+  -- with no sums on its pages. No limit on the steps of a statement is set.
   pub record OpensFiles (image : Image) (last : Held (FileStore D g)) : Type 0 where
     pub first : Held (FileStore D g)
     pub connected : HasCleanDisk (file_state first) → IsConnected image (file_state first)
+    pub plain : HasCleanDisk (file_state first) → IsBlankAs false image
+        → (view first.store).has_sums ≡ false
     pub finds : HasCleanDisk (file_state last) → OpensAs (file_state first) (file_state last)
     pub survives : Survives (file_state first) (file_state last) (LeavesBrought (file_state first))
+    pub unlimited : (file_state last).step_limit ≡ None
 
   -- None was opened over a connection that was just made to the files. A fault that names the file
   -- is true of it. The connection has what it had, and what the files stood for it stands for; a

@@ -1,5 +1,5 @@
 -- How a request ends at books.
-use Rattle.std.specs.Prelude.{◌≡◌, ◌⊎◌, ◌+◌, Some, Result, Ok, Err, IfErr, OnOk, IsTrue, length}
+use Rattle.std.specs.Prelude.{◌≡◌, ◌⊎◌, ◌+◌, Option, Some, None, Result, Ok, Err, IfErr, OnOk, IsTrue, length}
 use Rattle.sqlite.specs.State.{State, Survives}
 use Rattle.sqlite_trees.specs.Tree.{Trees}
 use Rattle.sts_token.specs.Token.{BlockFunction}
@@ -34,11 +34,13 @@ abbrev pub change_in : Result Decided Refusal → Result Change Refusal
 change_in (Ok decided) = Ok decided.change
 change_in (Err refusal) = Err refusal
 
--- an open connection has the edit, which is committed: a crash leaves nothing else
+-- an open connection has the edit, which is committed: a crash leaves nothing else. It has the limit
+-- on steps that it had.
 pub record HasEdit (edit : Edit) (old new : State) : Type 0 where
   pub was_open : IsTrue old.is_open
   pub makes : MakesEdit edit old.now new.now
   pub exact : (trees : Trees) → new.may_leave trees → trees ≡ new.now.trees
+  pub limit : new.step_limit ≡ old.step_limit
 
 -- the commit failed: an open connection has what it had, and a crash leaves what it left before, or
 -- the edit
@@ -64,11 +66,21 @@ pub record HoldsOffice (o : Office) (books : Seen) : Type 0 where
   pub at : Stores books.state o
   pub next : books.next_number ≡ length o.sales + 1
 
--- this edit is what the rules decide for the request, in whichever office the books hold
-abbrev pub IsDecidedFor : Stamped → Seen → Edit → Type 0
-IsDecidedFor at books edit =
+-- the rules grant the request with this edit, or with none, in whichever office the books hold
+abbrev pub IsGrantedWith : Stamped → Seen → Option Edit → Type 0
+IsGrantedWith at books edit =
     (o : Office) → HoldsOffice o books
-    → (change : Change) × (decision books.forward o at ≡ Ok change) × (change.edit ≡ Some edit)
+    → (change : Change) × (decision books.forward o at ≡ Ok change) × (change.edit ≡ edit)
+
+abbrev pub IsDecidedFor : Stamped → Seen → Edit → Type 0
+IsDecidedFor at books edit = IsGrantedWith at books (Some edit)
+
+-- What a granted request left: where it changes nothing, nothing was written and a crash leaves
+-- nothing new; else its edit was committed.
+abbrev pub ServesGranted : Stamped → Seen → Seen → Type 0
+ServesGranted at old new =
+    (IsGrantedWith at old None × ChangesNothing old.state new.state)
+    ⊎ ((edit : Edit) × IsDecidedFor at old edit × HasEdit edit old.state new.state)
 
 -- Why a request is refused by books that are not stopped. It was refused before anything changed, or
 -- its edit is not known to be committed.
@@ -84,9 +96,11 @@ pub record Commits (edit : Edit) (result : Result (Unit {0}) Refusal) (old new :
     pub failed : IfErr result (FailsToEdit edit old new)
 
 -- the office served the request, and the books hold the office after it; or no memory was found,
--- and they hold the office from before; or the store failed, and may be opened again with either
+-- and they hold the office from before; or the store failed, and may be opened again with either,
+-- while the next number is that of the office from before
 abbrev pub ServingEnds : BlockFunction → Office → Stamped → Result Answer Refusal → Seen → Type 0
 ServingEnds forward o at answer new =
     ((answer ≡ reply forward o at) × HoldsOffice (step forward o at) new)
     ⊎ (((answer ≡ Err Memory) × HoldsOffice o new)
-    ⊎ ((answer ≡ Err Store) × MayBeLeft new.state o (step forward o at)))
+    ⊎ ((answer ≡ Err Store) × MayBeLeft new.state o (step forward o at)
+    × (new.next_number ≡ length o.sales + 1)))

@@ -1,7 +1,7 @@
 //! One request: it is decided by what the tables hold, and what it changes is committed before the
 //! answer.
 
-ghost use Rattle.std.specs.Prelude.{◌≡◌, ◌≢◌, ◌+◌, Err, IfErr, false, length};
+ghost use Rattle.std.specs.Prelude.{◌≡◌, ◌≢◌, ◌+◌, Err, IfErr, OnOk, false, length};
 ghost use Rattle.sqlite.specs.State.{HasCleanDisk};
 ghost use Rattle.sqlite.specs.Held.{state};
 ghost use Rattle.vend_core.specs.Decision.{decision};
@@ -15,7 +15,7 @@ ghost use Rattle.books.specs.Failing.{RefusesUnchanged};
 ghost use Rattle.books.specs.Keeps.{Stores, seen};
 ghost use Rattle.books.specs.Others.{LeavesOthers};
 ghost use Rattle.books.specs.Same.{ChangesNothing};
-ghost use Rattle.books.specs.Serving.{FailsToServe, HoldsOffice, ServingEnds, IsDecided, change_in};
+ghost use Rattle.books.specs.Serving.{FailsToServe, HoldsOffice, ServesGranted, ServingEnds, IsDecided, change_in};
 
 use super::Books;
 use super::commit::commit;
@@ -42,6 +42,10 @@ impl<S: Alter, T: BlockTransform> Books<S, T> {
         ensures failures { HasCleanDisk (seen S.Store T.forwards self.new).state
             → HasTables (seen S.Store T.forwards self.old).state
             → IfErr result (FailsToServe at.now (seen S.Store T.forwards self.old)
+            (seen S.Store T.forwards self.new)) }
+        ensures granted { HasCleanDisk (seen S.Store T.forwards self.new).state
+            → HasTables (seen S.Store T.forwards self.old).state
+            → OnOk result (ServesGranted at.now (seen S.Store T.forwards self.old)
             (seen S.Store T.forwards self.new)) }
         ensures clean { HasCleanDisk (seen S.Store T.forwards self.new).state
             → HasCleanDisk (seen S.Store T.forwards self.old).state }

@@ -1,6 +1,6 @@
 //! An office in memory.
 
-ghost use Rattle.std.specs.Prelude.{◌≡◌, ◌⊎◌, false, IfOk, IfErr};
+ghost use Rattle.std.specs.Prelude.{◌≡◌, ◌⊎◌, false, None, IfOk, IfErr};
 ghost use Rattle.sqlite.specs.Steps.{over_memory};
 ghost use Rattle.vend_core.specs.LifeLaws.{opened};
 ghost use Rattle.vend_core.specs.Office.{empty_office};
@@ -23,6 +23,8 @@ impl<T: BlockTransform + Drop> Books<MemStore, T> {
             (opened (T.forwards transform) empty_office) (seen over_memory T.forwards books)) }
         ensures tables { IfOk result (λ books. HaveTables (seen over_memory T.forwards books)) }
         ensures running { IfOk result (λ books. books.stopped ≡ false) }
+        ensures unlimited { IfOk result (λ books.
+            (seen over_memory T.forwards books).state.step_limit ≡ None) }
         ensures faults { IfErr result
             (λ fault. (fault ≡ OpenFault.Store) ⊎ (fault ≡ OpenFault.Memory)) }
     {

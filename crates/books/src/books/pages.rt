@@ -3,12 +3,12 @@
 ghost use Rattle.std.specs.Prelude.{◌≡◌, ◌≤◌, ◌+◌, ◌⊎◌, ◌↔◌, Err, IfErr, IfOk, false, length, true};
 ghost use Rattle.sqlite.specs.State.{HasCleanDisk};
 ghost use Rattle.sqlite.specs.Held.{state};
-ghost use Rattle.vend_core.specs.Life.{Life, present};
+ghost use Rattle.vend_core.specs.Life.{Life, MayLeave, present};
 ghost use Rattle.vend_core.specs.Office.{Office};
 ghost use Rattle.vend_core.specs.Store.{sales_above};
 ghost use Rattle.book_tables.specs.Reading.{HasTables};
 ghost use Rattle.books.specs.Failing.{IsToldOfRead};
-ghost use Rattle.books.specs.Keeps.{HaveTables, Stores, Represents, seen};
+ghost use Rattle.books.specs.Keeps.{HaveTables, IsNextOrOneBefore, Stores, Represents, seen};
 ghost use Rattle.books.specs.Others.{LeavesOthers};
 ghost use Rattle.books.specs.Same.{ChangesNothing};
 
@@ -40,6 +40,10 @@ impl<S: Alter, T: BlockTransform> Books<S, T> {
             → HaveTables (seen S.Store T.forwards self.old)
             → LeavesOthers (seen S.Store T.forwards self.old).state
             (seen S.Store T.forwards self.new).state }
+        ensures nothing { HasCleanDisk (seen S.Store T.forwards self.new).state
+            → HaveTables (seen S.Store T.forwards self.old)
+            → ChangesNothing (seen S.Store T.forwards self.old).state
+            (seen S.Store T.forwards self.new).state }
         ensures clean { HasCleanDisk (seen S.Store T.forwards self.new).state
             → HasCleanDisk (seen S.Store T.forwards self.old).state }
         ensures stopped { (result ≡ Err Refusal.Stopped) ↔ (self.old.stopped ≡ true) }
@@ -65,9 +69,12 @@ impl<S: Alter, T: BlockTransform> Books<S, T> {
     ///
     /// After a failure of the store it may be too small by one.
     pub fn next_number(&self) -> u64
-        ensures { HasCleanDisk (seen S.Store T.forwards self.now).state
+        ensures exact { HasCleanDisk (seen S.Store T.forwards self.now).state
             → (life : Life) → Represents life (seen S.Store T.forwards self.now)
             → self.now.stopped ≡ false → result ≡ length (present life).sales + 1 }
+        ensures near { HasCleanDisk (seen S.Store T.forwards self.now).state
+            → (life : Life) → Represents life (seen S.Store T.forwards self.now)
+            → (o : Office) → MayLeave life o → IsNextOrOneBefore o result }
     {
         self.next_number
     }

@@ -43,6 +43,10 @@ impl<S: Alter, T: BlockTransform> Books<S, T> {
             → HaveTables (seen S.Store T.forwards self.old)
             → LeavesOthers (seen S.Store T.forwards self.old).state
             (seen S.Store T.forwards self.new).state }
+        ensures nothing { HasCleanDisk (seen S.Store T.forwards self.new).state
+            → HaveTables (seen S.Store T.forwards self.old)
+            → ChangesNothing (seen S.Store T.forwards self.old).state
+            (seen S.Store T.forwards self.new).state }
         ensures clean { HasCleanDisk (seen S.Store T.forwards self.new).state
             → HasCleanDisk (seen S.Store T.forwards self.old).state }
         ensures stopped { (result ≡ Err Refusal.Stopped) ↔ (self.old.stopped ≡ true) }

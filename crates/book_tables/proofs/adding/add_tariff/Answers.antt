@@ -3,10 +3,12 @@ use Rattle.sqlite.specs.Held.{state}
 use Rattle.sqlite.specs.State.{HasCleanDisk}
 use Rattle.std.proofs.lemmas.List.{length-take-le, take_all, take_more}
 use Rattle.tariff.specs.declared.step.Step.{Step}
-use Rattle.one_table.proofs.ChangeLemmas.{transaction_off, transaction_on, transaction_then}
+use Rattle.one_table.proofs.ChangeLemmas.{told_as, transaction_off, transaction_on, transaction_then}
 use Rattle.book_tables.specs.Writing.{AddsTariff}
 use Rattle.book_tables.proofs.OnlyLemmas.{tables_there}
 use Rattle.book_tables.proofs.TariffWriteLemmas.{adds_next, adds_none}
+use Rattle.book_tables.specs.Failing.{FailsToWriteAll}
+use Rattle.book_tables.proofs.CauseLemmas.{came_after, came_here, of_store}
 use Rattle.book_tables.proofs.adding.add_tariff.Goals as goal
 
 pub steps-init : goal.steps-init
@@ -52,3 +54,21 @@ returns-in_err-add_step-clause-transaction g c =
 
 pub returns-clause-transaction : goal.returns-clause-transaction
 returns-clause-transaction g c = transaction_on c.steps.invariant.transaction
+
+pub returns-in_err-add_name-clause-refused : goal.returns-in_err-add_name-clause-refused
+returns-in_err-add_name-clause-refused g c clean way has =
+    let old = state g.S.Store c.args.tx.now.conn.now in
+    let new = state g.S.Store c.add_name.new.tx.conn.now in
+    let e = c.in_err-add_name.field-0.0 in
+    told_as (FailsToWriteAll old new) c.from_residual.result e c.from_residual.ensures.1 (of_store old old new (came_here old way) e (c.in_err-add_name.ensures.writes.refused clean has))
+
+pub returns-in_err-add_step-clause-refused : goal.returns-in_err-add_step-clause-refused
+returns-in_err-add_step-clause-refused g c clean way has =
+    let old = state g.S.Store c.args.tx.now.conn.now in
+    let mid = state g.S.Store c.steps.tx.conn.now in
+    let new = state g.S.Store c.add_step.new.tx.conn.now in
+    let early : HasCleanDisk mid = omega (arith, c.add_step.ensures.writes.transaction.survives.clean) in
+    let so_far = c.steps.invariant.added early has in
+    let came = came_after _ old mid so_far.only c.steps.invariant.transaction.survives in
+    let e = c.in_err-add_step.field-0.0 in
+    told_as (FailsToWriteAll old new) c.from_residual-in_err-add_step.result e c.from_residual-in_err-add_step.ensures.1 (of_store old mid new came e (c.in_err-add_step.ensures.writes.refused clean (tables_there _ old mid so_far.only has)))

@@ -3,10 +3,12 @@ use Rattle.sqlite.specs.Held.{state}
 use Rattle.sqlite.specs.State.{HasCleanDisk}
 use Rattle.std.proofs.lemmas.List.{length-take-le, take_all, take_more}
 use Rattle.tariff.specs.declared.step.Step.{Step}
-use Rattle.one_table.proofs.ChangeLemmas.{transaction_off, transaction_on, transaction_then}
+use Rattle.one_table.proofs.ChangeLemmas.{told_as, transaction_off, transaction_on, transaction_then}
 use Rattle.book_tables.specs.Writing.{AddsSteps}
 use Rattle.book_tables.proofs.DatedWriteLemmas.{adds_next}
 use Rattle.book_tables.proofs.OnlyLemmas.{tables_there}
+use Rattle.book_tables.specs.Failing.{FailsToWriteAll}
+use Rattle.book_tables.proofs.CauseLemmas.{came_after, came_here, of_store}
 use Rattle.book_tables.proofs.dated.add_steps.Goals as goal
 
 pub others-preserved : goal.others-preserved
@@ -43,3 +45,22 @@ returns-in_err-add_dated_step-2-clause-transaction g c =
     let r = c.from_residual-in_err-add_dated_step-2.result in
     transaction_then (state g.S.Store c.args.tx.now.conn.now) (state g.S.Store c.others.tx.conn.now) (state g.S.Store c.add_dated_step-in-others.new.tx.conn.now) r c.others.invariant.transaction
     (transaction_off _ r c.from_residual-in_err-add_dated_step-2.ensures.1 c.in_err-add_dated_step-2.ensures.writes.transaction.kept c.in_err-add_dated_step-2.ensures.writes.transaction.survives)
+
+pub returns-in_err-add_dated_step-clause-refused : goal.returns-in_err-add_dated_step-clause-refused
+returns-in_err-add_dated_step-clause-refused g c clean way has some =
+    let old = state g.S.Store c.args.tx.now.conn.now in
+    let new = state g.S.Store c.add_dated_step.new.tx.conn.now in
+    let e = c.in_err-add_dated_step.field-0.0 in
+    told_as (FailsToWriteAll old new) c.from_residual.result e c.from_residual.ensures.1 (of_store old old new (came_here old way) e (c.in_err-add_dated_step.ensures.writes.refused clean has))
+
+pub returns-in_err-add_dated_step-2-clause-refused : goal.returns-in_err-add_dated_step-2-clause-refused
+returns-in_err-add_dated_step-2-clause-refused g c clean way has some =
+    let old = state g.S.Store c.args.tx.now.conn.now in
+    let mid = state g.S.Store c.others.tx.conn.now in
+    let new = state g.S.Store c.add_dated_step-in-others.new.tx.conn.now in
+    let early : HasCleanDisk mid = omega (arith, c.add_dated_step-in-others.ensures.writes.transaction.survives.clean) in
+    let so_far = c.others.invariant.added early has in
+    let came = came_after _ old mid so_far.2.only c.others.invariant.transaction.survives in
+    let e = c.in_err-add_dated_step-2.field-0.0 in
+    told_as (FailsToWriteAll old new) c.from_residual-in_err-add_dated_step-2.result e c.from_residual-in_err-add_dated_step-2.ensures.1
+    (of_store old mid new came e (c.in_err-add_dated_step-2.ensures.writes.refused clean (tables_there _ old mid so_far.2.only has)))

@@ -1,11 +1,13 @@
-use Rattle.std.proofs.Common.{arith, codes, [], ◌∷◌, subst}
+use Rattle.std.proofs.Common.{arith, codes, [], ◌∷◌, inl, subst}
 use Rattle.sqlite.specs.Held.{state}
 use Rattle.sqlite.specs.State.{HasCleanDisk}
-use Rattle.one_table.proofs.ChangeLemmas.{transaction_off, transaction_on, transaction_then}
+use Rattle.one_table.proofs.ChangeLemmas.{told_as, transaction_off, transaction_on, transaction_then}
 use Rattle.book_tables.specs.Reading.{FailsToStore}
 use Rattle.book_tables.specs.declared.error.TableError.TheVariants.{RowOfNoOffice}
 use Rattle.book_tables.proofs.AddTotalsLemmas.{may_add_totals, tables_stay, tells_sold}
 use Rattle.book_tables.proofs.RefusalLemmas.{handed_on, same_error}
+use Rattle.book_tables.specs.Failing.{FailsToMergeAll}
+use Rattle.book_tables.proofs.CauseLemmas.{came_after, came_here, of_later_merge, of_store}
 use Rattle.book_tables.proofs.totalling.add_sold.Goals as goal
 
 pub returns-in_err-add_sale-clause-transaction : goal.returns-in_err-add_sale-clause-transaction
@@ -53,3 +55,22 @@ returns-in_err-totals-clause-no_false_row g c clean way format rows held known t
     let after = may_add_totals sale c.amount_law.ensures.greatest old mid first format rows (held first.only.inside.was_open) known in
     c.in_err-totals.ensures.no_false_row clean first.only.inside.mode format after.0 (λ _. after.1) after.2
     (handed_on c.in_err-totals.field-0.0 RowOfNoOffice c.from_residual-in_err-totals.result c.from_residual-in_err-totals.ensures.1 told_so)
+
+pub returns-in_err-add_sale-clause-refused : goal.returns-in_err-add_sale-clause-refused
+returns-in_err-add_sale-clause-refused g c clean way has =
+    let old = state g.S.Store c.args.tx.now.conn.now in
+    let new = state g.S.Store c.add_sale.new.tx.conn.now in
+    let e = c.in_err-add_sale.field-0.0 in
+    told_as (FailsToMergeAll old new) c.from_residual.result e c.from_residual.ensures.1 (inl (of_store old old new (came_here old way) e (c.in_err-add_sale.ensures.writes.refused clean has)))
+
+pub returns-in_err-totals-clause-refused : goal.returns-in_err-totals-clause-refused
+returns-in_err-totals-clause-refused g c clean way has =
+    let old = state g.S.Store c.args.tx.now.conn.now in
+    let mid = state g.S.Store c.add_sale.new.tx.conn.now in
+    let new = state g.S.Store c.add_totals.new.tx.conn.now in
+    let early : HasCleanDisk mid = omega (arith, c.add_totals.ensures.transaction.survives.clean) in
+    let first = c.in_ok-add_sale.ensures.writes.made early has in
+    let came = came_after _ old mid first.only c.in_ok-add_sale.ensures.writes.transaction.survives in
+    let e = c.in_err-totals.field-0.0 in
+    told_as (FailsToMergeAll old new) c.from_residual-in_err-totals.result e c.from_residual-in_err-totals.ensures.1
+    (of_later_merge old mid new came e (c.in_err-totals.ensures.refused clean first.only.inside.mode (tables_stay (codes "sales" ∷ []) old mid first.only has)))

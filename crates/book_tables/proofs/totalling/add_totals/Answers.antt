@@ -1,7 +1,7 @@
 use Rattle.std.proofs.Common.{ℕ, arith, codes, [], ◌∷◌, map, sym, subst}
 use Rattle.sqlite.specs.Held.{state}
 use Rattle.sqlite.specs.State.{HasCleanDisk}
-use Rattle.one_table.proofs.ChangeLemmas.{transaction_off, transaction_on, transaction_then}
+use Rattle.one_table.proofs.ChangeLemmas.{told_as, transaction_off, transaction_on, transaction_then}
 use Rattle.sts_fields.specs.Calendar.{month_at}
 use Rattle.vend_core.specs.Lookup.{greatest_of}
 use Rattle.vend_core.specs.declared.sale.Sale.{Sale}
@@ -10,6 +10,8 @@ use Rattle.book_tables.specs.Writing.{AddsTenths, AddsToShift, MayAddTenths, May
 use Rattle.book_tables.specs.declared.error.TableError.TheVariants.{RowOfNoOffice}
 use Rattle.book_tables.proofs.AddTotalsLemmas.{may_add_tenths, may_add_to_shift, tables_stay, tells_totals}
 use Rattle.book_tables.proofs.RefusalLemmas.{handed_on}
+use Rattle.book_tables.specs.Failing.{FailsToMergeAll}
+use Rattle.book_tables.proofs.CauseLemmas.{came_after, came_here, of_later_merge, of_merge}
 use Rattle.book_tables.proofs.totalling.add_totals.Goals as goal
 
 pub returns-in_err-set_last_id-clause-transaction : goal.returns-in_err-set_last_id-clause-transaction
@@ -99,3 +101,40 @@ returns-in_err-shift-clause-no_false_row g c clean way format rows held known to
     let then = may_add_to_shift sale c.args.last one two format mid.0 mid.1 sum adds mid.2 mid.3 in
     c.in_err-shift.ensures.no_false_row clean adds.only.inside.mode format then.0 (λ _. then.1) (subst (λ (n : ℕ). MayAddToShift sale.shift n sale.price format then.0) (sym c.tenths-tenths.ensures.value) then.2)
     (handed_on c.in_err-shift.field-0.0 RowOfNoOffice c.from_residual-in_err-shift.result c.from_residual-in_err-shift.ensures.1 told_so)
+
+pub returns-in_err-set_last_id-clause-refused : goal.returns-in_err-set_last_id-clause-refused
+returns-in_err-set_last_id-clause-refused g c clean way has =
+    let old = state g.S.Store c.args.tx.now.conn.now in
+    let new = state g.S.Store c.set_last_id.new.tx.conn.now in
+    let e = c.in_err-set_last_id.field-0.0 in
+    told_as (FailsToMergeAll old new) c.from_residual.result e c.from_residual.ensures.1 (of_merge old old new (came_here old way) e (c.in_err-set_last_id.ensures.merges.refused clean way has))
+
+pub returns-in_err-month_tenths-clause-refused : goal.returns-in_err-month_tenths-clause-refused
+returns-in_err-month_tenths-clause-refused g c clean way has =
+    let old = state g.S.Store c.args.tx.now.conn.now in
+    let one = state g.S.Store c.set_last_id.new.tx.conn.now in
+    let new = state g.S.Store c.add_tenths.new.tx.conn.now in
+    let clean_one : HasCleanDisk one = omega (arith, c.add_tenths.ensures.merges.transaction.survives.clean) in
+    let first = c.in_ok-set_last_id.ensures.merges.made clean_one way has in
+    let came = came_after _ old one first.only c.in_ok-set_last_id.ensures.merges.transaction.survives in
+    let e = c.in_err-month_tenths.field-0.0 in
+    told_as (FailsToMergeAll old new) c.from_residual-in_err-month_tenths.result e c.from_residual-in_err-month_tenths.ensures.1
+    (of_merge old one new came e (c.in_err-month_tenths.ensures.merges.refused clean first.only.inside.mode (tables_stay (codes "last_ids" ∷ []) old one first.only has)))
+
+pub returns-in_err-shift-clause-refused : goal.returns-in_err-shift-clause-refused
+returns-in_err-shift-clause-refused g c clean way has =
+    let old = state g.S.Store c.args.tx.now.conn.now in
+    let one = state g.S.Store c.set_last_id.new.tx.conn.now in
+    let two = state g.S.Store c.add_tenths.new.tx.conn.now in
+    let new = state g.S.Store c.add_to_shift.new.tx.conn.now in
+    let clean_two : HasCleanDisk two = omega (arith, c.add_to_shift.ensures.merges.transaction.survives.clean) in
+    let clean_one : HasCleanDisk one = omega (arith, c.add_tenths.ensures.merges.transaction.survives.clean) in
+    let first = c.in_ok-set_last_id.ensures.merges.made clean_one way has in
+    let has_one = tables_stay (codes "last_ids" ∷ []) old one first.only has in
+    let second = c.in_ok-month_tenths.ensures.merges.made clean_two first.only.inside.mode has_one in
+    let has_two = tables_stay (codes "month_tenths" ∷ []) one two second.only has_one in
+    let came_one = came_after _ old one first.only c.in_ok-set_last_id.ensures.merges.transaction.survives in
+    let came_two = came_after _ one two second.only c.in_ok-month_tenths.ensures.merges.transaction.survives in
+    let e = c.in_err-shift.field-0.0 in
+    told_as (FailsToMergeAll old new) c.from_residual-in_err-shift.result e c.from_residual-in_err-shift.ensures.1
+    (of_later_merge old one new came_one e (of_merge one two new came_two e (c.in_err-shift.ensures.merges.refused clean second.only.inside.mode has_two)))

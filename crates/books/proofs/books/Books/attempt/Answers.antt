@@ -1,10 +1,10 @@
-use Rattle.std.proofs.Common.{inl, inr, refl, subst}
+use Rattle.std.proofs.Common.{None, Some, inl, inr, refl, subst}
 use Rattle.sqlite.specs.Held.{state}
 use Rattle.vend_core.specs.Office.{IsOffice}
 use Rattle.books.specs.Keeps.{seen}
-use Rattle.books.specs.Serving.{IsDecidedFor}
+use Rattle.books.specs.Serving.{IsDecidedFor, IsGrantedWith}
 use Rattle.books.proofs.AttemptLemmas.{committed_ends, failed_ends, handed_on, is_applied, is_decision, none_of, refused_ends, unchanged_ends}
-use Rattle.books.proofs.CommitLemmas.{commits_others, fails_after}
+use Rattle.books.proofs.CommitLemmas.{commits_others, fails_after, has_after}
 use Rattle.books.proofs.OthersLemmas.{nothing_others, others_then, tables_stay}
 use Rattle.books.proofs.StayLemmas.{has_tables, still_held}
 use Rattle.books.proofs.books.Books.attempt.Goals as goal
@@ -123,3 +123,32 @@ returns-in_err-commit-clause-failures g c clean tables =
       c.in-Some.is,
     ) in
     rw same (inr (c.in-Some.edit, decided, fails_after c.in-Some.edit old mid new clean nothing c.in_err-commit.field-0.0 commits.failed))
+
+pub returns-clause-granted : goal.returns-clause-granted
+returns-clause-granted g c clean tables =
+    let old = state g.S.Store c.args.self.now.conn in
+    let mid = state g.S.Store c.decided.new.conn in
+    let books = seen g.S.Store g.T.BlockTransform.forwards c.args.self.now in
+    let change = c.in_ok-change.field-0.change in
+    elim c.match-edit.branch [
+      | in-Some+in_ok-commit w ↦
+          let late = rw w.self-is at clean in
+          let early = w.commit.ensures.clean late in
+          let new = state g.S.Store w.commit.new.conn in
+          let nothing = c.decided.ensures.nothing early tables in
+          let commits = w.in_ok-commit.ensures.commits late (tables_stay old mid (nothing_others old mid early nothing) tables) in
+          let decided : IsGrantedWith c.args.at.now books (Some w.in-Some.edit) = λ o held. (
+            change,
+            is_decision (g.T.BlockTransform.forwards c.args.self.now.transform) o c.args.at.now change (c.in_ok-change.ensures.decides early o held.at held.next),
+            w.in-Some.is,
+          ) in
+          rw w.self-is (inr (w.in-Some.edit, decided, has_after w.in-Some.edit old mid new late nothing commits.done))
+      | in_default w ↦
+          let late = rw w.self-is at clean in
+          let decided : IsGrantedWith c.args.at.now books None = λ o held. (
+            change,
+            is_decision (g.T.BlockTransform.forwards c.args.self.now.transform) o c.args.at.now change (c.in_ok-change.ensures.decides late o held.at held.next),
+            none_of change.edit w.in_default.not-Some,
+          ) in
+          rw w.self-is (inl (decided, c.decided.ensures.nothing late tables))
+    ]

@@ -16,6 +16,7 @@ returns-then-self-clause-replies g c =
       tables = λ has. has;
       others = λ clean has. others_same old.state;
       clean = λ clean. clean;
+      granted = search rules;
       failures = search rules;
       stopped = search rules;
       stops = search rules;
@@ -52,6 +53,7 @@ returns-clause-replies g c =
           tables_stay old.state mid.state (tried.others clean before) before;
       others = λ clean has. tried.others clean (has (tried.clean clean) c.if-self.false);
       clean = tried.clean;
+      granted = λ clean has runs. tried.granted clean (has (tried.clean clean) runs);
       failures = λ clean has runs. tried.failures clean (has (tried.clean clean) runs);
       stopped = search rules;
       stops = stops_on c.has_failed-self.result answer c.has_failed-self.ensures tried.never_stopped;

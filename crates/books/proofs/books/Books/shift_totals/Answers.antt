@@ -3,7 +3,7 @@ use Rattle.sqlite.specs.Held.{state}
 use Rattle.books.specs.Keeps.{seen}
 use Rattle.books.proofs.OthersLemmas.{nothing_others, others_same, tables_stay}
 use Rattle.books.proofs.PageLemmas.{kept_read}
-use Rattle.books.proofs.StayLemmas.{has_tables, still_held}
+use Rattle.books.proofs.StayLemmas.{has_tables, nothing_same, still_held}
 use Rattle.books.proofs.books.Books.shift_totals.Goals as goal
 
 pub returns-clause-keeps : goal.returns-clause-keeps
@@ -33,3 +33,9 @@ returns-then-self-clause-others g c clean has = others_same (state g.S.Store c.a
 
 pub returns-clause-failures : goal.returns-clause-failures
 returns-clause-failures g c clean has runs = c.totals-totals.ensures.failures clean (has (c.totals-totals.ensures.clean clean) runs)
+
+pub returns-clause-nothing : goal.returns-clause-nothing
+returns-clause-nothing g c clean has = c.totals-totals.ensures.nothing clean (has (c.totals-totals.ensures.clean clean) c.if-self.false)
+
+pub returns-then-self-clause-nothing : goal.returns-then-self-clause-nothing
+returns-then-self-clause-nothing g c clean has = nothing_same (state g.S.Store c.args.self.now.conn)

@@ -9,7 +9,7 @@ returns-in-Ok-clause-commits g c clean tables =
     let new = state g.S.Store c.change_once.new.conn in
     let outside : IsTrue c.is_autocommit-settled.result = search rules in
     let made = c.in-Ok.ensures.committed clean in
-    record { done = has_edit c.args.edit.now old new tables (c.is_autocommit-settled.ensures.settled outside) made.0 made.1 made.2 c.change_once.ensures.exact; failed = tt }
+    record { done = has_edit c.args.edit.now old new tables (c.is_autocommit-settled.ensures.settled outside) made.0 made.1 made.2 c.change_once.ensures.exact c.change_once.ensures.crash.limit; failed = tt }
 
 pub returns-in-Err-Unmade-clause-commits : goal.returns-in-Err-Unmade-clause-commits
 returns-in-Err-Unmade-clause-commits g c clean tables =

@@ -12,7 +12,7 @@ returns-in-Ok-open_from-clause-opens g c = λ o stands clean.
 
 pub returns-in-Ok-open_from-clause-finds : goal.returns-in-Ok-open_from-clause-finds
 returns-in-Ok-open_from-clause-finds g c =
-    opens_files _ c.in-Ok.conn c.in-Ok-open_from.books.conn c.in-Ok.ensures.opened (λ clean. let it = c.in-Ok.ensures.found clean in record { holds = it.holds; reads = it.reads }) c.in-Ok-open_from.ensures.finds c.in-Ok-open_from.ensures.survives
+    opens_files _ c.in-Ok.conn c.in-Ok-open_from.books.conn c.in-Ok.ensures.opened (λ clean. let it = c.in-Ok.ensures.found clean in record { holds = it.holds; reads = it.reads }) c.in-Ok.ensures.plain c.in-Ok.ensures.fresh.unlimited c.in-Ok-open_from.ensures.finds c.in-Ok-open_from.ensures.survives
 
 pub returns-in-Err-open_from-clause-refused : goal.returns-in-Err-open_from-clause-refused
 returns-in-Err-open_from-clause-refused g c =

@@ -1,3 +1,4 @@
+use Rattle.std.proofs.Common.{◌∙◌}
 use Rattle.sqlite.proofs.Callers.{memory_is_clean}
 use Rattle.vend_core.specs.Office.{empty_office}
 use Rattle.books.proofs.FreshLemmas.{memory_stands, store_or_memory}
@@ -5,6 +6,9 @@ use Rattle.books.proofs.books.memory.Books+MemStore+T.in_memory.Goals as goal
 
 pub returns-in-Ok-open_from-clause-opens : goal.returns-in-Ok-open_from-clause-opens
 returns-in-Ok-open_from-clause-opens g c = c.in-Ok-open_from.ensures.opens empty_office (memory_stands c.in-Ok.conn c.stands_law.ensures.untaken c.in-Ok.ensures.empty)
+
+pub returns-in-Ok-open_from-clause-unlimited : goal.returns-in-Ok-open_from-clause-unlimited
+returns-in-Ok-open_from-clause-unlimited g c = c.in-Ok-open_from.ensures.survives.limit ∙ c.in-Ok.ensures.fresh.unlimited
 
 pub returns-clause-faults : goal.returns-clause-faults
 returns-clause-faults g c =
