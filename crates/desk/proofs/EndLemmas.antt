@@ -12,13 +12,13 @@ use Rattle.desk.specs.Messages.{Stop, ended, Message, BeginsMessage, IsRefused, 
 use Rattle.desk.specs.Next.{IsRefusedEver}
 use Rattle.desk.specs.Parts.{EndsEarly, EndsHere, ReplyIsWritten, RefusalIsWritten}
 use Rattle.desk.specs.Run.{IsAll, IsRun}
-use Rattle.desk.specs.Ends.{Output, Writes, WritesWhole}
-use Rattle.desk.proofs.UsesLemmas.{writes_after}
+use Rattle.desk.specs.Ends.{Output, WritesLast, WritesWhole}
+use Rattle.desk.proofs.UsesLemmas.{last_after}
 use Rattle.desk.proofs.ProgressLemmas.{Step, BeginsMessage-append, progress_none, progress-append, conversation_after, cut_off_after, given_up_after}
 
 -- a text that a writer took, and the end of which it is
-abbrev pub Written : Output → Output → (List ℕ → Type 0) → Type 0
-Written held holds Ends = (text : List ℕ) × Writes held holds text × Ends text
+abbrev pub Written : End → Output → Output → (List ℕ → Type 0) → Type 0
+Written end held holds Ends = (text : List ℕ) × WritesLast end held holds text × Ends text
 
 -- the same, of the bytes alone
 abbrev pub WrittenBytes : Option (List ℕ) → Option (List ℕ) → (List ℕ → Type 0) → Type 0
@@ -45,7 +45,7 @@ closed_end step refusal old new rest m after x begins closes same answered stop 
 pub answered_end : {O : Type 0} (A : Type 0) (step : Step O) (refusal : MessageFault → List ℕ) (old new : Timed O) (held holds : Output)
     (rest : List ℕ) (m : Message) (after : List ℕ) (end : End) → BeginsMessage rest m after
     → ReplyIsWritten {A = A} step old new held holds m (Err end)
-    → Written held holds (λ text. EndsEarly step refusal old text new rest end)
+    → Written end held holds (λ text. EndsEarly step refusal old text new rest end)
 answered_end A step refusal old new held holds rest m after Closed begins x = absurd x
 answered_end A step refusal old new held holds rest m after BadMessage begins x = absurd x
 answered_end A step refusal old new held holds rest m after ReadFault begins x = absurd x
@@ -72,7 +72,7 @@ answered_end A step refusal old new held holds rest m after WriteFault begins (x
 )
 answered_end A step refusal old new held holds rest m after Memory begins (gave_up, k) = (
   [],
-  k,
+  record { writes = k.writes; ends = k.open_still },
   λ more. record {
     rest = rest ++ more;
     mid = old;
@@ -111,30 +111,31 @@ refused_cut_off step refusal old rest fault part is short = record {
 -- a message that is refused whatever follows
 pub told_end : {O : Type 0} (step : Step O) (refusal : MessageFault → List ℕ) (old : Timed O) (held holds : Output)
     (rest : List ℕ) (fault : MessageFault) (end : End) → IsRefusedEver rest fault → RefusalIsWritten held holds (refusal fault) end
-    → Written held holds (λ text. EndsEarly step refusal old text old rest end)
+    → Written end held holds (λ text. EndsEarly step refusal old text old rest end)
 told_end step refusal old held holds rest fault Closed ever x = absurd x
 told_end step refusal old held holds rest fault ReadFault ever x = absurd x
 told_end step refusal old held holds rest fault BadMessage ever x =
-    (refusal fault, x, (fault, λ stop more. refused_conversation step refusal old stop (rest ++ more) fault (ever stop more)))
+    (refusal fault, record { writes = x.writes; ends = x.open_still }, (fault, λ stop more. refused_conversation step refusal old stop (rest ++ more) fault (ever stop more)))
 told_end step refusal old held holds rest fault WriteFault ever (part, short, written) = (
   take part (refusal fault),
   written,
   λ more. refused_cut_off step refusal old (rest ++ more) fault part (ever ended more) short,
 )
 told_end step refusal old held holds rest fault Memory ever k =
-    ([], k, λ more. memory_end step old (rest ++ more))
+    ([], record { writes = k.writes; ends = k.open_still }, λ more. memory_end step old (rest ++ more))
 
 -- a message that is refused where the input ended
 pub told_here : {O : Type 0} (step : Step O) (refusal : MessageFault → List ℕ) (old : Timed O) (held holds : Output)
     (rest : List ℕ) (fault : MessageFault) (end : End) → IsRefused ended rest fault → RefusalIsWritten held holds (refusal fault) end
-    → Written held holds (λ text. EndsHere step refusal old text old rest end)
+    → Written end held holds (λ text. EndsHere step refusal old text old rest end)
 told_here step refusal old held holds rest fault Closed is x = absurd x
 told_here step refusal old held holds rest fault ReadFault is x = absurd x
 told_here step refusal old held holds rest fault BadMessage is x =
-    (refusal fault, x, (fault, refused_conversation step refusal old ended rest fault is))
+    (refusal fault, record { writes = x.writes; ends = x.open_still }, (fault, refused_conversation step refusal old ended rest fault is))
 told_here step refusal old held holds rest fault WriteFault is (part, short, written) =
     (take part (refusal fault), written, refused_cut_off step refusal old rest fault part is short)
-told_here step refusal old held holds rest fault Memory is k = ([], k, memory_end step old rest)
+told_here step refusal old held holds rest fault Memory is k =
+    ([], record { writes = k.writes; ends = k.open_still }, memory_end step old rest)
 
 -- ---- after other messages
 
@@ -174,10 +175,10 @@ here_after step refusal old mid new input rest first second Memory p x =
 -- an end after messages that were answered
 pub end_after : {O : Type 0} (step : Step O) (refusal : MessageFault → List ℕ) (old mid new : Timed O) (a b c : Output)
     (input rest : List ℕ) (first : List ℕ) (end : End) → WritesWhole a b first → Progress (timed step) input rest old first mid
-    → Written b c (λ text. EndsEarly step refusal mid text new rest end)
-    → Written a c (λ text. EndsEarly step refusal old text new input end)
+    → Written end b c (λ text. EndsEarly step refusal mid text new rest end)
+    → Written end a c (λ text. EndsEarly step refusal old text new input end)
 end_after step refusal old mid new a b c input rest first end before p (second, written, ends) =
-    (first ++ second, writes_after a b c first second before written, early_after step refusal old mid new input rest first second end p ends)
+    (first ++ second, last_after end a b c first second before written, early_after step refusal old mid new input rest first second end p ends)
 
 -- the same, of the bytes alone
 pub bytes_after : {O : Type 0} (step : Step O) (refusal : MessageFault → List ℕ) (old mid new : Timed O) (a b c : Option (List ℕ))

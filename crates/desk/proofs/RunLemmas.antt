@@ -1,5 +1,5 @@
 -- A run, read by read.
-use Rattle.std.proofs.Common.{◌≡◌, ℕ, ◌+◌, ◌<◌, ◌≤◌, inl, inr, List, [], ◌∷◌, ◌++◌, length, Option, None, Some, Ok, Err, refl, ap, sym, subst, subst₂, ◌∙◌, arith, append-nil, lit<}
+use Rattle.std.proofs.Common.{◌≡◌, ℕ, ◌+◌, ◌<◌, ◌≤◌, inl, inr, suc, List, [], ◌∷◌, ◌++◌, length, Option, None, Some, Ok, Err, refl, ap, sym, subst, subst₂, ◌∙◌, arith, append-nil, lit<}
 use Rattle.std.proofs.lemmas.List.{length-append}
 use Rattle.std.specs.Io.KnownBytes.{Appends, Consumes}
 use Rattle.std.proofs.KnownBytes.{Appends-nil, Appends-trans, Consumes-kept, Consumes-nil, Consumes-trans}
@@ -11,17 +11,17 @@ use Rattle.desk.specs.declared.message_fault.MessageFault.TheVariants as faults
 use Rattle.desk.specs.declared.wants.Wants.{Wants}
 use Rattle.desk.specs.declared.wants.Wants.TheVariants.{Head, Body}
 use Rattle.desk.specs.Conversation.{Conversation, Progress}
-use Rattle.desk.specs.Ends.{AsksOnce, IsRead, Output, Writes, WritesWhole}
+use Rattle.desk.specs.Ends.{AsksOnce, IsRead, Output, Writes, WritesLast, WritesWhole}
 use Rattle.desk.specs.Exchanges.{Timed, timed}
 use Rattle.desk.specs.Heads.{longest_head}
 use Rattle.desk.specs.Messages.{failed, EndsAs, broken}
 use Rattle.desk.specs.Parts.{EndsHere, IsOver}
 use Rattle.desk.specs.Run.{IsRun}
-use Rattle.desk.specs.Uses.{AreOpen, AreSound, Grows, IsOpen, IsPaced, MayAsk, Use, asked, came_by, longest_message, received, written}
+use Rattle.desk.specs.Uses.{AreOpen, AreSound, EndsBy, Grows, IsOpen, IsPaced, MayAsk, Use, asked, came_by, longest_message, reads_in, received, written}
 use Rattle.desk.specs.Wants.{count_of, IsAwaited}
 use Rattle.desk.proofs.EndLemmas.{Written, WrittenBytes, all_left, left_of, told_here}
 use Rattle.desk.proofs.MessageLemmas.{framed_fits, some_head, some_head_is}
-use Rattle.desk.proofs.UsesLemmas.{AreInTurn-append, AreOpen-append, AreSound-append, are_sound, Grows-nil, Grows-trans, received-append, sends_in_turn, sends_receive, written-append}
+use Rattle.desk.proofs.UsesLemmas.{AreInTurn-append, AreOpen-append, AreSound-append, are_sound, ends_by, Grows-nil, Grows-trans, reads_in-append, received-append, sends_in_turn, sends_read_none, sends_receive, written-append}
 use Rattle.desk.proofs.ProgressLemmas.{Step, progress-append, progress_trans, conversation_after}
 use Rattle.desk.proofs.ReadingLemmas.{no_empty_head}
 
@@ -79,17 +79,17 @@ read_run step refusal old new told tells a b c held holds wanted taken rest afte
 
 -- the end of the input, where this was left of it
 pub over_end : {O : Type 0} (step : Step O) (refusal : MessageFault → List ℕ) (old : Timed O) (held holds : Output)
-    (rest : List ℕ) (end : End) → IsOver refusal rest held holds end → Written held holds (λ text. EndsHere step refusal old text old rest end)
+    (rest : List ℕ) (end : End) → IsOver refusal rest held holds end → Written end held holds (λ text. EndsHere step refusal old text old rest end)
 over_end step refusal old held holds rest Closed (is, none) =
-    ([], none, record { exchanges = []; messages = is; served = refl; text_is = refl })
+    ([], record { writes = none.writes; ends = none.open_still }, record { exchanges = []; messages = is; served = refl; text_is = refl })
 over_end step refusal old held holds rest BadMessage (is, told) = told_here step refusal old held holds rest faults.Head BadMessage is told
 over_end step refusal old held holds rest WriteFault (is, told) = told_here step refusal old held holds rest faults.Head WriteFault is told
 over_end step refusal old held holds rest Memory (is, told) = told_here step refusal old held holds rest faults.Head Memory is told
 over_end step refusal old held holds rest ReadFault (is, told) = absurd told
 
 -- a text that was written, by its bytes alone
-pub bytes_of : (a b : Output) (Ends : List ℕ → Type 0) → Written a b Ends → WrittenBytes a.0 b.0 Ends
-bytes_of a b Ends (text, writes, ends) = (text, writes.holds, ends)
+pub bytes_of : (end : End) (a b : Output) (Ends : List ℕ → Type 0) → Written end a b Ends → WrittenBytes a.0 b.0 Ends
+bytes_of end a b Ends (text, last, ends) = (text, last.writes.holds, ends)
 
 -- what was answered before a read is answered of all that was read after it
 pub after_read : {O : Type 0} (step : Step O) (old new : Timed O) (a b c : Option (List ℕ)) (taken rest after bytes text : List ℕ)
@@ -158,23 +158,23 @@ came_open asks count [] long some = absurd (some (sym long))
 came_open asks count (byte ∷ bytes) long some = tt
 
 -- what `run` says of its uses
-abbrev pub Paced : {O : Type 0} → Step O → Timed O → (told tells : Option (List Use)) → (unread left held holds : Option (List ℕ)) → Type 0
-Paced step old told tells unread left held holds =
-    (uses : List Use) × Grows told tells uses × IsPaced step old unread left held holds uses
+abbrev pub Paced : {O : Type 0} → Step O → Timed O → (told tells : Option (List Use)) → (unread left held holds : Option (List ℕ)) → End → Type 0
+Paced step old told tells unread left held holds end =
+    (uses : List Use) × Grows told tells uses × IsPaced step old unread left held holds uses × EndsBy end uses
 
-pub paced : {O : Type 0} (step : Step O) (old : Timed O) (told tells : Option (List Use)) (unread left held holds : Option (List ℕ)) (uses : List Use)
-    → Used step old told tells unread left held holds uses → Paced step old told tells unread left held holds
-paced step old told tells unread left held holds uses used = (uses, used.told_are, used.paced)
+pub paced : {O : Type 0} (step : Step O) (old : Timed O) (told tells : Option (List Use)) (unread left held holds : Option (List ℕ)) (end : End) (uses : List Use)
+    → Used step old told tells unread left held holds uses → EndsBy end uses → Paced step old told tells unread left held holds end
+paced step old told tells unread left held holds end uses used ends = (uses, used.told_are, used.paced, ends)
 
 module _ {O : Type 0} (step : Step O) (old new : Timed O) (told mid tells : Option (List Use)) (unread left now held holds : Option (List ℕ)) (uses : List Use) (rest : List ℕ) where
   -- a read that failed, or had no room
   pub paced_read : (after : List ℕ) (w : Wants) (wanted : ℕ) (end : End) → wanted ≡ count_of w → Used step old told mid unread left held holds uses → AreOpen uses
       → Progress (timed step) (received uses) rest old (written uses) new → IsAwaited rest w → IsRead mid tells left now wanted rest after (Err end)
-      → Paced step old told tells unread now held holds
+      → Paced step old told tells unread now held holds end
   paced_read after w wanted ReadFault all used opened answered awaited (kept, same, asks) =
       let read = used_read step old new told mid tells unread left now held holds uses rest w wanted None all used opened answered awaited asks
       (Consumes-kept left left now [] (Consumes-nil left) kept) in
-      paced step old told tells unread now held holds _ read
+      paced step old told tells unread now held holds ReadFault _ read (inl (asks.0, (uses, refl)))
   paced_read after w wanted Memory all used opened answered awaited (kept, same, none) = (
     uses,
     subst (λ l. Grows told tells l) (append-nil uses) (Grows-trans told mid tells uses [] used.told_are none),
@@ -183,6 +183,7 @@ module _ {O : Type 0} (step : Step O) (old new : Timed O) (told mid tells : Opti
       reads = Consumes-kept unread left now (received uses) used.paced.reads kept;
       writes = used.paced.writes;
     },
+    are_sound uses opened,
   )
   paced_read after w wanted Closed all used opened answered awaited is = absurd is
   paced_read after w wanted BadMessage all used opened answered awaited is = absurd is
@@ -202,16 +203,17 @@ module _ {O : Type 0} (step : Step O) (old new : Timed O) (told mid tells : Opti
     sound = AreSound-append uses (asked read.5.0 (Some read.0) ∷ []) (are_sound uses opened) (tt, tt)
 
     -- then texts were handed over
-    pub paced_after : (last : Option (List Use)) (wrote : Option (List ℕ)) (text : List ℕ) → Writes (holds, tells) (wrote, last) text
-        → Paced step old told last unread now held wrote
-    paced_after last wrote text writes =
-        paced step old told last unread now held wrote _ (used_sends step old told tells last unread now held holds wrote made text was_read sound writes)
+    pub paced_after : (end : End) (last : Option (List Use)) (wrote : Option (List ℕ)) (text : List ℕ) → WritesLast end (holds, tells) (wrote, last) text
+        → Paced step old told last unread now held wrote end
+    paced_after end last wrote text sends =
+        let used = used_sends step old told tells last unread now held holds wrote made text was_read sound sends.writes in
+        paced step old told last unread now held wrote end _ used (ends_by end made sends.writes.uses sound sends.ends)
 
     -- and all were taken, where bytes had come
     pub went_on : (last : Option (List Use)) (wrote : Option (List ℕ)) (text : List ℕ) (later : Timed O) (left_over : List ℕ) → ¬ (count ≡ 0)
         → WritesWhole (holds, tells) (wrote, last) text → Progress (timed step) after left_over new text later
         → (all : List Use) × Used step old told last unread now held wrote all × AreOpen all
-        × Progress (timed step) (received all) left_over old (written all) later
+        × Progress (timed step) (received all) left_over old (written all) later × (reads_in all ≡ suc (reads_in uses))
     went_on last wrote text later left_over some whole progress =
         let w = whole.writes in
         let more : List Use = asked read.5.0 (Some read.0) ∷ [] in
@@ -229,4 +231,5 @@ module _ {O : Type 0} (step : Step O) (old new : Timed O) (told mid tells : Opti
           used_sends step old told tells last unread now held holds wrote made text was_read sound w,
           AreOpen-append made w.uses (AreOpen-append uses more opened (came_open read.5.0 count read.0 read.1 some, tt)) whole.open_still,
           subst₂ (λ (a b : List ℕ). Progress (timed step) a left_over old b later) came took both,
+          omega (arith, reads_in-append made w.uses, reads_in-append uses more, sends_read_none w.uses w.sends),
         )

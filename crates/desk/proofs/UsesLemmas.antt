@@ -1,11 +1,13 @@
 -- Uses of a reader and a writer, one after another.
-use Rattle.std.proofs.Common.{◌≡◌, ℕ, true, false, List, [], ◌∷◌, ◌++◌, Option, None, Some, refl, ap, sym, subst, ◌∙◌, append_assoc, append-nil}
+use Rattle.std.proofs.Common.{◌≡◌, ℕ, ◌+◌, true, false, List, [], ◌∷◌, ◌++◌, Option, None, Some, refl, ap, sym, subst, ◌∙◌, append_assoc, append-nil, arith}
 use Rattle.std.proofs.KnownBytes.{Appends-nil, Appends-trans}
 use Rattle.std.proofs.lemmas.Grind.{flat_map-append}
 use Rattle.std.specs.Io.KnownBytes.{Appends}
-use Rattle.desk.specs.Ends.{AreSends, Output, Writes, WritesWhole}
+use Rattle.desk.specs.declared.end.End.{End}
+use Rattle.desk.specs.declared.end.End.TheVariants.{Closed, BadMessage, ReadFault, WriteFault, Memory}
+use Rattle.desk.specs.Ends.{AreSends, Output, SendsEnd, Writes, WritesLast, WritesWhole}
 use Rattle.desk.specs.Exchanges.{Timed}
-use Rattle.desk.specs.Uses.{Use, asked, sent, AreInTurn, AreOpen, AreSound, Grows, IsOpen, IsSound, came_by, received, taken_by, written}
+use Rattle.desk.specs.Uses.{Use, asked, sent, AreInTurn, AreOpen, AreSound, EndsBy, EndsWith, Grows, IsOpen, IsSound, came_by, reads_in, received, taken_by, written}
 use Rattle.desk.proofs.ProgressLemmas.{Step}
 
 pub Grows-nil : (a : Option (List Use)) → Grows a a []
@@ -54,6 +56,36 @@ sends_receive (asked count came ∷ xs) p = absurd p
 sends_receive (sent bytes true ∷ xs) p = sends_receive xs p
 sends_receive (sent bytes false ∷ xs) p = ap received p
 
+pub reads_in-append : (xs ys : List Use) → reads_in (xs ++ ys) ≡ reads_in xs + reads_in ys
+reads_in-append [] ys = omega arith
+reads_in-append (asked count came ∷ xs) ys = omega (arith, reads_in-append xs ys)
+reads_in-append (sent bytes all ∷ xs) ys = reads_in-append xs ys
+
+pub sends_read_none : (xs : List Use) → AreSends xs → reads_in xs ≡ 0
+sends_read_none [] p = refl
+sends_read_none (asked count came ∷ xs) p = absurd p
+sends_read_none (sent bytes true ∷ xs) p = sends_read_none xs p
+sends_read_none (sent bytes false ∷ xs) p = ap reads_in p
+
+ends_with_after : (xs ys : List Use) (last : Use) → EndsWith ys last → EndsWith (xs ++ ys) last
+ends_with_after xs ys last (before, is) =
+    (xs ++ before, ap (λ l. xs ++ l) is ∙ sym (append_assoc xs before (last ∷ [])))
+
+sends_end_after : (end : End) (xs ys : List Use) → AreOpen xs → SendsEnd end ys → SendsEnd end (xs ++ ys)
+sends_end_after ReadFault xs ys o p = absurd p
+sends_end_after WriteFault xs ys o (bytes, last) = (bytes, ends_with_after xs ys (sent bytes false) last)
+sends_end_after Closed xs ys o p = AreOpen-append xs ys o p
+sends_end_after BadMessage xs ys o p = AreOpen-append xs ys o p
+sends_end_after Memory xs ys o p = AreOpen-append xs ys o p
+
+-- texts end a run as they say, where nothing had failed
+pub ends_by : (end : End) (xs ys : List Use) → AreSound xs → SendsEnd end ys → EndsBy end (xs ++ ys)
+ends_by ReadFault xs ys o p = absurd p
+ends_by WriteFault xs ys o (bytes, last) = (bytes, ends_with_after xs ys (sent bytes false) last)
+ends_by Closed xs ys o p = AreSound-append xs ys o (are_sound ys p)
+ends_by BadMessage xs ys o p = AreSound-append xs ys o (are_sound ys p)
+ends_by Memory xs ys o p = AreSound-append xs ys o (are_sound ys p)
+
 pub AreInTurn-append : {O : Type 0} (step : Step O) (old : Timed O) (before xs ys : List Use) → AreInTurn step old before xs
     → AreInTurn step old (before ++ xs) ys → AreInTurn step old before (xs ++ ys)
 AreInTurn-append step old before [] ys p q = subst (λ l. AreInTurn step old l ys) (append-nil before) q
@@ -75,9 +107,6 @@ whole_none a = record {
   open_still = tt;
 }
 
-pub writes_none : (a : Output) → Writes a a []
-writes_none a = (whole_none a).writes
-
 pub writes_after : (a b c : Output) (first second : List ℕ) → WritesWhole a b first → Writes b c second → Writes a c (first ++ second)
 writes_after a b c first second x y = record {
   uses = x.writes.uses ++ y.uses;
@@ -87,6 +116,14 @@ writes_after a b c first second x y = record {
       ap (λ bytes. bytes ++ second) x.writes.text_is ∙ ap (λ bytes. written x.writes.uses ++ bytes) y.text_is
       ∙ sym (written-append x.writes.uses y.uses);
   holds = Appends-trans a.0 b.0 c.0 first second x.writes.holds y.holds;
+}
+
+pub last_after : (end : End) (a b c : Output) (first second : List ℕ) → WritesWhole a b first → WritesLast end b c second
+    → WritesLast end a c (first ++ second)
+unfolding writes_after
+last_after end a b c first second x y = record {
+  writes = writes_after a b c first second x y.writes;
+  ends = sends_end_after end x.writes.uses y.writes.uses x.open_still y.ends;
 }
 
 pub whole_after : (a b c : Output) (first second : List ℕ) → WritesWhole a b first → WritesWhole b c second
@@ -104,6 +141,9 @@ whole_untold held holds text appends = record {
   open_still = (tt, tt);
 }
 
-pub part_untold : (held holds : Option (List ℕ)) (text : List ℕ) → Appends held holds text → Writes (held, None) (holds, None) text
-part_untold held holds text appends =
-    record { uses = sent text false ∷ []; told = tt; sends = refl; text_is = sym (append-nil text); holds = appends }
+pub part_untold : (held holds : Option (List ℕ)) (text : List ℕ) → Appends held holds text
+    → WritesLast WriteFault (held, None) (holds, None) text
+part_untold held holds text appends = record {
+  writes = record { uses = sent text false ∷ []; told = tt; sends = refl; text_is = sym (append-nil text); holds = appends };
+  ends = (text, ([], refl));
+}

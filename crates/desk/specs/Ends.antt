@@ -3,8 +3,8 @@
 use Rattle.std.specs.Prelude.{◌≡◌, ℕ, ◌<◌, ◌≤◌, ⊤, true, false, List, [], ◌∷◌, ◌++◌, length, take, Option, Some, None, Result, Ok, Err}
 use Rattle.std.specs.Io.KnownBytes.{Appends, Consumes, IsAtEnd, Keeps}
 use Rattle.desk.specs.declared.end.End.{End}
-use Rattle.desk.specs.declared.end.End.TheVariants.{ReadFault, WriteFault, Memory}
-use Rattle.desk.specs.Uses.{Use, asked, sent, AreOpen, Grows, came_by, written}
+use Rattle.desk.specs.declared.end.End.TheVariants.{Closed, BadMessage, ReadFault, WriteFault, Memory}
+use Rattle.desk.specs.Uses.{Use, asked, sent, AreOpen, EndsWith, Grows, came_by, written}
 
 -- the bytes that a writer holds, and the uses that a line tells
 abbrev pub Output : Type 0
@@ -30,9 +30,24 @@ pub record WritesWhole (old new : Output) (text : List ℕ) : Type 0 where
   pub writes : Writes old new text
   pub open_still : AreOpen writes.uses
 
+-- texts after which a run ends so: the last one was not taken whole for a write fault, and each was for
+-- another end
+abbrev pub SendsEnd : End → List Use → Type 0
+SendsEnd ReadFault uses = ⊥
+SendsEnd WriteFault uses = (bytes : List ℕ) × EndsWith uses (sent bytes false)
+SendsEnd Closed uses = AreOpen uses
+SendsEnd BadMessage uses = AreOpen uses
+SendsEnd Memory uses = AreOpen uses
+
+-- the writer took this text, by uses after which a run ends so
+pub record WritesLast (end : End) (old new : Output) (text : List ℕ) : Type 0 where
+  pub writes : Writes old new text
+  pub ends : SendsEnd end writes.uses
+
 -- the writer took a beginning of the text, and not all of it
 abbrev pub IsBeginning : Output → Output → List ℕ → Type 0
-IsBeginning old new text = (part : ℕ) × (part < length text) × Writes old new (take part text)
+IsBeginning old new text =
+    (part : ℕ) × (part < length text) × WritesLast WriteFault old new (take part text)
 
 -- the text was written whole, or the writer failed after a beginning of it
 abbrev pub IsSent : {A : Type 0} → Output → Output → List ℕ → Result A End → Type 0

@@ -7,7 +7,7 @@ use Rattle.desk.specs.declared.conversation.Awaiting.{Awaiting}
 use Rattle.desk.specs.declared.message_fault.MessageFault.{MessageFault}
 use Rattle.desk.specs.declared.message_fault.MessageFault.TheVariants.{Head}
 use Rattle.desk.specs.Conversation.{Conversation, Progress, IsCutOff, IsGivenUp}
-use Rattle.desk.specs.Ends.{IsBeginning, Output, Writes, WritesWhole}
+use Rattle.desk.specs.Ends.{IsBeginning, Output, WritesLast, WritesWhole}
 use Rattle.desk.specs.Exchanges.{MessageExchange, Timed, timed, GaveUp}
 use Rattle.desk.specs.Messages.{Stop, ended, Message, EndsAs, IsRefused, finished, closing, refused}
 use Rattle.desk.specs.Wants.{IsAwaited}
@@ -34,19 +34,19 @@ ReplyIsWritten step old new held holds m (Ok _) =
     (x : MessageExchange) × (x.message ≡ m) × timed step old x new × WritesWhole held holds x.reply
 ReplyIsWritten step old new held holds m (Err WriteFault) =
     (x : MessageExchange) × (x.message ≡ m) × timed step old x new × IsBeginning held holds x.reply
-ReplyIsWritten step old new held holds m (Err Memory) = GaveUp step old m new × Writes held holds []
+ReplyIsWritten step old new held holds m (Err Memory) = GaveUp step old m new × WritesWhole held holds []
 ReplyIsWritten step old new held holds m (Err end) = ⊥
 
 -- the refusal of a message was written, or not
 abbrev pub RefusalIsWritten : Output → Output → List ℕ → End → Type 0
-RefusalIsWritten held holds text BadMessage = Writes held holds text
+RefusalIsWritten held holds text BadMessage = WritesWhole held holds text
 RefusalIsWritten held holds text WriteFault = IsBeginning held holds text
-RefusalIsWritten held holds text Memory = Writes held holds []
+RefusalIsWritten held holds text Memory = WritesWhole held holds []
 RefusalIsWritten held holds text end = ⊥
 
 -- the input ended where this was left: it is cut or nothing, or is refused for want of a head
 abbrev pub IsOver : (MessageFault → List ℕ) → List ℕ → Output → Output → End → Type 0
-IsOver refusal rest held holds Closed = EndsAs ended rest finished × Writes held holds []
+IsOver refusal rest held holds Closed = EndsAs ended rest finished × WritesWhole held holds []
 IsOver refusal rest held holds end =
     IsRefused ended rest Head × RefusalIsWritten held holds (refusal Head) end
 
@@ -58,7 +58,7 @@ RepliesAreWritten step refusal old new held holds input (Ok awaiting) =
     × Progress (timed step) input (drop awaiting.len input) old text new
     × IsAwaited (drop awaiting.len input) awaiting.wants
 RepliesAreWritten step refusal old new held holds input (Err end) =
-    (text : List ℕ) × Writes held holds text × EndsEarly step refusal old text new input end
+    (text : List ℕ) × WritesLast end held holds text × EndsEarly step refusal old text new input end
 
 -- an end that was written as this text where the input ended
 abbrev pub EndsHere : {O : Type 0} → (O → MessageExchange → O → Type 0) → (MessageFault → List ℕ)

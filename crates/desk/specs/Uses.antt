@@ -1,7 +1,9 @@
 -- How a conversation uses its reader and its writer, in order, and which use may follow which.
-use Rattle.std.specs.Prelude.{◌≡◌, ℕ, ◌+◌, ◌≤◌, Bool, true, false, List, [], ◌∷◌, ◌++◌, length, take, Option, None, Some, Result, Ok, Err, ⊤}
+use Rattle.std.specs.Prelude.{◌≡◌, ◌⊎◌, ℕ, ◌+◌, ◌≤◌, Bool, true, false, List, [], ◌∷◌, ◌++◌, length, take, Option, None, Some, Result, Ok, Err, ⊤}
 use Rattle.std.specs.List.{AllByRecursion, flat_map}
 use Rattle.std.specs.Io.KnownBytes.{Appends, Consumes}
+use Rattle.desk.specs.declared.end.End.{End}
+use Rattle.desk.specs.declared.end.End.TheVariants.{Closed, BadMessage, ReadFault, WriteFault, Memory}
 use Rattle.desk.specs.declared.wants.Wants.{Wants}
 use Rattle.desk.specs.Conversation.{Progress}
 use Rattle.desk.specs.Exchanges.{MessageExchange, Timed, timed}
@@ -103,6 +105,31 @@ pub record IsPaced
   pub in_turn : AreInTurn step old [] uses
   pub reads : Consumes unread left (received uses)
   pub writes : Appends held holds (written uses)
+
+-- this was the last use
+abbrev pub EndsWith : List Use → Use → Type 0
+EndsWith uses last = (before : List Use) × (uses ≡ before ++ last ∷ [])
+
+-- how many of the uses are reads
+abbrev pub reads_in : List Use → ℕ
+reads_in [] = 0
+reads_in (asked count came ∷ uses) = reads_in uses + 1
+reads_in (sent bytes all ∷ uses) = reads_in uses
+
+-- the most reads of one run: 2^64 - 1
+abbrev pub most_reads : ℕ
+most_reads = 18446744073709551615
+
+-- By these uses a run ends so: with a read fault where the last of them is a read that failed, or where
+-- one read more would be number 2^64; with a write fault where the last is a text that the writer did
+-- not take whole; and else where nothing failed.
+abbrev pub EndsBy : End → List Use → Type 0
+EndsBy ReadFault uses =
+    ((count : ℕ) × EndsWith uses (asked count None)) ⊎ (AreOpen uses × (reads_in uses ≡ most_reads))
+EndsBy WriteFault uses = (bytes : List ℕ) × EndsWith uses (sent bytes false)
+EndsBy Closed uses = AreSound uses
+EndsBy BadMessage uses = AreSound uses
+EndsBy Memory uses = AreSound uses
 
 -- what a read gave, as its use tells it
 abbrev pub came_of : {E : Type 0} → List ℕ → Result ℕ E → Option (List ℕ)

@@ -1,4 +1,4 @@
-ghost use Rattle.std.specs.Prelude.{◌≡◌, ℤ, List, ◌∷◌, Option, None, Some};
+ghost use Rattle.std.specs.Prelude.{◌≡◌, ℤ, List, ◌∷◌, Option, None, Some, ⊤};
 ghost use Rattle.desk.specs.Clock.{Gives, script_answers};
 
 /// What says which moment it is, in Unix seconds.
@@ -6,9 +6,14 @@ pub trait Clock {
     /// The answers that it has yet to give, where they are known: after the last one it repeats it.
     ghost answers: { Self → Option (List ℤ) } = { λ _. None };
 
+    /// It was read, and this is what it gave: so much is told of a clock whose answers nobody knows
+    /// beforehand.
+    ghost reads: { Self → ℤ → Type 0 } = { λ _ _. ⊤ };
+
     /// The present moment in Unix seconds, which may lie outside the moments of the office.
     fn now(&mut self) -> i64
-        ensures { Gives (answers self.old) result (answers self.new) };
+        ensures gives { Gives (answers self.old) result (answers self.new) }
+        ensures reads { reads self.old result };
 }
 
 /// A clock whose answers are given beforehand. The last one is repeated.

@@ -1,7 +1,7 @@
 ghost use Rattle.desk.specs.Next.{message_of};
 ghost use Rattle.desk.specs.Parts.{RepliesAreWritten, ReplyIsWritten, IsOver, RefusalIsWritten};
 ghost use Rattle.desk.specs.Run.{IsRun};
-ghost use Rattle.desk.specs.Uses.{Grows, IsPaced, Use};
+ghost use Rattle.desk.specs.Uses.{EndsBy, Grows, IsPaced, Use};
 ghost use Rattle.desk.specs.Wants.{IsAwaited};
 ghost use Rattle.std.specs.Prelude.{List};
 
@@ -26,7 +26,7 @@ pub(crate) struct Awaiting {
 }
 
 // Answers one message, and writes the reply.
-fn answer_one<O, S: Service<O>, L: Line, W: Write, C: Clock>(
+fn answer_one<O, S: Service<O>, L: Line<R, W>, R: Read, W: Write, C: Clock>(
     service: &S,
     alloc: Global,
     office: &mut O,
@@ -46,7 +46,7 @@ fn answer_one<O, S: Service<O>, L: Line, W: Write, C: Clock>(
 }
 
 // Writes the reply to a message that is refused.
-fn refuse<O, S: Service<O>, L: Line, W: Write>(
+fn refuse<O, S: Service<O>, L: Line<R, W>, R: Read, W: Write>(
     service: &S,
     alloc: Global,
     line: &mut L,
@@ -67,7 +67,7 @@ fn refuse<O, S: Service<O>, L: Line, W: Write>(
 
 // Answers all whole messages at the front of an input, in order, each by a reply that is written
 // before the next one is looked at.
-fn answer_all<O, S: Service<O>, L: Line, W: Write, C: Clock>(
+fn answer_all<O, S: Service<O>, L: Line<R, W>, R: Read, W: Write, C: Clock>(
     service: &S,
     alloc: Global,
     office: &mut O,
@@ -104,7 +104,7 @@ fn answer_all<O, S: Service<O>, L: Line, W: Write, C: Clock>(
 }
 
 // How the conversation ends where the input ended, and this is left and awaited of it.
-fn finish<O, S: Service<O>, L: Line, W: Write>(
+fn finish<O, S: Service<O>, L: Line<R, W>, R: Read, W: Write>(
     service: &S,
     alloc: Global,
     line: &mut L,
@@ -133,7 +133,7 @@ fn finish<O, S: Service<O>, L: Line, W: Write>(
 /// it asks for at most `MAX_HEAD` bytes of it in all, and while it awaits a body for what that lacks;
 /// it holds no more than one longest message, and reads nothing after an end (`specs/Uses.antt`). No
 /// bytes are kept for another run.
-pub fn run<O, S: Service<O>, L: Line, R: Read, W: Write, C: Clock>(
+pub fn run<O, S: Service<O>, L: Line<R, W>, R: Read, W: Write, C: Clock>(
     service: &S,
     alloc: Global,
     line: &mut L,
@@ -147,11 +147,12 @@ pub fn run<O, S: Service<O>, L: Line, R: Read, W: Write, C: Clock>(
         (W.contents writer.old) (W.contents writer.new) result }
     ensures paced { (uses : List Use) × Grows (L.uses line.old) (L.uses line.new) uses
         × IsPaced S.step (office.old, C.answers clock.old) (R.remaining reader.old)
-        (R.remaining reader.new) (W.contents writer.old) (W.contents writer.new) uses }
+        (R.remaining reader.new) (W.contents writer.old) (W.contents writer.new) uses
+        × EndsBy result uses }
 {
     let mut unanswered = Unanswered::new(alloc);
     let mut wants = Wants::Head(MAX_HEAD);
-    'reads: for _ in 0..u64::MAX {
+    'reads: for made in 0..u64::MAX {
         match unanswered.read_more(line, reader, wants.count()) {
             Ok(0) => return finish(service, alloc, line, writer, unanswered.as_slice(), wants),
             Ok(_) => {}

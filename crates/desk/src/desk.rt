@@ -8,7 +8,7 @@ ghost use Rattle.desk.specs.Exchanges.{ReadsClock};
 ghost use Rattle.desk.specs.Meaning.{IsMeaning};
 ghost use Rattle.desk.specs.Next.{message_of};
 ghost use Rattle.desk.specs.Run.{IsRun};
-ghost use Rattle.desk.specs.Uses.{Grows, IsPaced, Use};
+ghost use Rattle.desk.specs.Uses.{EndsBy, Grows, IsPaced, Use};
 
 use crate::clock::Clock;
 use crate::conversation::run;
@@ -64,7 +64,8 @@ impl Desk {
         ensures paced { (uses : List Use)
             × IsPaced (answers_by (books_serve (seen S.Store T.forwards)))
             (books.old, C.answers clock.old) (R.remaining reader.old) (R.remaining reader.new)
-            (W.contents writer.old) (W.contents writer.new) uses }
+            (W.contents writer.old) (W.contents writer.new) uses
+            × EndsBy result uses }
         ensures clean { HasCleanDisk (seen S.Store T.forwards books.new).state
             → HasCleanDisk (seen S.Store T.forwards books.old).state }
         ensures lives { HasCleanDisk (seen S.Store T.forwards books.new).state → (life : Life)
@@ -81,8 +82,9 @@ impl Desk {
     }
 
     /// The same, where each use of the reader and the writer goes through a line: the uses that it
-    /// tells are in turn (`paced`), so that each reply is written before more input is asked for.
-    pub fn run_over<S: Alter, T: BlockTransform, L: Line, R: Read, W: Write, C: Clock>(
+    /// tells are in turn (`paced`), so that each reply is written before more input is asked for, and
+    /// the last of them is why it ended.
+    pub fn run_over<S: Alter, T: BlockTransform, L: Line<R, W>, R: Read, W: Write, C: Clock>(
         &self,
         alloc: Global,
         line: &mut L,
@@ -98,7 +100,19 @@ impl Desk {
         ensures paced { (uses : List Use) × Grows (L.uses line.old) (L.uses line.new) uses
             × IsPaced (answers_by (books_serve (seen S.Store T.forwards)))
             (books.old, C.answers clock.old) (R.remaining reader.old) (R.remaining reader.new)
-            (W.contents writer.old) (W.contents writer.new) uses }
+            (W.contents writer.old) (W.contents writer.new) uses
+            × EndsBy result uses }
+        ensures clean { HasCleanDisk (seen S.Store T.forwards books.new).state
+            → HasCleanDisk (seen S.Store T.forwards books.old).state }
+        ensures lives { HasCleanDisk (seen S.Store T.forwards books.new).state → (life : Life)
+            → Represents life (seen S.Store T.forwards books.old)
+            → (after : Life) × IsRun (answers_by life_serves) message_refusal_of
+            (life, C.answers clock.old) (after, C.answers clock.new)
+            (R.remaining reader.old) (R.remaining reader.new)
+            (W.contents writer.old) (W.contents writer.new) result
+            × Represents after (seen S.Store T.forwards books.new)
+            × LeavesOthers (seen S.Store T.forwards books.old).state
+            (seen S.Store T.forwards books.new).state }
     {
         run(self, alloc, line, reader, writer, books, clock)
     }

@@ -5,7 +5,8 @@ pub enum End {
     Closed,
     /// A message was refused: all replies were written, and the refusal last.
     BadMessage,
-    /// A read failed: the replies to all whole messages before it were written.
+    /// A read failed, or would have been number 2^64 of this run: the replies to all whole messages
+    /// before it were written.
     ReadFault,
     /// A write failed or took no byte: a beginning of the replies was written. No message after the
     /// one that was being answered was served.

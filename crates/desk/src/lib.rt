@@ -19,7 +19,7 @@ pub use head::{Front, MAX_FIELDS, MAX_HEAD, front_of};
 pub use json_kind::JsonKind;
 pub use laws::reply_law;
 pub use line::{Line, Untold};
-pub use machine_clock::MachineClock;
+pub use machine_clock::{MachineClock, TimeSource};
 pub use message::{Next, message_law, next_of};
 pub use message_fault::MessageFault;
 pub use method::Method;

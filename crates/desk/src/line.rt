@@ -8,14 +8,15 @@ use crate::end::End;
 use papers::{TextFault, write_whole};
 use std::io::{self, Read, Write};
 
-/// What each use of a reader and a writer goes through. It may tell contracts which uses were made,
-/// in order: how many bytes each read asked for, and what was handed to the writer before it.
-pub trait Line {
+/// What each use of a reader and a writer of these types goes through, and of no other ones. It may
+/// tell contracts which uses were made, in order: how many bytes each read asked for, and what was
+/// handed to the writer before it.
+pub trait Line<R: Read, W: Write> {
     /// The uses that were made so far, where they are told.
     ghost uses: { Self → Option (List Use) } = { λ _. None };
 
     /// One read, which asks for as many bytes as the buffer has.
-    fn read<R: Read>(&mut self, reader: &mut R, buffer: &mut [u8]) -> io::Result<usize>
+    fn read(&mut self, reader: &mut R, buffer: &mut [u8]) -> io::Result<usize>
         ensures bound { ReadsAtMost result buffer.new }
         ensures bytes { ReadConsumes (R.remaining reader.old) (R.remaining reader.new) result
             buffer.new }
@@ -23,7 +24,7 @@ pub trait Line {
             (asked (length buffer.old) (came_of buffer.new result) ∷ []) };
 
     /// Hands a whole text to the writer, by as many writes as it takes.
-    fn send<W: Write>(&mut self, writer: &mut W, text: &[u8]) -> Result<(), End>
+    fn send(&mut self, writer: &mut W, text: &[u8]) -> Result<(), End>
         ensures sent { IsSent (W.contents writer.old, uses self.old)
             (W.contents writer.new, uses self.new) text.now result };
 }
@@ -32,14 +33,14 @@ pub trait Line {
 #[derive(Clone, Copy, Debug)]
 pub struct Untold;
 
-impl Line for Untold {
+impl<R: Read, W: Write> Line<R, W> for Untold {
     ghost uses = { λ _. None };
 
-    fn read<R: Read>(&mut self, reader: &mut R, buffer: &mut [u8]) -> io::Result<usize> {
+    fn read(&mut self, reader: &mut R, buffer: &mut [u8]) -> io::Result<usize> {
         reader.read(buffer)
     }
 
-    fn send<W: Write>(&mut self, writer: &mut W, text: &[u8]) -> Result<(), End> {
+    fn send(&mut self, writer: &mut W, text: &[u8]) -> Result<(), End> {
         match write_whole(text, writer) {
             Ok(()) => Ok(()),
             Err(TextFault::Write) => Err(End::WriteFault),

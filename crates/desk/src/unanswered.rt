@@ -6,7 +6,7 @@ use crate::end::End;
 use crate::line::Line;
 use std::alloc::Global;
 use std::io;
-use std::io::Read;
+use std::io::{Read, Write};
 
 // The most bytes that one read asks for.
 const READ_AT_ONCE: usize = 65536;
@@ -35,7 +35,7 @@ impl Unanswered {
 
     // Reads at most as many bytes as wanted behind those that are there, and says how many came: none
     // only at the end of the input. Room is made first, so that want of memory loses no byte.
-    pub(crate) fn read_more<L: Line, R: Read>(
+    pub(crate) fn read_more<L: Line<R, W>, R: Read, W: Write>(
         &mut self,
         line: &mut L,
         reader: &mut R,
@@ -59,7 +59,7 @@ impl Unanswered {
 }
 
 // Reads into the slice, from the place on.
-fn read_at<L: Line, R: Read>(
+fn read_at<L: Line<R, W>, R: Read, W: Write>(
     line: &mut L,
     reader: &mut R,
     buffer: &mut [u8],
@@ -78,7 +78,7 @@ fn read_at<L: Line, R: Read>(
 }
 
 // The same into a vector.
-fn read_into<L: Line, R: Read>(
+fn read_into<L: Line<R, W>, R: Read, W: Write>(
     line: &mut L,
     reader: &mut R,
     buffer: &mut Vec<u8>,
@@ -97,7 +97,7 @@ fn read_into<L: Line, R: Read>(
 }
 
 // Reads at most as many bytes as wanted behind the buffer.
-fn read_behind<L: Line, R: Read>(
+fn read_behind<L: Line<R, W>, R: Read, W: Write>(
     line: &mut L,
     reader: &mut R,
     buffer: &mut Vec<u8>,

@@ -255,6 +255,11 @@ fn files(rt: HostRuntime) -> Result<(), Fail> {
         return Err(Fail::new("no import"));
     };
     assert_eq!(rt; rows.as_slice().len(), 2);
+    let dated = b"name,steps,from\nflat,:100,\nflat,:200,2014-02-01\n";
+    let Request::Import(rows) = asked(rt.alloc(), Route::ImportTariffs, dated)? else {
+        return Err(Fail::new("no import"));
+    };
+    assert_eq!(rt; rows.as_slice().len(), 2);
     let header = BodyFault::Row(0, RowCause::Header);
     fails(&rt, Route::ImportTariffs, meters, header);
     fails(&rt, Route::ImportMeters, tariffs, header);

@@ -1,5 +1,6 @@
 //! A sale and the call for its receipt, 159 bytes, over books: cut after any byte, in pieces, by a
-//! reader that fails, and to a writer that fails.
+//! reader that fails, and to a writer that fails. Each time over an office of its own, so that it has
+//! to sell anew.
 use crate::inputs::first;
 use crate::prepared::{NO_HEAD, PRINTED, RECEIPT, SALE, SOLD, hold, prepared};
 use crate::streams::{Asking, Counting, Failing, Full, Pieces};
@@ -53,7 +54,7 @@ fn wanted(alloc: Global, count: usize, fails: bool) -> Result<(Vec<u8>, End), Al
     Ok((text, end))
 }
 
-// Each beginning in one piece or byte by byte, over one office: the same ref gives the same sale.
+// Each beginning in one piece or byte by byte.
 fn each_beginning(
     rt: &(impl Abort + AllocGlobal),
     input: &[u8],
@@ -61,8 +62,8 @@ fn each_beginning(
     fails: bool,
 ) -> Result<(), Fail> {
     let alloc = rt.alloc();
-    let mut books = prepared(alloc).ok_or("no office")?;
     for count in 0..=159_usize {
+        let mut books = prepared(alloc).ok_or("no office")?;
         let mut reader = Pieces {
             rest: first(input, count),
             size,
@@ -98,8 +99,8 @@ fn two_pieces_cut_after_any_byte(rt: HostRuntime) -> Result<(), Fail> {
     let alloc = rt.alloc();
     let input = joined(alloc, SALE, RECEIPT)?;
     let replies = joined(alloc, SOLD, PRINTED)?;
-    let mut books = prepared(alloc).ok_or("no office")?;
     for cut in 0..=159_usize {
+        let mut books = prepared(alloc).ok_or("no office")?;
         let front = first(&input, cut);
         let back = input.get(front.len()..).unwrap_or(b"");
         let mut reader = front.chain(back);
@@ -107,6 +108,7 @@ fn two_pieces_cut_after_any_byte(rt: HostRuntime) -> Result<(), Fail> {
         let end = hold(alloc, &mut books, &mut reader, &mut text).ok_or("no desk")?;
         assert_eq!(rt; text, replies, "{cut}");
         assert_eq!(rt; end, End::Closed, "{cut}");
+        assert_eq!(rt; books.next_number(), 2, "{cut}");
     }
     Ok(())
 }
@@ -124,13 +126,14 @@ fn a_writer_that_takes_nothing(rt: HostRuntime) -> Result<(), Fail> {
     Ok(())
 }
 
+// The sale is served before its reply is lost.
 #[test]
 fn pieces_of_any_length_and_a_writer_that_fails(rt: HostRuntime) -> Result<(), Fail> {
     let alloc = rt.alloc();
     let input = joined(alloc, SALE, RECEIPT)?;
     let replies = joined(alloc, SOLD, PRINTED)?;
-    let mut books = prepared(alloc).ok_or("no office")?;
     for room in 0..=445_usize {
+        let mut books = prepared(alloc).ok_or("no office")?;
         let mut reader = Pieces {
             rest: &input,
             size: room.saturating_add(1),
@@ -148,6 +151,7 @@ fn pieces_of_any_length_and_a_writer_that_fails(rt: HostRuntime) -> Result<(), F
         };
         assert_eq!(rt; end, ends, "{room}");
         assert_eq!(rt; writer.taken.as_slice(), first(&replies, room), "{room}");
+        assert_eq!(rt; books.next_number(), 2, "{room}");
     }
     Ok(())
 }

@@ -1,13 +1,30 @@
-//! Messages that are refused, and the status and word of each fault.
+//! Messages that are refused.
 use desk::{MessageFault, Next, next_of};
 
 #[test]
 fn each_fault(rt: HostRuntime) {
-    let rows: [(&[u8], MessageFault); 17] = [
+    let rows: [(&[u8], MessageFault); 23] = [
         (b"\x01", MessageFault::Head),
         (b"GET  / HTTP/1.1\r\n", MessageFault::Head),
         (b"GET / HTTP/2.0\r\n", MessageFault::Head),
         (b"GET /\xff HTTP/1.1\r\n", MessageFault::Head),
+        // A field over two lines, and a blank before a colon.
+        (
+            b"GET / HTTP/1.1\r\nHost: d\r\nX: a\r\n b\r\n\r\n",
+            MessageFault::Head,
+        ),
+        (b"GET / HTTP/1.1\r\nHost : d\r\n\r\n", MessageFault::Head),
+        // NUL, and a carriage return without a line feed.
+        (
+            b"GET / HTTP/1.1\r\nHost: d\r\nX: a\0b\r\n\r\n",
+            MessageFault::Head,
+        ),
+        (b"GET /\0 HTTP/1.1\r\nHost: d\r\n\r\n", MessageFault::Head),
+        (
+            b"GET / HTTP/1.1\r\nHost: d\r\nX: a\rb\r\n\r\n",
+            MessageFault::Head,
+        ),
+        (b"GET / HTTP/1.1\rHost: d\r\r", MessageFault::Head),
         (b"PUT / HTTP/1.1\r\n\r\n", MessageFault::Method),
         (b"HEAD / HTTP/1.0\r\n\r\n", MessageFault::Method),
         (b"get / HTTP/1.1\r\nHost: d\r\n\r\n", MessageFault::Method),
@@ -51,21 +68,5 @@ fn each_fault(rt: HostRuntime) {
     ];
     for (text, fault) in rows {
         assert_eq!(rt; next_of(text), Next::Refused(fault));
-    }
-}
-
-#[test]
-fn statuses_and_words(rt: HostRuntime) {
-    let rows = [
-        (MessageFault::Head, 400, "Head"),
-        (MessageFault::Host, 400, "Host"),
-        (MessageFault::Length, 400, "Length"),
-        (MessageFault::Body, 413, "Body"),
-        (MessageFault::Method, 501, "Method"),
-        (MessageFault::Coding, 501, "Coding"),
-    ];
-    for (fault, status, word) in rows {
-        assert_eq!(rt; fault.status(), status);
-        assert_eq!(rt; fault.word(), word);
     }
 }

@@ -25,6 +25,8 @@ mod limits;
 #[cfg(test)]
 mod messages;
 #[cfg(test)]
+mod moments;
+#[cfg(test)]
 mod offices;
 #[cfg(test)]
 mod paced;

@@ -73,17 +73,19 @@ fn their_report(alloc: Global, count: u32) -> Result<Vec<u8>, AllocError> {
     Ok(body)
 }
 
+// A report of more than 64 KiB.
 #[test]
-fn a_shift_of_500_sales(rt: HostRuntime) -> Result<(), Fail> {
+fn a_shift_of_1100_sales(rt: HostRuntime) -> Result<(), Fail> {
     let alloc = rt.alloc();
-    let input = many_sales(alloc, 500)?;
+    let input = many_sales(alloc, 1_100)?;
     let mut reader = input.as_slice();
     let mut text = Vec::new(alloc);
     let mut books = prepared(alloc).ok_or("no office")?;
     let end = hold(alloc, &mut books, &mut reader, &mut text).ok_or("no desk")?;
     assert_eq!(rt; end, End::Closed);
-    let report = their_report(alloc, 500)?;
+    let report = their_report(alloc, 1_100)?;
     let len = report.len();
+    assert!(rt; len > 65_536);
     let head = format!(in alloc; "Content-Type: text/plain\r\nContent-Length: {len}\r\n\r\n")?;
     assert!(rt; text.ends_with(&report));
     text.truncate(text.len().saturating_sub(len));

@@ -17,20 +17,19 @@ enum Passed {
     Sent(usize),
 }
 
-/// Notes what passes, and tells contracts nothing of it.
+/// Notes what passes a line, and tells contracts what that one tells.
 #[derive(Drop)]
-struct Noting {
+struct Noting<L> {
+    line: L,
     passed: Vec<Passed>,
 }
 
-impl Line for Noting {
-    ghost use Rattle.std.specs.Prelude.{None};
+impl<R: Read, W: Write, L: Line<R, W>> Line<R, W> for Noting<L> {
+    ghost uses = { λ noting. L.uses noting.line };
 
-    ghost uses = { λ _. None };
-
-    fn read<R: Read>(&mut self, reader: &mut R, buffer: &mut [u8]) -> io::Result<usize> {
+    fn read(&mut self, reader: &mut R, buffer: &mut [u8]) -> io::Result<usize> {
         let asked = buffer.len();
-        match reader.read(buffer) {
+        match self.line.read(reader, buffer) {
             Ok(came) => {
                 let _ = self.passed.push(Passed::Read(asked, came));
                 Ok(came)
@@ -39,10 +38,9 @@ impl Line for Noting {
         }
     }
 
-    fn send<W: Write>(&mut self, writer: &mut W, text: &[u8]) -> Result<(), End> {
+    fn send(&mut self, writer: &mut W, text: &[u8]) -> Result<(), End> {
         let _ = self.passed.push(Passed::Sent(text.len()));
-        let mut line = Untold;
-        line.send(writer, text)
+        self.line.send(writer, text)
     }
 }
 
@@ -55,6 +53,7 @@ fn noted(alloc: Global, input: &[u8], size: usize) -> Result<Vec<Passed>, Fail> 
     };
     let mut text = Vec::new(alloc);
     let mut line = Noting {
+        line: Untold,
         passed: Vec::new(alloc),
     };
     let mut books = prepared(alloc).ok_or("no office")?;

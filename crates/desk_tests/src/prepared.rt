@@ -88,7 +88,7 @@ pub(crate) fn hold<R: Read, W: Write>(
 }
 
 /// The same over a line.
-pub(crate) fn hold_over<L: Line, R: Read, W: Write>(
+pub(crate) fn hold_over<L: Line<R, W>, R: Read, W: Write>(
     alloc: Global,
     line: &mut L,
     books: &mut Books<MemStore, Plain>,

@@ -173,17 +173,3 @@ fn patterns(rt: HostRuntime) {
     assert_eq!(rt; Endpoint::MeterBase.pattern(), "/meters/{meter}/base");
     assert_eq!(rt; Endpoint::TariffSteps.pattern(), "/tariffs/{tariff}/steps");
 }
-
-#[test]
-fn statuses_and_words_of_the_desk(rt: HostRuntime) {
-    let rows = [
-        (DeskFault::NoRoute, 404, "NoRoute"),
-        (DeskFault::Method(Method::Post), 405, "Method"),
-        (DeskFault::Body, 422, "Body"),
-        (DeskFault::Clock, 503, "Clock"),
-    ];
-    for (fault, status, word) in rows {
-        assert_eq!(rt; fault.status(), status);
-        assert_eq!(rt; fault.word(), word);
-    }
-}

@@ -1,11 +1,12 @@
-use Rattle.std.proofs.Common.{◌≡◌, [], sym, subst, arith}
+use Rattle.std.proofs.Common.{◌≡◌, [], inr, refl, sym, subst, arith}
 use Rattle.desk.specs.Exchanges.{timed}
 use Rattle.desk.specs.Heads.{longest_head}
 use Rattle.desk.specs.Wants.{IsAwaited}
+use Rattle.desk.specs.declared.end.End.TheVariants.{ReadFault}
 use Rattle.desk.specs.declared.wants.Wants.TheVariants.{Head}
 use Rattle.desk.proofs.EndLemmas.{bytes_after, bytes_here_after, run_early, run_here}
 use Rattle.desk.proofs.ProgressLemmas.{progress_none}
-use Rattle.desk.proofs.RunLemmas.{after_read, awaited_fits, awaits_nothing, bytes_of, failed_run, over_end, paced_after, paced_read, read_run, used_none, went_on}
+use Rattle.desk.proofs.RunLemmas.{after_read, awaited_fits, awaits_nothing, bytes_of, failed_run, over_end, paced, paced_after, paced_read, read_run, used_none, went_on}
 use Rattle.desk.proofs.conversation.run.Goals as goal
 
 pub reads-init : goal.reads-init
@@ -17,6 +18,7 @@ reads-init g c =
       still_open = tt;
       progress = rw (← none) (progress_none (timed g.S.Service.step) [] _);
       awaited = subst (λ rest. IsAwaited rest (Head longest_head)) none awaits_nothing;
+      counted = refl;
     }
 
 pub read_more-requires-clause-room : goal.read_more-requires-clause-room
@@ -34,7 +36,7 @@ returns-in-Ok-eq0-clause-run g c =
     let over = rw c.as_slice.ensures at c.finish.ensures in
     run_here step refusal _ _ _ _ _ _ _ c.finish.result now.0 (read.4 c.in-Ok-eq0.field-0-test)
     (bytes_here_after step refusal _ _ _ _ _ _ _ rest _ c.finish.result inv.used.paced.writes now.1
-    (bytes_of _ _ _ (over_end step refusal _ _ _ rest c.finish.result over)))
+    (bytes_of c.finish.result _ _ _ (over_end step refusal _ _ _ rest c.finish.result over)))
 
 pub returns-in-Ok-eq0-clause-paced : goal.returns-in-Ok-eq0-clause-paced
 returns-in-Ok-eq0-clause-paced g c =
@@ -43,7 +45,7 @@ returns-in-Ok-eq0-clause-paced g c =
     let over = rw c.as_slice.ensures at c.finish.ensures in
     let said = over_end step g.S.Service.refusal (c.reads.office, g.C.Clock.answers c.reads.clock) _ _ _ c.finish.result over in
     paced_after step _ _ _ _ _ _ _ _ _ _ inv.uses c.reads.unanswered.bytes.items _ c.reads.wants _ c.in-Ok-eq0.field-0 c.count.ensures
-    inv.used inv.still_open inv.progress inv.awaited c.in-Ok-eq0.ensures _ _ said.0 said.1
+    inv.used inv.still_open inv.progress inv.awaited c.in-Ok-eq0.ensures c.finish.result _ _ said.0 said.1
 
 pub returns-in-Err-clause-run : goal.returns-in-Err-clause-run
 returns-in-Err-clause-run g c =
@@ -67,7 +69,7 @@ returns-in-Err-answer_all-clause-run g c =
     let now = after_read step _ _ _ _ _ _ c.reads.unanswered.bytes.items rest read.0 _ inv.used.paced.reads inv.progress read.3 read.2 in
     let ends = rw c.as_slice-in-reads.ensures at c.in-Err-answer_all.ensures in
     run_early step refusal _ _ _ _ _ _ _ c.in-Err-answer_all.end now.0
-    (bytes_after step refusal _ _ _ _ _ _ _ rest _ c.in-Err-answer_all.end inv.used.paced.writes now.1 (bytes_of _ _ _ ends))
+    (bytes_after step refusal _ _ _ _ _ _ _ rest _ c.in-Err-answer_all.end inv.used.paced.writes now.1 (bytes_of c.in-Err-answer_all.end _ _ _ ends))
 
 pub returns-in-Err-answer_all-clause-paced : goal.returns-in-Err-answer_all-clause-paced
 returns-in-Err-answer_all-clause-paced g c =
@@ -75,7 +77,7 @@ returns-in-Err-answer_all-clause-paced g c =
     let inv = c.reads.invariant in
     let ends = rw c.as_slice-in-reads.ensures at c.in-Err-answer_all.ensures in
     paced_after step _ _ _ _ _ _ _ _ _ _ inv.uses c.reads.unanswered.bytes.items _ c.reads.wants _ c.in-Ok.field-0 c.count.ensures
-    inv.used inv.still_open inv.progress inv.awaited c.in-Ok.ensures _ _ ends.0 ends.1
+    inv.used inv.still_open inv.progress inv.awaited c.in-Ok.ensures c.in-Err-answer_all.end _ _ ends.0 ends.1
 
 pub reads-preserved : goal.reads-preserved
 reads-preserved g c =
@@ -91,9 +93,15 @@ reads-preserved g c =
       still_open = on.2;
       progress = rw (← rest) on.3;
       awaited = subst (λ left. IsAwaited left c.in-Ok-answer_all.awaiting.wants) rest more.4;
+      counted = omega (arith, inv.counted, on.4);
     }
 
 pub returns-clause-run : goal.returns-clause-run
 returns-clause-run g c =
     let inv = c.reads.invariant in
     failed_run g.S.Service.step g.S.Service.refusal _ _ _ _ _ _ _ c.reads.unanswered.bytes.items _ c.reads.wants inv.used.paced.reads inv.used.paced.writes inv.progress inv.awaited
+
+pub returns-clause-paced : goal.returns-clause-paced
+returns-clause-paced g c =
+    let inv = c.reads.invariant in
+    paced g.S.Service.step _ _ _ _ _ _ _ ReadFault inv.uses inv.used (inr (inv.still_open, omega (arith, inv.counted)))

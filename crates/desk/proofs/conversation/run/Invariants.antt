@@ -1,7 +1,7 @@
-use Rattle.std.proofs.Common.{List}
+use Rattle.std.proofs.Common.{◌≡◌, List}
 use Rattle.desk.specs.Conversation.{Progress}
 use Rattle.desk.specs.Exchanges.{timed}
-use Rattle.desk.specs.Uses.{AreOpen, Use, received, written}
+use Rattle.desk.specs.Uses.{AreOpen, Use, reads_in, received, written}
 use Rattle.desk.specs.Wants.{IsAwaited}
 use Rattle.desk.proofs.RunLemmas.{Used}
 use Rattle.desk.proofs.conversation.run.Given as goal
@@ -16,4 +16,5 @@ invariant-reads g l = record {
   progress : Progress (timed g.S.Service.step) (received uses) l.unanswered.bytes.items
       (l.fn.office, g.C.Clock.answers l.fn.clock) (written uses) (l.office, g.C.Clock.answers l.clock);
   awaited : IsAwaited l.unanswered.bytes.items l.wants;
+  counted : reads_in uses ≡ l.made;
 }

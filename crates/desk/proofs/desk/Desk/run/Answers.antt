@@ -4,7 +4,7 @@ use Rattle.desk.proofs.ServingLemmas.{run_clean, run_kept}
 use Rattle.desk.proofs.desk.Desk.run.Goals as goal
 
 pub returns-clause-paced : goal.returns-clause-paced
-returns-clause-paced g c = (c.run.ensures.paced.0, c.run.ensures.paced.2)
+returns-clause-paced g c = (c.run.ensures.paced.0, c.run.ensures.paced.2, c.run.ensures.paced.3)
 
 pub returns-clause-clean : goal.returns-clause-clean
 returns-clause-clean g c clean =
