@@ -11,3 +11,4 @@ pub mod TakeLemmas
 pub mod TrialLemmas
 pub mod UntoldLemmas
 pub mod UnwatchedLemmas
+pub mod WordLemmas

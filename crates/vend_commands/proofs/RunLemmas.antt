@@ -11,7 +11,6 @@ use Rattle.tariff.specs.declared.bought.Buy.{Buy}
 use Rattle.vend_core.specs.declared.answer.Answer as core
 use Rattle.vend_core.specs.declared.refusal.Refusal.{Refusal}
 use Rattle.vend_core.specs.declared.refusal.Refusal.TheVariants.{Memory}
-use Rattle.vend_core.specs.declared.request.Request.TheVariants as request
 use Rattle.vend_core.specs.declared.row.Row.{Row}
 use Rattle.papers.specs.declared.row_fault.RowFault.{RowFault}
 use Rattle.tariff.specs.Purchase.{purchase_of}
@@ -21,21 +20,19 @@ use Rattle.vend_commands.specs.Imported.{AreAdded, IsFileImported}
 use Rattle.command_line.specs.Line.{faults_in}
 use Rattle.vend_commands.specs.Listening.{IsServedTo, IsServing, serving_end}
 use Rattle.vend_commands.specs.Listening.IsServing.{unheard, unopened as serves_unopened, was_open}
-use Rattle.vend_commands.specs.Metered.{IsMetered}
-use Rattle.vend_commands.specs.Quoted.{IsQuoted, quote_end}
-use Rattle.vend_commands.specs.Places.{Machine, Place, Way}
+use Rattle.vend_commands.specs.Quoted.{quote_end}
+use Rattle.vend_commands.specs.Places.{IsIdle, Machine, Place, Way, later}
 use Rattle.vend_commands.specs.Printed.{clock_line, refusal_line}
-use Rattle.vend_commands.specs.Run.{IsCarriedOut, IsExplained, IsProgramRun}
+use Rattle.vend_commands.specs.Run.{IsCarriedOut, IsDoneThen, IsExplained, IsProgramRun}
 use Rattle.vend_commands.specs.Run.IsProgramRun.{answered, bad_word, explained, no_room}
-use Rattle.vend_commands.specs.Selfchecked.{HasReplies, IsSelfchecked}
+use Rattle.vend_commands.specs.Selfchecked.{IsSelfchecked}
 use Rattle.vend_commands.specs.Selfchecked.IsSelfchecked.{agreed, failed}
 use Rattle.vend_commands.specs.Served.{TellsReply}
 use Rattle.vend_commands.specs.Status.{exit_status_of, status_of}
-use Rattle.vend_commands.specs.Tasks.{IsAskedAt, IsReported, base_request, shift_request}
 use Rattle.vend_commands.specs.Timed.{IsDoneAt, IsMomentFor, IsTakenMoment, IsTimed, given_moment}
 use Rattle.vend_commands.specs.Told.{IsTold, Outputs, Sink}
 use Rattle.vend_commands.specs.Totalled.{TellsTotals}
-use Rattle.vend_commands.specs.Tried.{IsTried, trial_end}
+use Rattle.vend_commands.specs.Tried.{trial_end}
 use Rattle.vend_commands.specs.Visited.{IsVisited}
 use Rattle.vend_commands.specs.Visited.IsVisited.{unopened, visited}
 use Rattle.command_line.specs.declared.asked.Asked.{Asked}
@@ -47,52 +44,39 @@ use Rattle.vend_commands.specs.declared.errand.Errand.{Errand}
 use Rattle.vend_commands.specs.declared.task.Task.{Task}
 use Rattle.vend_commands.specs.declared.task.Task.TheVariants.{Ask, Total, Export}
 use Rattle.command_line.specs.declared.transform.Shipped.{Shipped}
-use Rattle.vend_commands.specs.declared.trial.TrialFault.{TrialFault}
+use Rattle.vend_commands.specs.declared.trials.TrialFault.{TrialFault}
 use Rattle.vend_commands.specs.declared.end.End.{End}
 
 -- ---- the moment
 
-untimed : (given : Option ℕ) (answers : Option (List ℤ)) (taken : Option ℕ) (At : ℕ → Type 0) (o : Outputs) (end : End) → IsTakenMoment given answers taken → taken ≡ None → IsTold o [] clock_line how.Refused end → IsTimed given answers At o end
-untimed given answers taken At o end for is told = (None, subst (IsTakenMoment given answers) is for, told)
+untimed : (Idle : Type 0) (given : Option ℕ) (answers : Option (List ℤ)) (taken : Option ℕ) (At : ℕ → Type 0) (o : Outputs) (end : End) → IsTakenMoment given answers taken → taken ≡ None → Idle → IsTold o [] clock_line how.Refused end → IsTimed Idle given answers At o end
+untimed Idle given answers taken At o end for is idle told = (None, subst (IsTakenMoment given answers) is for, (idle, told))
 
 not_none : {A : Type 0} (taken : Option ℕ) (moment : ℕ) (answers left : Option (List ℤ)) → (taken ≡ Some moment) × (left ≡ answers) → taken ≡ None → A
 not_none taken moment answers left (some, same) none = absurd (cc)
 
--- where there is none, that is told
-pub no_moment : {S D R W : Type 0} (store : Ghosts S) (m : Machine D R W) (asked : Asked) (left : Option (List ℤ)) (taken : Option ℕ) (o : Outputs) (end : End) → IsMomentFor (given_moment asked) m.answers left taken → taken ≡ None → IsTold o [] clock_line how.Refused end → IsCarriedOut store m asked o end
-no_moment store m (asks.Trial words) left taken o end for is told = untimed words.at m.answers taken _ o end for is told
-no_moment store m (asks.Import words) left taken o end for is told = untimed words.at m.answers taken _ o end for is told
-no_moment store m (asks.Base words) left taken o end for is told = untimed words.at m.answers taken _ o end for is told
-no_moment store m (asks.Shift words) left taken o end for is told = untimed words.at m.answers taken _ o end for is told
-no_moment store m (asks.Sell words) left taken o end for is told = untimed words.at m.answers taken _ o end for is told
-no_moment store m (asks.Report words) left taken o end for is told = not_none taken _ m.answers left for is
-no_moment store m (asks.Meter words) left taken o end for is told = not_none taken _ m.answers left for is
-no_moment store m (asks.Quote words) left taken o end for is told = not_none taken _ m.answers left for is
-no_moment store m (asks.Serve words) left taken o end for is told = not_none taken _ m.answers left for is
-no_moment store m (asks.Selfcheck words) left taken o end for is told = not_none taken _ m.answers left for is
+-- where there is none, that is told, and nothing was used
+pub no_moment : {S D R W : Type 0} (store : Ghosts S) (m : Machine D R W) (asked : Asked) (left : Option (List ℤ)) (taken : Option ℕ) (o : Outputs) (end : End) → IsMomentFor (given_moment asked) m.answers left taken → taken ≡ None → IsIdle m → IsTold o [] clock_line how.Refused end → IsCarriedOut store m asked o end
+no_moment store m (asks.Trial words) left taken o end for is idle told = untimed (IsIdle m) words.at m.answers taken _ o end for is idle told
+no_moment store m (asks.Import words) left taken o end for is idle told = untimed (IsIdle m) words.at m.answers taken _ o end for is idle told
+no_moment store m (asks.Base words) left taken o end for is idle told = untimed (IsIdle m) words.at m.answers taken _ o end for is idle told
+no_moment store m (asks.Shift words) left taken o end for is idle told = untimed (IsIdle m) words.at m.answers taken _ o end for is idle told
+no_moment store m (asks.Sell words) left taken o end for is idle told = untimed (IsIdle m) words.at m.answers taken _ o end for is idle told
+no_moment store m (asks.Report words) left taken o end for is idle told = not_none taken _ m.answers left for is
+no_moment store m (asks.Meter words) left taken o end for is idle told = not_none taken _ m.answers left for is
+no_moment store m (asks.Quote words) left taken o end for is idle told = not_none taken _ m.answers left for is
+no_moment store m (asks.Serve words) left taken o end for is idle told = not_none taken _ m.answers left for is
+no_moment store m (asks.Selfcheck words) left taken o end for is idle told = not_none taken _ m.answers left for is
 
-timed : (given : Option ℕ) (answers : Option (List ℤ)) (taken : Option ℕ) (moment : ℕ) (At : ℕ → Type 0) (o : Outputs) (end : End) → IsTakenMoment given answers taken → taken ≡ Some moment → At moment → IsTimed given answers At o end
-timed given answers taken moment At o end for is done = (Some moment, subst (IsTakenMoment given answers) is for, done)
+timed : (Idle : Type 0) (given : Option ℕ) (answers : Option (List ℤ)) (taken : Option ℕ) (moment : ℕ) (At : ℕ → Type 0) (o : Outputs) (end : End) → IsTakenMoment given answers taken → taken ≡ Some moment → At moment → IsTimed Idle given answers At o end
+timed Idle given answers taken moment At o end for is done = (Some moment, subst (IsTakenMoment given answers) is for, done)
 
--- what is asked for is done at this moment, by a clock that has these answers left
-abbrev pub IsDoneThen : {S D R W : Type 0} → Ghosts S → Machine D R W → Asked → (left : Option (List ℤ)) → ℕ → Outputs → End → Type 0
-IsDoneThen store m (asks.Trial words) left moment o end = IsTried words moment o end
-IsDoneThen store m (asks.Import words) left moment o end = IsFileImported store m.at m.reads m.lacks words moment o end
-IsDoneThen store m (asks.Base words) left moment o end = IsAskedAt store m.at words.transform words.file.now moment (base_request words) o end
-IsDoneThen store m (asks.Shift words) left moment o end = IsAskedAt store m.at words.transform words.file.now moment (shift_request words) o end
-IsDoneThen store m (asks.Sell words) left moment o end = IsAskedAt store m.at words.transform words.file.now moment (request.Sell words.order) o end
-IsDoneThen store m (asks.Report words) left moment o end = IsReported store m.at words o end
-IsDoneThen store m (asks.Meter words) left moment o end = IsMetered words o end
-IsDoneThen store m (asks.Quote words) left moment o end = IsQuoted words o end
-IsDoneThen store m (asks.Serve words) left moment o end = IsServedTo store m.way m.at m.door left words o end
-IsDoneThen store m (asks.Selfcheck words) left moment o end = IsSelfchecked (HasReplies words.transform) o end
-
-pub at_moment : {S D R W : Type 0} (store : Ghosts S) (m : Machine D R W) (asked : Asked) (left : Option (List ℤ)) (taken : Option ℕ) (moment : ℕ) (o : Outputs) (end : End) → IsMomentFor (given_moment asked) m.answers left taken → taken ≡ Some moment → IsDoneThen store m asked left moment o end → IsCarriedOut store m asked o end
-at_moment store m (asks.Trial words) left taken moment o end for is done = timed words.at m.answers taken moment _ o end for is done
-at_moment store m (asks.Import words) left taken moment o end for is done = timed words.at m.answers taken moment _ o end for is done
-at_moment store m (asks.Base words) left taken moment o end for is done = timed words.at m.answers taken moment _ o end for is done
-at_moment store m (asks.Shift words) left taken moment o end for is done = timed words.at m.answers taken moment _ o end for is done
-at_moment store m (asks.Sell words) left taken moment o end for is done = timed words.at m.answers taken moment _ o end for is done
+pub at_moment : {S D R W : Type 0} (store : Ghosts S) (m : Machine D R W) (asked : Asked) (left : Option (List ℤ)) (taken : Option ℕ) (moment : ℕ) (o : Outputs) (end : End) → IsMomentFor (given_moment asked) m.answers left taken → taken ≡ Some moment → IsDoneThen store (later m left) asked moment o end → IsCarriedOut store m asked o end
+at_moment store m (asks.Trial words) left taken moment o end for is done = timed (IsIdle m) words.at m.answers taken moment _ o end for is done
+at_moment store m (asks.Import words) left taken moment o end for is done = timed (IsIdle m) words.at m.answers taken moment _ o end for is done
+at_moment store m (asks.Base words) left taken moment o end for is done = timed (IsIdle m) words.at m.answers taken moment _ o end for is done
+at_moment store m (asks.Shift words) left taken moment o end for is done = timed (IsIdle m) words.at m.answers taken moment _ o end for is done
+at_moment store m (asks.Sell words) left taken moment o end for is done = timed (IsIdle m) words.at m.answers taken moment _ o end for is done
 at_moment store m (asks.Report words) left taken moment o end for is done = done
 at_moment store m (asks.Meter words) left taken moment o end for is done = done
 at_moment store m (asks.Quote words) left taken moment o end for is done = done
@@ -100,9 +84,8 @@ at_moment store m (asks.Serve words) left taken moment o end for is done = subst
 at_moment store m (asks.Selfcheck words) left taken moment o end for is done = done
 
 -- the same, of what was asked by another name
-pub done_at : {S D R W : Type 0} (store : Ghosts S) (m : Machine D R W) (asked same : Asked) (left : Option (List ℤ)) (taken : Option ℕ) (moment : ℕ) (o : Outputs) (end : End) → asked ≡ same → IsMomentFor (given_moment asked) m.answers left taken → taken ≡ Some moment → IsDoneThen store m same left moment o end → IsCarriedOut store m asked o end
-done_at store m asked same left taken moment o end is for some done =
-    subst (λ a. IsCarriedOut store m a o end) (sym is) (at_moment store m same left taken moment o end (subst (λ a. IsMomentFor (given_moment a) m.answers left taken) is for) some done)
+pub done_so : {S D R W : Type 0} (store : Ghosts S) (m : Machine D R W) (asked same : Asked) (moment : ℕ) (o : Outputs) (end : End) → asked ≡ same → IsDoneThen store m same moment o end → IsDoneThen store m asked moment o end
+done_so store m asked same moment o end is done = subst (λ a. IsDoneThen store m a moment o end) (sym is) done
 
 -- what a selfcheck found is told, by less than it found
 pub selfcheck_done : (o : Outputs) (end : End) (Agrees Has : Type 0) → (Agrees → Has) → IsSelfchecked Agrees o end → IsSelfchecked Has o end
@@ -118,10 +101,10 @@ errand_done store at errand made transform file task o end is same_transform sam
 
 -- what `clap` says of words is a fault of theirs, or there was no room
 pub told_by_clap : {S D R W : Type 0} (store : Ghosts S) (m : Machine D R W) (error : Error) (words : List Text) (Says : Error → Text → Type 0) (o : Outputs) (end : End) → HasKind (faults_in words) error
-    → IsTold o [] (refusal_line Memory) how.Refused end ⊎ ((text : Text) × Says error text × (text ≢ []) × IsExplained (kind_of error) text o end) → IsProgramRun store m words o end
-told_by_clap store m error words Says o end kind (inl told) = no_room told
-told_by_clap store m error words Says o end (inl full) (inr (text, said, some, says)) = absurd (subst (λ k. IsExplained k text o end) full says)
-told_by_clap store m error words Says o end (inr among) (inr (text, said, some, says)) = explained (kind_of error) text among some says
+    → IsIdle m → IsTold o [] (refusal_line Memory) how.Refused end ⊎ ((text : Text) × Says error text × (text ≢ []) × IsExplained (kind_of error) text o end) → IsProgramRun store m words o end
+told_by_clap store m error words Says o end kind idle (inl told) = no_room idle told
+told_by_clap store m error words Says o end (inl full) idle (inr (text, said, some, says)) = absurd (subst (λ k. IsExplained k text o end) full says)
+told_by_clap store m error words Says o end (inr among) idle (inr (text, said, some, says)) = explained idle (kind_of error) text among some says
 
 -- ---- the status
 
@@ -156,13 +139,13 @@ visit_ends store place transform (Ask moment request) o end (visited old new ope
 visit_ends store place transform (Total number) o end (visited old new opened finds done closes) = totals_ends number done.totals o end done.told
 visit_ends store place transform Export o end (visited old new opened finds done closes) = told_ends o _ _ (export_stop_end done.stop) end (stop_low done.stop) done.told
 
-added_ends : {S : Type 0} (store : Ghosts S) (at : Text → Place) (words : ImportWords) (moment : ℕ) (rows : Result (List Row) RowFault) (o : Outputs) (end : End) → AreAdded store at words moment rows o end → exit_status_of end ≤ 1
-added_ends store at words moment (Ok rows) o end added = visit_ends store _ _ _ o end added
-added_ends store at words moment (Err fault) o end told = told_ends o _ _ how.Refused end (omega arith) told
+added_ends : {S : Type 0} (store : Ghosts S) (at : Text → Place) (untouched : Type 0) (words : ImportWords) (moment : ℕ) (rows : Result (List Row) RowFault) (o : Outputs) (end : End) → AreAdded store at untouched words moment rows o end → exit_status_of end ≤ 1
+added_ends store at untouched words moment (Ok rows) o end added = visit_ends store _ _ _ o end added
+added_ends store at untouched words moment (Err fault) o end (left, told) = told_ends o _ _ how.Refused end (omega arith) told
 
-import_ends : {S D R W : Type 0} (store : Ghosts S) (m : Machine D R W) (words : ImportWords) (moment : ℕ) (o : Outputs) (end : End) → IsFileImported store m.at m.reads m.lacks words moment o end → exit_status_of end ≤ 1
-import_ends store m words moment o end (inl (bytes, reads, (records, rows, are, reading, added))) = added_ends store m.at words moment rows o end added
-import_ends store m words moment o end (inr (fault, lacks, told)) = told_ends o _ _ how.Refused end (omega arith) told
+import_ends : {S D R W : Type 0} (store : Ghosts S) (m : Machine D R W) (words : ImportWords) (moment : ℕ) (o : Outputs) (end : End) → IsFileImported store m.at m.untouched m.reads m.lacks words moment o end → exit_status_of end ≤ 1
+import_ends store m words moment o end (inl (bytes, reads, (records, rows, are, reading, added))) = added_ends store m.at m.untouched words moment rows o end added
+import_ends store m words moment o end (inr (fault, lacks, left, told)) = told_ends o _ _ how.Refused end (omega arith) told
 
 served_low : {B : Type 0} (served : Result (B × Bool) OpenFault) → exit_status_of (serving_end served) ≤ 1
 served_low (Ok (books, true)) = omega arith
@@ -174,38 +157,38 @@ end_low meant end low is = subst (λ e. exit_status_of e ≤ 1) (sym is) low
 
 serving_ends : {S D R W : Type 0} (store : Ghosts S) (way : Way D R W) (at : Text → Place) (door : D) (answers : Option (List ℤ)) (words : ServeWords) (err_old err_new : Sink) (end : End)
     → IsServing store way at door answers words err_old err_new end → exit_status_of end ≤ 1
-serving_ends store way at door answers words err_old err_new end (serves_unopened fault fails told ends) = end_low how.Refused end (omega arith) ends
-serving_ends store way at door answers words err_old err_new end (unheard old opens finds deaf closes ends) = end_low how.Refused end (omega arith) ends
+serving_ends store way at door answers words err_old err_new end (serves_unopened fault fails shut told ends) = end_low how.Refused end (omega arith) ends
+serving_ends store way at door answers words err_old err_new end (unheard old opens finds last deaf shut closes ends) = end_low how.Refused end (omega arith) ends
 serving_ends store way at door answers words err_old err_new end (was_open old opens finds were) = end_low (serving_end were.served) end (served_low were.served) were.ends
 
-done_ends : (At : ℕ → Type 0) (o : Outputs) (end : End) (moment : Option ℕ) → ((moment : ℕ) → At moment → exit_status_of end ≤ 1) → IsDoneAt At o end moment → exit_status_of end ≤ 1
-done_ends At o end (Some moment) ends done = ends moment done
-done_ends At o end None ends told = told_ends o _ _ how.Refused end (omega arith) told
+done_ends : (Idle : Type 0) (At : ℕ → Type 0) (o : Outputs) (end : End) (moment : Option ℕ) → ((moment : ℕ) → At moment → exit_status_of end ≤ 1) → IsDoneAt Idle At o end moment → exit_status_of end ≤ 1
+done_ends Idle At o end (Some moment) ends done = ends moment done
+done_ends Idle At o end None ends (idle, told) = told_ends o _ _ how.Refused end (omega arith) told
 
-timed_ends : (given : Option ℕ) (answers : Option (List ℤ)) (At : ℕ → Type 0) (o : Outputs) (end : End) → ((moment : ℕ) → At moment → exit_status_of end ≤ 1) → IsTimed given answers At o end → exit_status_of end ≤ 1
-timed_ends given answers At o end ends (moment, taken, done) = done_ends At o end moment ends done
+timed_ends : (Idle : Type 0) (given : Option ℕ) (answers : Option (List ℤ)) (At : ℕ → Type 0) (o : Outputs) (end : End) → ((moment : ℕ) → At moment → exit_status_of end ≤ 1) → IsTimed Idle given answers At o end → exit_status_of end ≤ 1
+timed_ends Idle given answers At o end ends (moment, taken, done) = done_ends Idle At o end moment ends done
 
 answer_ends : {S D R W : Type 0} (store : Ghosts S) (m : Machine D R W) (asked : Asked) (o : Outputs) (end : End) → IsCarriedOut store m asked o end → exit_status_of end ≤ 1
-answer_ends store m (asks.Trial words) o end done = timed_ends words.at m.answers _ o end (λ moment tried. told_ends o _ _ (trial_end tried.2) end (trial_low tried.2) tried.4) done
-answer_ends store m (asks.Import words) o end done = timed_ends words.at m.answers _ o end (λ moment imported. import_ends store m words moment o end imported) done
-answer_ends store m (asks.Base words) o end done = timed_ends words.at m.answers _ o end (λ moment moved. visit_ends store _ _ _ o end moved) done
-answer_ends store m (asks.Shift words) o end done = timed_ends words.at m.answers _ o end (λ moment shifted. visit_ends store _ _ _ o end shifted) done
-answer_ends store m (asks.Sell words) o end done = timed_ends words.at m.answers _ o end (λ moment sold. visit_ends store _ _ _ o end sold) done
-answer_ends store m (asks.Report words) o end done = visit_ends store _ _ _ o end done
-answer_ends store m (asks.Meter words) o end done = told_ends o _ _ how.Done end (omega arith) done
-answer_ends store m (asks.Quote words) o end done =
+answer_ends store m (asks.Trial words) o end done = timed_ends (IsIdle m) words.at m.answers _ o end (λ moment tried. told_ends o _ _ (trial_end tried.1.2) end (trial_low tried.1.2) tried.1.4) done
+answer_ends store m (asks.Import words) o end done = timed_ends (IsIdle m) words.at m.answers _ o end (λ moment imported. import_ends store m words moment o end imported.1) done
+answer_ends store m (asks.Base words) o end done = timed_ends (IsIdle m) words.at m.answers _ o end (λ moment moved. visit_ends store _ _ _ o end moved.1) done
+answer_ends store m (asks.Shift words) o end done = timed_ends (IsIdle m) words.at m.answers _ o end (λ moment shifted. visit_ends store _ _ _ o end shifted.1) done
+answer_ends store m (asks.Sell words) o end done = timed_ends (IsIdle m) words.at m.answers _ o end (λ moment sold. visit_ends store _ _ _ o end sold.1) done
+answer_ends store m (asks.Report words) o end (shut, done) = visit_ends store _ _ _ o end done
+answer_ends store m (asks.Meter words) o end (idle, done) = told_ends o _ _ how.Done end (omega arith) done
+answer_ends store m (asks.Quote words) o end (idle, done) =
     let bought = purchase_of words.steps words.prior words.tender in
     told_ends o _ _ (quote_end bought) end (quote_low bought) done
 answer_ends store m (asks.Serve words) o end done = serving_ends store m.way m.at m.door m.answers words o.err_old o.err_new end done.1
-answer_ends store m (asks.Selfcheck words) o end (agreed has told) = told_ends o _ _ how.Done end (omega arith) told
-answer_ends store m (asks.Selfcheck words) o end (failed fault told) = told_ends o _ _ how.Refused end (omega arith) told
+answer_ends store m (asks.Selfcheck words) o end (idle, agreed has told) = told_ends o _ _ how.Done end (omega arith) told
+answer_ends store m (asks.Selfcheck words) o end (idle, failed fault told) = told_ends o _ _ how.Refused end (omega arith) told
 
 -- words that ask for something never end as bad words
 run_ends : {S D R W : Type 0} (store : Ghosts S) (m : Machine D R W) (words : List Text) (o : Outputs) (end : End) (asked : Asked) → AskFor words asked → IsProgramRun store m words o end → exit_status_of end ≤ 1
 run_ends store m words o end asked for (answered other other_for done) = answer_ends store m other o end done
-run_ends store m words o end asked for (bad_word no_fault none told) = absurd (none asked for)
-run_ends store m words o end asked for (explained kind text among some says) = absurd (subst (IsAmong kind) for.no_fault among)
-run_ends store m words o end asked for (no_room told) = told_ends o _ _ how.Refused end (omega arith) told
+run_ends store m words o end asked for (bad_word idle no_fault none told) = absurd (none asked for)
+run_ends store m words o end asked for (explained idle kind text among some says) = absurd (subst (IsAmong kind) for.no_fault among)
+run_ends store m words o end asked for (no_room idle told) = told_ends o _ _ how.Refused end (omega arith) told
 
 low_status : (end : End) (failed : Bool) → exit_status_of end ≤ 1 → status_of end failed ≤ 1
 low_status end false low = low

@@ -17,9 +17,9 @@ use Rattle.command_line.specs.declared.commands.serve.ServeWords.{ServeWords}
 use Rattle.command_line.specs.declared.transform.Shipped.{Shipped}
 use Rattle.vend_commands.specs.Imported.{AreAdded, IsFileImported}
 use Rattle.vend_commands.specs.Listening.{IsDeaf, IsServing}
-use Rattle.vend_commands.specs.Listening.IsDeaf.{no_listener, no_room as deaf_for_room, not_told}
+use Rattle.vend_commands.specs.Listening.IsDeaf.{no_listener, no_room as deaf_for_room, no_text, not_told}
 use Rattle.vend_commands.specs.Listening.IsServing.{unheard, unopened as serves_unopened, was_open}
-use Rattle.vend_commands.specs.Places.{Machine, Place, Way}
+use Rattle.vend_commands.specs.Places.{IsIdle, Machine, Place, Way}
 use Rattle.vend_commands.specs.Run.{IsCarriedOut, IsExplained, IsProgramRun}
 use Rattle.vend_commands.specs.Run.IsProgramRun.{answered, bad_word, explained, no_room}
 use Rattle.vend_commands.specs.Selfchecked.IsSelfchecked.{agreed, failed}
@@ -57,45 +57,46 @@ visit_same store place transform (Ask moment request) o end (visited old new ope
 visit_same store place transform (Total number) o end (visited old new opened finds done closes) = totals_same number done.totals o end done.told
 visit_same store place transform Export o end (visited old new opened finds done closes) = told_same o _ _ _ end done.told
 
-added_same : {S : Type 0} (store : Ghosts S) (at : Text → Place) (words : ImportWords) (moment : ℕ) (rows : Result (List Row) RowFault) (o : Outputs) (end : End) → AreAdded store at words moment rows o end → AreSame o
-added_same store at words moment (Ok rows) o end added = visit_same store _ _ _ o end added
-added_same store at words moment (Err fault) o end told = told_same o _ _ _ end told
+added_same : {S : Type 0} (store : Ghosts S) (at : Text → Place) (untouched : Type 0) (words : ImportWords) (moment : ℕ) (rows : Result (List Row) RowFault) (o : Outputs) (end : End) → AreAdded store at untouched words moment rows o end → AreSame o
+added_same store at untouched words moment (Ok rows) o end added = visit_same store _ _ _ o end added
+added_same store at untouched words moment (Err fault) o end (left, told) = told_same o _ _ _ end told
 
-import_same : {S D R W : Type 0} (store : Ghosts S) (m : Machine D R W) (words : ImportWords) (moment : ℕ) (o : Outputs) (end : End) → IsFileImported store m.at m.reads m.lacks words moment o end → AreSame o
-import_same store m words moment o end (inl (bytes, reads, (records, rows, are, reading, added))) = added_same store m.at words moment rows o end added
-import_same store m words moment o end (inr (fault, lacks, told)) = told_same o _ _ _ end told
+import_same : {S D R W : Type 0} (store : Ghosts S) (m : Machine D R W) (words : ImportWords) (moment : ℕ) (o : Outputs) (end : End) → IsFileImported store m.at m.untouched m.reads m.lacks words moment o end → AreSame o
+import_same store m words moment o end (inl (bytes, reads, (records, rows, are, reading, added))) = added_same store m.at m.untouched words moment rows o end added
+import_same store m words moment o end (inr (fault, lacks, left, told)) = told_same o _ _ _ end told
 
-deaf_same : (address : Address) (old new : Sink) → IsDeaf address old new → new.name ≡ old.name
-deaf_same address old new (deaf_for_room told) = told.same
-deaf_same address old new (no_listener told) = told.same
-deaf_same address old new (not_told port is_port cut told) = told.same
+deaf_same : {D R W : Type 0} (way : Way D R W) (address : Address) (door last : D) (old new : Sink) → IsDeaf way address door last old new → new.name ≡ old.name
+deaf_same way address door last old new (deaf_for_room same told) = told.same
+deaf_same way address door last old new (no_listener fails told) = told.same
+deaf_same way address door last old new (no_text port is_port listens told) = told.same
+deaf_same way address door last old new (not_told port is_port listens cut told) = told.same
 
 serving_same : {S D R W : Type 0} (store : Ghosts S) (way : Way D R W) (at : Text → Place) (door : D) (answers : Option (List ℤ)) (words : ServeWords) (old new : Sink) (end : End)
     → IsServing store way at door answers words old new end → new.name ≡ old.name
-serving_same store way at door answers words old new end (serves_unopened fault fails told ends) = told.same
-serving_same store way at door answers words old new end (unheard books opens finds deaf closes ends) = deaf_same words.listen old new deaf
+serving_same store way at door answers words old new end (serves_unopened fault fails shut told ends) = told.same
+serving_same store way at door answers words old new end (unheard books opens finds last deaf shut closes ends) = deaf_same way words.listen door last old new deaf
 serving_same store way at door answers words old new end (was_open books opens finds were) = were.told.same ∙ were.listens.told.same
 
-done_same : (At : ℕ → Type 0) (o : Outputs) (end : End) (moment : Option ℕ) → ((moment : ℕ) → At moment → AreSame o) → IsDoneAt At o end moment → AreSame o
-done_same At o end (Some moment) same done = same moment done
-done_same At o end None same told = told_same o _ _ _ end told
+done_same : (Idle : Type 0) (At : ℕ → Type 0) (o : Outputs) (end : End) (moment : Option ℕ) → ((moment : ℕ) → At moment → AreSame o) → IsDoneAt Idle At o end moment → AreSame o
+done_same Idle At o end (Some moment) same done = same moment done
+done_same Idle At o end None same (idle, told) = told_same o _ _ _ end told
 
-timed_same : (given : Option ℕ) (answers : Option (List ℤ)) (At : ℕ → Type 0) (o : Outputs) (end : End) → ((moment : ℕ) → At moment → AreSame o) → IsTimed given answers At o end → AreSame o
-timed_same given answers At o end same (moment, taken, done) = done_same At o end moment same done
+timed_same : (Idle : Type 0) (given : Option ℕ) (answers : Option (List ℤ)) (At : ℕ → Type 0) (o : Outputs) (end : End) → ((moment : ℕ) → At moment → AreSame o) → IsTimed Idle given answers At o end → AreSame o
+timed_same Idle given answers At o end same (moment, taken, done) = done_same Idle At o end moment same done
 
 answer_same : {S D R W : Type 0} (store : Ghosts S) (m : Machine D R W) (asked : Asked) (o : Outputs) (end : End) → IsCarriedOut store m asked o end → AreSame o
-answer_same store m (asks.Trial words) o end done = timed_same words.at m.answers _ o end (λ moment tried. told_same o _ _ _ end tried.4) done
-answer_same store m (asks.Import words) o end done = timed_same words.at m.answers _ o end (λ moment imported. import_same store m words moment o end imported) done
-answer_same store m (asks.Base words) o end done = timed_same words.at m.answers _ o end (λ moment moved. visit_same store _ _ _ o end moved) done
-answer_same store m (asks.Shift words) o end done = timed_same words.at m.answers _ o end (λ moment shifted. visit_same store _ _ _ o end shifted) done
-answer_same store m (asks.Sell words) o end done = timed_same words.at m.answers _ o end (λ moment sold. visit_same store _ _ _ o end sold) done
-answer_same store m (asks.Report words) o end done = visit_same store _ _ _ o end done
-answer_same store m (asks.Meter words) o end done = told_same o _ _ _ end done
-answer_same store m (asks.Quote words) o end done = told_same o _ _ _ end done
+answer_same store m (asks.Trial words) o end done = timed_same (IsIdle m) words.at m.answers _ o end (λ moment tried. told_same o _ _ _ end tried.1.4) done
+answer_same store m (asks.Import words) o end done = timed_same (IsIdle m) words.at m.answers _ o end (λ moment imported. import_same store m words moment o end imported.1) done
+answer_same store m (asks.Base words) o end done = timed_same (IsIdle m) words.at m.answers _ o end (λ moment moved. visit_same store _ _ _ o end moved.1) done
+answer_same store m (asks.Shift words) o end done = timed_same (IsIdle m) words.at m.answers _ o end (λ moment shifted. visit_same store _ _ _ o end shifted.1) done
+answer_same store m (asks.Sell words) o end done = timed_same (IsIdle m) words.at m.answers _ o end (λ moment sold. visit_same store _ _ _ o end sold.1) done
+answer_same store m (asks.Report words) o end (shut, done) = visit_same store _ _ _ o end done
+answer_same store m (asks.Meter words) o end (idle, done) = told_same o _ _ _ end done
+answer_same store m (asks.Quote words) o end (idle, done) = told_same o _ _ _ end done
 answer_same store m (asks.Serve words) o end done =
     record { out = ap (λ s. s.name) done.0; err = serving_same store m.way m.at m.door m.answers words o.err_old o.err_new end done.1 }
-answer_same store m (asks.Selfcheck words) o end (agreed has told) = told_same o _ _ _ end told
-answer_same store m (asks.Selfcheck words) o end (failed fault told) = told_same o _ _ _ end told
+answer_same store m (asks.Selfcheck words) o end (idle, agreed has told) = told_same o _ _ _ end told
+answer_same store m (asks.Selfcheck words) o end (idle, failed fault told) = told_same o _ _ _ end told
 
 explained_same : (kind : ErrorKind) (text : Text) (o : Outputs) (end : End) → IsExplained kind text o end → AreSame o
 explained_same OutOfMemory text o end none = absurd none
@@ -105,6 +106,6 @@ explained_same kind text o end told = told_same o [] text how.BadWords end told
 
 pub run_same : {S D R W : Type 0} (store : Ghosts S) (m : Machine D R W) (words : List Text) (o : Outputs) (end : End) → IsProgramRun store m words o end → AreSame o
 run_same store m words o end (answered asked for done) = answer_same store m asked o end done
-run_same store m words o end (bad_word no_fault none told) = told_same o _ _ _ end told
-run_same store m words o end (explained kind text among some says) = explained_same kind text o end says
-run_same store m words o end (no_room told) = told_same o _ _ _ end told
+run_same store m words o end (bad_word idle no_fault none told) = told_same o _ _ _ end told
+run_same store m words o end (explained idle kind text among some says) = explained_same kind text o end says
+run_same store m words o end (no_room idle told) = told_same o _ _ _ end told

@@ -8,8 +8,8 @@ use Rattle.sts_fields.specs.Tid.{FreshOutcome, IsLast, minute_of}
 use Rattle.sts_fields.specs.declared.base.Base.{Base}
 use Rattle.sts_fields.specs.declared.fault.TidFault.{TidFault}
 use Rattle.vend_commands.specs.Trial.{EndsBy, IsRefusedBy, IsSale, TidOutcome}
-use Rattle.vend_commands.specs.declared.trial.TrialFault.{TrialFault}
-use Rattle.vend_commands.specs.declared.trial.TrialFault.TheVariants.{Amount, Tid, Memory}
+use Rattle.vend_commands.specs.declared.trials.TrialFault.{TrialFault}
+use Rattle.vend_commands.specs.declared.trials.TrialFault.TheVariants.{Amount, Tid, Memory}
 
 -- the sales so far: of the first amounts, in order
 pub record AreSales (forward : ℕ → ℕ → ℕ) (key : ℕ) (base : Base) (moment : ℕ) (amounts tids : List ℕ) (tokens : List (List ℕ)) : Type 0 where

@@ -6,11 +6,13 @@ use Rattle.books.specs.Keeps.{Seen}
 use Rattle.books.specs.declared.fault.OpenFault.{OpenFault}
 use Rattle.sts_fields.specs.Text.{Text}
 use Rattle.sts_token.specs.Token.{BlockFunction}
+use Rattle.command_line.specs.declared.address.Address.{Address}
 use Rattle.command_line.specs.declared.asked.Asked.{Asked}
 use Rattle.command_line.specs.declared.asked.Asked.TheVariants as asks
 use Rattle.command_line.specs.declared.commands.serve.ServeWords.{ServeWords}
 use Rattle.vend_commands.specs.Connections.{AreHeld, AreServed, IsHeld, IsUnheld, Service, service}
-use Rattle.vend_commands.specs.Listening.{IsServing}
+use Rattle.vend_commands.specs.Listening.{IsDeaf, IsServing}
+use Rattle.vend_commands.specs.Listening.IsDeaf.{no_listener, no_room as deaf_for_room, no_text, not_told}
 use Rattle.vend_commands.specs.Listening.IsServing.{unheard, unopened, was_open}
 use Rattle.vend_commands.specs.Places.{Place, Way, machine, untold_place, untold_way}
 use Rattle.vend_commands.specs.Run.{IsCarriedOut, IsProgramRun}
@@ -36,19 +38,23 @@ visited_bare : {S : Type 0} (store : Ghosts S) (place : Place) (transform : Ship
 visited_bare store place transform task o end (unvisited fault fails told) = unvisited fault tt told
 visited_bare store place transform task o end (visited old new opens finds done closes) = visited old new opens tt done closes
 
-added_bare : {S : Type 0} (store : Ghosts S) (at : Text → Place) (words : ImportWords) (moment : ℕ) (rows : Result (List Row) RowFault) (o : Outputs) (end : End)
-    → AreAdded store at words moment rows o end → AreAdded store (λ path. bare_place (at path)) words moment rows o end
-added_bare store at words moment (Ok rows) o end added = visited_bare store (at words.file.now) words.transform _ o end added
-added_bare store at words moment (Err fault) o end told = told
+added_bare : {S : Type 0} (store : Ghosts S) (at : Text → Place) (untouched : Type 0) (words : ImportWords) (moment : ℕ) (rows : Result (List Row) RowFault) (o : Outputs) (end : End)
+    → AreAdded store at untouched words moment rows o end → AreAdded store (λ path. bare_place (at path)) ⊤ words moment rows o end
+added_bare store at untouched words moment (Ok rows) o end added = visited_bare store (at words.file.now) words.transform _ o end added
+added_bare store at untouched words moment (Err fault) o end (left, told) = (tt, told)
 
-imported_bare : {S : Type 0} (store : Ghosts S) (at : Text → Place) (reads : Text → List ℕ → Type 0) (lacks : Text → ReadFault → Type 0) (words : ImportWords) (moment : ℕ) (o : Outputs) (end : End)
-    → IsFileImported store at reads lacks words moment o end → IsFileImported store (λ path. bare_place (at path)) reads lacks words moment o end
-imported_bare store at reads lacks words moment o end (inl (bytes, read, (records, rows, are, reading, added))) = inl (bytes, read, (records, rows, are, reading, added_bare store at words moment rows o end added))
-imported_bare store at reads lacks words moment o end (inr told) = inr told
+imported_bare : {S : Type 0} (store : Ghosts S) (at : Text → Place) (untouched : Type 0) (reads : Text → List ℕ → Type 0) (lacks : Text → ReadFault → Type 0) (words : ImportWords) (moment : ℕ) (o : Outputs) (end : End)
+    → IsFileImported store at untouched reads lacks words moment o end → IsFileImported store (λ path. bare_place (at path)) ⊤ reads lacks words moment o end
+imported_bare store at untouched reads lacks words moment o end (inl (bytes, read, (records, rows, are, reading, added))) = inl (bytes, read, (records, rows, are, reading, added_bare store at untouched words moment rows o end added))
+imported_bare store at untouched reads lacks words moment o end (inr (fault, lacked, left, told)) = inr (fault, lacked, tt, told)
 
-timed_bare : (given : Option ℕ) (answers : Option (List ℤ)) (At Bare : ℕ → Type 0) (o : Outputs) (end : End) → ((moment : ℕ) → At moment → Bare moment) → IsTimed given answers At o end → IsTimed given answers Bare o end
-timed_bare given answers At Bare o end less (None, taken, told) = (None, taken, told)
-timed_bare given answers At Bare o end less (Some moment, taken, done) = (Some moment, taken, less moment done)
+-- what is left of a machine of which nothing was used
+abbrev Nothing : Type 0
+Nothing = ⊤ × ⊤
+
+timed_bare : (Idle : Type 0) (given : Option ℕ) (answers : Option (List ℤ)) (At Bare : ℕ → Type 0) (o : Outputs) (end : End) → ((moment : ℕ) → At moment → Bare moment) → IsTimed Idle given answers At o end → IsTimed Nothing given answers Bare o end
+timed_bare Idle given answers At Bare o end less (None, taken, (idle, told)) = (None, taken, ((tt, tt), told))
+timed_bare Idle given answers At Bare o end less (Some moment, taken, done) = (Some moment, taken, less moment done)
 
 abbrev bare : {D B : Type 0} → Service D B → Service ⊤ B
 bare s = service tt s.books s.answers
@@ -63,6 +69,7 @@ module _ {D R W B : Type 0} (way : Way D R W) (see : B → Seen) where
     end = one.end;
     accepted = tt;
     run = one.run;
+    paced = one.paced;
     clean = one.clean;
     lives = one.lives;
     ended = tt;
@@ -98,11 +105,17 @@ module _ {D R W B : Type 0} (way : Way D R W) (forward : BlockFunction) (see : B
     answers = lost.answers;
   }
 
+deaf_bare : {D R W : Type 0} (way : Way D R W) (address : Address) (door last : D) (old new : Sink) → IsDeaf way address door last old new → IsDeaf untold_way address tt tt old new
+deaf_bare way address door last old new (deaf_for_room same told) = deaf_for_room refl told
+deaf_bare way address door last old new (no_listener fails told) = no_listener tt told
+deaf_bare way address door last old new (no_text port is_port listens told) = no_text port is_port tt told
+deaf_bare way address door last old new (not_told port is_port listens cut told) = not_told port is_port tt cut told
+
 module _ {S D R W : Type 0} (store : Ghosts S) (way : Way D R W) (at : Text → Place) (door : D) where
   serving_bare : (answers : Option (List ℤ)) (words : ServeWords) (err_old err_new : Sink) (end : End)
       → IsServing store way at door answers words err_old err_new end → IsServing store untold_way (λ path. bare_place (at path)) tt answers words err_old err_new end
-  serving_bare answers words err_old err_new end (unopened fault fails told ends) = unopened fault tt told ends
-  serving_bare answers words err_old err_new end (unheard old opens finds deaf closes ends) = unheard old opens tt deaf closes ends
+  serving_bare answers words err_old err_new end (unopened fault fails shut told ends) = unopened fault tt tt told ends
+  serving_bare answers words err_old err_new end (unheard old opens finds last deaf shut closes ends) = unheard old opens tt tt (deaf_bare way words.listen door last err_old err_new deaf) tt closes ends
   serving_bare answers words err_old err_new end (was_open old opens finds were) =
       was_open old opens tt (record {
         listening = tt;
@@ -112,28 +125,29 @@ module _ {S D R W : Type 0} (store : Ghosts S) (way : Way D R W) (at : Text → 
         left = were.left;
         served = were.served;
         are_served = served_bare way _ _ _ words.connections (service were.listening old answers) were.last were.left were.served were.are_served;
+        leaves = tt;
         closed = were.closed;
         told = were.told;
         ends = were.ends;
       })
 
-  module _ (reads : Text → List ℕ → Type 0) (lacks : Text → ReadFault → Type 0) (answers : Option (List ℤ)) where
-    carried_bare : (asked : Asked) (o : Outputs) (end : End) → IsCarriedOut store (machine at reads lacks answers way door) asked o end → IsCarriedOut store (machine (λ path. bare_place (at path)) reads lacks answers untold_way tt) asked o end
-    carried_bare (asks.Trial words) o end done = done
-    carried_bare (asks.Import words) o end done = timed_bare words.at answers _ _ o end (λ moment. imported_bare store at reads lacks words moment o end) done
-    carried_bare (asks.Base words) o end done = timed_bare words.at answers _ _ o end (λ moment. visited_bare store (at words.file.now) words.transform _ o end) done
-    carried_bare (asks.Shift words) o end done = timed_bare words.at answers _ _ o end (λ moment. visited_bare store (at words.file.now) words.transform _ o end) done
-    carried_bare (asks.Sell words) o end done = timed_bare words.at answers _ _ o end (λ moment. visited_bare store (at words.file.now) words.transform _ o end) done
-    carried_bare (asks.Report words) o end done = visited_bare store (at words.file.now) Plain _ o end done
-    carried_bare (asks.Meter words) o end done = done
-    carried_bare (asks.Quote words) o end done = done
+  module _ (untouched : Type 0) (reads : Text → List ℕ → Type 0) (lacks : Text → ReadFault → Type 0) (answers : Option (List ℤ)) where
+    carried_bare : (asked : Asked) (o : Outputs) (end : End) → IsCarriedOut store (machine at untouched reads lacks answers way door) asked o end → IsCarriedOut store (machine (λ path. bare_place (at path)) ⊤ reads lacks answers untold_way tt) asked o end
+    carried_bare (asks.Trial words) o end done = timed_bare (untouched × way.leaves door) words.at answers _ _ o end (λ moment tried. ((tt, tt), tried.1)) done
+    carried_bare (asks.Import words) o end done = timed_bare (untouched × way.leaves door) words.at answers _ _ o end (λ moment imported. (tt, imported_bare store at untouched reads lacks words moment o end imported.1)) done
+    carried_bare (asks.Base words) o end done = timed_bare (untouched × way.leaves door) words.at answers _ _ o end (λ moment asked. (tt, visited_bare store (at words.file.now) words.transform _ o end asked.1)) done
+    carried_bare (asks.Shift words) o end done = timed_bare (untouched × way.leaves door) words.at answers _ _ o end (λ moment asked. (tt, visited_bare store (at words.file.now) words.transform _ o end asked.1)) done
+    carried_bare (asks.Sell words) o end done = timed_bare (untouched × way.leaves door) words.at answers _ _ o end (λ moment asked. (tt, visited_bare store (at words.file.now) words.transform _ o end asked.1)) done
+    carried_bare (asks.Report words) o end (shut, done) = (tt, visited_bare store (at words.file.now) Plain _ o end done)
+    carried_bare (asks.Meter words) o end (idle, done) = ((tt, tt), done)
+    carried_bare (asks.Quote words) o end (idle, done) = ((tt, tt), done)
     carried_bare (asks.Serve words) o end done = (done.0, serving_bare answers words o.err_old o.err_new end done.1)
-    carried_bare (asks.Selfcheck words) o end done = done
+    carried_bare (asks.Selfcheck words) o end (idle, done) = ((tt, tt), done)
 
     -- a run of the program, of which nothing is told but that
-    pub run_bare : (words : List Text) (o : Outputs) (end : End) → IsProgramRun store (machine at reads lacks answers way door) words o end
-        → IsProgramRun store (machine (λ path. bare_place (at path)) reads lacks answers untold_way tt) words o end
+    pub run_bare : (words : List Text) (o : Outputs) (end : End) → IsProgramRun store (machine at untouched reads lacks answers way door) words o end
+        → IsProgramRun store (machine (λ path. bare_place (at path)) ⊤ reads lacks answers untold_way tt) words o end
     run_bare words o end (answered asked for done) = answered asked for (carried_bare asked o end done)
-    run_bare words o end (bad_word no_fault none told) = bad_word no_fault none told
-    run_bare words o end (explained kind text among some says) = explained kind text among some says
-    run_bare words o end (no_room told) = no_room told
+    run_bare words o end (bad_word idle no_fault none told) = bad_word (tt, tt) no_fault none told
+    run_bare words o end (explained idle kind text among some says) = explained (tt, tt) kind text among some says
+    run_bare words o end (no_room idle told) = no_room (tt, tt) told

@@ -6,6 +6,7 @@ use Rattle.books.specs.Others.{LeavesOthers}
 use Rattle.books.specs.declared.fault.OpenFault.{OpenFault}
 use Rattle.desk.specs.Answering.{answers_by, books_serve, life_serves, message_refusal_of}
 use Rattle.desk.specs.Run.{IsRun}
+use Rattle.desk.specs.Uses.{IsPaced, Use}
 use Rattle.desk.specs.declared.end.End as conversation
 use Rattle.sts_token.specs.Token.{BlockFunction}
 use Rattle.vend_core.specs.Life.{Life}
@@ -28,7 +29,8 @@ GoOn old new Goes = HasCleanDisk new.state → (life : Life) → Represents life
 
 module _ {D R W B : Type 0} (way : Way D R W) (see : B → Seen) where
   -- A connection came in, the desk held its conversation over what it sends and what it is sent, and it
-  -- was let go as the conversation left it. Every life that the books kept goes on by that, and by
+  -- was let go as the conversation left it. No more was read than the desk may ask for, nor before the
+  -- replies to what came before it were written. Every life that the books kept goes on by that, and by
   -- nothing beside.
   pub record IsHeld (old new : Service D B) : Type 0 where
     pub reader : R
@@ -40,6 +42,8 @@ module _ {D R W B : Type 0} (way : Way D R W) (see : B → Seen) where
     pub run : IsRun (answers_by (books_serve see)) message_refusal_of (old.books, old.answers)
         (new.books, new.answers) (way.remaining reader) (way.remaining read)
         (way.contents writer) (way.contents written) end
+    pub paced : (uses : List Use) × IsPaced (answers_by (books_serve see)) (old.books, old.answers)
+        (way.remaining reader) (way.remaining read) (way.contents writer) (way.contents written) uses
     pub clean : HasCleanDisk (see new.books).state → HasCleanDisk (see old.books).state
     pub lives : GoOn (see old.books) (see new.books) (λ life after.
         IsRun (answers_by life_serves) message_refusal_of (life, old.answers) (after, new.answers)

@@ -25,31 +25,33 @@ abbrev pub refusal_of_rows : RowFault → Refusal
 refusal_of_rows (At row cause) = refusal.ImportRow row cause
 refusal_of_rows Memory = refusal.Memory
 
--- rows that were read go to the office as one request; a fault is told, and no office is opened
-abbrev pub AreAdded : {S : Type 0} → Ghosts S → (Text → Place) → ImportWords → ℕ
+-- rows that were read go to the office as one request; a fault is told, and no office is found
+abbrev pub AreAdded : {S : Type 0} → Ghosts S → (Text → Place) → (untouched : Type 0) → ImportWords → ℕ
     → Result (List Row) RowFault → Outputs → End → Type 0
-AreAdded store at words moment (Ok rows) o end =
+AreAdded store at untouched words moment (Ok rows) o end =
     IsAskedAt store at words.transform words.file.now moment (Import rows) o end
-AreAdded store at words moment (Err fault) o end =
-    IsTold o [] (refusal_line (refusal_of_rows fault)) Refused end
+AreAdded store at untouched words moment (Err fault) o end =
+    untouched × IsTold o [] (refusal_line (refusal_of_rows fault)) Refused end
 
 -- the rows of these bytes, by their kind, are added
-abbrev pub IsImported : {S : Type 0} → Ghosts S → (Text → Place) → ImportWords → ℕ → List ℕ
-    → Outputs → End → Type 0
-IsImported store at words moment bytes o end =
+abbrev pub IsImported : {S : Type 0} → Ghosts S → (Text → Place) → (untouched : Type 0) → ImportWords → ℕ
+    → List ℕ → Outputs → End → Type 0
+IsImported store at untouched words moment bytes o end =
     (records : List Fields) × (rows : Result (List Row) RowFault)
     × AreFileRecords bytes records × IsReading words.kind records rows
-    × AreAdded store at words moment rows o end
+    × AreAdded store at untouched words moment rows o end
 
 -- the file cannot be read, or there is no room for it
 abbrev pub read_fault_line : ReadFault → Text
 read_fault_line read.Unreadable = file_line
 read_fault_line read.Memory = refusal_line refusal.Memory
 
--- the file of the words has some bytes, which are imported; or it is not read, and that is told
-abbrev pub IsFileImported : {S : Type 0} → Ghosts S → (Text → Place) → (Text → List ℕ → Type 0)
-    → (Text → ReadFault → Type 0) → ImportWords → ℕ → Outputs → End → Type 0
-IsFileImported store at Reads Lacks words moment o end =
-    ((bytes : List ℕ) × Reads words.csv.now bytes × IsImported store at words moment bytes o end)
-    ⊎ ((fault : ReadFault) × Lacks words.csv.now fault
+-- the file of the words has some bytes, which are imported; or it is not read, and that is told, and no
+-- office is found
+abbrev pub IsFileImported : {S : Type 0} → Ghosts S → (Text → Place) → (untouched : Type 0)
+    → (Text → List ℕ → Type 0) → (Text → ReadFault → Type 0) → ImportWords → ℕ → Outputs → End → Type 0
+IsFileImported store at untouched Reads Lacks words moment o end =
+    ((bytes : List ℕ) × Reads words.csv.now bytes
+    × IsImported store at untouched words moment bytes o end)
+    ⊎ ((fault : ReadFault) × Lacks words.csv.now fault × untouched
     × IsTold o [] (read_fault_line fault) Refused end)

@@ -7,6 +7,7 @@ pub mod Listening
 pub mod Metered
 pub mod Opened
 pub mod Places
+pub mod Port
 pub mod Printed
 pub mod Quoted
 pub mod Refused

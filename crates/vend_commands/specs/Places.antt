@@ -13,6 +13,7 @@ use Rattle.command_line.specs.declared.address.Address.{Address}
 use Rattle.vend_commands.specs.Closed.{IsClosed}
 use Rattle.vend_commands.specs.Opened.{OpensIn}
 use Rattle.vend_commands.specs.Told.{Held}
+use Rattle.vend_commands.specs.declared.door.Door as doors
 use Rattle.vend_commands.specs.declared.ports.OfficeFile as file
 use Rattle.vend_commands.specs.declared.ports.SaltSource as source
 use Rattle.vend_commands.specs.declared.read_fault.ReadFault.{ReadFault}
@@ -45,30 +46,35 @@ pub record Place : Type 1 where
   pub closes : Seen → Type 0
   pub loses : OpenFault → Type 0
 
--- What a door tells: where it listens, which connection came in or that none could be had, and that
--- it was let go; and what is known of the bytes of its halves.
+-- What a door tells: where it listens or that it could not, which connection came in or that none could
+-- be had, that it was let go, and that the door was left; and what is known of the bytes of its halves.
 pub record Way (D R W : Type 0) : Type 1 where
   pub listens : D → Address → ℕ → D → Type 0
+  pub fails : D → Address → D → Type 0
   pub accepts : D → R → W → D → Type 0
   pub refuses : D → D → Type 0
   pub ends : R → W → Type 0
+  pub leaves : D → Type 0
   pub remaining : R → Held
   pub contents : W → Held
 
-abbrev pub way : {D R W : Type 0} → (D → Address → ℕ → D → Type 0) → (D → R → W → D → Type 0)
-    → (D → D → Type 0) → (R → W → Type 0) → (R → Held) → (W → Held) → Way D R W
-way listens accepts refuses ends remaining contents = record {
-  listens = listens;
-  accepts = accepts;
-  refuses = refuses;
-  ends = ends;
+abbrev pub way : {D R W : Type 0} → doors.Ghosts D R W → (R → Held) → (W → Held) → Way D R W
+way of remaining contents = record {
+  listens = of.listens;
+  fails = of.fails;
+  accepts = of.accepts;
+  refuses = of.refuses;
+  ends = of.ends;
+  leaves = of.leaves;
   remaining = remaining;
   contents = contents;
 }
 
--- the files that keep offices, the files that are read, the answers of the clock, and the door
+-- the files that keep offices and that none of them was found, the files that are read, the answers of the
+-- clock, and the door
 pub record Machine (D R W : Type 0) : Type 1 where
   pub at : Text → Place
+  pub untouched : Type 0
   pub reads : Text → List ℕ → Type 0
   pub lacks : Text → ReadFault → Type 0
   pub answers : Option (List ℤ)
@@ -87,10 +93,23 @@ places_of {H} {D} {S} disk salts of office path = record {
   loses = IsUnreopened salts;
 }
 
-abbrev pub machine : {D R W : Type 0} → (Text → Place) → (Text → List ℕ → Type 0)
+-- the same machine, whose clock has these answers left
+abbrev pub later : {D R W : Type 0} → Machine D R W → Option (List ℤ) → Machine D R W
+later m left = record m { answers = left }
+
+-- nobody was listened to: the door was left as it was
+abbrev pub IsShut : {D R W : Type 0} → Machine D R W → Type 0
+IsShut m = m.way.leaves m.door
+
+-- nor was a file of an office found
+abbrev pub IsIdle : {D R W : Type 0} → Machine D R W → Type 0
+IsIdle m = m.untouched × IsShut m
+
+abbrev pub machine : {D R W : Type 0} → (Text → Place) → (untouched : Type 0) → (Text → List ℕ → Type 0)
     → (Text → ReadFault → Type 0) → Option (List ℤ) → Way D R W → D → Machine D R W
-machine at reads lacks answers way door = record {
+machine at untouched reads lacks answers way door = record {
   at = at;
+  untouched = untouched;
   reads = reads;
   lacks = lacks;
   answers = answers;
@@ -100,8 +119,16 @@ machine at reads lacks answers way door = record {
 
 -- a door of which nothing is told but the bytes of each connection
 abbrev pub untold_way : Way ⊤ Held Held
-untold_way = way (λ old address port new. ⊤) (λ old reader writer new. ⊤) (λ old new. ⊤)
-    (λ reader writer. ⊤) (λ unread. unread) (λ held. held)
+untold_way = record {
+  listens = λ old address port new. ⊤;
+  fails = λ old address new. ⊤;
+  accepts = λ old reader writer new. ⊤;
+  refuses = λ old new. ⊤;
+  ends = λ reader writer. ⊤;
+  leaves = λ door. ⊤;
+  remaining = λ unread. unread;
+  contents = λ held. held;
+}
 
 -- a file of which nothing is told but what it holds, and how an office is opened there and closed
 abbrev pub untold_place : Image → (opens closes : Seen → Type 0) → Place
@@ -117,5 +144,5 @@ untold_place image opens closes = record {
 -- a machine of which nothing is told but that, and the bytes of each connection
 abbrev pub untold : {D : Type 0} → disk.Ghosts D → Image → Machine ⊤ Held Held
 untold disk image = machine
-    (λ path. untold_place image (OpensIn disk image) (IsClosed disk (λ log db. ⊤)))
+    (λ path. untold_place image (OpensIn disk image) (IsClosed disk (λ log db. ⊤))) ⊤
     (λ path bytes. ⊤) (λ path fault. ⊤) None untold_way tt

@@ -1,5 +1,5 @@
 -- A run of the program: how what its words ask for is answered.
-use Rattle.std.specs.Prelude.{◌≡◌, ◌≢◌, List, []}
+use Rattle.std.specs.Prelude.{◌≡◌, ◌≢◌, ℕ, List, []}
 use Rattle.clap.specs.Kinds.{IsAmong}
 use Rattle.clap.specs.declared.error.kind.ErrorKind.{ErrorKind}
 use Rattle.clap.specs.declared.error.kind.ErrorKind.TheVariants.{DisplayHelp, DisplayVersion, OutOfMemory}
@@ -12,7 +12,7 @@ use Rattle.command_line.specs.Line.{faults_in}
 use Rattle.vend_commands.specs.Imported.{IsFileImported}
 use Rattle.vend_commands.specs.Listening.{IsServedTo}
 use Rattle.vend_commands.specs.Metered.{IsMetered}
-use Rattle.vend_commands.specs.Places.{Machine}
+use Rattle.vend_commands.specs.Places.{IsIdle, IsShut, Machine}
 use Rattle.vend_commands.specs.Printed.{bad_word_line, refusal_line}
 use Rattle.vend_commands.specs.Quoted.{IsQuoted}
 use Rattle.vend_commands.specs.Selfchecked.{HasReplies, IsSelfchecked}
@@ -25,23 +25,42 @@ use Rattle.command_line.specs.declared.asked.Asked.TheVariants.{Trial, Import, B
 use Rattle.vend_commands.specs.declared.end.End.{End}
 use Rattle.vend_commands.specs.declared.end.End.TheVariants.{Done, Refused, BadWords}
 
--- what is asked for is done
+-- What is asked for is done, and nothing of the machine is used beside: where no office is needed none is
+-- found, and only `serve` has the door.
 abbrev pub IsCarriedOut : {S D R W : Type 0} → Ghosts S → Machine D R W → Asked → Outputs → End → Type 0
 IsCarriedOut store m (Trial words) o end =
-    IsTimed words.at m.answers (λ moment. IsTried words moment o end) o end
-IsCarriedOut store m (Import words) o end = IsTimed words.at m.answers
-    (λ moment. IsFileImported store m.at m.reads m.lacks words moment o end) o end
-IsCarriedOut store m (Base words) o end = IsTimed words.at m.answers (λ moment.
-    IsAskedAt store m.at words.transform words.file.now moment (base_request words) o end) o end
-IsCarriedOut store m (Shift words) o end = IsTimed words.at m.answers (λ moment.
-    IsAskedAt store m.at words.transform words.file.now moment (shift_request words) o end) o end
-IsCarriedOut store m (Sell words) o end = IsTimed words.at m.answers (λ moment.
-    IsAskedAt store m.at words.transform words.file.now moment (request.Sell words.order) o end) o end
-IsCarriedOut store m (Report words) o end = IsReported store m.at words o end
-IsCarriedOut store m (Meter words) o end = IsMetered words o end
-IsCarriedOut store m (Quote words) o end = IsQuoted words o end
+    IsTimed (IsIdle m) words.at m.answers (λ moment. IsIdle m × IsTried words moment o end) o end
+IsCarriedOut store m (Import words) o end = IsTimed (IsIdle m) words.at m.answers (λ moment. IsShut m
+    × IsFileImported store m.at m.untouched m.reads m.lacks words moment o end) o end
+IsCarriedOut store m (Base words) o end = IsTimed (IsIdle m) words.at m.answers (λ moment. IsShut m
+    × IsAskedAt store m.at words.transform words.file.now moment (base_request words) o end) o end
+IsCarriedOut store m (Shift words) o end = IsTimed (IsIdle m) words.at m.answers (λ moment. IsShut m
+    × IsAskedAt store m.at words.transform words.file.now moment (shift_request words) o end) o end
+IsCarriedOut store m (Sell words) o end = IsTimed (IsIdle m) words.at m.answers (λ moment. IsShut m
+    × IsAskedAt store m.at words.transform words.file.now moment (request.Sell words.order) o end) o end
+IsCarriedOut store m (Report words) o end = IsShut m × IsReported store m.at words o end
+IsCarriedOut store m (Meter words) o end = IsIdle m × IsMetered words o end
+IsCarriedOut store m (Quote words) o end = IsIdle m × IsQuoted words o end
 IsCarriedOut store m (Serve words) o end = IsServedTo store m.way m.at m.door m.answers words o end
-IsCarriedOut store m (Selfcheck words) o end = IsSelfchecked (HasReplies words.transform) o end
+IsCarriedOut store m (Selfcheck words) o end = IsIdle m × IsSelfchecked (HasReplies words.transform) o end
+
+-- the same, at this moment, by a machine whose clock was read for it
+abbrev pub IsDoneThen : {S D R W : Type 0} → Ghosts S → Machine D R W → Asked → (moment : ℕ) → Outputs → End
+    → Type 0
+IsDoneThen store m (Trial words) moment o end = IsIdle m × IsTried words moment o end
+IsDoneThen store m (Import words) moment o end =
+    IsShut m × IsFileImported store m.at m.untouched m.reads m.lacks words moment o end
+IsDoneThen store m (Base words) moment o end =
+    IsShut m × IsAskedAt store m.at words.transform words.file.now moment (base_request words) o end
+IsDoneThen store m (Shift words) moment o end =
+    IsShut m × IsAskedAt store m.at words.transform words.file.now moment (shift_request words) o end
+IsDoneThen store m (Sell words) moment o end =
+    IsShut m × IsAskedAt store m.at words.transform words.file.now moment (request.Sell words.order) o end
+IsDoneThen store m (Report words) moment o end = IsShut m × IsReported store m.at words o end
+IsDoneThen store m (Meter words) moment o end = IsIdle m × IsMetered words o end
+IsDoneThen store m (Quote words) moment o end = IsIdle m × IsQuoted words o end
+IsDoneThen store m (Serve words) moment o end = IsServedTo store m.way m.at m.door m.answers words o end
+IsDoneThen store m (Selfcheck words) moment o end = IsIdle m × IsSelfchecked (HasReplies words.transform) o end
 
 -- what is said of words that are no command's: help, which goes to the output, or what is wrong with
 -- them, which goes to the error output
@@ -53,13 +72,14 @@ IsExplained kind text o end = IsTold o [] text BadWords end
 
 -- The words ask for something, and that is done; or they are a command's, and a value is outside
 -- its rule; or `clap` has a fault of theirs, and says something of it; or there was no room to read
--- them, or for what is said of them.
+-- them, or for what is said of them. Where nothing is done nothing of the machine is used.
 pub data IsProgramRun {S D R W : Type 0} (store : Ghosts S) (machine : Machine D R W)
     (words : List Text) (o : Outputs) (end : End) : Type 0 where
   answered : (asked : Asked) → AskFor words asked → IsCarriedOut store machine asked o end
       → IsProgramRun store machine words o end
-  bad_word : faults_in words ≡ [] → ((asked : Asked) → ¬ AskFor words asked)
+  bad_word : IsIdle machine → faults_in words ≡ [] → ((asked : Asked) → ¬ AskFor words asked)
       → IsTold o [] bad_word_line BadWords end → IsProgramRun store machine words o end
-  explained : (kind : ErrorKind) (text : Text) → IsAmong kind (faults_in words) → text ≢ []
-      → IsExplained kind text o end → IsProgramRun store machine words o end
-  no_room : IsTold o [] (refusal_line Memory) Refused end → IsProgramRun store machine words o end
+  explained : IsIdle machine → (kind : ErrorKind) (text : Text) → IsAmong kind (faults_in words)
+      → text ≢ [] → IsExplained kind text o end → IsProgramRun store machine words o end
+  no_room : IsIdle machine → IsTold o [] (refusal_line Memory) Refused end
+      → IsProgramRun store machine words o end

@@ -6,7 +6,8 @@ use Rattle.desk.specs.Answering.{answers_by, life_serves, message_refusal_of}
 use Rattle.desk.specs.Exchanges.{Timed}
 use Rattle.desk.specs.Replies.{line_end}
 use Rattle.desk.specs.Run.{IsAll, IsRun}
-use Rattle.desk.specs.declared.end.End.TheVariants.{Closed}
+use Rattle.desk.specs.declared.end.End as conversation
+use Rattle.desk.specs.declared.end.End.TheVariants.{Closed, WriteFault}
 use Rattle.sts_fields.specs.Text.{Text}
 use Rattle.sts_fields.specs.declared.base.Base.TheVariants.{Y2014}
 use Rattle.sts_token.specs.Token.{BlockFunction}
@@ -14,6 +15,7 @@ use Rattle.vend_core.specs.Life.{Life}
 use Rattle.vend_core.specs.LifeLaws.{extended_by, opened}
 use Rattle.vend_core.specs.Office.{empty_office}
 use Rattle.vend_core.specs.declared.answer.Answer.{Answer}
+use Rattle.vend_core.specs.declared.refusal.Refusal.TheVariants as refusals
 use Rattle.vend_core.specs.declared.request.Request.{Request}
 use Rattle.vend_core.specs.declared.request.Request.TheVariants.{AddTariff, AddMeter, OpenShift}
 use Rattle.vend_core.specs.declared.request.Stamped.{Stamped}
@@ -110,6 +112,13 @@ abbrev pub HasReplies : Shipped → Type 0
 HasReplies transform = (text : Text) × AreReplies (forward_of transform) text
 
 -- ---- what is told
+
+-- what is told of a conversation over memory that ended so before all was answered: where a write failed there
+-- was no room, since all that there is room for is taken; and where the desk itself found no memory the
+-- replies are others
+abbrev pub fault_in_memory : conversation.End → SelfcheckFault
+fault_in_memory WriteFault = Refused refusals.Memory
+fault_in_memory end = Net
 
 abbrev pub selfcheck_fault_line : SelfcheckFault → Text
 selfcheck_fault_line Net = net_line

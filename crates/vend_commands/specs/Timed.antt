@@ -24,15 +24,15 @@ abbrev pub IsTakenMoment : Option ℕ → Option (List ℤ) → Option ℕ → T
 IsTakenMoment (Some given) answers moment = moment ≡ Some given
 IsTakenMoment None answers moment = IsToldBy answers moment
 
--- what needs a moment is done at this one, or that there is none is told
-abbrev pub IsDoneAt : (ℕ → Type 0) → Outputs → End → Option ℕ → Type 0
-IsDoneAt At o end (Some moment) = At moment
-IsDoneAt At o end None = IsTold o [] clock_line Refused end
+-- what needs a moment is done at this one, or that there is none is told, and nothing was used
+abbrev pub IsDoneAt : (Idle : Type 0) → (ℕ → Type 0) → Outputs → End → Option ℕ → Type 0
+IsDoneAt Idle At o end (Some moment) = At moment
+IsDoneAt Idle At o end None = Idle × IsTold o [] clock_line Refused end
 
 -- it is done at the moment that is given, or else at the clock's
-abbrev pub IsTimed : Option ℕ → Option (List ℤ) → (ℕ → Type 0) → Outputs → End → Type 0
-IsTimed given answers At o end =
-    (moment : Option ℕ) × IsTakenMoment given answers moment × IsDoneAt At o end moment
+abbrev pub IsTimed : (Idle : Type 0) → Option ℕ → Option (List ℤ) → (ℕ → Type 0) → Outputs → End → Type 0
+IsTimed Idle given answers At o end =
+    (moment : Option ℕ) × IsTakenMoment given answers moment × IsDoneAt Idle At o end moment
 
 -- the moment that a command may be given, and was or not; none for a command that needs none
 abbrev pub given_moment : Asked → Option (Option ℕ)

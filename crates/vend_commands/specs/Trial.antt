@@ -5,8 +5,8 @@ use Rattle.sts_fields.specs.Tid.{FreshOutcome, minute_of}
 use Rattle.sts_fields.specs.declared.base.Base.{Base}
 use Rattle.sts_fields.specs.declared.fault.TidFault.{TidFault}
 use Rattle.sts_token.specs.Token.{IsToken, BlockFunction}
-use Rattle.vend_commands.specs.declared.trial.TrialFault.{TrialFault}
-use Rattle.vend_commands.specs.declared.trial.TrialFault.TheVariants.{Amount, Tid, Memory}
+use Rattle.vend_commands.specs.declared.trials.TrialFault.{TrialFault}
+use Rattle.vend_commands.specs.declared.trials.TrialFault.TheVariants.{Amount, Tid, Memory}
 
 -- an amount that is sold: a representable one, and not 0
 abbrev pub IsSellable : ℕ → Type 0

@@ -11,8 +11,8 @@ use Rattle.command_line.specs.Transform.{forward_of}
 use Rattle.command_line.specs.declared.commands.trial.TrialWords.{TrialWords}
 use Rattle.vend_commands.specs.declared.end.End.{End}
 use Rattle.vend_commands.specs.declared.end.End.TheVariants.{Done, Refused}
-use Rattle.vend_commands.specs.declared.trial.TrialFault.{TrialFault}
-use Rattle.vend_commands.specs.declared.trial.TrialFault.TheVariants.{Amount, Tid, Memory}
+use Rattle.vend_commands.specs.declared.trials.TrialFault.{TrialFault}
+use Rattle.vend_commands.specs.declared.trials.TrialFault.TheVariants.{Amount, Tid, Memory}
 
 -- a line for each token
 abbrev pub token_lines : List Text → Text

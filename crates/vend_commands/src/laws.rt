@@ -52,11 +52,11 @@ pub fn sell_law<H: OfficeFile>()
 pub fn serve_law<H: OfficeFile, D: Door>()
     ensures { (forward : BlockFunction) (count : ℕ)
         (old new : Service D (Books (Files H.Medium H.Medium.Disk) Shipped ⟦<FileStore<H::Medium> as Store>⟧)) (start : Course)
-        → AreHeld (way D.listens D.accepts D.refuses D.ends D.Reader.remaining D.Writer.contents)
+        → AreHeld (way D.Door D.Reader.remaining D.Writer.contents)
         forward seen_in count old new
         → HasCleanDisk (seen_in new.books).state
         → RepresentTheLast start.over start.life (seen_in old.books)
-        → ∥ LiveOn (way D.listens D.accepts D.refuses D.ends D.Reader.remaining D.Writer.contents)
+        → ∥ LiveOn (way D.Door D.Reader.remaining D.Writer.contents)
         forward seen_in count (service old.door start old.answers) new ∥₁ }
 {
     history_law();

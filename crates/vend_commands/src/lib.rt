@@ -16,6 +16,7 @@ pub use reopening::reopen;
 pub use running::{refuse, run, run_over, status};
 pub use selfcheck::{gives_exactly, replies_over_memory};
 pub use selfcheck_fault::SelfcheckFault;
+pub use trials::{TrialFault, trial};
 pub use watched::Watched;
 
 mod clock;
@@ -41,5 +42,5 @@ mod selfcheck_fault;
 mod serving;
 mod task;
 mod totalling;
-mod trial;
+mod trials;
 mod watched;

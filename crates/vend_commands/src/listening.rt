@@ -31,7 +31,7 @@ pub fn serve<H: OfficeFile, D: Door, C: Clock>(
     clock: &mut C,
 ) -> Result<(Books<FileStore<H::Medium>, Shipped>, bool), OpenFault>
     ensures { AreServed
-        (way D.listens D.accepts D.refuses D.ends D.Reader.remaining D.Writer.contents)
+        (way D.Door D.Reader.remaining D.Writer.contents)
         (forward_of words.now.transform) seen_in (IsUnreopened H.Salts.SaltSource) words.now.connections
         (service door.old books (C.answers clock.old)) door.new (C.answers clock.new) result }
 {
@@ -74,9 +74,9 @@ fn hold<S: Alter, D: Door, C: Clock>(
     clock: &mut C,
 ) -> bool
     ensures { MatchBool result
-        (IsHeld (way D.listens D.accepts D.refuses D.ends D.Reader.remaining D.Writer.contents) seen_in
+        (IsHeld (way D.Door D.Reader.remaining D.Writer.contents) seen_in
         (service door.old books.old (C.answers clock.old)) (service door.new books.new (C.answers clock.new)))
-        (IsUnheld (way D.listens D.accepts D.refuses D.ends D.Reader.remaining D.Writer.contents) seen_in
+        (IsUnheld (way D.Door D.Reader.remaining D.Writer.contents) seen_in
         (service door.old books.old (C.answers clock.old)) (service door.new books.new (C.answers clock.new))) }
 {
     let Some((mut reader, mut writer)) = door.accept() else {

@@ -50,6 +50,8 @@ impl<'a, B: Start> OfficeFile for MachineFile<'a, B> {
 
     ghost lets_go = { λ _ _. ⊤ };
 
+    ghost leaves = { λ _. ⊤ };
+
     fn salts(&self) -> MachineSalts<'a> {
         MachineSalts { rt: self.rt }
     }
@@ -70,6 +72,12 @@ impl<'a, B: Start> OfficeFile for MachineFile<'a, B> {
     {
         drop(log);
         drop(db);
+    }
+
+    fn leave(self)
+        ensures { ⊤ }
+    {
+        drop(self);
     }
 }
 

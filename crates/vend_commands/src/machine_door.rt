@@ -1,6 +1,6 @@
 //! The connections of this machine.
 
-ghost use Rattle.std.specs.Prelude.{◌≡◌, ◌≢◌, ⊤, Some};
+ghost use Rattle.std.specs.Prelude.{◌≡◌, ◌≢◌, ⊤, ℕ, IfSome};
 
 use crate::door::Door;
 use command_line::Address;
@@ -34,11 +34,15 @@ impl<N: Net> Door for MachineDoor<'_, N> {
 
     ghost listens = { λ _ _ _ _. ⊤ };
 
+    ghost fails = { λ _ _ _. ⊤ };
+
     ghost accepts = { λ _ _ _ _. ⊤ };
 
     ghost refuses = { λ _ _. ⊤ };
 
     ghost ends = { λ _ _. ⊤ };
+
+    ghost leaves = { λ _. ⊤ };
 
     fn listen(&mut self, address: Address) -> Option<u16> {
         let listener = TcpListener::bind(self.net, address.socket()).ok()?;
@@ -59,6 +63,12 @@ impl<N: Net> Door for MachineDoor<'_, N> {
         drop(reader);
         drop(writer);
     }
+
+    fn leave(self)
+        ensures { ⊤ }
+    {
+        drop(self);
+    }
 }
 
 /// Readies a connection for a conversation. One that refuses an option is served all the same.
@@ -71,16 +81,39 @@ pub fn set_options<S: OpenStream>(stream: &S) {
     let _ = stream.set_write_timeout(patience);
 }
 
+/// What has a port of its own, where that can be told.
+trait HasPort {
+    /// It has this one.
+    ghost has: { Self → ℕ → Type 0 };
+
+    /// The port.
+    fn own_port(&self) -> Option<u16>
+        ensures { IfSome result (has self.now) };
+}
+
+impl<L: OpenListener> HasPort for L {
+    ghost has = { λ _ _. ⊤ };
+
+    fn own_port(&self) -> Option<u16> {
+        match self.local_addr() {
+            Ok(address) => Some(address.port()),
+            Err(_) => None,
+        }
+    }
+}
+
 // The port that a listener has, where that can be told: the one that was asked for, or with 0 the
-// one that the system chose.
-fn port_of<L: OpenListener>(listener: &L, asked: u16) -> Option<u16>
-    ensures { asked ≢ 0 → result ≡ Some asked }
+// one that the system chose, which is never 0.
+fn port_of<L: HasPort>(listener: &L, asked: u16) -> Option<u16>
+    ensures asked { asked ≢ 0 → IfSome result (λ port. port ≡ asked) }
+    ensures chosen { asked ≡ 0 → IfSome result (L.has listener.now) }
+    ensures some { IfSome result (λ port. port ≢ 0) }
 {
     if asked != 0 {
         return Some(asked);
     }
-    match listener.local_addr() {
-        Ok(address) => Some(address.port()),
-        Err(_) => None,
+    match listener.own_port() {
+        Some(0) | None => None,
+        Some(port) => Some(port),
     }
 }

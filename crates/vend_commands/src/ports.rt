@@ -47,6 +47,9 @@ pub trait OfficeFile: Drop {
     /// The log and the database file were let go, as their last use left them.
     ghost lets_go: { Self.Medium → Self.Medium → Type 0 };
 
+    /// It was left as it was: no files were opened.
+    ghost leaves: { Self → Type 0 };
+
     /// What the salts of its log are drawn from.
     fn salts(&self) -> Self::Salts;
 
@@ -62,6 +65,10 @@ pub trait OfficeFile: Drop {
     /// Lets the log and the database file go.
     fn let_go(log: Self::Medium, db: Self::Medium)
         ensures { lets_go log db };
+
+    /// Leaves it as it is. Then no files can be opened any more.
+    fn leave(self)
+        ensures { leaves self };
 }
 
 /// Files that are read whole.
@@ -78,7 +85,8 @@ pub trait TextFiles: Drop {
         ensures lacks { IfErr result (lacks self.now path.now) };
 }
 
-/// The ports of one run.
+/// The ports of one run. A command uses up what it needs and leaves the rest: the file of an office
+/// and the door by a call that takes them, whose fact no other call gives.
 #[derive(Drop)]
 pub struct Ports<H: OfficeFile, F: TextFiles, C, D: Door> {
     pub office: H,

@@ -5,9 +5,8 @@ ghost use Rattle.vend_core.specs.declared.refusal.Refusal.TheVariants.{Memory};
 ghost use Rattle.command_line.specs.Asked.{AskFor};
 ghost use Rattle.vend_commands.specs.Places.{machine, places_of, untold, way};
 ghost use Rattle.vend_commands.specs.Printed.{refusal_line};
-ghost use Rattle.vend_commands.specs.Run.{IsCarriedOut, IsExplained, IsProgramRun};
+ghost use Rattle.vend_commands.specs.Run.{IsCarriedOut, IsDoneThen, IsExplained, IsProgramRun};
 ghost use Rattle.vend_commands.specs.Status.{status_of};
-ghost use Rattle.vend_commands.specs.Tasks.{shift_request};
 ghost use Rattle.vend_commands.specs.Told.{IsTold, Takes, outputs, sink, writer};
 ghost use Rattle.vend_commands.specs.Unread.{bad_words_end, bad_words_line};
 ghost use Rattle.command_line.specs.declared.asked.Asked.{Asked};
@@ -27,7 +26,7 @@ use crate::ports::{OfficeFile, Ports, TextFiles};
 use crate::printed::{put_line, put_refusal};
 use crate::watched::Watched;
 use clap::error::ErrorKind;
-use command_line::{Act, Asked, BadWords, ShiftWords, parse};
+use command_line::{Asked, BadWords, meant, parse};
 use desk::{Clock, MachineClock};
 use sqlite::{FileFrom, FileStore, Start};
 use sqlite_disk::Disk;
@@ -35,7 +34,8 @@ use sqlite_trees::store::Store;
 use std::alloc::Global;
 use std::io::Write;
 use std::net::Net;
-use vend_core::{Refusal, Request};
+use sts_fields::Moment;
+use vend_core::Refusal;
 
 /// Runs the command that some words give, the program's own name left out, and answers the exit
 /// status.
@@ -91,20 +91,40 @@ pub fn run_over<H: OfficeFile, F: TextFiles, C: Clock + Drop, D: Door, N: Net, O
     err: &mut Watched<'_, E>,
 ) -> End
     ensures { IsProgramRun ⟦<FileStore<H::Medium> as Store>⟧ (machine
-        (places_of H.Medium.Disk H.Salts.SaltSource H.OfficeFile ports.office)
+        (places_of H.Medium.Disk H.Salts.SaltSource H.OfficeFile ports.office) (H.leaves ports.office)
         (F.reads ports.texts) (F.lacks ports.texts) (C.answers ports.clock)
-        (way D.listens D.accepts D.refuses D.ends D.Reader.remaining D.Writer.contents) ports.door)
+        (way D.Door D.Reader.remaining D.Writer.contents) ports.door)
         (map (λ w. w.now) words.now)
         (outputs (sink O.contents out.old) (sink O.contents out.new)
         (sink E.contents err.old) (sink E.contents err.new)) result }
 {
-    match parse(alloc, words) {
+    let Ok(line) = meant(alloc, words) else {
+        leave_all(ports.office, ports.door);
+        put_refusal(Refusal::Memory, err);
+        return End::Refused;
+    };
+    match parse(alloc, &line) {
         Ok(matches) => match Asked::read(alloc, &matches) {
             Ok(asked) => answer(alloc, net, ports, &asked, out, err),
-            Err(fault) => refuse(fault, err),
+            Err(fault) => {
+                leave_all(ports.office, ports.door);
+                refuse(fault, err)
+            }
         },
-        Err(error) => explain(alloc, &error, out, err),
+        Err(error) => {
+            leave_all(ports.office, ports.door);
+            explain(alloc, &error, out, err)
+        }
     }
+}
+
+// Uses nothing of the machine.
+fn leave_all<H: OfficeFile, D: Door>(office: H, door: D)
+    ensures office { H.leaves office }
+    ensures door { D.leaves door }
+{
+    office.leave();
+    door.leave();
 }
 
 // Does what is asked.
@@ -117,57 +137,80 @@ fn answer<H: OfficeFile, F: TextFiles, C: Clock + Drop, D: Door, N: Net, O: Writ
     err: &mut Watched<'_, E>,
 ) -> End
     ensures { IsCarriedOut ⟦<FileStore<H::Medium> as Store>⟧ (machine
-        (places_of H.Medium.Disk H.Salts.SaltSource H.OfficeFile ports.office)
+        (places_of H.Medium.Disk H.Salts.SaltSource H.OfficeFile ports.office) (H.leaves ports.office)
         (F.reads ports.texts) (F.lacks ports.texts) (C.answers ports.clock)
-        (way D.listens D.accepts D.refuses D.ends D.Reader.remaining D.Writer.contents) ports.door)
+        (way D.Door D.Reader.remaining D.Writer.contents) ports.door)
         asked.now (outputs (sink O.contents out.old) (sink O.contents out.new)
         (sink E.contents err.old) (sink E.contents err.new)) result }
 {
-    let Ports {
-        office,
-        texts,
-        mut clock,
-        mut door,
-    } = ports;
-    let Some(moment) = moment_for(asked, &mut clock) else {
-        put_line(&[b"refused", b"clock"], err);
-        return End::Refused;
-    };
-    let errand = match asked {
-        Asked::Trial(words) => return commands::trial::run(words, alloc, moment, out, err),
-        Asked::Import(words) => {
-            return commands::import::run(words, alloc, office, &texts, moment, out, err);
+    let mut ports = ports;
+    match moment_for(asked, &mut ports.clock) {
+        Some(moment) => answer_at(alloc, net, ports, asked, moment, out, err),
+        None => {
+            leave_all(ports.office, ports.door);
+            put_line(&[b"refused", b"clock"], err);
+            End::Refused
         }
-        Asked::Base(words) => {
-            let request = Request::MoveBase(words.meter, words.base);
-            Errand::asks(words.transform, words.file, moment, request)
-        }
-        Asked::Shift(words) => {
-            Errand::asks(words.transform, words.file, moment, shift_request(words))
-        }
-        Asked::Sell(words) => {
-            let request = Request::Sell(words.order);
-            Errand::asks(words.transform, words.file, moment, request)
-        }
-        Asked::Report(words) => Errand::to_report(words),
-        Asked::Meter(words) => return commands::meter::run(words, out),
-        Asked::Quote(words) => return commands::quote::run(words, out, err),
-        Asked::Serve(words) => {
-            return commands::serve::run(words, alloc, office, &mut door, &mut clock, err);
-        }
-        Asked::Selfcheck(words) => return run_selfcheck(words, alloc, net, out, err),
-    };
-    visit(alloc, office, errand, out, err)
+    }
 }
 
-// What `shift` asks of an office.
-fn shift_request(words: &ShiftWords) -> Request
-    ensures { result ≡ shift_request words.now }
+// Does what is asked, at this moment.
+fn answer_at<H: OfficeFile, F: TextFiles, C: Clock + Drop, D: Door, N: Net, O: Write, E: Write>(
+    alloc: Global,
+    net: &N,
+    ports: Ports<H, F, C, D>,
+    asked: &Asked,
+    moment: Moment,
+    out: &mut Watched<'_, O>,
+    err: &mut Watched<'_, E>,
+) -> End
+    ensures { IsDoneThen ⟦<FileStore<H::Medium> as Store>⟧ (machine
+        (places_of H.Medium.Disk H.Salts.SaltSource H.OfficeFile ports.office) (H.leaves ports.office)
+        (F.reads ports.texts) (F.lacks ports.texts) (C.answers ports.clock)
+        (way D.Door D.Reader.remaining D.Writer.contents) ports.door)
+        asked.now moment (outputs (sink O.contents out.old) (sink O.contents out.new)
+        (sink E.contents err.old) (sink E.contents err.new)) result }
 {
-    match words.act {
-        Act::Open => Request::OpenShift(words.operator),
-        Act::Close => Request::CloseShift(words.operator),
-    }
+    let mut clock = ports.clock;
+    let errand = match asked {
+        Asked::Trial(words) => {
+            leave_all(ports.office, ports.door);
+            return commands::trial::run(words, alloc, moment, out, err);
+        }
+        Asked::Import(words) => {
+            ports.door.leave();
+            return commands::import::run(
+                words,
+                alloc,
+                ports.office,
+                &ports.texts,
+                moment,
+                out,
+                err,
+            );
+        }
+        Asked::Base(words) => Errand::to_move(words, moment),
+        Asked::Shift(words) => Errand::to_shift(words, moment),
+        Asked::Sell(words) => Errand::to_sell(words, moment),
+        Asked::Report(words) => Errand::to_report(words),
+        Asked::Meter(words) => {
+            leave_all(ports.office, ports.door);
+            return commands::meter::run(words, out);
+        }
+        Asked::Quote(words) => {
+            leave_all(ports.office, ports.door);
+            return commands::quote::run(words, out, err);
+        }
+        Asked::Serve(words) => {
+            return commands::serve::run(words, alloc, ports.office, ports.door, &mut clock, err);
+        }
+        Asked::Selfcheck(words) => {
+            leave_all(ports.office, ports.door);
+            return run_selfcheck(words, alloc, net, out, err);
+        }
+    };
+    ports.door.leave();
+    visit(alloc, ports.office, errand, out, err)
 }
 
 /// Tells why words were not read.

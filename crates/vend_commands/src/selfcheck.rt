@@ -1,12 +1,13 @@
 //! A conversation of this machine with itself: what the desk writes over a connection, beside what it
 //! writes over memory.
 
-ghost use Rattle.std.specs.Prelude.{◌≡◌, ◌↔◌, true, IfOk, IfSome, OnOk};
+ghost use Rattle.std.specs.Prelude.{◌≡◌, ◌↔◌, true, IfErr, IfOk, IfSome, OnOk};
 ghost use Rattle.sqlite.specs.Steps.{over_memory};
 ghost use Rattle.vend_core.specs.Life.{Life};
+ghost use Rattle.vend_core.specs.declared.refusal.Refusal.TheVariants.{Memory};
 ghost use Rattle.books.specs.Keeps.{Represents, seen};
 ghost use Rattle.vend_commands.specs.Selfchecked.{AgreesOver, IsAnsweredFrom, AreReplies};
-ghost use Rattle.vend_commands.specs.Selfchecked.{IsAnsweredOver, MessagesAreSent};
+ghost use Rattle.vend_commands.specs.Selfchecked.{IsAnsweredOver, MessagesAreSent, fault_in_memory};
 
 use crate::prepared::{NOW, prepare};
 use crate::selfcheck_fault::SelfcheckFault;
@@ -55,13 +56,12 @@ pub fn replies_over_memory<T: BlockTransform + Drop>(
     ensures { IfOk result (λ replies. AreReplies (T.forwards transform) replies.items) }
 {
     let mut books = prepare(alloc, transform)?;
+    let desk = make_desk(alloc)?;
     let mut reader = MESSAGES;
     let mut replies = Vec::new(alloc);
-    match answer(alloc, &mut reader, &mut replies, &mut books) {
+    match answer(alloc, &desk, &mut reader, &mut replies, &mut books) {
         Ok(()) => Ok(replies),
-        // A vector takes all that there is room for.
-        Err(End::WriteFault) => Err(SelfcheckFault::Refused(Refusal::Memory)),
-        Err(end) => Err(fault_of_end(end)),
+        Err(end) => Err(fault_in_memory(end)),
     }
 }
 
@@ -76,14 +76,15 @@ fn replies_over_net<N: Net, T: BlockTransform + Drop>(
         (T.forwards transform)) }
 {
     let mut books = prepare(alloc, transform)?;
+    let desk = make_desk(alloc)?;
     let (near, mut reader) = match connection(net) {
         Ok(ends) => ends,
         Err(error) => return Err(fault_of(&error)),
     };
     let mut writer = reader.try_clone().map_err(|error| fault_of(&error))?;
-    match answer(alloc, &mut reader, &mut writer, &mut books) {
+    match answer(alloc, &desk, &mut reader, &mut writer, &mut books) {
         Ok(()) => Ok(near),
-        Err(end) => Err(fault_of_end(end)),
+        Err(_) => Err(SelfcheckFault::Net),
     }
 }
 
@@ -101,9 +102,21 @@ fn connection<N: Net>(net: &N) -> io::Result<(N::Stream, N::Stream)>
     Ok((near, far))
 }
 
-// Has the desk answer a reader to its end. The clock stands still.
+// A desk, where there is room for one.
+fn make_desk(alloc: Global) -> Result<Desk, SelfcheckFault>
+    ensures { IfErr result (λ fault. fault ≡ SelfcheckFault.Refused Memory) }
+{
+    match Desk::new(alloc) {
+        Ok(desk) => Ok(desk),
+        Err(_) => Err(SelfcheckFault::Refused(Refusal::Memory)),
+    }
+}
+
+// Has the desk answer a reader to its end, or tells how the conversation ended before. The clock
+// stands still.
 fn answer<T: BlockTransform, R: Read, W: Write>(
     alloc: Global,
+    desk: &Desk,
     reader: &mut R,
     writer: &mut W,
     books: &mut Books<MemStore, T>,
@@ -112,9 +125,6 @@ fn answer<T: BlockTransform, R: Read, W: Write>(
         → IsAnsweredFrom life (R.remaining reader.old)
         (W.contents writer.old) (W.contents writer.new)) }
 {
-    let Ok(desk) = Desk::new(alloc) else {
-        return Err(End::Memory);
-    };
     let mut clock = Script::new(NOW, &[]);
     match desk.run(alloc, reader, writer, books, &mut clock) {
         End::Closed => Ok(()),
@@ -132,11 +142,14 @@ pub fn gives_exactly<R: Read>(alloc: Global, reader: &mut R, text: &[u8]) -> io:
     Ok(bytes.as_slice() == text)
 }
 
-// Why the desk did not answer all that it was sent.
-fn fault_of_end(end: End) -> SelfcheckFault {
+// What is told of a conversation over memory that ended before all was answered.
+fn fault_in_memory(end: End) -> SelfcheckFault
+    ensures { result ≡ fault_in_memory end }
+{
     match end {
-        End::Memory => SelfcheckFault::Refused(Refusal::Memory),
-        _ => SelfcheckFault::Net,
+        // A vector takes all that there is room for.
+        End::WriteFault => SelfcheckFault::Refused(Refusal::Memory),
+        End::Closed | End::BadMessage | End::ReadFault | End::Memory => SelfcheckFault::Net,
     }
 }
 

@@ -32,13 +32,14 @@ pub(crate) fn run<H: OfficeFile, F: TextFiles, O: Write, E: Write>(
     err: &mut Watched<'_, E>,
 ) -> End
     ensures { IsFileImported ⟦<FileStore<H::Medium> as Store>⟧ (places_of H.Medium.Disk H.Salts.SaltSource H.OfficeFile office)
-        (F.reads texts.now) (F.lacks texts.now) words.now moment
+        (H.leaves office) (F.reads texts.now) (F.lacks texts.now) words.now moment
         (outputs (sink O.contents out.old) (sink O.contents out.new)
         (sink E.contents err.old) (sink E.contents err.new)) result }
 {
     match texts.read(words.csv) {
         Ok(bytes) => add(words, alloc, office, moment, &bytes, out, err),
         Err(fault) => {
+            office.leave();
             put_read_fault(fault, err);
             End::Refused
         }
@@ -56,7 +57,7 @@ fn add<H: OfficeFile, O: Write, E: Write>(
     err: &mut Watched<'_, E>,
 ) -> End
     ensures { IsImported ⟦<FileStore<H::Medium> as Store>⟧ (places_of H.Medium.Disk H.Salts.SaltSource H.OfficeFile office)
-        words.now moment bytes.now
+        (H.leaves office) words.now moment bytes.now
         (outputs (sink O.contents out.old) (sink O.contents out.new)
         (sink E.contents err.old) (sink E.contents err.new)) result }
 {
@@ -67,6 +68,7 @@ fn add<H: OfficeFile, O: Write, E: Write>(
             visit(alloc, office, errand, out, err)
         }
         Err(fault) => {
+            office.leave();
             put_refusal(refusal_of(fault), err);
             End::Refused
         }

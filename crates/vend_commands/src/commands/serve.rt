@@ -22,34 +22,39 @@ use std::alloc::Global;
 use std::io::Write;
 use vend_core::Refusal;
 
-/// Opens the office, serves its connections, and closes its file as it is left.
+/// Opens the office, serves its connections, and closes its file as it is left. The door is left as
+/// the last connection left it.
 pub(crate) fn run<H: OfficeFile, D: Door, C: Clock, E: Write>(
     words: &ServeWords,
     alloc: Global,
     office: H,
-    door: &mut D,
+    door: D,
     clock: &mut C,
     err: &mut Watched<'_, E>,
 ) -> End
     ensures { IsServing ⟦<FileStore<H::Medium> as Store>⟧
-        (way D.listens D.accepts D.refuses D.ends D.Reader.remaining D.Writer.contents)
+        (way D.Door D.Reader.remaining D.Writer.contents)
         (places_of H.Medium.Disk H.Salts.SaltSource H.OfficeFile office)
-        door.old (C.answers clock.old) words.now
+        door (C.answers clock.old) words.now
         (sink E.contents err.old) (sink E.contents err.new) result }
 {
+    let mut door = door;
     let salts = office.salts();
     match open_office(alloc, office, &salts, words.file, words.transform) {
-        Ok(books) => match listen(words.listen, alloc, door, err) {
+        Ok(books) => match listen(words.listen, alloc, &mut door, err) {
             Some(desk) => {
-                let served = serve::<H, D, C>(words, alloc, &desk, &salts, door, books, clock);
+                let served = serve::<H, D, C>(words, alloc, &desk, &salts, &mut door, books, clock);
+                door.leave();
                 end_with::<H, E>(served, err)
             }
             None => {
+                door.leave();
                 close_office::<H>(books);
                 End::Refused
             }
         },
         Err(fault) => {
+            door.leave();
             put_opening(fault, err);
             End::Refused
         }
@@ -65,8 +70,9 @@ fn listen<D: Door, E: Write>(
     err: &mut Watched<'_, E>,
 ) -> Option<Desk>
     ensures { MatchOption result
-        (IsDeaf address (sink E.contents err.old) (sink E.contents err.new))
-        (λ _. Listens (way D.listens D.accepts D.refuses D.ends D.Reader.remaining D.Writer.contents)
+        (IsDeaf (way D.Door D.Reader.remaining D.Writer.contents)
+        address door.old door.new (sink E.contents err.old) (sink E.contents err.new))
+        (λ _. Listens (way D.Door D.Reader.remaining D.Writer.contents)
         address door.old door.new (sink E.contents err.old) (sink E.contents err.new)) }
 {
     let Ok(desk) = Desk::new(alloc) else {

@@ -6,7 +6,7 @@ ghost use Rattle.vend_commands.specs.Tried.{IsTried, token_lines, trial_fault_li
 
 use crate::end::End;
 use crate::printed::{put_line, put_refusal, put_token};
-use crate::trial::{TrialFault, trial};
+use crate::trials::{TrialFault, trial};
 use crate::watched::Watched;
 use command_line::TrialWords;
 use std::alloc::Global;

@@ -11,7 +11,7 @@ loop-connection-preserved g c =
     let D = g.D.Door in
     let H = g.H.OfficeFile in
     let C = g.C.Clock in
-    let ways = way D.listens D.accepts D.refuses D.ends g.D.Reader.Read.remaining g.D.Writer.Write.contents in
+    let ways = way D g.D.Reader.Read.remaining g.D.Writer.Write.contents in
     let before = c.loop-connection in
     one_more ways (forward_of c.args.words.now.transform) seen_in before._connection
     (service c.args.door.now c.args.books (C.answers c.args.clock.now)) (service before.door before.books (C.answers before.clock))
@@ -44,7 +44,7 @@ returns g c =
     let D = g.D.Door in
     let H = g.H.OfficeFile in
     let C = g.C.Clock in
-    let ways = way D.listens D.accepts D.refuses D.ends g.D.Reader.Read.remaining g.D.Writer.Write.contents in
+    let ways = way D g.D.Reader.Read.remaining g.D.Writer.Write.contents in
     let last = c.loop-connection in
     all_held ways (forward_of c.args.words.now.transform) seen_in last._connection c.args.words.now.connections
     (service c.args.door.now c.args.books (C.answers c.args.clock.now)) (service last.door last.books (C.answers last.clock)) last.invariant (omega arith)

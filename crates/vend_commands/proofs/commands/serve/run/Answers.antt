@@ -12,13 +12,14 @@ returns-in-Some g c = was_open c.in-Ok.books c.in-Ok.ensures.opened c.in-Ok.ensu
   left = g.C.Clock.answers c.serve-served.new.clock;
   served = c.serve-served.result;
   are_served = c.serve-served.ensures;
+  leaves = c.leave.ensures;
   closed = c.end_with.ensures.closed;
   told = c.end_with.ensures.told;
   ends = c.end_with.ensures.end;
 })
 
 pub returns-in-Ok : goal.returns-in-Ok
-returns-in-Ok g c = unheard c.in-Ok.books c.in-Ok.ensures.opened c.in-Ok.ensures.finds c.in-None.ensures c.close_office.ensures refl
+returns-in-Ok g c = unheard c.in-Ok.books c.in-Ok.ensures.opened c.in-Ok.ensures.finds c.listen.new.door c.in-None.ensures c.leave-in-None.ensures c.close_office.ensures refl
 
 pub returns : goal.returns
-returns g c = unopened c.in-Err.fault c.in-Err.ensures.fails c.put_opening.ensures refl
+returns g c = unopened c.in-Err.fault c.in-Err.ensures.fails c.leave-in-Err.ensures c.put_opening.ensures refl

@@ -2,7 +2,7 @@ use Rattle.std.proofs.Common.{◌≡◌, ℕ, ◌+◌, ◌%◌, [], ◌∷◌, �
 use Rattle.std.proofs.lemmas.List.{length_push}
 use Rattle.vend_commands.specs.Trial.{IsRefusedBy, IsSale}
 use Rattle.vend_commands.proofs.TrialLemmas.{ends_by_refusal, last_more, one_sale_more}
-use Rattle.vend_commands.proofs.trial.trial.Goals as goal
+use Rattle.vend_commands.proofs.trials.trial.Goals as goal
 
 pub returns-in-Err : goal.returns-in-Err
 returns-in-Err g c =

@@ -3,7 +3,7 @@ use Rattle.std.specs.Prelude.{vec_capacity}
 use Rattle.std.specs.Option.{ForSome}
 use Rattle.sts_fields.specs.Tid.{IsLast}
 use Rattle.vend_commands.proofs.TrialLemmas.{AreSales}
-use Rattle.vend_commands.proofs.trial.trial.Given as goal
+use Rattle.vend_commands.proofs.trials.trial.Given as goal
 
 -- some identifiers were sold so far, one for each amount
 abbrev pub invariant-loop-tenths : goal.invariant-loop-tenths
