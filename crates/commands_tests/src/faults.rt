@@ -10,6 +10,8 @@ fn the_output_fails(rt: HostRuntime) -> Result<(), Fail> {
         "meter --key 0000000000000000 00072057602627981690 00072057602627981690 x",
         "quote :1 0 100000000",
         "quote --help",
+        "help base",
+        "selfcheck",
     ];
     for line in lines {
         expect_each_cut(&rt, line)?;

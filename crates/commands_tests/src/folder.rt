@@ -15,9 +15,6 @@ pub(crate) const SALE: &str = "sell --file office.db --operator ann --ref A-1 \
 pub(crate) const RECEIPT: &str = "SALE 1\nMETER 12345678903\nTIME 2014-01-01T00:00:30Z\n\
     KWH 0.1\nPRICE 10\nTENDER 10\nCHANGE 0\nTOKEN 0007 2057 6026 2798 1690\n";
 
-pub(crate) const REPORT: &str = "SHIFT 1 ann\nOPENED 2014-01-01T00:00:30Z\nCLOSED -\n         \
-    1 12345678903        1        10        10         0\nSALES 1\nTENTHS 1\nCASH 10\n";
-
 pub(crate) const EXPORT: &str =
     "number,moment,shift,operator,ref,meter,base,tid,tenths,price,tender,change,token\n\
     1,1388534430,1,ann,A-1,12345678903,2014,2,1,10,10,0,00072057602627981690\n";

@@ -1,36 +1,15 @@
-//! Runs of the program, each by its words, and of the desk on a port. There is no code here.
+//! Runs of the program whose outputs, disks or connections fail, offices of many sales, and the desk on
+//! a port. There is no code here. What words print where nothing fails is in `tools/rows`.
 #![tactic(auto)]
 
 #[cfg(test)]
-mod bases;
-#[cfg(test)]
 mod cuts;
-#[cfg(test)]
-mod dated;
 #[cfg(test)]
 mod faults;
 #[cfg(test)]
-mod files;
-#[cfg(test)]
 mod folder;
 #[cfg(test)]
-mod help;
-#[cfg(test)]
-mod imports;
-#[cfg(test)]
 mod lapses;
-#[cfg(test)]
-mod meters;
-#[cfg(test)]
-mod office_words;
-#[cfg(test)]
-mod offices;
-#[cfg(test)]
-mod older;
-#[cfg(test)]
-mod openings;
-#[cfg(test)]
-mod quotes;
 #[cfg(test)]
 mod selfchecks;
 #[cfg(test)]
@@ -39,7 +18,3 @@ mod serving;
 mod sizes;
 #[cfg(test)]
 mod support;
-#[cfg(test)]
-mod trials;
-#[cfg(test)]
-mod words;

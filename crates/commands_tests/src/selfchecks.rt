@@ -1,7 +1,4 @@
 //! The desk over memory and over a connection, and what is told where they differ.
-use crate::support::{
-    expect, expect_bad_word, expect_done, expect_each_cut, expect_help, expect_no_command,
-};
 use command_line::{SelfcheckWords, Shipped};
 use std::io;
 use std::io::{ErrorKind, Read};
@@ -65,33 +62,6 @@ impl<N: Net<Stream = TcpStream, Listener = TcpListener>> Net for NoNet<'_, N> {
     fn connect(&self, _addr: SocketAddr) -> io::Result<TcpStream> {
         Err(io::Error::from(ErrorKind::ConnectionRefused))
     }
-}
-
-#[test]
-fn selfchecks(rt: HostRuntime) -> Result<(), Fail> {
-    let rows = [
-        ("selfcheck", "selfcheck ok\n"),
-        ("selfcheck --transform plain", "selfcheck ok\n"),
-        ("selfcheck --transform demo", "selfcheck ok\n"),
-    ];
-    expect_done(&rt, &rows)?;
-    expect_each_cut(&rt, "selfcheck")
-}
-
-#[test]
-fn other_words(rt: HostRuntime) -> Result<(), Fail> {
-    let lines = [
-        "selfcheck extra",
-        "selfcheck --file x",
-        "selfcheck --at 1388534430",
-        "selfcheck --transform plain --transform plain",
-    ];
-    expect_no_command(&rt, &lines)?;
-    expect_bad_word(&rt, &["selfcheck --transform none"])?;
-    expect(&rt, &["selfcheck", "--transform", ""], "", "bad word\n", 2)?;
-    let texts = ["--transform <NAME>", "selfcheck ok", "Exit status"];
-    expect_help(&rt, "selfcheck --help", &texts)?;
-    expect_help(&rt, "--help", &["selfcheck"])
 }
 
 #[test]

@@ -1,19 +1,13 @@
 //! The desk over sockets of this machine: what is served, and what is told.
 use crate::folder;
-use crate::support::{
-    expect, expect_bad_word, expect_done, expect_help, expect_no_command, expect_refused,
-    run_within, words_of,
-};
-use books::Books;
-use desk::{Desk, Script};
+use crate::support::{expect_done, run_within, words_of};
 use sqlite::Unknown;
 use std::fs;
-use std::io::{self, ErrorKind, Read, Write};
-use std::net::{OpenListener, OpenStream, Shutdown, SocketAddr, TcpListener, TcpStream};
+use std::io::{self, Write};
+use std::net::{OpenListener, OpenStream, Shutdown, TcpListener, TcpStream};
 use std::test::Fail;
 use std::time::Duration;
-use sts_token::Plain;
-use vend_commands::{run, serve, set_options};
+use vend_commands::{run, set_options};
 
 /// An error output that, once it is told where the desk listens, sends each message there on a
 /// connection of its own, and ends that connection's writing side.
@@ -105,36 +99,11 @@ fn replies_to(rt: &HostRuntime, messages: &[&str]) -> Result<Vec<String>, Fail> 
     Ok(replies)
 }
 
-const HEAD_REFUSED: &str = "HTTP/1.1 400 Bad Request\r\nContent-Type: application/json\r\n\
-    Content-Length: 16\r\nConnection: close\r\n\r\n{\"error\":\"Head\"}";
-
 const RECEIPT_ASKED: &str = "GET /sales/1/receipt HTTP/1.1\r\nHost: d\r\n\r\n";
 
 const RECEIPT_REPLY: &str = "HTTP/1.1 200 OK\r\nContent-Type: text/plain\r\nContent-Length: 118\r\n\
     \r\nSALE 1\nMETER 12345678903\nTIME 2014-01-01T00:00:30Z\nKWH 0.1\nPRICE 10\nTENDER 10\n\
     CHANGE 0\nTOKEN 0007 2057 6026 2798 1690\n";
-
-const NO_SALE: &str = "HTTP/1.1 404 Not Found\r\nContent-Type: application/json\r\n\
-    Content-Length: 31\r\n\r\n{\"error\":\"NoSale\",\"refusal\":12}";
-
-// A bad message, a message that is cut and one that asks nothing count as connections too.
-#[test]
-fn connections_end_in_many_ways(rt: HostRuntime) -> Result<(), Fail> {
-    let path = folder::enter(&rt)?;
-    folder::fill(&rt)?;
-    let rows = [
-        ("GET", HEAD_REFUSED),
-        (
-            "POST /sales HTTP/1.1\r\nHost: d\r\nContent-Length: 64\r\n\r\n{",
-            "",
-        ),
-        (RECEIPT_ASKED, RECEIPT_REPLY),
-        ("", ""),
-        ("GET /sales/2 HTTP/1.1\r\nHost: d\r\n\r\n", NO_SALE),
-    ];
-    expect_replies(&rt, &rows)?;
-    folder::remove(&rt, path)
-}
 
 // The same order again, on another connection and to another run, gets the same reply.
 #[test]
@@ -187,19 +156,6 @@ fn one_file_is_left(rt: HostRuntime) -> Result<(), Fail> {
     folder::remove(&rt, path)
 }
 
-#[test]
-fn a_port_that_is_taken(rt: HostRuntime) -> Result<(), Fail> {
-    let path = folder::enter(&rt)?;
-    folder::fill(&rt)?;
-    let listener = TcpListener::bind(&rt, "127.0.0.1:0")?;
-    let line = format!(in rt.alloc();
-        "serve --file office.db --listen 127.0.0.1:{} --connections 1",
-        listener.local_addr()?.port()
-    )?;
-    expect(&rt, &words_of(&rt, line.as_str())?, "", "net\n", 1)?;
-    folder::remove(&rt, path)
-}
-
 // Nobody is waited for where the error output does not take the line that says where it listens.
 #[test]
 fn where_it_listens_is_cut(rt: HostRuntime) -> Result<(), Fail> {
@@ -218,23 +174,6 @@ fn where_it_listens_is_cut(rt: HostRuntime) -> Result<(), Fail> {
     folder::remove(&rt, path)
 }
 
-// The office is opened before the port is looked at.
-#[test]
-fn a_file_that_is_no_office(rt: HostRuntime) -> Result<(), Fail> {
-    let path = folder::enter(&rt)?;
-    folder::make(
-        &rt,
-        "CREATE TABLE about (id INTEGER PRIMARY KEY, word TEXT)",
-    )?;
-    let listener = TcpListener::bind(&rt, "127.0.0.1:0")?;
-    let line = format!(in rt.alloc();
-        "serve --file office.db --listen 127.0.0.1:{} --connections 1",
-        listener.local_addr()?.port()
-    )?;
-    expect_refused(&rt, &[(line.as_str(), "", "open 1 NotAnOffice\n")])?;
-    folder::remove(&rt, path)
-}
-
 // It waits for a silent peer for a time, both ways, and for no acknowledgement.
 #[test]
 fn options_of_a_connection(rt: HostRuntime) -> Result<(), Fail> {
@@ -249,45 +188,6 @@ fn options_of_a_connection(rt: HostRuntime) -> Result<(), Fail> {
         return Ok(());
     }
     Err(Fail::new("another option"))
-}
-
-#[test]
-fn words_of_serve(rt: HostRuntime) -> Result<(), Fail> {
-    let path = folder::enter(&rt)?;
-    let lines = [
-        "serve --listen 127.0.0.1:0 --connections 1",
-        "serve --file office.db --connections 1",
-        "serve --file office.db --listen 127.0.0.1:0",
-        "serve --file office.db --listen 127.0.0.1:0 --connections 1 --at 1388534430",
-        "serve --file office.db --listen 127.0.0.1:0 --connections 1 more",
-        "serve --file office.db --listen 127.0.0.1:0 --connections -1",
-    ];
-    expect_no_command(&rt, &lines)?;
-    let lines = [
-        "serve --file office.db --listen 127.0.0.1 --connections 1",
-        "serve --file office.db --listen 127.0.0.1: --connections 1",
-        "serve --file office.db --listen :8080 --connections 1",
-        "serve --file office.db --listen localhost:8080 --connections 1",
-        "serve --file office.db --listen 127.0.0:8080 --connections 1",
-        "serve --file office.db --listen 127.0.0.0.1:8080 --connections 1",
-        "serve --file office.db --listen 127.0.0.256:8080 --connections 1",
-        "serve --file office.db --listen 256.0.0.1:8080 --connections 1",
-        "serve --file office.db --listen 127..0.1:8080 --connections 1",
-        "serve --file office.db --listen 127.0.0.+1:8080 --connections 1",
-        "serve --file office.db --listen 127.0.0.1:65536 --connections 1",
-        "serve --file office.db --listen 127.0.0.1:80:80 --connections 1",
-        "serve --file office.db --listen 127.0.0.1:0 --connections 0",
-        "serve --file office.db --listen 127.0.0.1:0 --connections 1000001",
-        "serve --file office.db --listen 127.0.0.1:0 --connections one",
-        "serve --file office.db --listen 127.0.0.1:0 --connections 1 --transform none",
-    ];
-    expect_bad_word(&rt, &lines)?;
-    // None of them made the file.
-    expect_done(&rt, &[("quote :100 0 10", "1 10 0\n")])?;
-    if fs::exists(&rt, "office.db")? {
-        return Err(Fail::new("a file was made"));
-    }
-    folder::remove(&rt, path)
 }
 
 // A number may have zeros in front, as everywhere on the line.
@@ -314,17 +214,4 @@ fn an_address_with_zeros_in_front(rt: HostRuntime) -> Result<(), Fail> {
         }
     }
     folder::remove(&rt, path)
-}
-
-#[test]
-fn help_of_serve(rt: HostRuntime) -> Result<(), Fail> {
-    let texts = [
-        "--file",
-        "--listen",
-        "127.0.0.1:8080",
-        "--connections",
-        "1 to 1000000",
-        "--transform",
-    ];
-    expect_help(&rt, "serve --help", &texts)
 }

@@ -1,15 +1,13 @@
-//! An office of many sales and shifts, a great file of rows, and many words.
+//! An office of many sales and shifts.
 use crate::folder;
 use crate::support::{
-    expect, expect_beginning, expect_done, expect_refused, run_line, run_within, run_words,
-    words_and, words_of,
+    expect, expect_beginning, expect_done, run_line, run_within, run_words, words_of,
 };
 use office_lines::lines::stamped_of;
 use office_testing::both::{Both, serve_all};
 use office_testing::in_file::{Life, live};
 use office_testing::listed::OLDER;
 use sqlite::Alter;
-use std::fs;
 use std::test::Fail;
 use sts_token::{BlockTransform, Plain};
 use vend_core::{Lists, Stamped};
@@ -158,45 +156,4 @@ fn an_export_of_many_sales(rt: HostRuntime) -> Result<(), Fail> {
         expect(&rt, &words, whole.output.as_str(), "", 0)?;
     }
     folder::remove(&rt, path)
-}
-
-// As many rows as there may be, with long names, quotes and blank lines, above 1 MiB.
-#[test]
-fn the_greatest_file_of_rows(rt: HostRuntime) -> Result<(), Fail> {
-    let path = folder::enter(&rt)?;
-    let mut text = String::from_str(rt.alloc(), "name,steps\n")?;
-    for row in 10_000..20_000 {
-        let line = format!(in rt.alloc(); "\"abcdefghijklmnopqrstuvwxyz-{row}\",\":100\"\r\n")?;
-        text.push_str(line.as_str())?;
-    }
-    let blank = "\n".repeat(rt.alloc(), 1_048_576)?;
-    text.push_str(blank.as_str())?;
-    fs::write(&rt, "rows.csv", text.as_str())?;
-    let line = "import --file office.db --at 1388534430 tariffs rows.csv";
-    expect_done(&rt, &[(line, "added 10000\n"), (line, "added 0\n")])?;
-    text.push_str("one,:100")?;
-    fs::write(&rt, "rows.csv", text.as_str())?;
-    let errors = "refused 14 ImportRow 10001 TooManyRows\n";
-    expect_refused(&rt, &[(line, "", errors)])?;
-    folder::remove(&rt, path)
-}
-
-#[test]
-fn many_amounts(rt: HostRuntime) -> Result<(), Fail> {
-    let trial = "trial --base 2014 --key 0000000000000000 --at 1388534430";
-    let ran = run_words(&rt, &words_and(&rt, trial, "1", 10_000)?)?;
-    // The identifiers 2 to 1440 are those that are no more than a day ahead of minute 0.
-    assert_eq!(rt; ran.output.lines().count(), 1_439);
-    assert_eq!(rt; ran.errors.as_str(), "refused 9 IdentifierAhead\n");
-    assert_eq!(rt; ran.status, 1);
-    Ok(())
-}
-
-#[test]
-fn many_tokens(rt: HostRuntime) -> Result<(), Fail> {
-    let token = "00072057602627981690";
-    let words = words_and(&rt, "meter --key 0000000000000000", token, 10_000)?;
-    let used = "used\n".repeat(rt.alloc(), 9_999)?;
-    let output = format!(in rt.alloc(); "accepted 1\n{used}credit 1\n")?;
-    expect(&rt, &words, output.as_str(), "", 0)
 }

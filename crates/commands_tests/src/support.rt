@@ -78,20 +78,6 @@ pub(crate) fn words_of<'a>(rt: &HostRuntime, line: &'a str) -> Result<Vec<&'a st
     Ok(line.split_ascii_whitespace().collect(rt.alloc())?)
 }
 
-/// The words of a line, and then one word so many times.
-pub(crate) fn words_and<'a>(
-    rt: &HostRuntime,
-    line: &'a str,
-    word: &'a str,
-    count: usize,
-) -> Result<Vec<&'a str>, Fail> {
-    let mut words = words_of(rt, line)?;
-    for _ in 0..count {
-        words.push(word)?;
-    }
-    Ok(words)
-}
-
 /// The words print this and end with this.
 pub(crate) fn expect(
     rt: &HostRuntime,
@@ -119,39 +105,6 @@ pub(crate) fn expect_done(rt: &HostRuntime, rows: &[(&str, &str)]) -> Result<(),
 pub(crate) fn expect_refused(rt: &HostRuntime, rows: &[(&str, &str, &str)]) -> Result<(), Fail> {
     for (line, output, errors) in rows {
         expect(rt, &words_of(rt, line)?, output, errors, 1)?;
-    }
-    Ok(())
-}
-
-/// Each line of words has a value outside its rule.
-pub(crate) fn expect_bad_word(rt: &HostRuntime, lines: &[&str]) -> Result<(), Fail> {
-    for line in lines {
-        expect(rt, &words_of(rt, line)?, "", "bad word\n", 2)?;
-    }
-    Ok(())
-}
-
-/// Each line of words is no command's, and the error output has what `clap` says of it.
-pub(crate) fn expect_no_command(rt: &HostRuntime, lines: &[&str]) -> Result<(), Fail> {
-    for line in lines {
-        let ran = run_line(rt, line)?;
-        if !ran.output.is_empty() || !ran.errors.starts_with("error: ") || ran.status != 2 {
-            return Err(Fail::new(format_args!("{line}: {ran:?}")));
-        }
-    }
-    Ok(())
-}
-
-/// Help goes to the output, and has these texts.
-pub(crate) fn expect_help(rt: &HostRuntime, line: &str, texts: &[&str]) -> Result<(), Fail> {
-    let ran = run_line(rt, line)?;
-    if !ran.errors.is_empty() || ran.status != 0 {
-        return Err(Fail::new(format_args!("{line}: {ran:?}")));
-    }
-    for text in texts {
-        if !ran.output.contains(*text) {
-            return Err(Fail::new(format_args!("{line}: no {text}")));
-        }
     }
     Ok(())
 }

@@ -1,11 +1,9 @@
-//! Tests of tables, which have no code of their own: statements over one table, and those on the
-//! office's tables.
+//! Tests of the office's tables, which have no code of their own: what an office in a file does not
+//! show, and no clause says.
 //!
-//! What is expected was worked out by hand, from `docs/OFFICE.md`. They stand in one crate, since each
-//! crate that reads the kit's SQLite takes minutes to load, prove and compile.
+//! What is expected was worked out by hand, from `docs/OFFICE.md`. That each statement does its work
+//! is seen by `books_tests`.
 #![tactic(auto)]
 
 #[cfg(test)]
 mod office_tables;
-#[cfg(test)]
-mod statements;

@@ -1,13 +1,10 @@
-//! The office's tables: each statement once, over memory, beside other tables; rows outside their rules;
-//! and tables that are made and told.
+//! The office's tables: rows at the ends of their rules and outside them, sums that are too great, and
+//! the tables that are found in a file, each beside other tables.
 
-mod bases;
 mod dated;
 mod formats;
 mod lists;
-mod look_ups;
 mod made;
 mod openings;
 mod rows;
 mod totals;
-mod writes;

@@ -52,6 +52,8 @@ impl OfficeFile for LapsingOffice {
 
     ghost lets_go = { λ _ _. ⊤ };
 
+    ghost leaves = { λ _. ⊤ };
+
     fn salts(&self) -> OneSalt {
         OneSalt
     }
@@ -75,6 +77,12 @@ impl OfficeFile for LapsingOffice {
     {
         drop(log);
         drop(db);
+    }
+
+    fn leave(self)
+        ensures { ⊤ }
+    {
+        drop(self);
     }
 }
 
@@ -144,13 +152,20 @@ impl<'a> Door for Texts<'a> {
 
     ghost listens = { λ _ _ _ _. ⊤ };
 
+    ghost fails = { λ _ _ _. ⊤ };
+
     ghost accepts = { λ _ _ _ _. ⊤ };
 
     ghost refuses = { λ _ _. ⊤ };
 
     ghost ends = { λ _ _. ⊤ };
 
+    ghost leaves = { λ _. ⊤ };
+
     fn listen(&mut self, address: Address) -> Option<u16> {
+        if address.port == 0 {
+            return None;
+        }
         Some(address.port)
     }
 
@@ -168,5 +183,11 @@ impl<'a> Door for Texts<'a> {
     {
         drop(reader);
         drop(writer);
+    }
+
+    fn leave(self)
+        ensures { ⊤ }
+    {
+        drop(self);
     }
 }

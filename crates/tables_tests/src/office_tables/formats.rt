@@ -1,4 +1,4 @@
-//! The tables that are made, and those of older formats that are brought to the present one.
+//! Tables of older formats that have no sales, or rows that are no office's.
 use crate::office_tables::made::{batch, count, file};
 use book_tables::format::format_number;
 use book_tables::making::bring;
@@ -33,60 +33,6 @@ const SECOND: &str = "UPDATE about SET format = 2; \
     ('12345678903', 253, 3); \
     INSERT INTO shift_totals VALUES (1, 3, 13, 130), (2, 1, 3, 30)";
 
-// One meter had an earlier base.
-const THIRD: &str = "UPDATE about SET format = 3; \
-    INSERT INTO meter_bases VALUES ('12345678903', 1993), ('12345678903', 2014), \
-    ('10000000009', 2014), ('79927398713', 1993)";
-
-// What the tables have of that office, with the totals and the bases.
-const ROWS: [(&str, i64); 18] = [
-    ("SELECT count(*) FROM about", 1),
-    ("SELECT format FROM about WHERE id = 1", 4),
-    ("SELECT count(*) FROM tariff_steps", 3),
-    ("SELECT count(*) FROM sales", 4),
-    (
-        "SELECT tid FROM sales WHERE operator = 'bob' AND ref = 'r-1'",
-        44640,
-    ),
-    ("SELECT count(*) FROM last_ids", 2),
-    (
-        "SELECT tid FROM last_ids WHERE meter = '12345678903' AND base = 2014",
-        44640,
-    ),
-    (
-        "SELECT tid FROM last_ids WHERE meter = '10000000009' AND base = 2014",
-        4,
-    ),
-    ("SELECT count(*) FROM month_tenths", 3),
-    (
-        "SELECT tenths FROM month_tenths WHERE meter = '12345678903' AND month = 252",
-        8,
-    ),
-    (
-        "SELECT tenths FROM month_tenths WHERE meter = '12345678903' AND month = 253",
-        3,
-    ),
-    (
-        "SELECT tenths FROM month_tenths WHERE meter = '10000000009' AND month = 252",
-        5,
-    ),
-    ("SELECT count(*) FROM shift_totals", 2),
-    (
-        "SELECT cash FROM shift_totals WHERE shift = 1 AND sales = 3 AND tenths = 13",
-        130,
-    ),
-    (
-        "SELECT cash FROM shift_totals WHERE shift = 2 AND sales = 1 AND tenths = 3",
-        30,
-    ),
-    (
-        "SELECT count(*) FROM meter_bases WHERE meter = '79927398713' AND base = 1993",
-        1,
-    ),
-    ("SELECT count(*) FROM dated_steps", 0),
-    ("SELECT count(*) FROM before WHERE id = 7 AND word = 'a'", 1),
-];
-
 // Brings the tables of a format to the present one, and commits it.
 fn brought(alloc: Global, conn: &mut Connection<MemStore>, from: u32) -> Result<(), TableError> {
     if !conn.is_autocommit() || from >= PRESENT_FORMAT {
@@ -98,71 +44,14 @@ fn brought(alloc: Global, conn: &mut Connection<MemStore>, from: u32) -> Result<
     Ok(())
 }
 
-// A file of the office's tables in a format.
+// A file of the office's tables in format 1 or 2.
 fn office(alloc: Global, format: u32) -> Result<Connection<MemStore>, Error> {
-    let many = match format {
-        1 => 6,
-        2 => 9,
-        _ => 10,
-    };
-    let mut conn = file(alloc, many)?;
+    let mut conn = file(alloc, if format > 1 { 9 } else { 6 })?;
     batch(&mut conn, FIRST)?;
     if format > 1 {
         batch(&mut conn, SECOND)?;
     }
-    if format > 2 {
-        batch(&mut conn, THIRD)?;
-    }
     Ok(conn)
-}
-
-#[test]
-fn an_office_is_made_beside_other_tables(rt: HostRuntime) -> Result<(), Fail> {
-    let mut conn = file(rt.alloc(), 0)?;
-    assert_eq!(rt; format_here(rt.alloc(), conn.schema())?, Some(0));
-    brought(rt.alloc(), &mut conn, 0)?;
-    assert_eq!(rt; format_here(rt.alloc(), conn.schema())?, Some(4));
-    assert_eq!(rt; format_number(rt.alloc(), &mut conn)?, Some(4));
-    batch(&mut conn, "CREATE TABLE after (id INTEGER PRIMARY KEY)")?;
-    assert_eq!(rt; format_here(rt.alloc(), conn.schema())?, Some(4));
-    assert_eq!(rt;
-        count(&mut conn, "SELECT id FROM before WHERE word = 'a'")?,
-        7
-    );
-    for sql in ["sales", "last_ids", "meter_bases", "dated_steps"] {
-        let rows = count(
-            &mut conn,
-            &format!(in rt.alloc(); "SELECT count(*) FROM {sql}")?,
-        )?;
-        assert_eq!(rt; rows, 0, "{sql}");
-    }
-    let again = brought(rt.alloc(), &mut conn, 0);
-    assert!(rt;
-        matches!(again, Err(TableError::Database(_))),
-        "the names are taken"
-    );
-    Ok(())
-}
-
-#[test]
-fn an_older_file_has_the_same_office(rt: HostRuntime) -> Result<(), Fail> {
-    for format in 1..PRESENT_FORMAT {
-        let mut conn = office(rt.alloc(), format)?;
-        assert_eq!(rt; format_here(rt.alloc(), conn.schema())?, Some(format));
-        brought(rt.alloc(), &mut conn, format)?;
-        assert_eq!(rt; format_here(rt.alloc(), conn.schema())?, Some(4));
-        assert_eq!(rt; format_number(rt.alloc(), &mut conn)?, Some(4));
-        for (sql, want) in ROWS {
-            assert_eq!(rt; count(&mut conn, sql)?, want, "{sql}");
-        }
-        // A file that had bases keeps the earlier ones.
-        let bases = if format < 3 { 3 } else { 4 };
-        assert_eq!(rt;
-            count(&mut conn, "SELECT count(*) FROM meter_bases")?,
-            bases
-        );
-    }
-    Ok(())
 }
 
 #[test]
@@ -179,39 +68,6 @@ fn a_file_with_no_sales_has_no_totals(rt: HostRuntime) -> Result<(), Fail> {
         "SELECT count(*) FROM meter_bases",
     ] {
         assert_eq!(rt; count(&mut conn, sql)?, 0, "{sql}");
-    }
-    Ok(())
-}
-
-// So many sales again, each with the next number, ref and identifier.
-fn double(alloc: Global, conn: &mut Connection<MemStore>, many: u32) -> Result<(), Fail> {
-    let sql = format!(in alloc;
-        "INSERT INTO sales SELECT number + {many}, moment, month, shift, operator, \
-        'n-' || (number + {many}), meter, base, tid + {many}, rnd, tenths, price, tender, digits \
-        FROM sales"
-    )?;
-    batch(conn, &sql)?;
-    Ok(())
-}
-
-// More sales than are read at a time.
-#[test]
-fn many_sales_are_all_counted(rt: HostRuntime) -> Result<(), Fail> {
-    let mut conn = office(rt.alloc(), 1)?;
-    batch(&mut conn, "DELETE FROM sales WHERE number > 1")?;
-    for many in [1, 2, 4, 8, 16, 32, 64, 128, 256, 512, 1024] {
-        double(rt.alloc(), &mut conn, many)?;
-    }
-    brought(rt.alloc(), &mut conn, 1)?;
-    let rows = [
-        ("SELECT count(*) FROM sales", 2048),
-        ("SELECT tid FROM last_ids WHERE meter = '12345678903'", 2049),
-        ("SELECT tenths FROM month_tenths WHERE month = 252", 2048),
-        ("SELECT sales FROM shift_totals WHERE tenths = 2048", 2048),
-        ("SELECT cash FROM shift_totals WHERE shift = 1", 20480),
-    ];
-    for (sql, want) in rows {
-        assert_eq!(rt; count(&mut conn, sql)?, want, "{sql}");
     }
     Ok(())
 }

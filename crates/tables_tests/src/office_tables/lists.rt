@@ -1,12 +1,13 @@
-//! The statements that read many rows, over memory, beside other tables.
+//! Steps of a tariff that stand in any order, and rows that are no steps together.
 
-use crate::office_tables::look_ups::{ROWS, TABLES, batch, second_sale};
-use book_tables::{TableError, sale_lists, tariffs};
-use sqlite::{Alter, Connection};
+use crate::office_tables::made::batch;
+use crate::office_tables::rows::{ROWS, TABLES};
+use book_tables::{TableError, tariffs};
+use sqlite::Connection;
 use std::alloc::Global;
 use std::test::Fail;
 use tariff::{Step, Steps};
-use vend_core::{Sale, TariffName};
+use vend_core::TariffName;
 
 const STEP_TABLE: &str = "\
     CREATE TABLE tariff_steps (tariff TEXT NOT NULL REFERENCES tariffs (name), \
@@ -25,42 +26,6 @@ const STEP_ROWS: &str = "\
     INSERT INTO tariff_steps VALUES ('home', 2, 300, 1000000); \
     INSERT INTO tariff_steps VALUES ('home', 4, 500, 70)";
 
-// How many sales a page has, and the first of them.
-fn page<S: Alter>(
-    alloc: Global,
-    conn: &mut Connection<S>,
-    after: u32,
-    limit: u32,
-) -> Result<(usize, Option<Sale>), TableError> {
-    let sales = sale_lists::sales_after(alloc, conn, after, limit)?;
-    Ok((sales.len(), sales.first().copied()))
-}
-
-// The same of the sales of a shift.
-fn of_shift<S: Alter>(
-    alloc: Global,
-    conn: &mut Connection<S>,
-    shift: u32,
-) -> Result<(usize, Option<Sale>), TableError> {
-    let sales = sale_lists::sales_of_shift(alloc, conn, shift)?;
-    Ok((sales.len(), sales.first().copied()))
-}
-
-#[test]
-fn lists_sales(rt: HostRuntime) -> Result<(), Fail> {
-    let mut conn = Connection::open_in_memory(rt.alloc())?;
-    batch(&mut conn, TABLES)?;
-    batch(&mut conn, ROWS)?;
-    let second = second_sale()?;
-    assert_eq!(rt; page(rt.alloc(), &mut conn, 1, 10)?, (1, Some(second)));
-    assert_eq!(rt; page(rt.alloc(), &mut conn, 0, 10)?.0, 2);
-    assert_eq!(rt; page(rt.alloc(), &mut conn, 0, 1)?.0, 1);
-    assert_eq!(rt; page(rt.alloc(), &mut conn, 2, 10)?, (0, None));
-    assert_eq!(rt; of_shift(rt.alloc(), &mut conn, 3)?, (1, Some(second)));
-    assert_eq!(rt; of_shift(rt.alloc(), &mut conn, 2)?, (0, None));
-    Ok(())
-}
-
 fn step(ends: Option<u32>, price: u32) -> Step {
     Step { ends, price }
 }
@@ -77,26 +42,6 @@ fn steps_of_home(alloc: Global) -> Result<Steps, Fail> {
         step(None, 50),
     ];
     Ok(Steps::read(alloc, &list)?)
-}
-
-#[test]
-fn lists_the_steps_of_a_tariff(rt: HostRuntime) -> Result<(), Fail> {
-    let mut conn = Connection::open_in_memory(rt.alloc())?;
-    batch(&mut conn, TABLES)?;
-    batch(&mut conn, STEP_TABLE)?;
-    batch(&mut conn, ROWS)?;
-    let home = TariffName::read(b"home").ok_or("a name")?;
-    let shop = TariffName::read(b"shop").ok_or("a name")?;
-    assert_eq!(rt; tariffs::steps_of(rt.alloc(), &mut conn, &home)?, None);
-    batch(&mut conn, STEP_ROWS)?;
-    let found = tariffs::steps_of(rt.alloc(), &mut conn, &home)?;
-    assert_eq!(rt; found, Some(steps_of_home(rt.alloc())?));
-    let others = Steps::read(rt.alloc(), &[step(Some(150), 90), step(None, 95)])?;
-    let found = tariffs::steps_of(rt.alloc(), &mut conn, &shop)?;
-    assert_eq!(rt; found, Some(others));
-    let farm = TariffName::read(b"farm").ok_or("a name")?;
-    assert_eq!(rt; tariffs::steps_of(rt.alloc(), &mut conn, &farm)?, None);
-    Ok(())
 }
 
 #[test]

@@ -87,6 +87,12 @@ fn a_table_that_differs_is_another(rt: HostRuntime) -> Result<(), Fail> {
         (0, TABLES[0], Some(4)),
         (
             4,
+            "CREATE TABLE [shifts] (number INTEGER PRIMARY KEY, operator TEXT NOT NULL, \
+            opened INT NOT NULL, closed INT) STRICT",
+            Some(4),
+        ),
+        (
+            4,
             "CREATE TABLE shifts (number INTEGER PRIMARY KEY, operator TEXT NOT NULL, \
             opened INTEGER NOT NULL) STRICT",
             None,

@@ -1,5 +1,5 @@
 //! Rows whose values are outside their rules or at the ends of them, beside other tables.
-use crate::office_tables::look_ups::{ROWS, TABLES, batch, meter_no};
+use crate::office_tables::made::batch;
 use book_tables::{TableError, meters, sales, shifts};
 use sqlite::{Connection, Error, ErrorCode, MemStore};
 use std::alloc::Global;
@@ -8,8 +8,41 @@ use sts_fields::{Amount, Base, Moment};
 use tariff::Tender;
 use vend_core::{Meter, MeterNo, Operator, Ref, Sale, TariffName};
 
-// The rows of the other tests, after a change. It has no clause, so that the proof of a test does
-// not carry the state of the database.
+pub(crate) const TABLES: &str = "\
+    CREATE TABLE before (id INTEGER PRIMARY KEY, number INTEGER NOT NULL) STRICT; \
+    CREATE TABLE about (id INTEGER PRIMARY KEY, format INTEGER NOT NULL) STRICT; \
+    CREATE TABLE tariffs (name TEXT NOT NULL PRIMARY KEY) STRICT; \
+    CREATE TABLE meters (meter TEXT NOT NULL PRIMARY KEY, base INTEGER NOT NULL, \
+    tariff TEXT NOT NULL REFERENCES tariffs (name), secret TEXT NOT NULL) STRICT; \
+    CREATE TABLE shifts (number INTEGER PRIMARY KEY, operator TEXT NOT NULL, \
+    opened INTEGER NOT NULL, closed INTEGER) STRICT; \
+    CREATE TABLE sales (number INTEGER PRIMARY KEY, moment INTEGER NOT NULL, \
+    month INTEGER NOT NULL, shift INTEGER NOT NULL REFERENCES shifts (number), \
+    operator TEXT NOT NULL, ref TEXT NOT NULL, meter TEXT NOT NULL REFERENCES meters (meter), \
+    base INTEGER NOT NULL, tid INTEGER NOT NULL, rnd INTEGER NOT NULL, tenths INTEGER NOT NULL, \
+    price INTEGER NOT NULL, tender INTEGER NOT NULL, digits TEXT NOT NULL, \
+    UNIQUE (operator, ref), UNIQUE (meter, base, tid)) STRICT; \
+    CREATE TABLE sales_after (number INTEGER PRIMARY KEY, shift INTEGER NOT NULL) STRICT";
+
+pub(crate) const ROWS: &str = "\
+    INSERT INTO before VALUES (7, 70); INSERT INTO sales_after VALUES (9, 1); \
+    INSERT INTO about VALUES (1, 1); \
+    INSERT INTO tariffs VALUES ('home'); INSERT INTO tariffs VALUES ('shop'); \
+    INSERT INTO meters VALUES ('01234567897', 2014, 'home', '0123456789abcdef'); \
+    INSERT INTO shifts VALUES (1, 'ann', 1700000000, 1700010000); \
+    INSERT INTO shifts VALUES (2, 'bob', 1700020000, NULL); \
+    INSERT INTO shifts VALUES (3, 'ann', 1700030000, NULL); \
+    INSERT INTO sales VALUES (1, 1700000100, 370, 1, 'ann', 'r1', '01234567897', 2014, \
+    5000, 3, 120, 990, 1000, '00072057602627981690'); \
+    INSERT INTO sales VALUES (2, 1700030100, 370, 3, 'ann', 'r2', '01234567897', 2014, \
+    5001, 4, 130, 1990, 2000, '00144115200960832043')";
+
+fn meter_no() -> Result<MeterNo, Fail> {
+    Ok(MeterNo::read(b"01234567897").ok_or("a meter's number")?)
+}
+
+// These rows, after a change. It has no clause, so that the proof of a test does not carry the state of
+// the database.
 fn changed(alloc: Global, change: &str) -> Result<Connection<MemStore>, Error> {
     let mut conn = Connection::open_in_memory(alloc)?;
     batch(&mut conn, TABLES)?;
