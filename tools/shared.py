@@ -12,8 +12,9 @@ TOP = os.path.dirname(os.path.dirname(os.path.abspath(__file__)))
 # A check takes 1 to 7 GB, and seldom more than this.
 GB_OF_A_CHECK = 5
 # Debian's packages of the commands that the scripts call, and of the modules that they import.
-COMMANDS = {"cc": "gcc and libc6-dev", "curl": "curl", "sqlite3": "sqlite3"}
-MODULES = {"yaml": "python3-yaml"}
+COMMANDS = {"cc": "gcc and libc6-dev", "chromedriver": "chromium-driver", "chromium": "chromium",
+            "curl": "curl", "nginx": "nginx-light", "openssl": "openssl", "sqlite3": "sqlite3"}
+MODULES = {"selenium": "python3-selenium", "yaml": "python3-yaml"}
 # What each format of an office's file has beside the tables of those before it.
 NEW_TABLES = {
     1: ("about", "tariffs", "tariff_steps", "meters", "shifts", "sales"),
