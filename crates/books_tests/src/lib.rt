@@ -7,9 +7,13 @@
 #![tactic(auto)]
 
 #[cfg(test)]
+mod drawn;
+#[cfg(test)]
 mod files;
 #[cfg(test)]
 mod imports;
+#[cfg(test)]
+mod listed;
 #[cfg(test)]
 mod older;
 #[cfg(test)]

@@ -5,6 +5,8 @@
 //! message.
 #![tactic(auto)]
 
+pub mod differences;
 pub mod lines;
+pub mod lists;
 pub mod plain;
 pub mod values;
