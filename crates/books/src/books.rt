@@ -7,6 +7,7 @@ mod ask;
 mod attempt;
 mod close;
 mod commit;
+mod edit_once;
 mod failing;
 mod files;
 mod memory;
