@@ -1,19 +1,18 @@
 -- Why a read of the tables fails, and what is answered.
-use Rattle.std.proofs.Common.{◌≡◌, ◌≢◌, ℕ, IfErr, Result, Ok, Err, refl, ap, sym, inl, inr, ◌∙◌}
+use Rattle.std.proofs.Common.{◌≡◌, ◌≢◌, ℕ, IfErr, Result, Ok, Err, ap, sym, inl, inr, ◌∙◌}
 use Rattle.std.proofs.lemmas.Bool.{cases_Bool}
 use Rattle.sqlite.specs.State.{HasCause, HasCleanDisk, State, Survives, store_error}
 use Rattle.sqlite.specs.declared.error.Error.{Error}
 use Rattle.sqlite_trees.specs.declared.error.StoreError.{StoreError}
 use Rattle.sqlite_trees.specs.declared.error.StoreError.TheVariants.{OutOfMemory, Io, Corrupt, Full, Broken, Unstorable}
 use Rattle.one_table.specs.Reading.{FailsPlainly}
-use Rattle.vend_core.specs.declared.change.Edit.{Edit}
 use Rattle.vend_core.specs.declared.refusal.Refusal.{Refusal}
 use Rattle.vend_core.specs.declared.refusal.Refusal.TheVariants.{Store}
 use Rattle.vend_core.specs.declared.request.Stamped.{Stamped}
 use Rattle.book_tables.specs.Reading.{FailsToRead}
 use Rattle.book_tables.specs.declared.error.TableError.{TableError}
 use Rattle.book_tables.specs.declared.error.TableError.TheVariants.{Database, RowOfNoOffice}
-use Rattle.books.specs.Failing.{EditHasFailed, FailsToMake, HasFailed, RefusesUnchanged, IsToldOfRead, WereRead, refusal_for}
+use Rattle.books.specs.Failing.{HasFailed, RefusesUnchanged, IsToldOfRead, WereRead, refusal_for}
 
 module _ (old new : State) where
   caused : (e : Error) → refusal_for (Database e) ≡ Store → (cause : StoreError) → e ≡ store_error cause → HasCause old new ⊥ cause → HasFailed old new
@@ -47,13 +46,3 @@ module _ (old new : State) where
 pub refused_after : {A : Type 0} (at : Stamped) (next : ℕ) (old new : State) (r : Result A Refusal) → r ≢ Err Store → WereRead at next old → IfErr r (RefusesUnchanged at next old new)
 refused_after at next old new (Ok x) never read = tt
 refused_after at next old new (Err refusal) never read = inr ((λ is. never (ap (λ r. Err r) is)), read)
-
--- an edit that is answered as a failure of the store has one of its causes
-pub edit_failed : (edit : Edit) (prior : ℕ) (e : TableError) (old new : State) → refusal_for e ≡ Store → FailsToMake edit prior old new e → EditHasFailed edit prior e old new
-edit_failed edit prior (Database e) old new is (inl (inl none)) = absurd (let told = rw none at is in cc)
-edit_failed edit prior (Database e) old new is (inl (inr (inl more))) = inl more
-edit_failed edit prior (Database e) old new is (inl (inr (inr (inl shut)))) = inr (inl shut)
-edit_failed edit prior (Database e) old new is (inl (inr (inr (inr refused)))) = inr (inr (inl (e, refl, refused)))
-edit_failed edit prior RowOfNoOffice old new is (inl why) = absurd why
-edit_failed edit prior e old new is (inr (inl none)) = inr (inr (inr (inl none)))
-edit_failed edit prior e old new is (inr (inr told)) = inr (inr (inr (inr told)))

@@ -1,5 +1,5 @@
 -- How a request ends at books.
-use Rattle.std.specs.Prelude.{◌≡◌, ◌⊎◌, ◌+◌, ℕ, Option, Some, None, Result, Ok, Err, IfErr, OnOk, IsTrue, length}
+use Rattle.std.specs.Prelude.{◌≡◌, ◌⊎◌, ◌+◌, Option, Some, None, Result, Ok, Err, IfErr, OnOk, IsTrue, length}
 use Rattle.sqlite.specs.State.{State, Survives}
 use Rattle.sqlite_trees.specs.Tree.{Trees}
 use Rattle.sts_token.specs.Token.{BlockFunction}
@@ -14,8 +14,8 @@ use Rattle.vend_core.specs.declared.refusal.Refusal.{Refusal}
 use Rattle.vend_core.specs.declared.refusal.Refusal.TheVariants.{Memory, Store}
 use Rattle.vend_core.specs.declared.request.Stamped.{Stamped}
 use Rattle.book_tables.specs.declared.error.TableError.{TableError}
-use Rattle.books.specs.Changing.{IsCounted, MakesEdit}
-use Rattle.books.specs.Failing.{EditHasFailed, IsPriorRead, RefusesUnchanged, refusal_for}
+use Rattle.books.specs.Changing.{MakesEdit}
+use Rattle.books.specs.Failing.{RefusesUnchanged, refusal_for}
 use Rattle.books.specs.Keeps.{Stores, RecoversTo, Seen}
 use Rattle.books.specs.Same.{ChangesNothing, IsSame}
 use Rattle.books.specs.declared.decided.Decided.{Decided}
@@ -49,20 +49,17 @@ pub record DoubtsEdit (edit : Edit) (old new : State) : Type 0 where
   pub same : IsSame old new
   pub survives : Survives old new (LeavesMade (MakesEdit edit) old.now)
 
--- The edit was not made, and nothing has changed; the error of the statement is answered so. A
--- failure of the store has a cause.
-pub record IsToldOfEdit (edit : Edit) (prior : ℕ) (refusal : Refusal) (old new : State) : Type 0
-  where
-    pub error : TableError
-    pub answered : refusal ≡ refusal_for error
-    pub either : (refusal ≡ Memory) ⊎ (refusal ≡ Store)
-    pub nothing : ChangesNothing old new
-    pub failed : refusal ≡ Store → EditHasFailed edit prior error old new
+-- the edit was not made, and nothing has changed; the error of the statement is answered so
+pub record IsToldOfEdit (refusal : Refusal) (old new : State) : Type 0 where
+  pub error : TableError
+  pub answered : refusal ≡ refusal_for error
+  pub either : (refusal ≡ Memory) ⊎ (refusal ≡ Store)
+  pub nothing : ChangesNothing old new
 
 -- why an edit is not known to be committed: it was not made, or its commit failed
-abbrev pub FailsToEdit : Edit → ℕ → State → State → Refusal → Type 0
-FailsToEdit edit prior old new refusal =
-    IsToldOfEdit edit prior refusal old new ⊎ ((refusal ≡ Store) × DoubtsEdit edit old new)
+abbrev pub FailsToEdit : Edit → State → State → Refusal → Type 0
+FailsToEdit edit old new refusal =
+    IsToldOfEdit refusal old new ⊎ ((refusal ≡ Store) × DoubtsEdit edit old new)
 
 -- the books hold the office
 pub record HoldsOffice (o : Office) (books : Seen) : Type 0 where
@@ -79,30 +76,24 @@ abbrev pub IsDecidedFor : Stamped → Seen → Edit → Type 0
 IsDecidedFor at books edit = IsGrantedWith at books (Some edit)
 
 -- What a granted request left: where it changes nothing, nothing was written and a crash leaves
--- nothing new; else its edit was committed, and the tenths that are told of a sale's month are those
--- that were read for it and its own.
+-- nothing new; else its edit was committed.
 abbrev pub ServesGranted : Stamped → Seen → Seen → Type 0
 ServesGranted at old new =
     (IsGrantedWith at old None × ChangesNothing old.state new.state)
-    ⊎ ((edit : Edit) × IsDecidedFor at old edit × HasEdit edit old.state new.state
-    × ((prior : ℕ) × IsPriorRead at old.next_number old.state prior
-    × IsCounted edit prior old.state.now))
+    ⊎ ((edit : Edit) × IsDecidedFor at old edit × HasEdit edit old.state new.state)
 
 -- Why a request is refused by books that are not stopped. It was refused before anything changed, or
 -- its edit is not known to be committed.
 abbrev pub FailsToServe : Stamped → Seen → Seen → Refusal → Type 0
 FailsToServe at old new refusal =
     (ChangesNothing old.state new.state × RefusesUnchanged at old.next_number old.state new.state refusal)
-    ⊎ ((edit : Edit) × IsDecidedFor at old edit
-    × ((prior : ℕ) × IsPriorRead at old.next_number old.state prior
-    × FailsToEdit edit prior old.state new.state refusal))
+    ⊎ ((edit : Edit) × IsDecidedFor at old edit × FailsToEdit edit old.state new.state refusal)
 
 -- an edit was committed, or not
-pub record Commits (edit : Edit) (prior : ℕ) (result : Result (Unit {0}) Refusal)
-    (old new : State) : Type 0 where
-  pub done : OnOk result (HasEdit edit old new)
-  pub counted : OnOk result (IsCounted edit prior old.now)
-  pub failed : IfErr result (FailsToEdit edit prior old new)
+pub record Commits (edit : Edit) (result : Result (Unit {0}) Refusal) (old new : State) : Type 0
+  where
+    pub done : OnOk result (HasEdit edit old new)
+    pub failed : IfErr result (FailsToEdit edit old new)
 
 -- the office served the request, and the books hold the office after it; or no memory was found,
 -- and they hold the office from before; or the store failed, and may be opened again with either,

@@ -7,7 +7,6 @@ mod ask;
 mod attempt;
 mod close;
 mod commit;
-mod edit_once;
 mod failing;
 mod files;
 mod memory;

@@ -1,18 +1,14 @@
 //! What an edit does to the tables.
 
-ghost use Rattle.std.specs.Prelude.{◌≡◌, IfErr, OnOk};
-ghost use Rattle.sqlite.specs.State.{HasCleanDisk};
-ghost use Rattle.sqlite.specs.Held.{state};
-ghost use Rattle.one_table.specs.InTransaction.{IsUnderWay, KeepsTransaction};
-ghost use Rattle.book_tables.specs.Reading.{HasTables};
-ghost use Rattle.books.specs.Changing.{MakesAsComputed};
-ghost use Rattle.books.specs.Failing.{FailsToMake};
+ghost use Rattle.std.specs.Prelude.{⊤};
+ghost use Rattle.books.specs.Changing.{Makes};
 
 use book_tables::adding::{add_meter, add_shift, add_tariff};
 use book_tables::bases::move_base;
 use book_tables::changing::{close_shift, set_tariff};
 use book_tables::dated::add_steps;
 use book_tables::{TableError, members_law};
+use one_table::Change;
 use rows::add_rows;
 use sales::add_counted;
 use sqlite::{Alter, Transaction};
@@ -29,23 +25,14 @@ pub(crate) struct Editing<'a> {
     pub(crate) prior: u64,
 }
 
-impl Editing<'_> {
-    /// Makes the edit. What was written before an error goes with the transaction, which the caller
-    /// drops.
-    pub(crate) fn make<S: Alter>(&self, tx: &mut Transaction<'_, S>) -> Result<(), TableError>
-        ensures same_reference { tx.new.conn.ghost_name ≡ tx.old.conn.ghost_name }
-        ensures made { HasCleanDisk (state S.Store tx.new.conn.now)
-            → IsUnderWay (state S.Store tx.old.conn.now)
-            → OnOk result (MakesAsComputed self.now.edit.now self.now.prior
-            (state S.Store tx.old.conn.now).now (state S.Store tx.new.conn.now).now) }
-        ensures refused { HasCleanDisk (state S.Store tx.new.conn.now)
-            → IsUnderWay (state S.Store tx.old.conn.now)
-            → HasTables (state S.Store tx.old.conn.now)
-            → IfErr result (FailsToMake self.now.edit.now self.now.prior
-            (state S.Store tx.old.conn.now) (state S.Store tx.new.conn.now)) }
-        ensures transaction { KeepsTransaction
-            (state S.Store tx.old.conn.now) (state S.Store tx.new.conn.now) result }
-    {
+impl<S: Alter> Change<S> for Editing<'_> {
+    type Fault = TableError;
+
+    ghost makes = { λ change. Makes change.edit.now };
+
+    ghost tells = { λ _ _ _. ⊤ };
+
+    fn make(&self, tx: &mut Transaction<'_, S>) -> Result<(), TableError> {
         members_law();
         match self.edit {
             Edit::AddTariff(name, steps) => add_tariff(tx, name, steps.as_slice()),

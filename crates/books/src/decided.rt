@@ -1,6 +1,3 @@
-ghost use Rattle.std.specs.Prelude.{◌≡◌};
-ghost use Rattle.books.specs.Failing.{prior_of_account};
-
 use vend_core::{Change, Facts};
 
 /// What was decided, and the tenths of a kWh that the meter of a sale had in its month before it.
@@ -11,9 +8,7 @@ pub(crate) struct Decided {
 }
 
 /// The tenths that the meter of a sale had in its month, as they were read.
-pub(crate) fn prior_of(facts: &Facts) -> u64
-    ensures { result ≡ prior_of_account facts.now.account }
-{
+pub(crate) fn prior_of(facts: &Facts) -> u64 {
     match &facts.account {
         Some(account) => account.prior,
         None => 0,

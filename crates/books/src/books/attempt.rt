@@ -1,7 +1,7 @@
 //! One request: it is decided by what the tables hold, and what it changes is committed before the
 //! answer.
 
-ghost use Rattle.std.specs.Prelude.{◌≡◌, ◌≢◌, ◌+◌, Err, IfErr, IfOk, OnOk, false, length};
+ghost use Rattle.std.specs.Prelude.{◌≡◌, ◌≢◌, ◌+◌, Err, IfErr, OnOk, false, length};
 ghost use Rattle.sqlite.specs.State.{HasCleanDisk};
 ghost use Rattle.sqlite.specs.Held.{state};
 ghost use Rattle.vend_core.specs.Decision.{decision};
@@ -11,7 +11,7 @@ ghost use Rattle.vend_core.specs.Office.{Office};
 ghost use Rattle.vend_core.specs.Request.{IsStamped};
 ghost use Rattle.vend_core.specs.Store.{Meets};
 ghost use Rattle.book_tables.specs.Reading.{HasTables};
-ghost use Rattle.books.specs.Failing.{IsPriorRead, RefusesUnchanged, prior_of_account};
+ghost use Rattle.books.specs.Failing.{RefusesUnchanged};
 ghost use Rattle.books.specs.Keeps.{Stores, seen};
 ghost use Rattle.books.specs.Others.{LeavesOthers};
 ghost use Rattle.books.specs.Same.{ChangesNothing};
@@ -101,9 +101,6 @@ fn decided<S: Alter, T: BlockTransform>(
         → HasTables (state S.Store conn.old)
         → IfErr result (RefusesUnchanged at.now next_number
         (state S.Store conn.old) (state S.Store conn.new)) }
-    ensures prior { HasCleanDisk (state S.Store conn.new)
-        → IfOk result (λ decided. IsPriorRead at.now next_number
-        (state S.Store conn.old) decided.prior) }
     ensures clean { HasCleanDisk (state S.Store conn.new) → HasCleanDisk (state S.Store conn.old) }
     ensures never_stopped { result ≢ Err Refusal.Stopped }
     ensures outside { conn.new.in_transaction ≡ false }
@@ -125,8 +122,6 @@ fn decided_by<T: BlockTransform>(
 ) -> Result<Decided, Refusal>
     ensures decided { (o : Office) → AreFacts o at.now facts.now
         → IsUnlessMemory (change_in result) (decision (T.forwards transform.now) o at.now) }
-    ensures prior { IfOk result (λ decided.
-        decided.prior ≡ prior_of_account facts.now.account) }
     ensures no_store { (result ≢ Err Refusal.Store) × (result ≢ Err Refusal.Stopped) }
 {
     let change = decide(alloc, transform, facts, at)?;

@@ -6,10 +6,9 @@ ghost use Rattle.sqlite.specs.Held.{state};
 ghost use Rattle.book_tables.specs.Reading.{HasTables};
 ghost use Rattle.books.specs.Serving.{Commits};
 
-use super::edit_once::edit_once;
 use super::failing::refusal_of;
 use crate::changing::Editing;
-use one_table::CommitFault;
+use one_table::{CommitFault, change_once};
 use sqlite::{Alter, Connection};
 use vend_core::{Edit, Refusal};
 
@@ -25,14 +24,14 @@ pub(crate) fn commit<S: Alter>(
     requires { conn.old.in_transaction ≡ false }
     ensures commits { HasCleanDisk (state S.Store conn.new)
         → HasTables (state S.Store conn.old)
-        → Commits edit.now prior result (state S.Store conn.old) (state S.Store conn.new) }
+        → Commits edit.now result (state S.Store conn.old) (state S.Store conn.new) }
     ensures clean { HasCleanDisk (state S.Store conn.new) → HasCleanDisk (state S.Store conn.old) }
     ensures never_stopped { result ≢ Err Refusal.Stopped }
     ensures outside { conn.new.in_transaction ≡ false }
 {
     // Outside a transaction an open connection has what was committed last.
     let _settled = conn.is_autocommit();
-    match edit_once(conn, &Editing { edit, prior }) {
+    match change_once(conn, &Editing { edit, prior }) {
         Ok(()) => Ok(()),
         Err(CommitFault::Unmade(error)) => Err(refusal_of(error)),
         Err(CommitFault::InDoubt(_)) => Err(Refusal::Store),
