@@ -15,6 +15,7 @@ pub mod Reopened
 pub mod Run
 pub mod Selfchecked
 pub mod Selling
+pub mod Sent
 pub mod Served
 pub mod Status
 pub mod Tasks
