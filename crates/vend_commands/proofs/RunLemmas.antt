@@ -41,7 +41,6 @@ use Rattle.command_line.specs.declared.commands.import.ImportWords.{ImportWords}
 use Rattle.command_line.specs.declared.commands.serve.ServeWords.{ServeWords}
 use Rattle.vend_commands.specs.declared.end.End.TheVariants as how
 use Rattle.vend_commands.specs.declared.errand.Errand.{Errand}
-use Rattle.vend_commands.specs.declared.selfcheck_fault.SelfcheckFault.{SelfcheckFault}
 use Rattle.vend_commands.specs.declared.task.Task.{Task}
 use Rattle.vend_commands.specs.declared.task.Task.TheVariants.{Ask, Total, Export}
 use Rattle.command_line.specs.declared.transform.Shipped.{Shipped}
@@ -81,7 +80,7 @@ at_moment store m (asks.Sell words) left taken moment o end for is done = timed 
 at_moment store m (asks.Report words) left taken moment o end for is done = done
 at_moment store m (asks.Meter words) left taken moment o end for is done = done
 at_moment store m (asks.Quote words) left taken moment o end for is done = done
-at_moment store m (asks.Serve words) left taken moment o end for is (left_alone, done) = (left_alone, subst (λ answers. IsServedTo store m.way m.at m.door answers words o end) for.1 done)
+at_moment store m (asks.Serve words) left taken moment o end for is done = subst (λ answers. IsServedTo store m.way m.at m.door answers words o end) for.1 done
 at_moment store m (asks.Selfcheck words) left taken moment o end for is done = done
 
 -- the same, of what was asked by another name
@@ -89,9 +88,9 @@ pub done_so : {S D R W : Type 0} (store : Ghosts S) (m : Machine D R W) (asked s
 done_so store m asked same moment o end is done = subst (λ a. IsDoneThen store m a moment o end) (sym is) done
 
 -- what a selfcheck found is told, by less than it found
-pub selfcheck_done : (o : Outputs) (end : End) (Agrees Has : Type 0) (Disagrees Told : SelfcheckFault → Type 0) → (Agrees → Has) → ((fault : SelfcheckFault) → Disagrees fault → Told fault) → IsSelfchecked Agrees Disagrees o end → IsSelfchecked Has Told o end
-selfcheck_done o end Agrees Has Disagrees Told less fewer (agreed is told) = agreed (less is) told
-selfcheck_done o end Agrees Has Disagrees Told less fewer (failed fault why told) = failed fault (fewer fault why) told
+pub selfcheck_done : (o : Outputs) (end : End) (Agrees Has : Type 0) → (Agrees → Has) → IsSelfchecked Agrees o end → IsSelfchecked Has o end
+selfcheck_done o end Agrees Has less (agreed is told) = agreed (less is) told
+selfcheck_done o end Agrees Has less (failed fault told) = failed fault told
 
 -- an errand that was made so is done as the words have it
 pub errand_done : {S : Type 0} (store : Ghosts S) (at : Text → Place) (errand made : Errand) (transform : Shipped) (file : Text) (task : Task) (o : Outputs) (end : End) → errand ≡ made → made.transform ≡ transform → made.file.now ≡ file → made.task ≡ task
@@ -180,9 +179,9 @@ answer_ends store m (asks.Meter words) o end (idle, done) = told_ends o _ _ how.
 answer_ends store m (asks.Quote words) o end (idle, done) =
     let bought = purchase_of words.steps words.prior words.tender in
     told_ends o _ _ (quote_end bought) end (quote_low bought) done
-answer_ends store m (asks.Serve words) o end (left, done) = serving_ends store m.way m.at m.door m.answers words o.err_old o.err_new end done.1
-answer_ends store m (asks.Selfcheck words) o end (untouched, shut, agreed has told) = told_ends o _ _ how.Done end (omega arith) told
-answer_ends store m (asks.Selfcheck words) o end (untouched, shut, failed fault why told) = told_ends o _ _ how.Refused end (omega arith) told
+answer_ends store m (asks.Serve words) o end done = serving_ends store m.way m.at m.door m.answers words o.err_old o.err_new end done.1
+answer_ends store m (asks.Selfcheck words) o end (idle, agreed has told) = told_ends o _ _ how.Done end (omega arith) told
+answer_ends store m (asks.Selfcheck words) o end (idle, failed fault told) = told_ends o _ _ how.Refused end (omega arith) told
 
 -- words that ask for something never end as bad words
 run_ends : {S D R W : Type 0} (store : Ghosts S) (m : Machine D R W) (words : List Text) (o : Outputs) (end : End) (asked : Asked) → AskFor words asked → IsProgramRun store m words o end → exit_status_of end ≤ 1

@@ -15,7 +15,6 @@ pub mod Reopened
 pub mod Run
 pub mod Selfchecked
 pub mod Selling
-pub mod Sent
 pub mod Served
 pub mod Status
 pub mod Tasks

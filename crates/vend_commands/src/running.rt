@@ -3,7 +3,7 @@ ghost use Rattle.sqlite_wal.specs.Files.{image_at};
 ghost use Rattle.sts_fields.specs.Text.{Text};
 ghost use Rattle.vend_core.specs.declared.refusal.Refusal.TheVariants.{Memory};
 ghost use Rattle.command_line.specs.Asked.{AskFor};
-ghost use Rattle.vend_commands.specs.Places.{loop_of, machine, places_of, untold, way};
+ghost use Rattle.vend_commands.specs.Places.{machine, places_of, untold, way};
 ghost use Rattle.vend_commands.specs.Printed.{refusal_line};
 ghost use Rattle.vend_commands.specs.Run.{IsCarriedOut, IsDoneThen, IsExplained, IsProgramRun};
 ghost use Rattle.vend_commands.specs.Status.{status_of};
@@ -19,7 +19,6 @@ use crate::door::Door;
 use crate::end::End;
 use crate::errand::Errand;
 use crate::explanation::Explanation;
-use crate::loopback::Loopback;
 use crate::machine::{MachineFile, MachineTexts};
 use crate::machine_door::MachineDoor;
 use crate::opening::visit;
@@ -34,6 +33,7 @@ use sqlite_disk::Disk;
 use sqlite_trees::store::Store;
 use std::alloc::Global;
 use std::io::Write;
+use std::net::Net;
 use sts_fields::Moment;
 use vend_core::Refusal;
 
@@ -64,11 +64,10 @@ pub fn run<B: Start, O: Write, E: Write>(
         texts: MachineTexts { rt },
         clock: MachineClock::new(rt),
         door: MachineDoor::new(rt),
-        loopback: rt,
     };
     let mut out = Watched::new(out);
     let mut err = Watched::new(err);
-    let end = run_over(rt.alloc(), ports, words, &mut out, &mut err);
+    let end = run_over(rt.alloc(), rt, ports, words, &mut out, &mut err);
     status(end, out.has_failed())
 }
 
@@ -83,9 +82,10 @@ pub fn status(end: End, failed: bool) -> u8
 }
 
 /// Does what the words ask for with what some ports give, or says why not.
-pub fn run_over<H: OfficeFile, F: TextFiles, C: Clock + Drop, D: Door, L: Loopback, O: Write, E: Write>(
+pub fn run_over<H: OfficeFile, F: TextFiles, C: Clock + Drop, D: Door, N: Net, O: Write, E: Write>(
     alloc: Global,
-    ports: Ports<H, F, C, D, L>,
+    net: &N,
+    ports: Ports<H, F, C, D>,
     words: &[&str],
     out: &mut Watched<'_, O>,
     err: &mut Watched<'_, E>,
@@ -93,55 +93,45 @@ pub fn run_over<H: OfficeFile, F: TextFiles, C: Clock + Drop, D: Door, L: Loopba
     ensures { IsProgramRun ⟦<FileStore<H::Medium> as Store>⟧ (machine
         (places_of H.Medium.Disk H.Salts.SaltSource H.OfficeFile ports.office) (H.leaves ports.office)
         (F.reads ports.texts) (F.lacks ports.texts) (C.answers ports.clock)
-        (way D.Door D.Reader.remaining D.Writer.contents) ports.door
-        (loop_of L.Loopback L.Stream.remaining L.Stream.contents ports.loopback))
+        (way D.Door D.Reader.remaining D.Writer.contents) ports.door)
         (map (λ w. w.now) words.now)
         (outputs (sink O.contents out.old) (sink O.contents out.new)
         (sink E.contents err.old) (sink E.contents err.new)) result }
 {
     let Ok(line) = meant(alloc, words) else {
-        leave_all(ports.office, ports.door, ports.loopback);
+        leave_all(ports.office, ports.door);
         put_refusal(Refusal::Memory, err);
         return End::Refused;
     };
     match parse(alloc, &line) {
         Ok(matches) => match Asked::read(alloc, &matches) {
-            Ok(asked) => answer(alloc, ports, &asked, out, err),
+            Ok(asked) => answer(alloc, net, ports, &asked, out, err),
             Err(fault) => {
-                leave_all(ports.office, ports.door, ports.loopback);
+                leave_all(ports.office, ports.door);
                 refuse(fault, err)
             }
         },
         Err(error) => {
-            leave_all(ports.office, ports.door, ports.loopback);
+            leave_all(ports.office, ports.door);
             explain(alloc, &error, out, err)
         }
     }
 }
 
 // Uses nothing of the machine.
-fn leave_all<H: OfficeFile, D: Door, L: Loopback>(office: H, door: D, loopback: L)
+fn leave_all<H: OfficeFile, D: Door>(office: H, door: D)
     ensures office { H.leaves office }
     ensures door { D.leaves door }
-    ensures loopback { L.leaves loopback }
 {
     office.leave();
-    go_offline(door, loopback);
-}
-
-// Uses nothing of it that connects.
-fn go_offline<D: Door, L: Loopback>(door: D, loopback: L)
-    ensures door { D.leaves door }
-    ensures loopback { L.leaves loopback }
-{
     door.leave();
-    loopback.leave();
 }
 
 // Does what is asked.
-fn answer<H: OfficeFile, F: TextFiles, C: Clock + Drop, D: Door, L: Loopback, O: Write, E: Write>(
+fn answer<H: OfficeFile, F: TextFiles, C: Clock + Drop, D: Door, N: Net, O: Write, E: Write>(
     alloc: Global,
-    ports: Ports<H, F, C, D, L>,
+    net: &N,
+    ports: Ports<H, F, C, D>,
     asked: &Asked,
     out: &mut Watched<'_, O>,
     err: &mut Watched<'_, E>,
@@ -149,16 +139,15 @@ fn answer<H: OfficeFile, F: TextFiles, C: Clock + Drop, D: Door, L: Loopback, O:
     ensures { IsCarriedOut ⟦<FileStore<H::Medium> as Store>⟧ (machine
         (places_of H.Medium.Disk H.Salts.SaltSource H.OfficeFile ports.office) (H.leaves ports.office)
         (F.reads ports.texts) (F.lacks ports.texts) (C.answers ports.clock)
-        (way D.Door D.Reader.remaining D.Writer.contents) ports.door
-        (loop_of L.Loopback L.Stream.remaining L.Stream.contents ports.loopback))
+        (way D.Door D.Reader.remaining D.Writer.contents) ports.door)
         asked.now (outputs (sink O.contents out.old) (sink O.contents out.new)
         (sink E.contents err.old) (sink E.contents err.new)) result }
 {
     let mut ports = ports;
     match moment_for(asked, &mut ports.clock) {
-        Some(moment) => answer_at(alloc, ports, asked, moment, out, err),
+        Some(moment) => answer_at(alloc, net, ports, asked, moment, out, err),
         None => {
-            leave_all(ports.office, ports.door, ports.loopback);
+            leave_all(ports.office, ports.door);
             put_line(&[b"refused", b"clock"], err);
             End::Refused
         }
@@ -166,9 +155,10 @@ fn answer<H: OfficeFile, F: TextFiles, C: Clock + Drop, D: Door, L: Loopback, O:
 }
 
 // Does what is asked, at this moment.
-fn answer_at<H: OfficeFile, F: TextFiles, C: Clock + Drop, D: Door, L: Loopback, O: Write, E: Write>(
+fn answer_at<H: OfficeFile, F: TextFiles, C: Clock + Drop, D: Door, N: Net, O: Write, E: Write>(
     alloc: Global,
-    ports: Ports<H, F, C, D, L>,
+    net: &N,
+    ports: Ports<H, F, C, D>,
     asked: &Asked,
     moment: Moment,
     out: &mut Watched<'_, O>,
@@ -177,19 +167,18 @@ fn answer_at<H: OfficeFile, F: TextFiles, C: Clock + Drop, D: Door, L: Loopback,
     ensures { IsDoneThen ⟦<FileStore<H::Medium> as Store>⟧ (machine
         (places_of H.Medium.Disk H.Salts.SaltSource H.OfficeFile ports.office) (H.leaves ports.office)
         (F.reads ports.texts) (F.lacks ports.texts) (C.answers ports.clock)
-        (way D.Door D.Reader.remaining D.Writer.contents) ports.door
-        (loop_of L.Loopback L.Stream.remaining L.Stream.contents ports.loopback))
+        (way D.Door D.Reader.remaining D.Writer.contents) ports.door)
         asked.now moment (outputs (sink O.contents out.old) (sink O.contents out.new)
         (sink E.contents err.old) (sink E.contents err.new)) result }
 {
     let mut clock = ports.clock;
     let errand = match asked {
         Asked::Trial(words) => {
-            leave_all(ports.office, ports.door, ports.loopback);
+            leave_all(ports.office, ports.door);
             return commands::trial::run(words, alloc, moment, out, err);
         }
         Asked::Import(words) => {
-            go_offline(ports.door, ports.loopback);
+            ports.door.leave();
             return commands::import::run(
                 words,
                 alloc,
@@ -205,24 +194,22 @@ fn answer_at<H: OfficeFile, F: TextFiles, C: Clock + Drop, D: Door, L: Loopback,
         Asked::Sell(words) => Errand::to_sell(words, moment),
         Asked::Report(words) => Errand::to_report(words),
         Asked::Meter(words) => {
-            leave_all(ports.office, ports.door, ports.loopback);
+            leave_all(ports.office, ports.door);
             return commands::meter::run(words, out);
         }
         Asked::Quote(words) => {
-            leave_all(ports.office, ports.door, ports.loopback);
+            leave_all(ports.office, ports.door);
             return commands::quote::run(words, out, err);
         }
         Asked::Serve(words) => {
-            ports.loopback.leave();
             return commands::serve::run(words, alloc, ports.office, ports.door, &mut clock, err);
         }
         Asked::Selfcheck(words) => {
-            ports.office.leave();
-            ports.door.leave();
-            return run_selfcheck(words, alloc, ports.loopback, out, err);
+            leave_all(ports.office, ports.door);
+            return run_selfcheck(words, alloc, net, out, err);
         }
     };
-    go_offline(ports.door, ports.loopback);
+    ports.door.leave();
     visit(alloc, ports.office, errand, out, err)
 }
 
