@@ -2,8 +2,7 @@ ghost use Rattle.std.specs.Prelude.{◌≡◌, ◌≢◌, ◌^◌, IsSome, Ok, E
 ghost use Rattle.std.specs.Option.{option_copied};
 ghost use Rattle.sts_fields.specs.Base.{base_date};
 ghost use Rattle.sts_fields.specs.Day.{day_at};
-ghost use Rattle.tariff.specs.Purchase.{purchase_of};
-ghost use Rattle.vend_core.specs.Decision.{add_meter, add_steps, add_tariff, changed, close_shift, decision, is_new, move_base, next_number, open_a_shift, reprint, sell, sell_again, set_tariff};
+ghost use Rattle.vend_core.specs.Decision.{add_meter, add_steps, add_tariff, close_shift, decision, is_new, move_base, next_number, open_a_shift, reprint, sell, sell_again, set_tariff};
 ghost use Rattle.vend_core.specs.Facts.{AreFacts, IsUnlessMemory, TakesMemory, report_found};
 ghost use Rattle.vend_core.specs.Office.{Office};
 
@@ -25,7 +24,7 @@ use crate::tariff_name::TariffName;
 use std::alloc::Global;
 use sts_fields::{Base, Day, Moment, TidFault, day_of, minute, next_tid};
 use sts_token::{BlockTransform, Fields, write};
-use tariff::{Buy, Steps, Tender, buy};
+use tariff::{Steps, buy};
 
 /// The greatest number of shifts, and of sales.
 pub const GREATEST_COUNT: u64 = 1_000_000_000;
@@ -286,7 +285,7 @@ fn sell<T: BlockTransform>(
     let meter = account.meter;
     let now = minute(meter.base, at.moment)?;
     let tid = next_tid(now, account.last)?;
-    let bought = bought(account, order.tender).ok_or(Refusal::TooLittle)?;
+    let bought = buy(&account.steps, account.prior, order.tender).ok_or(Refusal::TooLittle)?;
     let tenths = bought.tenths;
     let number = next_number(count)?;
     let fields = Fields {
@@ -294,7 +293,7 @@ fn sell<T: BlockTransform>(
         tid,
         amount: tenths,
     };
-    let sale = Sale {
+    let sale = &Sale {
         number,
         moment: at.moment,
         shift: shift.number,
@@ -309,22 +308,7 @@ fn sell<T: BlockTransform>(
         tender: order.tender,
         digits: write(transform, meter.key, fields),
     };
-    sold(&sale)
-}
-
-// A new sale is added and answered.
-fn sold(sale: &Sale) -> Result<Change, Refusal>
-    ensures { result ≡ changed (Edit.AddSale sale.now) (Answer.Sold sale.now) }
-{
     changed(Edit::AddSale(*sale), Answer::Sold(*sale))
-}
-
-// What the tender buys.
-fn bought(account: &MeterAccount, tender: Tender) -> Option<Buy>
-    ensures { result ≡ purchase_of account.now.steps account.now.prior tender }
-{
-    let prior = account.prior;
-    buy(&account.steps, prior, tender)
 }
 
 fn reprint(sale: Option<Sale>) -> Result<Change, Refusal>

@@ -243,7 +243,7 @@ fn account(
     let Some(meter) = look_up::meter_under(&records.meters, number) else {
         return Ok(None);
     };
-    let steps = own_steps_on(records, number, &meter, day_of(moment))?;
+    let steps = steps_on(records, number, &meter, day_of(moment)).clone()?;
     let month = month_of(moment).unwrap();
     Ok(Some(MeterAccount {
         meter,
@@ -270,20 +270,6 @@ fn steps_on<'a>(records: &'a Records, number: &MeterNo, meter: &Meter, day: Day)
         Some(steps) => steps,
         None => tariff_of(records, number, meter),
     }
-}
-
-// The same, of one's own.
-fn own_steps_on(
-    records: &Records,
-    number: &MeterNo,
-    meter: &Meter,
-    day: Day,
-) -> Result<Steps, AllocError>
-    requires { (recorded records.now).meters number.now ≡ Some meter.now }
-    ensures { IfOk result
-        (λ steps. steps ≡ steps_on (recorded records.now) meter.now.tariff day) }
-{
-    steps_on(records, number, meter, day).clone()
 }
 
 fn report_facts(alloc: Global, records: &Records, number: u32) -> Result<Facts, AllocError>
