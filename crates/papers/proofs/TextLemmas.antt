@@ -8,7 +8,7 @@ use Rattle.papers.specs.Report.{sale_line}
 use Rattle.papers.specs.Text.{change_of, clock_text, date_text, digits_at_least, groups, kwh_text, line, right, time_text}
 use Rattle.sts_fields.specs.Calendar.{civil_at}
 use Rattle.sts_fields.specs.declared.calendar.date_time.Civil.{Civil}
-use Rattle.vend_core.specs.declared.sale.Sale.{Sale}
+use Rattle.vend_core.specs.declared.office.sale.Sale.{Sale}
 
 -- a line is its word, a space, its value and a line feed, each behind what was there
 pub line-parts : (old word value : List ℕ) → (((old ++ word) ++ 32 ∷ []) ++ value) ++ 10 ∷ [] ≡ old ++ line word value

@@ -3,7 +3,7 @@ use Rattle.std.specs.Prelude.{ℕ, ◌-◌, ◌*◌, ◌/◌, ◌%◌, ◌+◌, 
 use Rattle.std.specs.List.{join_with_byte, range_with_len}
 use Rattle.sts_fields.specs.Calendar.{civil_at}
 use Rattle.sts_fields.specs.declared.calendar.date_time.Civil.{Civil}
-use Rattle.vend_core.specs.declared.sale.Sale.{Sale}
+use Rattle.vend_core.specs.declared.office.sale.Sale.{Sale}
 
 abbrev pub line_feed : ℕ
 line_feed = 10
