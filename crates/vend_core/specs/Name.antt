@@ -3,11 +3,11 @@ pub mod ShortText
 use Rattle.std.specs.Prelude.{◌≡◌, ℕ, ◌+◌, ◌-◌, ◌*◌, ◌%◌, ◌≤◌, ◌||◌, ◌==◌, Bool, [], ◌∷◌, length, reverse, nat_lt, if◌then◌else◌}
 use Rattle.std.specs.List.{AllPass}
 use Rattle.std.specs.Char.{is_ascii_alphanumeric, is_ascii_digit, digit_value}
-use Rattle.sts_fields.specs.Text.{Text}
+use Rattle.sts_fields.specs.Text.{Text, hyphen}
 
 -- a letter, a digit or a hyphen
 abbrev pub is_name_byte : ℕ → Bool
-is_name_byte b = is_ascii_alphanumeric b || b == 45
+is_name_byte b = is_ascii_alphanumeric b || b == hyphen
 
 -- an operator: 1 to 16 ASCII letters or digits
 pub record IsOperator (text : Text) : Type 0 where

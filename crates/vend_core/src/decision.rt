@@ -6,9 +6,10 @@ ghost use Rattle.sts_fields.specs.Day.{day_at};
 ghost use Rattle.vend_core.specs.Decision.{add_meter, add_steps, add_tariff, close_shift, decision, is_new, move_base, next_number, open_a_shift, reprint, sell, sell_again, set_tariff};
 ghost use Rattle.vend_core.specs.Decision.Facts.{AreFacts, IsUnlessMemory, TakesMemory, report_found};
 ghost use Rattle.vend_core.specs.Office.{Office};
+ghost use Rattle.vend_core.specs.Office.Rows.{greatest_rows};
 
 use crate::name::{MeterNo, Operator, TariffName};
-use crate::office::{Meter, Sale, Sales, Shift};
+use crate::office::{Meter, Rows, Sale, Sales, Shift};
 use additions::{is_new_meter, is_new_steps, is_new_tariff};
 use std::alloc::Global;
 use sts_fields::{Base, Day, Moment, TidFault, day_of, minute, next_tid};
@@ -17,6 +18,7 @@ use tariff::{Steps, buy};
 
 pub(crate) mod additions;
 mod answer;
+mod category;
 mod change;
 mod facts;
 mod import;
@@ -29,6 +31,7 @@ mod row_cause;
 mod row_facts;
 
 pub use answer::{Answer, Reply};
+pub use category::Category;
 pub use change::{Change, Edit};
 pub use facts::Facts;
 pub use import_facts::ImportFacts;
@@ -44,6 +47,7 @@ pub const GREATEST_COUNT: u64 = 1_000_000_000;
 /// The limits of an office have these values.
 pub fn limits_law()
     ensures greatest_count { GREATEST_COUNT ≡ 10 ^ 9 }
+    ensures greatest_rows { Rows.MAX ≡ greatest_rows }
 {}
 
 /// How an office with these facts decides a request: what changes, and the answer.

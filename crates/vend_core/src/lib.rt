@@ -10,8 +10,8 @@ mod name;
 mod office;
 
 pub use decision::{
-    Answer, Change, Edit, Facts, GREATEST_COUNT, ImportFacts, MeterAccount, Order, Refusal, Reply,
-    Request, RowCause, RowFacts, Stamped, decide, limits_law,
+    Answer, Category, Change, Edit, Facts, GREATEST_COUNT, ImportFacts, MeterAccount, Order,
+    Refusal, Reply, Request, RowCause, RowFacts, Stamped, decide, limits_law,
 };
 pub use law::{history_law, life_law, office_law, store_law};
 pub use lists::Lists;

@@ -1,6 +1,8 @@
--- Why the office refuses a request: the numbers and names of the refusals.
+-- Why the office refuses a request: the numbers, names and categories of the refusals.
 use Rattle.std.specs.Prelude.{ℕ, codes}
 use Rattle.sts_fields.specs.Text.{Text}
+use Rattle.vend_core.specs.declared.decision.category.Category.{Category}
+use Rattle.vend_core.specs.declared.decision.category.Category.TheVariants.{Missing, Forbidden, Unfit, UnfitRow, Unable}
 use Rattle.vend_core.specs.declared.decision.refusal.Refusal.{Refusal}
 use Rattle.vend_core.specs.declared.decision.refusal.Refusal.TheVariants.{RefReused, NoShift, ShiftOpen, NoMeter, NoTariff, Differs, BeforeBase, IdentifiersSpent, IdentifierAhead, TooLittle, OfficeFull, NoSale, NoSuchShift, ImportRow, Memory, Store, Stopped, NotLater, DayPast}
 
@@ -47,3 +49,26 @@ refusal_name Store = codes "Store"
 refusal_name Stopped = codes "Stopped"
 refusal_name NotLater = codes "NotLater"
 refusal_name DayPast = codes "DayPast"
+
+-- what kind of reason it has: something is not there, the office forbids it as it stands, it cannot
+-- be done as it was asked, or the office is unable to answer
+abbrev pub refusal_category : Refusal → Category
+refusal_category RefReused = Forbidden
+refusal_category NoShift = Forbidden
+refusal_category ShiftOpen = Forbidden
+refusal_category NoMeter = Missing
+refusal_category NoTariff = Missing
+refusal_category Differs = Forbidden
+refusal_category BeforeBase = Forbidden
+refusal_category IdentifiersSpent = Forbidden
+refusal_category IdentifierAhead = Forbidden
+refusal_category TooLittle = Unfit
+refusal_category OfficeFull = Forbidden
+refusal_category NoSale = Missing
+refusal_category NoSuchShift = Missing
+refusal_category (ImportRow row cause) = UnfitRow row cause
+refusal_category Memory = Unable
+refusal_category Store = Unable
+refusal_category Stopped = Unable
+refusal_category NotLater = Forbidden
+refusal_category DayPast = Forbidden

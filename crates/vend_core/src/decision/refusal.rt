@@ -1,7 +1,7 @@
 ghost use Rattle.std.specs.Prelude.{◌≡◌};
-ghost use Rattle.vend_core.specs.Decision.Refusals.{refusal_name, refusal_number};
+ghost use Rattle.vend_core.specs.Decision.Refusals.{refusal_category, refusal_name, refusal_number};
 
-use crate::decision::RowCause;
+use crate::decision::{Category, RowCause};
 use std::alloc::AllocError;
 use sts_fields::TidFault;
 use thiserror::Error;
@@ -102,6 +102,30 @@ impl Refusal {
             Refusal::Stopped => "Stopped",
             Refusal::NotLater => "NotLater",
             Refusal::DayPast => "DayPast",
+        }
+    }
+
+    /// What kind of reason it has.
+    pub fn category(self) -> Category
+        ensures { result ≡ refusal_category self }
+    {
+        match self {
+            Refusal::NoMeter | Refusal::NoTariff | Refusal::NoSale | Refusal::NoSuchShift => {
+                Category::Missing
+            }
+            Refusal::RefReused
+            | Refusal::NoShift
+            | Refusal::ShiftOpen
+            | Refusal::Differs
+            | Refusal::BeforeBase
+            | Refusal::IdentifiersSpent
+            | Refusal::IdentifierAhead
+            | Refusal::OfficeFull
+            | Refusal::NotLater
+            | Refusal::DayPast => Category::Forbidden,
+            Refusal::TooLittle => Category::Unfit,
+            Refusal::ImportRow(row, cause) => Category::UnfitRow(row, cause),
+            Refusal::Memory | Refusal::Store | Refusal::Stopped => Category::Unable,
         }
     }
 }

@@ -4,9 +4,6 @@ ghost use Rattle.vend_core.specs.Office.Rows.{greatest_rows};
 use crate::office::Row;
 use std::marker::Model;
 
-// The greatest number of rows of an import.
-const GREATEST_ROWS: usize = 10_000;
-
 /// The rows of an import, in order: at most 10000.
 ///
 /// Contracts see the list of them.
@@ -28,6 +25,9 @@ impl Model for Rows {
 }
 
 impl Rows {
+    /// The greatest number of rows of an import.
+    pub const MAX: usize = 10_000;
+
     /// These rows, or, exactly where they are more than 10000, the vector as it was.
     ///
     /// Takes no memory.
@@ -35,7 +35,7 @@ impl Rows {
         ensures few { length items.items ≤ greatest_rows → result ≡ Ok items.items }
         ensures many { greatest_rows < length items.items → result ≡ Err items }
     {
-        if items.len() <= GREATEST_ROWS {
+        if items.len() <= Self::MAX {
             Ok(Rows { items })
         } else {
             Err(items)
