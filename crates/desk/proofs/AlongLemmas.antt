@@ -9,11 +9,11 @@ use Rattle.vend_core.specs.declared.request.Request.{Request}
 use Rattle.vend_core.specs.declared.request.Stamped.{Stamped}
 use Rattle.desk.specs.Along.{AreAsked}
 use Rattle.desk.specs.Answering.{answers_by, life_serves}
-use Rattle.desk.specs.Exchanges.{MessageExchange, Exchanged, Timed, timed}
+use Rattle.conversation.specs.Exchanges.{MessageExchange, Exchanged, Timed, timed}
 use Rattle.desk.specs.Meaning.{MessageAsks}
-use Rattle.desk.specs.Messages.{Message}
-use Rattle.desk.specs.Replies.{reply_bytes_of}
-use Rattle.desk.specs.declared.form.Form.{Form}
+use Rattle.conversation.specs.message.Messages.{Message}
+use Rattle.desk.specs.reply.Text.{reply_bytes_of}
+use Rattle.desk.specs.declared.reply.form.Form.{Form}
 
 along_none : (life : Life) → life ≡ extended_along life [] []
 along_none life = sym (ap (λ es. record life { exchanges = es }) (append-nil life.exchanges))

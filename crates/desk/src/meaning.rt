@@ -2,15 +2,15 @@
 
 ghost use Rattle.std.specs.Prelude.{◌≡◌, Some, Ok, pos};
 ghost use Rattle.desk.specs.Meaning.{IsFor, IsMeaning, sale_form_of};
-ghost use Rattle.desk.specs.Next.{message_of};
+ghost use Rattle.conversation.specs.message.Next.{message_of};
 
 use crate::asking::request_of;
 use crate::body_fault::BodyFault;
 use crate::desk_fault::DeskFault;
-use crate::form::Form;
-use crate::outcome::Outcome;
-use crate::received::Received;
+use crate::reply::form::Form;
+use crate::reply::outcome::Outcome;
 use crate::route::Route;
+use conversation::Received;
 use std::alloc::Global;
 use vend_core::{Moment, Refusal, Request};
 

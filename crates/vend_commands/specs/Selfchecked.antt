@@ -3,11 +3,11 @@
 use Rattle.std.specs.Prelude.{◌≡◌, ℕ, pos, List, [], ◌∷◌, ◌++◌, Some, None, Ok, codes}
 use Rattle.std.specs.Io.KnownBytes.{Appends}
 use Rattle.desk.specs.Answering.{answers_by, life_serves, message_refusal_of}
-use Rattle.desk.specs.Exchanges.{Timed}
-use Rattle.desk.specs.Replies.{line_end}
-use Rattle.desk.specs.Run.{IsAll, IsRun}
-use Rattle.desk.specs.declared.end.End as conversation
-use Rattle.desk.specs.declared.end.End.TheVariants.{Closed, WriteFault}
+use Rattle.conversation.specs.Exchanges.{Timed}
+use Rattle.desk.specs.reply.Text.{line_end}
+use Rattle.conversation.specs.Run.{IsAll, IsRun}
+use Rattle.conversation.specs.declared.end.End as conversation
+use Rattle.conversation.specs.declared.end.End.TheVariants.{Closed, WriteFault}
 use Rattle.sts_fields.specs.Text.{Text}
 use Rattle.sts_fields.specs.declared.base.Base.TheVariants.{Y2014}
 use Rattle.sts_token.specs.Token.{BlockFunction}

@@ -1,0 +1,16 @@
+-- What is awaited of an input.
+use Rattle.std.specs.Prelude.{◌≡◌, ℕ, ◌+◌, List, length}
+use Rattle.conversation.specs.declared.wants.Wants.{Wants}
+use Rattle.conversation.specs.declared.wants.Wants.TheVariants.{Head, Body}
+use Rattle.conversation.specs.message.Heads.{AwaitsHead, longest_head}
+use Rattle.conversation.specs.message.Messages.{LacksBody}
+
+-- how many bytes may be asked for
+abbrev pub count_of : Wants → ℕ
+count_of (Head count) = count
+count_of (Body count) = count
+
+-- what is awaited where this is left of an input
+abbrev pub IsAwaited : List ℕ → Wants → Type 0
+IsAwaited rest (Head count) = AwaitsHead rest × (length rest + count ≡ longest_head)
+IsAwaited rest (Body count) = LacksBody rest count

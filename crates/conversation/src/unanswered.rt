@@ -1,0 +1,127 @@
+ghost use Rattle.std.specs.Prelude.{◌≡◌, ◌∷◌, ◌+◌, ◌<◌, ◌≤◌, [], length, take, drop, IfOk, vec_len};
+ghost use Rattle.conversation.specs.Ends.{AsksOnce, IsRead, ReadsAt};
+ghost use Rattle.conversation.specs.Uses.{Grows, asked, came_of, longest_message};
+
+use crate::end::End;
+use crate::line::Line;
+use std::alloc::Global;
+use std::io;
+use std::io::{Read, Write};
+
+// The most bytes that one read asks for.
+const READ_AT_ONCE: usize = 65536;
+
+/// The bytes of an input that were read and are not answered: never more than the longest message.
+#[derive(Drop)]
+pub(crate) struct Unanswered {
+    bytes: Vec<u8>,
+    ghost within: { vec_len bytes ≤ longest_message },
+}
+
+impl Unanswered {
+    pub(crate) fn new(alloc: Global) -> Unanswered
+        ensures { result.bytes.items ≡ [] }
+    {
+        Unanswered {
+            bytes: Vec::new(alloc),
+        }
+    }
+
+    pub(crate) fn as_slice(&self) -> &[u8]
+        ensures { result.now ≡ self.now.bytes.items }
+    {
+        &self.bytes
+    }
+
+    // Reads at most as many bytes as wanted behind those that are there, and says how many came: none
+    // only at the end of the input. Room is made first, so that want of memory loses no byte.
+    pub(crate) fn read_more<L: Line<R, W>, R: Read, W: Write>(
+        &mut self,
+        line: &mut L,
+        reader: &mut R,
+        wanted: usize,
+    ) -> Result<usize, End>
+        requires some { 0 < wanted }
+        requires room { vec_len self.old.bytes + wanted ≤ longest_message }
+        ensures { IsRead (L.uses line.old) (L.uses line.new) (R.remaining reader.old)
+            (R.remaining reader.new) wanted self.old.bytes.items self.new.bytes.items result }
+    {
+        read_behind(line, reader, &mut self.bytes, wanted)
+    }
+
+    // Takes so many bytes off the front.
+    pub(crate) fn drop_front(&mut self, count: usize)
+        requires { count ≤ vec_len self.old.bytes }
+        ensures { self.new.bytes.items ≡ drop count self.old.bytes.items }
+    {
+        drop(self.bytes.drain(..count));
+    }
+}
+
+// Reads into the slice, from the place on.
+fn read_at<L: Line<R, W>, R: Read, W: Write>(
+    line: &mut L,
+    reader: &mut R,
+    buffer: &mut [u8],
+    at: usize,
+) -> io::Result<usize>
+    requires { at < length buffer.old }
+    ensures front { take at buffer.new ≡ take at buffer.old }
+    ensures size { length buffer.new ≡ length buffer.old }
+    ensures fits { IfOk result (λ count. at + count ≤ length buffer.new) }
+    ensures bytes { ReadsAt (R.remaining reader.old) (R.remaining reader.new)
+        (drop at buffer.new) result }
+    ensures told { Grows (L.uses line.old) (L.uses line.new)
+        (asked (length (drop at buffer.old)) (came_of (drop at buffer.new) result) ∷ []) }
+{
+    line.read(reader, &mut buffer[at..])
+}
+
+// The same into a vector.
+fn read_into<L: Line<R, W>, R: Read, W: Write>(
+    line: &mut L,
+    reader: &mut R,
+    buffer: &mut Vec<u8>,
+    at: usize,
+) -> io::Result<usize>
+    requires { at < vec_len buffer.old }
+    ensures front { take at buffer.new.items ≡ take at buffer.old.items }
+    ensures size { vec_len buffer.new ≡ vec_len buffer.old }
+    ensures fits { IfOk result (λ count. at + count ≤ vec_len buffer.new) }
+    ensures bytes { ReadsAt (R.remaining reader.old) (R.remaining reader.new)
+        (drop at buffer.new.items) result }
+    ensures told { Grows (L.uses line.old) (L.uses line.new)
+        (asked (length (drop at buffer.old.items)) (came_of (drop at buffer.new.items) result) ∷ []) }
+{
+    read_at(line, reader, buffer.as_mut_slice(), at)
+}
+
+// Reads at most as many bytes as wanted behind the buffer.
+fn read_behind<L: Line<R, W>, R: Read, W: Write>(
+    line: &mut L,
+    reader: &mut R,
+    buffer: &mut Vec<u8>,
+    wanted: usize,
+) -> Result<usize, End>
+    requires some { 0 < wanted }
+    requires room { vec_len buffer.old + wanted ≤ longest_message }
+    ensures read { IsRead (L.uses line.old) (L.uses line.new) (R.remaining reader.old)
+        (R.remaining reader.new) wanted buffer.old.items buffer.new.items result }
+    ensures within { vec_len buffer.new ≤ longest_message }
+{
+    let filled = buffer.len();
+    let room = wanted.min(READ_AT_ONCE);
+    if buffer.resize(filled + room, 0).is_err() {
+        return Err(End::Memory);
+    }
+    match read_into(line, reader, buffer, filled) {
+        Ok(count) => {
+            buffer.truncate(filled + count);
+            Ok(count)
+        }
+        Err(_) => {
+            buffer.truncate(filled);
+            Err(End::ReadFault)
+        }
+    }
+}
