@@ -18,116 +18,6 @@ use crate::wants::Wants;
 use std::alloc::Global;
 use std::io::{Read, Write};
 
-// How much of an input was answered, and what is awaited of the rest.
-#[derive(Clone, Copy)]
-pub(crate) struct Awaiting {
-    pub(crate) len: usize,
-    pub(crate) wants: Wants,
-}
-
-// Answers one message, and writes the reply.
-fn answer_one<O, S: Service<O>, L: Line<R, W>, R: Read, W: Write, C: Clock>(
-    service: &S,
-    alloc: Global,
-    office: &mut O,
-    clock: &mut C,
-    line: &mut L,
-    writer: &mut W,
-    message: &Received<'_>,
-) -> Result<(), End>
-    ensures { ReplyIsWritten S.step (office.old, C.answers clock.old) (office.new, C.answers clock.new)
-        (W.contents writer.old, L.uses line.old) (W.contents writer.new, L.uses line.new)
-        (message_of message.now) result }
-{
-    match service.answer(alloc, office, clock, message) {
-        Ok(reply) => line.send(writer, &reply),
-        Err(_) => Err(End::Memory),
-    }
-}
-
-// Writes the reply to a message that is refused.
-fn refuse<O, S: Service<O>, L: Line<R, W>, R: Read, W: Write>(
-    service: &S,
-    alloc: Global,
-    line: &mut L,
-    writer: &mut W,
-    fault: MessageFault,
-) -> End
-    ensures { RefusalIsWritten (W.contents writer.old, L.uses line.old)
-        (W.contents writer.new, L.uses line.new) (S.refusal fault) result }
-{
-    match service.refuse(alloc, fault) {
-        Ok(text) => match line.send(writer, &text) {
-            Ok(()) => End::BadMessage,
-            Err(end) => end,
-        },
-        Err(_) => End::Memory,
-    }
-}
-
-// Answers all whole messages at the front of an input, in order, each by a reply that is written
-// before the next one is looked at.
-fn answer_all<O, S: Service<O>, L: Line<R, W>, R: Read, W: Write, C: Clock>(
-    service: &S,
-    alloc: Global,
-    office: &mut O,
-    clock: &mut C,
-    line: &mut L,
-    writer: &mut W,
-    input: &[u8],
-) -> Result<Awaiting, End>
-    ensures { RepliesAreWritten S.step S.refusal (office.old, C.answers clock.old)
-        (office.new, C.answers clock.new) (W.contents writer.old, L.uses line.old)
-        (W.contents writer.new, L.uses line.new) input.now result }
-{
-    let mut len = 0;
-    'messages: loop {
-        let wants = match next_of(&input[len..]) {
-            Next::Whole(message) => {
-                if let Err(end) = answer_one(
-                    service, alloc, office, clock, line, writer, &message,
-                ) {
-                    return Err(end);
-                }
-                if message.closes {
-                    return Err(End::Closed);
-                }
-                len += message.len;
-                continue;
-            }
-            Next::Refused(fault) => return Err(refuse(service, alloc, line, writer, fault)),
-            Next::NeedHead => Wants::Head(MAX_HEAD - (input.len() - len)),
-            Next::NeedBody(missing) => Wants::Body(missing),
-        };
-        return Ok(Awaiting { len, wants });
-    }
-}
-
-// How the conversation ends where the input ended, and this is left and awaited of it.
-fn finish<O, S: Service<O>, L: Line<R, W>, R: Read, W: Write>(
-    service: &S,
-    alloc: Global,
-    line: &mut L,
-    writer: &mut W,
-    rest: &[u8],
-    wants: Wants,
-) -> End
-    requires { IsAwaited rest.now wants }
-    ensures { IsOver S.refusal rest.now (W.contents writer.old, L.uses line.old)
-        (W.contents writer.new, L.uses line.new) result }
-{
-    match wants {
-        Wants::Head(_) if !rest.is_empty() => refuse(
-            service,
-            alloc,
-            line,
-            writer,
-            MessageFault::Head,
-        ),
-        _ => End::Closed,
-    }
-}
-
 /// Holds the conversation of a reader and a writer: answers each message that is read, in order, by
 /// a reply that is written before more is asked for, until one of them ends it. While it awaits a head
 /// it asks for at most `MAX_HEAD` bytes of it in all, and while it awaits a body for what that lacks;
@@ -175,4 +65,114 @@ pub fn run<O, S: Service<O>, L: Line<R, W>, R: Read, W: Write, C: Clock>(
         }
     }
     End::ReadFault
+}
+
+// How much of an input was answered, and what is awaited of the rest.
+#[derive(Clone, Copy)]
+pub(crate) struct Awaiting {
+    pub(crate) len: usize,
+    pub(crate) wants: Wants,
+}
+
+// Answers all whole messages at the front of an input, in order, each by a reply that is written
+// before the next one is looked at.
+fn answer_all<O, S: Service<O>, L: Line<R, W>, R: Read, W: Write, C: Clock>(
+    service: &S,
+    alloc: Global,
+    office: &mut O,
+    clock: &mut C,
+    line: &mut L,
+    writer: &mut W,
+    input: &[u8],
+) -> Result<Awaiting, End>
+    ensures { RepliesAreWritten S.step S.refusal (office.old, C.answers clock.old)
+        (office.new, C.answers clock.new) (W.contents writer.old, L.uses line.old)
+        (W.contents writer.new, L.uses line.new) input.now result }
+{
+    let mut len = 0;
+    'messages: loop {
+        let wants = match next_of(&input[len..]) {
+            Next::Whole(message) => {
+                if let Err(end) = answer_one(
+                    service, alloc, office, clock, line, writer, &message,
+                ) {
+                    return Err(end);
+                }
+                if message.closes {
+                    return Err(End::Closed);
+                }
+                len += message.len;
+                continue;
+            }
+            Next::Refused(fault) => return Err(refuse(service, alloc, line, writer, fault)),
+            Next::NeedHead => Wants::Head(MAX_HEAD - (input.len() - len)),
+            Next::NeedBody(missing) => Wants::Body(missing),
+        };
+        return Ok(Awaiting { len, wants });
+    }
+}
+
+// Answers one message, and writes the reply.
+fn answer_one<O, S: Service<O>, L: Line<R, W>, R: Read, W: Write, C: Clock>(
+    service: &S,
+    alloc: Global,
+    office: &mut O,
+    clock: &mut C,
+    line: &mut L,
+    writer: &mut W,
+    message: &Received<'_>,
+) -> Result<(), End>
+    ensures { ReplyIsWritten S.step (office.old, C.answers clock.old) (office.new, C.answers clock.new)
+        (W.contents writer.old, L.uses line.old) (W.contents writer.new, L.uses line.new)
+        (message_of message.now) result }
+{
+    match service.answer(alloc, office, clock, message) {
+        Ok(reply) => line.send(writer, &reply),
+        Err(_) => Err(End::Memory),
+    }
+}
+
+// Writes the reply to a message that is refused.
+fn refuse<O, S: Service<O>, L: Line<R, W>, R: Read, W: Write>(
+    service: &S,
+    alloc: Global,
+    line: &mut L,
+    writer: &mut W,
+    fault: MessageFault,
+) -> End
+    ensures { RefusalIsWritten (W.contents writer.old, L.uses line.old)
+        (W.contents writer.new, L.uses line.new) (S.refusal fault) result }
+{
+    match service.refuse(alloc, fault) {
+        Ok(text) => match line.send(writer, &text) {
+            Ok(()) => End::BadMessage,
+            Err(end) => end,
+        },
+        Err(_) => End::Memory,
+    }
+}
+
+// How the conversation ends where the input ended, and this is left and awaited of it.
+fn finish<O, S: Service<O>, L: Line<R, W>, R: Read, W: Write>(
+    service: &S,
+    alloc: Global,
+    line: &mut L,
+    writer: &mut W,
+    rest: &[u8],
+    wants: Wants,
+) -> End
+    requires { IsAwaited rest.now wants }
+    ensures { IsOver S.refusal rest.now (W.contents writer.old, L.uses line.old)
+        (W.contents writer.new, L.uses line.new) result }
+{
+    match wants {
+        Wants::Head(_) if !rest.is_empty() => refuse(
+            service,
+            alloc,
+            line,
+            writer,
+            MessageFault::Head,
+        ),
+        _ => End::Closed,
+    }
 }

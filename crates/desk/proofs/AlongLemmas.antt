@@ -7,11 +7,11 @@ use Rattle.vend_core.specs.declared.answer.Answer.{Answer}
 use Rattle.vend_core.specs.declared.refusal.Refusal.{Refusal}
 use Rattle.vend_core.specs.declared.request.Request.{Request}
 use Rattle.vend_core.specs.declared.request.Stamped.{Stamped}
+use Rattle.conversation.specs.Exchanges.{MessageExchange, Exchanged, Timed, timed}
+use Rattle.conversation.specs.message.Messages.{Message}
 use Rattle.desk.specs.Along.{AreAsked}
 use Rattle.desk.specs.Answering.{answers_by, life_serves}
-use Rattle.conversation.specs.Exchanges.{MessageExchange, Exchanged, Timed, timed}
 use Rattle.desk.specs.Meaning.{MessageAsks}
-use Rattle.conversation.specs.message.Messages.{Message}
 use Rattle.desk.specs.reply.Text.{reply_bytes_of}
 use Rattle.desk.specs.declared.reply.form.Form.{Form}
 

@@ -7,11 +7,11 @@ use Rattle.std.proofs.lemmas.List.Sums.{fold_more}
 use Rattle.matchit.specs.Route.{Scan, parse_route}
 use Rattle.matchit.specs.Router.{InsertsRead}
 use Rattle.matchit.specs.declared.error.InsertError.{InsertError}
+use Rattle.conversation.specs.declared.message.method.Method.{Method}
 use Rattle.desk.specs.declared.desk_fault.DeskFault.{DeskFault}
 use Rattle.desk.specs.declared.desk_fault.DeskFault.TheVariants as faults
 use Rattle.desk.specs.declared.route.endpoint.Endpoint.{Endpoint}
 use Rattle.desk.specs.declared.route.endpoint.Endpoint.TheVariants.{Tariffs}
-use Rattle.conversation.specs.declared.message.method.Method.{Method}
 use Rattle.desk.specs.declared.route.Route.{Route}
 use Rattle.desk.specs.declared.route.Route.TheVariants.{AddTariff, AddSteps, AddMeter, SetTariff, MoveBase, OpenShift, CloseShift, ShiftReport, Sell, Reprint, Receipt, ImportMeters, ImportTariffs}
 use Rattle.desk.specs.route.Endpoint.{Table, endpoints, endpoint_method, pattern_of, with_endpoint, with_pattern}

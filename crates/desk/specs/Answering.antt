@@ -9,13 +9,13 @@ use Rattle.vend_core.specs.declared.refusal.Refusal.{Refusal}
 use Rattle.vend_core.specs.declared.refusal.Refusal.TheVariants.{Stopped}
 use Rattle.vend_core.specs.declared.request.Request.{Request}
 use Rattle.vend_core.specs.declared.request.Stamped.{Stamped}
-use Rattle.desk.specs.declared.reply.form.Form.{Form}
 use Rattle.conversation.specs.declared.message.message_fault.MessageFault.{MessageFault}
+use Rattle.conversation.specs.Exchanges.{MessageExchange}
+use Rattle.conversation.specs.message.Messages.{Message}
+use Rattle.desk.specs.declared.reply.form.Form.{Form}
 use Rattle.desk.specs.declared.reply.outcome.Outcome.{Outcome}
 use Rattle.desk.specs.declared.reply.outcome.Outcome.TheVariants.{Refused, Replied}
-use Rattle.conversation.specs.Exchanges.{MessageExchange}
 use Rattle.desk.specs.Meaning.{MessageAsks, IsIdle}
-use Rattle.conversation.specs.message.Messages.{Message}
 use Rattle.desk.specs.reply.Text.{reply_bytes_of}
 
 -- How an office serves: at a moment a request gets a reply, between the office before it and the

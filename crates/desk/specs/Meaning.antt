@@ -5,6 +5,7 @@ use Rattle.std.specs.Prelude.{◌≡◌, ◌≢◌, ℕ, ℤ, pos, Option, None,
 use Rattle.sts_fields.specs.Moment.{IsMoment}
 use Rattle.vend_core.specs.declared.refusal.Refusal.TheVariants.{ImportRow}
 use Rattle.vend_core.specs.declared.request.Request.{Request}
+use Rattle.conversation.specs.message.Messages.{Message}
 use Rattle.desk.specs.declared.body_fault.BodyFault.TheVariants.{OutsideRule, Row}
 use Rattle.desk.specs.declared.desk_fault.DeskFault.{DeskFault}
 use Rattle.desk.specs.declared.desk_fault.DeskFault.TheVariants as faults
@@ -17,7 +18,6 @@ use Rattle.desk.specs.declared.reply.outcome.Outcome.TheVariants.{Faulty, Replie
 use Rattle.desk.specs.declared.route.Route.{Route}
 use Rattle.desk.specs.declared.route.Route.TheVariants.{AddTariff, AddSteps, AddMeter, SetTariff, MoveBase, OpenShift, CloseShift, ShiftReport, Sell, Reprint, Receipt, ImportMeters, ImportTariffs}
 use Rattle.desk.specs.Asking.{BodyAsks}
-use Rattle.conversation.specs.message.Messages.{Message}
 use Rattle.desk.specs.route.Route.{IsRouted}
 
 -- the form in which a route tells a sale: a receipt is a paper

@@ -4,11 +4,11 @@ ghost use Rattle.vend_core.specs.LifeLaws.{extended_along};
 ghost use Rattle.vend_core.specs.declared.answer.Answer.{Answer};
 ghost use Rattle.vend_core.specs.declared.refusal.Refusal.{Refusal};
 ghost use Rattle.vend_core.specs.declared.request.Stamped.{Stamped};
-ghost use Rattle.desk.specs.Along.{AreAsked};
-ghost use Rattle.desk.specs.Answering.{answers_by, life_serves};
 ghost use Rattle.conversation.specs.Conversation.{messages_of};
 ghost use Rattle.conversation.specs.Exchanges.{Exchanged, MessageExchange, Timed, timed};
 ghost use Rattle.conversation.specs.message.Messages.{Ending, Message, Messages, Stop};
+ghost use Rattle.desk.specs.Along.{AreAsked};
+ghost use Rattle.desk.specs.Answering.{answers_by, life_serves};
 ghost use Rattle.desk.specs.OneConversation.{HasOneMeaning, IsOneConversation, moments_of};
 
 use crate::asking::asking_law;

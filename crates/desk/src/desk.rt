@@ -3,12 +3,12 @@ ghost use Rattle.sqlite.specs.State.{HasCleanDisk};
 ghost use Rattle.vend_core.specs.Life.{Life};
 ghost use Rattle.books.specs.Keeps.{Represents, seen};
 ghost use Rattle.books.specs.Others.{LeavesOthers};
-ghost use Rattle.desk.specs.Answering.{answers_by, books_serve, life_serves, message_refusal_of};
 ghost use Rattle.conversation.specs.Exchanges.{ReadsClock};
-ghost use Rattle.desk.specs.Meaning.{IsMeaning};
 ghost use Rattle.conversation.specs.message.Next.{message_of};
 ghost use Rattle.conversation.specs.Run.{IsRun};
 ghost use Rattle.conversation.specs.Uses.{EndsBy, Grows, IsPaced, Use};
+ghost use Rattle.desk.specs.Answering.{answers_by, books_serve, life_serves, message_refusal_of};
+ghost use Rattle.desk.specs.Meaning.{IsMeaning};
 
 use crate::meaning::{Meaning, meaning_at};
 use crate::reply::outcome::Outcome;

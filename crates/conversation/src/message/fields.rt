@@ -15,13 +15,6 @@ pub(crate) enum Only<'a> {
     Several,
 }
 
-// Whether the bytes are the same, but for the case of ASCII letters.
-fn is_same(a: &[u8], b: &[u8]) -> bool
-    ensures { result ≡ str_eq_ignore_ascii_case a.now b.now }
-{
-    a.eq_ignore_ascii_case(b)
-}
-
 // The value of the field of this name, if there is one and no other.
 pub(crate) fn only_value<'a>(input: &'a [u8], spans: &[HeaderSpan], name: &[u8]) -> Only<'a>
     requires { All (IsHeaderWithin (length input.now)) spans.now }
@@ -53,4 +46,11 @@ pub(crate) fn asks_to_close(input: &[u8], spans: &[HeaderSpan]) -> bool
         }
     }
     false
+}
+
+// Whether the bytes are the same, but for the case of ASCII letters.
+fn is_same(a: &[u8], b: &[u8]) -> bool
+    ensures { result ≡ str_eq_ignore_ascii_case a.now b.now }
+{
+    a.eq_ignore_ascii_case(b)
 }

@@ -23,6 +23,32 @@ pub struct Framing {
     pub closes: bool,
 }
 
+// What a head says, from its method, its minor version and its fields, or its first fault.
+#[tactic(auto, unfolding(crate::specs::message::Framing::framing))]
+pub(crate) fn framing_of(
+    method: &[u8],
+    minor: u8,
+    input: &[u8],
+    spans: &[HeaderSpan],
+) -> Result<Framing, MessageFault>
+    requires { All (IsHeaderWithin (length input.now)) spans.now }
+    ensures { result ≡ framing method.now minor (fields_at input.now spans.now) }
+{
+    let method = method_of(method)?;
+    if !names_its_host(minor, input, spans) {
+        return Err(MessageFault::Host);
+    }
+    if !is_uncoded(input, spans) {
+        return Err(MessageFault::Coding);
+    }
+    let body = body_len(input, spans)?;
+    Ok(Framing {
+        method,
+        body,
+        closes: minor == 0 || asks_to_close(input, spans),
+    })
+}
+
 // The desk's method of this name.
 fn method_of(name: &[u8]) -> Result<Method, MessageFault>
     ensures { result ≡ method_of name.now }
@@ -32,36 +58,6 @@ fn method_of(name: &[u8]) -> Result<Method, MessageFault>
         b"POST" => Ok(Method::Post),
         _ => Err(MessageFault::Method),
     }
-}
-
-fn are_digits(value: &[u8]) -> bool
-    ensures { result ≡ list_all is_ascii_digit value.now }
-{
-    value.iter().all(|byte| byte.is_ascii_digit())
-}
-
-// Whether the value is one or more digits.
-fn is_number(value: &[u8]) -> bool
-    ensures { result ≡ is_number value.now }
-{
-    !value.is_empty() && are_digits(value)
-}
-
-// The length of a body that the value writes. It is compared as a number, leading zeros and all.
-fn length_of(value: &[u8]) -> Result<usize, MessageFault>
-    ensures { result ≡ length_of value.now }
-{
-    if !is_number(value) {
-        return Err(MessageFault::Length);
-    }
-    let mut length = 0;
-    for digit in value {
-        length = length * 10 + usize::from(*digit - b'0');
-        if length > MAX_BODY {
-            return Err(MessageFault::Body);
-        }
-    }
-    Ok(length)
 }
 
 // Whether a message of HTTP/1.1 has exactly one `Host` field.
@@ -93,28 +89,32 @@ fn body_len(input: &[u8], spans: &[HeaderSpan]) -> Result<usize, MessageFault>
     }
 }
 
-// What a head says, from its method, its minor version and its fields, or its first fault.
-#[tactic(auto, unfolding(crate::specs::message::Framing::framing))]
-pub(crate) fn framing_of(
-    method: &[u8],
-    minor: u8,
-    input: &[u8],
-    spans: &[HeaderSpan],
-) -> Result<Framing, MessageFault>
-    requires { All (IsHeaderWithin (length input.now)) spans.now }
-    ensures { result ≡ framing method.now minor (fields_at input.now spans.now) }
+// The length of a body that the value writes. It is compared as a number, leading zeros and all.
+fn length_of(value: &[u8]) -> Result<usize, MessageFault>
+    ensures { result ≡ length_of value.now }
 {
-    let method = method_of(method)?;
-    if !names_its_host(minor, input, spans) {
-        return Err(MessageFault::Host);
+    if !is_number(value) {
+        return Err(MessageFault::Length);
     }
-    if !is_uncoded(input, spans) {
-        return Err(MessageFault::Coding);
+    let mut length = 0;
+    for digit in value {
+        length = length * 10 + usize::from(*digit - b'0');
+        if length > MAX_BODY {
+            return Err(MessageFault::Body);
+        }
     }
-    let body = body_len(input, spans)?;
-    Ok(Framing {
-        method,
-        body,
-        closes: minor == 0 || asks_to_close(input, spans),
-    })
+    Ok(length)
+}
+
+// Whether the value is one or more digits.
+fn is_number(value: &[u8]) -> bool
+    ensures { result ≡ is_number value.now }
+{
+    !value.is_empty() && are_digits(value)
+}
+
+fn are_digits(value: &[u8]) -> bool
+    ensures { result ≡ list_all is_ascii_digit value.now }
+{
+    value.iter().all(|byte| byte.is_ascii_digit())
 }

@@ -35,6 +35,13 @@ pub fn next_of(input: &[u8]) -> Next<'_>
     }
 }
 
+/// Two readings of one input are one: it has the same messages however it is read, and they end
+/// alike. Where its reader failed before a head, and none could have followed, either may be told.
+pub fn message_law()
+    ensures { (stop : Stop) (input : List ℕ) (ms ns : List Message) (e f : Ending)
+        → Messages stop input ms e → Messages stop input ns f → (ms ≡ ns) × AgreeBy stop e f }
+{}
+
 // The same of an input that begins with a head.
 fn next_after<'b>(input: &'b [u8], spans: RequestSpans, fields: &[HeaderSpan]) -> Next<'b>
     requires { IsHeadAt input.now fields.now spans }
@@ -58,10 +65,3 @@ fn next_after<'b>(input: &'b [u8], spans: RequestSpans, fields: &[HeaderSpan]) -
         len: spans.len + framing.body,
     })
 }
-
-/// Two readings of one input are one: it has the same messages however it is read, and they end
-/// alike. Where its reader failed before a head, and none could have followed, either may be told.
-pub fn message_law()
-    ensures { (stop : Stop) (input : List ℕ) (ms ns : List Message) (e f : Ending)
-        → Messages stop input ms e → Messages stop input ns f → (ms ≡ ns) × AgreeBy stop e f }
-{}

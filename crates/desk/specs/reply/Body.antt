@@ -2,13 +2,13 @@
 use Rattle.std.specs.Prelude.{ℕ, true, List, [], ◌∷◌, codes, Ok, Err}
 use Rattle.std.specs.Str.Lossy.{utf8_lossy}
 use Rattle.serde_json.specs.Data.{boolean, string}
+use Rattle.conversation.specs.message.MessageFault.{message_fault_word}
 use Rattle.desk.specs.declared.reply.form.Form.{Form}
 use Rattle.desk.specs.declared.reply.form.Form.TheVariants.{Json, Paper}
 use Rattle.desk.specs.declared.reply.outcome.Outcome.{Outcome}
 use Rattle.desk.specs.declared.reply.outcome.Outcome.TheVariants.{Refused, Faulty, Replied}
 use Rattle.desk.specs.DeskFault.{desk_fault_word}
 use Rattle.desk.specs.reply.Members.{Pair, json_text, whole_number}
-use Rattle.conversation.specs.message.MessageFault.{message_fault_word}
 use Rattle.papers.specs.Receipt.{receipt_of}
 use Rattle.papers.specs.Report.{report_of}
 use Rattle.papers.specs.Text.{change_of}

@@ -1,15 +1,15 @@
 -- What the heads of replies say.
 use Rattle.std.specs.Prelude.{ℕ, Bool, true, Option, None, Some, Ok, Err}
+use Rattle.conversation.specs.declared.message.method.Method.{Method}
+use Rattle.conversation.specs.message.MessageFault.{message_fault_status}
 use Rattle.desk.specs.declared.desk_fault.DeskFault.{DeskFault}
 use Rattle.desk.specs.declared.desk_fault.DeskFault.TheVariants as faults
 use Rattle.desk.specs.declared.reply.form.Form.{Form}
 use Rattle.desk.specs.declared.reply.form.Form.TheVariants.{Json, Paper}
-use Rattle.conversation.specs.declared.message.method.Method.{Method}
 use Rattle.desk.specs.declared.reply.outcome.Outcome.{Outcome}
 use Rattle.desk.specs.declared.reply.outcome.Outcome.TheVariants.{Refused, Faulty, Replied}
 use Rattle.desk.specs.declared.reply.head.ReplyHead.{ReplyHead}
 use Rattle.desk.specs.DeskFault.{desk_fault_status}
-use Rattle.conversation.specs.message.MessageFault.{message_fault_status}
 use Rattle.vend_core.specs.declared.answer.Answer.{Answer}
 use Rattle.vend_core.specs.declared.answer.Answer.TheVariants.{Done, Imported, Opened, Closed, Sold, Reprinted, Report}
 use Rattle.vend_core.specs.declared.refusal.Refusal.{Refusal}

@@ -15,18 +15,6 @@ pub(crate) enum Member<'a> {
     Text(&'a [u8]),
 }
 
-// The value of a member, as `serde_json` has it.
-fn value_of(alloc: Global, member: &Member<'_>) -> Result<Value, AllocError>
-    ensures { IfOk result (λ value. view value ≡ data_of member.now) }
-{
-    match member {
-        Member::Truth(holds) => Ok(Value::from(*holds)),
-        Member::Number(number) => Ok(Value::from(*number)),
-        Member::Word(word) => Value::try_from_str(alloc, word),
-        Member::Text(text) => Ok(Value::from(String::from_utf8_lossy(alloc, text)?)),
-    }
-}
-
 // The text of the object with these members.
 pub(crate) fn object_text(
     alloc: Global,
@@ -39,4 +27,16 @@ pub(crate) fn object_text(
         serde_json::put(&mut map, alloc, name, value_of(alloc, member)?)?;
     }
     Value::from(map).to_vec(alloc)
+}
+
+// The value of a member, as `serde_json` has it.
+fn value_of(alloc: Global, member: &Member<'_>) -> Result<Value, AllocError>
+    ensures { IfOk result (λ value. view value ≡ data_of member.now) }
+{
+    match member {
+        Member::Truth(holds) => Ok(Value::from(*holds)),
+        Member::Number(number) => Ok(Value::from(*number)),
+        Member::Word(word) => Value::try_from_str(alloc, word),
+        Member::Text(text) => Ok(Value::from(String::from_utf8_lossy(alloc, text)?)),
+    }
 }

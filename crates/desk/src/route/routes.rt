@@ -1,10 +1,10 @@
 ghost use Rattle.std.specs.Prelude.{◌≡◌, ℕ, List, Result};
+ghost use Rattle.conversation.specs.declared.message.method.Method.{Method};
 ghost use Rattle.desk.specs.route.Endpoint.{table};
 ghost use Rattle.desk.specs.Reads.{IsFound};
 ghost use Rattle.desk.specs.route.Route.{Finds, IsRouted, Names, endpoint_of};
 ghost use Rattle.desk.specs.declared.desk_fault.DeskFault.{DeskFault};
 ghost use Rattle.desk.specs.declared.route.endpoint.Endpoint.{Endpoint};
-ghost use Rattle.conversation.specs.declared.message.method.Method.{Method};
 ghost use Rattle.desk.specs.declared.route.Route.{Route};
 
 use crate::desk_fault::DeskFault;
