@@ -1,4 +1,3 @@
-pub mod BufferLemmas
 pub mod EndLemmas
 pub mod FieldLemmas
 pub mod FollowLemmas

@@ -1,5 +1,5 @@
 -- What is awaited of an input.
-use Rattle.std.specs.Prelude.{◌≡◌, ℕ, ◌+◌, List, length}
+use Rattle.std.specs.Prelude.{◌≡◌, ℕ, ◌+◌, List, ◌++◌, length, Option, IfSome}
 use Rattle.conversation.specs.declared.wants.Wants.{Wants}
 use Rattle.conversation.specs.declared.wants.Wants.TheVariants.{Head, Body}
 use Rattle.conversation.specs.message.Heads.{AwaitsHead, longest_head}
@@ -14,3 +14,9 @@ count_of (Body count) = count
 abbrev pub IsAwaited : List ℕ → Wants → Type 0
 IsAwaited rest (Head count) = AwaitsHead rest × (length rest + count ≡ longest_head)
 IsAwaited rest (Body count) = LacksBody rest count
+
+-- whatever is left, where so many bytes came behind it this is awaited, if it is told
+abbrev pub StaysAwaited : Wants → ℕ → Option Wants → Type 0
+StaysAwaited wants count result =
+    (rest bytes : List ℕ) → IsAwaited rest wants → length bytes ≡ count
+    → IfSome result (λ left. IsAwaited (rest ++ bytes) left)

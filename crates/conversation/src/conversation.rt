@@ -45,7 +45,12 @@ pub fn run<O, S: Service<O>, L: Line<R, W>, R: Read, W: Write, C: Clock>(
     'reads: for made in 0..u64::MAX {
         match unanswered.read_more(line, reader, wants.count()) {
             Ok(0) => return finish(service, alloc, line, writer, unanswered.as_slice(), wants),
-            Ok(_) => {}
+            Ok(count) => {
+                if let Some(left) = wants.after(count) {
+                    wants = left;
+                    continue 'reads;
+                }
+            }
             Err(end) => return end,
         }
         match answer_all(

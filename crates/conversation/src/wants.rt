@@ -1,5 +1,5 @@
 ghost use Rattle.std.specs.Prelude.{◌≡◌};
-ghost use Rattle.conversation.specs.Wants.{count_of};
+ghost use Rattle.conversation.specs.Wants.{StaysAwaited, count_of};
 
 /// What is awaited of an input, and how many bytes of it may be asked for.
 #[derive(Clone, Copy, Debug, PartialEq, Eq)]
@@ -17,6 +17,16 @@ impl Wants {
     {
         match self {
             Wants::Head(count) | Wants::Body(count) => count,
+        }
+    }
+    // What is still awaited of a body where so many bytes of it came, and not all: that needs no look
+    // at them, nor at the head again.
+    pub(crate) fn after(self, count: usize) -> Option<Wants>
+        ensures { StaysAwaited self count result }
+    {
+        match self {
+            Wants::Body(missing) if count < missing => Some(Wants::Body(missing - count)),
+            _ => None,
         }
     }
 }

@@ -7,6 +7,7 @@ use Rattle.conversation.specs.declared.wants.Wants.TheVariants.{Head}
 use Rattle.conversation.proofs.EndLemmas.{bytes_after, bytes_here_after, run_early, run_here}
 use Rattle.conversation.proofs.ProgressLemmas.{progress_none}
 use Rattle.conversation.proofs.RunLemmas.{after_read, awaited_fits, awaits_nothing, bytes_of, failed_run, over_end, paced, paced_after, paced_read, read_run, used_none, went_on}
+use Rattle.conversation.proofs.UsesLemmas.{whole_none}
 use Rattle.conversation.proofs.conversation.run.Goals as goal
 
 pub reads-init : goal.reads-init
@@ -76,7 +77,7 @@ returns-in-Err-answer_all-clause-paced g c =
     let step = g.S.Service.step in
     let inv = c.reads.invariant in
     let ends = rw c.as_slice-in-reads.ensures at c.in-Err-answer_all.ensures in
-    paced_after step _ _ _ _ _ _ _ _ _ _ inv.uses c.reads.unanswered.bytes.items _ c.reads.wants _ c.in-Ok.field-0 c.count.ensures
+    paced_after step _ _ _ _ _ _ _ _ _ _ inv.uses c.reads.unanswered.bytes.items _ c.reads.wants _ c.in-Ok.count c.count.ensures
     inv.used inv.still_open inv.progress inv.awaited c.in-Ok.ensures c.in-Err-answer_all.end _ _ ends.0 ends.1
 
 pub reads-preserved : goal.reads-preserved
@@ -85,14 +86,31 @@ reads-preserved g c =
     let inv = c.reads.invariant in
     let more = rw c.as_slice-in-reads.ensures at c.in-Ok-answer_all.ensures in
     let rest = sym c.drop_front.ensures in
-    let on = went_on step _ _ _ _ _ _ _ _ _ _ inv.uses c.reads.unanswered.bytes.items _ c.reads.wants _ c.in-Ok.field-0 c.count.ensures
-    inv.used inv.still_open inv.progress inv.awaited c.in-Ok.ensures _ _ more.0 _ _ c.in-Ok.field-0-test.1 more.1 more.3 in
+    let on = went_on step _ _ _ _ _ _ _ _ _ _ inv.uses c.reads.unanswered.bytes.items _ c.reads.wants _ c.in-Ok.count c.count.ensures
+    inv.used inv.still_open inv.progress inv.awaited c.in-Ok.ensures _ _ more.0 _ _ c.in-Ok.count-test.1 more.1 more.3 in
     record {
       uses = on.0;
       used = on.1;
       still_open = on.2;
       progress = rw (← rest) on.3;
       awaited = subst (λ left. IsAwaited left c.in-Ok-answer_all.awaiting.wants) rest more.4;
+      counted = omega (arith, inv.counted, on.4);
+    }
+
+pub reads-preserved-in-Some : goal.reads-preserved-in-Some
+reads-preserved-in-Some g c =
+    let step = g.S.Service.step in
+    let inv = c.reads.invariant in
+    let read = c.in-Ok.ensures in
+    let on = went_on step _ _ _ _ _ _ _ _ _ _ inv.uses c.reads.unanswered.bytes.items _ c.reads.wants _ c.in-Ok.count c.count.ensures
+    inv.used inv.still_open inv.progress inv.awaited read _ _ [] _ _ c.in-Ok.count-test.1 (whole_none _) (progress_none (timed step) c.read_more.new.self.bytes.items _) in
+    let stays = c.in-Some.ensures c.reads.unanswered.bytes.items read.0 inv.awaited read.1 in
+    record {
+      uses = on.0;
+      used = on.1;
+      still_open = on.2;
+      progress = on.3;
+      awaited = subst (λ rest. IsAwaited rest c.in-Some.left) (sym read.2) stays;
       counted = omega (arith, inv.counted, on.4);
     }
 
