@@ -7,13 +7,13 @@ use Rattle.vend_core.specs.declared.decision.answer.Answer.{Answer}
 use Rattle.vend_core.specs.declared.decision.refusal.Refusal.{Refusal}
 use Rattle.vend_core.specs.declared.decision.request.Request.{Request}
 use Rattle.vend_core.specs.declared.decision.request.Stamped.{Stamped}
+use Rattle.conversation.specs.Exchanges.{MessageExchange, Exchanged, Timed, timed}
+use Rattle.conversation.specs.message.Messages.{Message}
 use Rattle.desk.specs.Along.{AreAsked}
 use Rattle.desk.specs.Answering.{answers_by, life_serves}
-use Rattle.desk.specs.Exchanges.{MessageExchange, Exchanged, Timed, timed}
 use Rattle.desk.specs.Meaning.{MessageAsks}
-use Rattle.desk.specs.Messages.{Message}
-use Rattle.desk.specs.Replies.{reply_bytes_of}
-use Rattle.desk.specs.declared.form.Form.{Form}
+use Rattle.desk.specs.reply.Text.{reply_bytes_of}
+use Rattle.desk.specs.declared.reply.form.Form.{Form}
 
 along_none : (life : Life) → life ≡ extended_along life [] []
 along_none life = sym (ap (λ es. record life { exchanges = es }) (append-nil life.exchanges))

@@ -9,8 +9,8 @@ use Rattle.std.proofs.lemmas.Bool.Decides.{nat_tests}
 use Rattle.std.proofs.lemmas.List.{get_or_past}
 use Rattle.std.proofs.lemmas.Str.{IsUtf8-from_ascii, utf8_lossy-IsUtf8}
 use Rattle.serde_json.specs.Data.{string}
-use Rattle.desk.specs.Members.{Pair, whole_number}
-use Rattle.desk.specs.ReplyBody.{sale_members}
+use Rattle.desk.specs.reply.Members.{Pair, whole_number}
+use Rattle.desk.specs.reply.Body.{sale_members}
 use Rattle.papers.specs.Text.{change_of}
 use Rattle.sts_fields.specs.Base.{year_of}
 use Rattle.vend_core.specs.Name.{IsMeterNo, IsName, IsOperator, is_name_byte}

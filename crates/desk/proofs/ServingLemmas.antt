@@ -13,20 +13,20 @@ use Rattle.books.specs.Asking.{IsAsked, Replies, ReplyAt}
 use Rattle.books.specs.Keeps.{Represents, Seen}
 use Rattle.books.specs.Others.{LeavesOthers}
 use Rattle.books.proofs.OthersLemmas.{kept_tables, others_same, others_then}
+use Rattle.conversation.specs.Exchanges.{MessageExchange, GaveUp, ReadsClock, Timed, timed}
+use Rattle.conversation.specs.message.Messages.{Message}
+use Rattle.conversation.specs.Run.{IsRun}
+use Rattle.conversation.specs.declared.end.End.{End}
+use Rattle.conversation.specs.declared.message.message_fault.MessageFault.{MessageFault}
+use Rattle.conversation.proofs.FollowLemmas.{Follows, run_along, run_well}
 use Rattle.desk.specs.Answering.{Comes, Serving, answers_by, books_serve, life_serves}
-use Rattle.desk.specs.Exchanges.{MessageExchange, GaveUp, ReadsClock, Timed, timed}
 use Rattle.desk.specs.Meaning.{IsIdle, IsMeaning}
-use Rattle.desk.specs.Messages.{Message}
-use Rattle.desk.specs.Replies.{reply_bytes_of}
-use Rattle.desk.specs.Run.{IsRun}
-use Rattle.desk.specs.declared.end.End.{End}
-use Rattle.desk.specs.declared.form.Form.{Form}
+use Rattle.desk.specs.reply.Text.{reply_bytes_of}
+use Rattle.desk.specs.declared.reply.form.Form.{Form}
 use Rattle.desk.specs.declared.meaning.Meaning.{Meaning}
 use Rattle.desk.specs.declared.meaning.Meaning.TheVariants as meanings
-use Rattle.desk.specs.declared.message_fault.MessageFault.{MessageFault}
-use Rattle.desk.specs.declared.outcome.Outcome.{Outcome}
-use Rattle.desk.specs.declared.outcome.Outcome.TheVariants.{Replied}
-use Rattle.desk.proofs.FollowLemmas.{Follows, run_along, run_well}
+use Rattle.desk.specs.declared.reply.outcome.Outcome.{Outcome}
+use Rattle.desk.specs.declared.reply.outcome.Outcome.TheVariants.{Replied}
 
 -- a message asks something, which is served
 pub comes_asked : {O : Type 0} (serves : Serving O) (m : Message) (now : Option ℤ) (meaning : Meaning) (form : Form) (moment : ℕ) (request : Request) (reply : Result Answer Refusal)
