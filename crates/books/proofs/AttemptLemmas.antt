@@ -17,11 +17,14 @@ use Rattle.vend_core.specs.declared.decision.request.Stamped.{Stamped}
 use Rattle.vend_core.specs.declared.office.row.Row.{Row}
 use Rattle.vend_core.specs.declared.office.row.Row.TheVariants as kinds
 use Rattle.vend_core.specs.declared.office.sale.Sale.{Sale}
-use Rattle.books.specs.Keeps.{Stores, Seen}
-use Rattle.books.specs.Same.{ChangesNothing}
-use Rattle.books.specs.Serving.{Commits, HoldsOffice, ServingEnds, IsDecided, MayBeLeft}
-use Rattle.books.proofs.CommitLemmas.{edit_doubted, edit_held}
-use Rattle.books.proofs.StayLemmas.{still_held}
+use Rattle.book_states.specs.Stores.{Stores}
+use Rattle.books.specs.Keeps.{Seen}
+use Rattle.book_states.specs.Same.{ChangesNothing}
+use Rattle.book_requests.specs.Transaction.{Commits, MayBeLeft}
+use Rattle.books.specs.Serving.{HoldsOffice, ServingEnds}
+use Rattle.book_requests.specs.Deciding.{IsDecided}
+use Rattle.book_requests.proofs.CommitLemmas.{edit_doubted, edit_held}
+use Rattle.book_states.proofs.StayLemmas.{still_held}
 
 -- the error of a call, which is handed on
 pub handed_on : {A E : Type 0} (r : Result A E) (e : E) → IsErrAnd r (λ x. x ≡ e) → r ≡ Err e
@@ -34,10 +37,6 @@ rows_add_no_sale [] o = refl
 rows_add_no_sale (kinds.Tariff name steps ∷ rows) o = rows_add_no_sale rows (with_row (kinds.Tariff name steps) o)
 rows_add_no_sale (kinds.Steps name day steps ∷ rows) o = rows_add_no_sale rows (with_row (kinds.Steps name day steps) o)
 rows_add_no_sale (kinds.Meter number m ∷ rows) o = rows_add_no_sale rows (with_row (kinds.Meter number m) o)
-
-pub none_of : {X : Type 0} (x : Option X) → ((y : X) → x ≡ Some y → ⊥) → x ≡ None
-none_of None never = refl
-none_of (Some y) never = absurd (never y refl)
 
 pub next_stays : (edit : Edit) (o : Office) → ((s : Sale) → edit ≡ AddSale s → ⊥) → (applied edit o).sales ≡ o.sales
 next_stays (AddTariff name steps) o none = refl

@@ -7,9 +7,9 @@ use Rattle.sqlite.specs.Held.{Held, state}
 use Rattle.sqlite.specs.Steps.{IsEmpty, over_memory}
 use Rattle.vend_core.specs.Office.{empty_office}
 use Rattle.book_tables.specs.Holds.{IsUntaken, StandsFor}
-use Rattle.books.specs.Keeps.{StoreStandsFor}
-use Rattle.books.specs.declared.fault.OpenFault.{OpenFault}
-use Rattle.books.specs.declared.fault.OpenFault.TheVariants.{NotAnOffice, Store, Memory}
+use Rattle.book_states.specs.Stores.{StoreStandsFor}
+use Rattle.book_opening.specs.declared.fault.OpenFault.{OpenFault}
+use Rattle.book_opening.specs.declared.fault.OpenFault.TheVariants.{NotAnOffice, Store, Memory}
 
 -- a schema with nothing in it
 abbrev pub bare : Schema

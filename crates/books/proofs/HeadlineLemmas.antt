@@ -4,7 +4,8 @@ use Rattle.sqlite_trees.specs.Tree.{Trees}
 use Rattle.vend_core.specs.Law.Life.{AreLives, IsLife, Life, MayLeave, present}
 use Rattle.vend_core.specs.Office.{Office}
 use Rattle.books.specs.Headline.{RepresentTheLast, with_last}
-use Rattle.books.specs.Keeps.{RecoversTo, Seen}
+use Rattle.book_states.specs.Stores.{RecoversTo}
+use Rattle.books.specs.Keeps.{Seen}
 
 module _ (goes_on : (lives : List Life) (life : Life) (o p : Office) → AreLives lives o → IsLife life → life.opening ≡ o → MayLeave life p → AreLives (lives ++ life ∷ []) p)
     (lives : List Life) (life : Life) (books : Seen) (h : RepresentTheLast lives life books) where

@@ -1,21 +1,11 @@
 mod AlongLemmas
 mod AttemptLemmas
-mod BringingLemmas
-mod BroughtLemmas
-mod ChangeLemmas
-mod CommitLemmas
-mod FactsLemmas
-mod FailingLemmas
 mod FreshLemmas
 mod HeadlineLemmas
 mod NothingLemmas
-mod OlderLemmas
 mod OpenedLemmas
-mod OpeningLemmas
 pub mod OthersLemmas
 mod PageLemmas
-mod PassedLemmas
 mod PathLemmas
 mod ReopenLemmas
 mod ServeLemmas
-mod StayLemmas

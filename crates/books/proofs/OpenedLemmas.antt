@@ -8,8 +8,9 @@ use Rattle.vend_core.specs.Law.LifeLaws.{IsRunning, opened}
 use Rattle.vend_core.specs.Office.{Office}
 use Rattle.book_tables.specs.Holds.{HasOffice}
 use Rattle.book_tables.specs.Reading.{HasTables}
-use Rattle.books.specs.Keeps.{Stores, IsRepresented, Seen}
-use Rattle.books.specs.Opening.{OpensAs}
+use Rattle.book_states.specs.Stores.{Stores}
+use Rattle.books.specs.Keeps.{IsRepresented, Seen}
+use Rattle.book_opening.specs.Opening.{OpensAs}
 
 pub keeps_opened : (forward : BlockFunction) (o : Office) (books : Seen) → IsRunning (opened forward o) o → ((p : Office) → MayLeave (opened forward o) p ↔ (p ≡ o)) → forward ≡ books.forward
     → Stores books.state o × (books.next_number ≡ length o.sales + 1) → IsRepresented (opened forward o) books

@@ -9,12 +9,12 @@ use Rattle.sqlite_store.specs.FileStore.{view}
 use Rattle.sqlite_store.specs.declared.store.FileStore.{FileStore}
 use Rattle.sqlite_wal.specs.Recovery.{Image}
 use Rattle.vend_core.specs.Office.{Office}
-use Rattle.books.specs.Keeps.{RecoversTo, StoreStandsFor}
-use Rattle.books.specs.Opening.{LeavesBrought, LeavesRefused, OpensAs}
+use Rattle.book_states.specs.Stores.{RecoversTo, StoreStandsFor}
+use Rattle.book_opening.specs.Opening.{LeavesBrought, LeavesRefused, OpensAs}
 use Rattle.books.specs.Path.{IsConnected, OpensFiles, RefusesConnection, StandsIn}
-use Rattle.books.specs.Same.{IsSame}
-use Rattle.books.specs.declared.fault.OpenFault.{OpenFault}
-use Rattle.books.specs.declared.fault.OpenFault.TheVariants.{NotAnOffice}
+use Rattle.book_states.specs.Same.{IsSame}
+use Rattle.book_opening.specs.declared.fault.OpenFault.{OpenFault}
+use Rattle.book_opening.specs.declared.fault.OpenFault.TheVariants.{NotAnOffice}
 
 -- a connection stands for what its trees stand for
 abbrev pub OpensAgain : (D : Type 0) → (g : Ghosts D) → Type 0

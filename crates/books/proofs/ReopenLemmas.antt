@@ -12,7 +12,7 @@ use Rattle.sqlite.proofs.ListingLemmas.{empty_is_sound}
 use Rattle.sqlite_wal.specs.Recovery.{Image}
 use Rattle.vend_core.specs.Office.{Office, empty_office}
 use Rattle.book_tables.specs.Holds.{IsUntaken, StandsFor}
-use Rattle.books.specs.Keeps.{RecoversTo, StoreStandsFor}
+use Rattle.book_states.specs.Stores.{RecoversTo, StoreStandsFor}
 use Rattle.books.specs.Path.{StandsIn}
 use Rattle.books.proofs.FreshLemmas.{bare, bare_untaken}
 

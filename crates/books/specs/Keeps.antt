@@ -1,6 +1,5 @@
 -- How books keep a life: what their connection has, and what a crash may leave.
-use Rattle.std.specs.Prelude.{◌≡◌, ◌⊎◌, ℕ, ◌+◌, Bool, false, length, IsTrue}
-use Rattle.sqlite.specs.Effect.{Database, IsDatabase}
+use Rattle.std.specs.Prelude.{◌≡◌, ◌⊎◌, ℕ, ◌+◌, Bool, false, length}
 use Rattle.sqlite.specs.Held.{state}
 use Rattle.sqlite.specs.State.{HasCleanDisk, State}
 use Rattle.sqlite_trees.specs.Tree.{Trees}
@@ -9,26 +8,9 @@ use Rattle.sts_token.specs.Token.{BlockFunction}
 use Rattle.vend_core.specs.Law.Life.{IsLife, Life, MayLeave}
 use Rattle.vend_core.specs.Law.LifeLaws.{IsRunning}
 use Rattle.vend_core.specs.Office.{IsOffice, Office}
-use Rattle.book_tables.specs.Holds.{HoldsMembers, StandsFor}
 use Rattle.book_tables.specs.Reading.{HasTables}
+pub use Rattle.book_states.specs.Stores.{RecoversTo, StoreStandsFor, Stores}
 use Rattle.books.specs.declared.books.Books.{Books}
-
--- what a crash leaves stands for the office: a database of these trees does
-abbrev pub RecoversTo : Trees → Office → Type 0
-RecoversTo trees o = (db : Database) × IsDatabase db × (trees ≡ db.trees) × StandsFor db o
-
--- The store stands for the office: so does what an open connection has, and all that a crash may
--- leave.
-pub record StoreStandsFor (s : State) (o : Office) : Type 0 where
-  pub office : IsOffice o
-  pub now : IsTrue s.is_open → StandsFor s.now o
-  pub left : (trees : Trees) → s.may_leave trees → RecoversTo trees o
-
--- The same, and the tables are there.
-pub record Stores (s : State) (o : Office) : Type 0 where
-  pub office : IsOffice o
-  pub members : IsTrue s.is_open → HoldsMembers s.now o
-  pub left : (trees : Trees) → s.may_leave trees → RecoversTo trees o
 
 -- what contracts see of books
 pub record Seen : Type 1 where

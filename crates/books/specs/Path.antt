@@ -13,11 +13,11 @@ use Rattle.sqlite_store.specs.declared.store.FileStore.{FileStore}
 use Rattle.sqlite_trees.specs.Tree.{Trees}
 use Rattle.sqlite_wal.specs.Recovery.{Image}
 use Rattle.vend_core.specs.Office.{Office}
-use Rattle.books.specs.Keeps.{RecoversTo, StoreStandsFor}
-use Rattle.books.specs.Opening.{LeavesBrought, LeavesRefused, OpensAs, fault_of}
-use Rattle.books.specs.Same.{IsSame}
-use Rattle.books.specs.declared.fault.OpenFault.{OpenFault}
-use Rattle.books.specs.declared.fault.OpenFault.TheVariants.{NotAnOffice, Store, Memory}
+use Rattle.book_states.specs.Stores.{RecoversTo, StoreStandsFor}
+use Rattle.book_opening.specs.Opening.{LeavesBrought, LeavesRefused, OpensAs, fault_of}
+use Rattle.book_states.specs.Same.{IsSame}
+use Rattle.book_opening.specs.declared.fault.OpenFault.{OpenFault}
+use Rattle.book_opening.specs.declared.fault.OpenFault.TheVariants.{NotAnOffice, Store, Memory}
 use Rattle.books.specs.declared.refused_files.RefusedFiles.{RefusedFiles}
 use Rattle.books.specs.declared.refused_files.RefusedFiles.TheVariants.{Connected, Unconnected}
 

@@ -6,8 +6,6 @@ use std::alloc::Global;
 mod ask;
 mod attempt;
 mod close;
-mod commit;
-mod failing;
 mod files;
 mod memory;
 mod open;

@@ -14,7 +14,8 @@ ghost use Rattle.vend_core.specs.declared.decision.request.Stamped.{Stamped};
 ghost use Rattle.vend_core.specs.declared.office.row.Row.{Row};
 ghost use Rattle.vend_core.specs.declared.office.sale.Sale.{Sale};
 ghost use Rattle.books.specs.Headline.{RepresentTheLast, with_last};
-ghost use Rattle.books.specs.Keeps.{RecoversTo, StoreStandsFor, seen};
+ghost use Rattle.book_states.specs.Stores.{RecoversTo, StoreStandsFor};
+ghost use Rattle.books.specs.Keeps.{seen};
 ghost use Rattle.books.specs.declared.books.Books.{Books};
 
 use crate::reopening::opening_law;

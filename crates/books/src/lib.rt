@@ -5,20 +5,14 @@
 //! and a life that the contracts speak of.
 #![tactic(auto)]
 
+pub use book_opening::OpenFault;
 pub use book_tables::Totals;
 pub use books::Books;
-pub use fault::OpenFault;
 pub use headline::headline_law;
 pub use refused_files::RefusedFiles;
 pub use reopening::opening_law;
 
 mod books;
-mod bringing;
-mod changing;
-mod decided;
-mod facts;
-mod fault;
 mod headline;
-mod opening;
 mod refused_files;
 mod reopening;

@@ -5,7 +5,7 @@ ghost use Rattle.sqlite.specs.Files.{HoldsDatabase, IsNothing};
 ghost use Rattle.sqlite.specs.Held.{Held, state};
 ghost use Rattle.sqlite.specs.State.{IsLive, Opens};
 ghost use Rattle.vend_core.specs.Office.{Office, empty_office};
-ghost use Rattle.books.specs.Keeps.{RecoversTo, StoreStandsFor};
+ghost use Rattle.book_states.specs.Stores.{RecoversTo, StoreStandsFor};
 ghost use Rattle.books.specs.Path.{StandsIn};
 
 use book_tables::stands_law;

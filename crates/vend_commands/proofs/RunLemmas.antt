@@ -5,7 +5,7 @@ use Rattle.clap.specs.Values.{kind_of}
 use Rattle.clap.specs.declared.error.Error.{Error}
 use Rattle.sqlite_trees.specs.declared.store.Store.{Ghosts}
 use Rattle.book_tables.specs.declared.totals.Totals.{Totals}
-use Rattle.books.specs.declared.fault.OpenFault.{OpenFault}
+use Rattle.book_opening.specs.declared.fault.OpenFault.{OpenFault}
 use Rattle.sts_fields.specs.Text.{Text}
 use Rattle.tariff.specs.declared.bought.Buy.{Buy}
 use Rattle.vend_core.specs.declared.decision.answer.Answer as core

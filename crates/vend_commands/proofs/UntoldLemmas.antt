@@ -3,7 +3,7 @@ use Rattle.std.proofs.Common.{ℕ, ℤ, zero, suc, Bool, true, false, List, Opti
 use Rattle.std.specs.Prelude.{⊤}
 use Rattle.sqlite_trees.specs.declared.store.Store.{Ghosts}
 use Rattle.books.specs.Keeps.{Seen}
-use Rattle.books.specs.declared.fault.OpenFault.{OpenFault}
+use Rattle.book_opening.specs.declared.fault.OpenFault.{OpenFault}
 use Rattle.sts_fields.specs.Text.{Text}
 use Rattle.sts_token.specs.Token.{BlockFunction}
 use Rattle.command_line.specs.declared.address.Address.{Address}

@@ -3,7 +3,7 @@ use Rattle.std.specs.Prelude.{◌≡◌, ◌⊎◌, ℕ, ℤ, zero, suc, ◌<◌
 use Rattle.sqlite.specs.State.{HasCleanDisk}
 use Rattle.books.specs.Keeps.{Represents, Seen}
 use Rattle.books.specs.Others.{LeavesOthers}
-use Rattle.books.specs.declared.fault.OpenFault.{OpenFault}
+use Rattle.book_opening.specs.declared.fault.OpenFault.{OpenFault}
 use Rattle.desk.specs.Answering.{answers_by, books_serve, life_serves, message_refusal_of}
 use Rattle.conversation.specs.Run.{IsRun}
 use Rattle.conversation.specs.Uses.{IsPaced, Use}

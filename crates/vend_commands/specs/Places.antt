@@ -5,8 +5,8 @@ use Rattle.sqlite_disk.specs.declared.Files.{Files}
 use Rattle.sqlite_wal.specs.Recovery.{Image}
 use Rattle.books.specs.Keeps.{Seen}
 use Rattle.books.specs.Path.{AreTakenFrom, RefusesFiles}
-use Rattle.books.specs.declared.fault.OpenFault.{OpenFault}
-use Rattle.books.specs.declared.fault.OpenFault.TheVariants.{Store}
+use Rattle.book_opening.specs.declared.fault.OpenFault.{OpenFault}
+use Rattle.book_opening.specs.declared.fault.OpenFault.TheVariants.{Store}
 use Rattle.books.specs.declared.refused_files.RefusedFiles.{RefusedFiles}
 use Rattle.sts_fields.specs.Text.{Text}
 use Rattle.command_line.specs.declared.address.Address.{Address}

@@ -2,7 +2,7 @@
 use Rattle.std.specs.Prelude.{ℕ, List, [], ◌∷◌, ◌++◌, codes, decimal}
 use Rattle.std.specs.List.{join_with_byte}
 use Rattle.books.specs.Fault.{open_fault_name, open_fault_number}
-use Rattle.books.specs.declared.fault.OpenFault.{OpenFault}
+use Rattle.book_opening.specs.declared.fault.OpenFault.{OpenFault}
 use Rattle.sim_meter.specs.declared.answer.Answer.{Answer}
 use Rattle.sim_meter.specs.declared.answer.Answer.TheVariants.{Accepted, Used, Old, Refused}
 use Rattle.sts_fields.specs.Text.{Text}

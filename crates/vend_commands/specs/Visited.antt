@@ -5,7 +5,7 @@ use Rattle.sqlite_wal.specs.Recovery.{Image}
 use Rattle.books.specs.Keeps.{HaveTables, Represents, Seen, seen}
 use Rattle.books.specs.Path.{StandsIn}
 use Rattle.books.specs.declared.books.Books.{Books}
-use Rattle.books.specs.declared.fault.OpenFault.{OpenFault}
+use Rattle.book_opening.specs.declared.fault.OpenFault.{OpenFault}
 use Rattle.command_line.specs.Transform.{forward_of}
 use Rattle.command_line.specs.declared.transform.Shipped.{Shipped}
 use Rattle.vend_core.specs.Law.LifeLaws.{opened}

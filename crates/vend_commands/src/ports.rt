@@ -5,7 +5,7 @@ ghost use Rattle.std.specs.Prelude.{◌≡◌, ℕ, List, IfErr, IfNone, IfOk, I
 ghost use Rattle.sqlite_wal.specs.Files.{seen_image};
 ghost use Rattle.sqlite_wal.specs.Recovery.{Image};
 ghost use Rattle.sts_fields.specs.Text.{Text};
-ghost use Rattle.books.specs.declared.fault.OpenFault.{OpenFault};
+ghost use Rattle.book_opening.specs.declared.fault.OpenFault.{OpenFault};
 ghost use Rattle.vend_commands.specs.declared.read_fault.ReadFault.{ReadFault};
 
 use crate::door::Door;

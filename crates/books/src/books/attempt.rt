@@ -1,31 +1,23 @@
 //! One request: it is decided by what the tables hold, and what it changes is committed before the
 //! answer.
 
-ghost use Rattle.std.specs.Prelude.{◌≡◌, ◌≢◌, ◌+◌, Err, IfErr, OnOk, false, length};
+ghost use Rattle.std.specs.Prelude.{◌≡◌, ◌≢◌, ◌+◌, Err, IfErr, OnOk, length};
 ghost use Rattle.sqlite.specs.State.{HasCleanDisk};
 ghost use Rattle.sqlite.specs.Held.{state};
-ghost use Rattle.vend_core.specs.Decision.{decision};
 ghost use Rattle.vend_core.specs.Decision.Edits.{applied};
-ghost use Rattle.vend_core.specs.Decision.Facts.{AreFacts, IsUnlessMemory};
 ghost use Rattle.vend_core.specs.Office.{Office};
 ghost use Rattle.vend_core.specs.Decision.Requests.{IsStamped};
 ghost use Rattle.vend_core.specs.Law.Store.{Meets};
 ghost use Rattle.book_tables.specs.Reading.{HasTables};
-ghost use Rattle.books.specs.Failing.{RefusesUnchanged};
-ghost use Rattle.books.specs.Keeps.{Stores, seen};
-ghost use Rattle.books.specs.Others.{LeavesOthers};
-ghost use Rattle.books.specs.Same.{ChangesNothing};
-ghost use Rattle.books.specs.Serving.{FailsToServe, HoldsOffice, ServesGranted, ServingEnds, IsDecided, change_in};
+ghost use Rattle.books.specs.Keeps.{seen};
+ghost use Rattle.book_requests.specs.Others.{LeavesOthers};
+ghost use Rattle.books.specs.Serving.{FailsToServe, HoldsOffice, ServesGranted, ServingEnds};
 
 use super::Books;
-use super::commit::commit;
-use super::failing::refusal_of;
-use crate::decided::{Decided, prior_of};
-use crate::facts::facts_of;
-use sqlite::{Alter, Connection};
-use std::alloc::Global;
+use book_requests::{Decided, commit, decision_of};
+use sqlite::Alter;
 use sts_token::BlockTransform;
-use vend_core::{Change, Edit, Facts, Refusal, Reply, Stamped, decide, office_law, store_law};
+use vend_core::{Change, Edit, Refusal, Reply, Stamped, office_law, store_law};
 
 impl<S: Alter, T: BlockTransform> Books<S, T> {
     // Serves a request at books that are not stopped.
@@ -55,7 +47,7 @@ impl<S: Alter, T: BlockTransform> Books<S, T> {
     {
         office_law();
         store_law();
-        let Decided { change, prior } = decided(
+        let Decided { change, prior } = decision_of(
             self.alloc,
             &mut self.conn,
             &self.transform,
@@ -80,53 +72,4 @@ fn next_after(edit: &Edit, next_number: u64) -> u64
         Edit::AddSale(sale) => u64::from(sale.number) + 1,
         _ => next_number,
     }
-}
-
-// What a request changes and its answer, by what the tables hold. Nothing is changed yet.
-fn decided<S: Alter, T: BlockTransform>(
-    alloc: Global,
-    conn: &mut Connection<S>,
-    transform: &T,
-    at: &Stamped,
-    next_number: u64,
-) -> Result<Decided, Refusal>
-    requires { conn.old.in_transaction ≡ false }
-    ensures decides { HasCleanDisk (state S.Store conn.new)
-        → (o : Office) → Stores (state S.Store conn.old) o → next_number ≡ length o.sales + 1
-        → IsDecided (T.forwards transform.now) o at.now (change_in result) }
-    ensures nothing { HasCleanDisk (state S.Store conn.new)
-        → HasTables (state S.Store conn.old)
-        → ChangesNothing (state S.Store conn.old) (state S.Store conn.new) }
-    ensures failures { HasCleanDisk (state S.Store conn.new)
-        → HasTables (state S.Store conn.old)
-        → IfErr result (RefusesUnchanged at.now next_number
-        (state S.Store conn.old) (state S.Store conn.new)) }
-    ensures clean { HasCleanDisk (state S.Store conn.new) → HasCleanDisk (state S.Store conn.old) }
-    ensures never_stopped { result ≢ Err Refusal.Stopped }
-    ensures outside { conn.new.in_transaction ≡ false }
-{
-    // Outside a transaction an open connection has what was committed last.
-    let _settled = conn.is_autocommit();
-    match facts_of(alloc, conn, at, next_number.saturating_sub(1)) {
-        Ok(facts) => decided_by(alloc, transform, &facts, at),
-        Err(error) => Err(refusal_of(error)),
-    }
-}
-
-// What the facts decide.
-fn decided_by<T: BlockTransform>(
-    alloc: Global,
-    transform: &T,
-    facts: &Facts,
-    at: &Stamped,
-) -> Result<Decided, Refusal>
-    ensures decided { (o : Office) → AreFacts o at.now facts.now
-        → IsUnlessMemory (change_in result) (decision (T.forwards transform.now) o at.now) }
-    ensures no_store { (result ≢ Err Refusal.Store) × (result ≢ Err Refusal.Stopped) }
-{
-    let change = decide(alloc, transform, facts, at)?;
-    Ok(Decided {
-        change,
-        prior: prior_of(facts),
-    })
 }

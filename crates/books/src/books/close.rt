@@ -6,7 +6,8 @@ ghost use Rattle.sqlite.specs.State.{HasCleanDisk};
 ghost use Rattle.sqlite.specs.Held.{state};
 ghost use Rattle.vend_core.specs.Law.Life.{Life, MayLeave, present};
 ghost use Rattle.vend_core.specs.Office.{Office};
-ghost use Rattle.books.specs.Keeps.{Represents, RecoversTo, StoreStandsFor, seen};
+ghost use Rattle.books.specs.Keeps.{Represents, seen};
+ghost use Rattle.book_states.specs.Stores.{RecoversTo, StoreStandsFor};
 
 use crate::books::Books;
 use sqlite::{Alter, Connection};

@@ -8,10 +8,9 @@ ghost use Rattle.books.specs.Keeps.{HaveTables, Represents, seen};
 ghost use Rattle.books.specs.Path.{OpensFiles, RefusesFiles, StandsIn};
 
 use crate::books::Books;
-use crate::fault::OpenFault;
-use crate::opening::fault_of;
 use crate::refused_files::RefusedFiles;
 use crate::reopening::opening_law;
+use book_opening::{OpenFault, fault_of};
 use sqlite::{Connection, FileStore, Options};
 use sqlite_disk::{Disk, Files};
 use std::alloc::Global;

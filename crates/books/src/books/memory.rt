@@ -7,7 +7,7 @@ ghost use Rattle.vend_core.specs.Office.{empty_office};
 ghost use Rattle.books.specs.Keeps.{HaveTables, Represents, seen};
 
 use crate::books::Books;
-use crate::fault::OpenFault;
+use book_opening::OpenFault;
 use book_tables::stands_law;
 use sqlite::{Connection, MemStore};
 use std::alloc::Global;

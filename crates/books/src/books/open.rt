@@ -5,13 +5,13 @@ ghost use Rattle.sqlite.specs.State.{HasCleanDisk, Survives};
 ghost use Rattle.sqlite.specs.Held.{state};
 ghost use Rattle.vend_core.specs.Law.LifeLaws.{opened};
 ghost use Rattle.vend_core.specs.Office.{Office};
-ghost use Rattle.books.specs.Keeps.{HaveTables, Represents, StoreStandsFor, seen};
-ghost use Rattle.books.specs.Opening.{LeavesBrought, LeavesRefused, OpensAs};
-ghost use Rattle.books.specs.Same.{IsSame};
+ghost use Rattle.books.specs.Keeps.{HaveTables, Represents, seen};
+ghost use Rattle.book_states.specs.Stores.{StoreStandsFor};
+ghost use Rattle.book_opening.specs.Opening.{LeavesBrought, LeavesRefused, OpensAs};
+ghost use Rattle.book_states.specs.Same.{IsSame};
 
 use crate::books::Books;
-use crate::fault::OpenFault;
-use crate::opening::next_here;
+use book_opening::{OpenFault, next_here};
 use sqlite::{Alter, Connection};
 use std::alloc::Global;
 use sts_token::BlockTransform;

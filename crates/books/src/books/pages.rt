@@ -6,17 +6,14 @@ ghost use Rattle.sqlite.specs.Held.{state};
 ghost use Rattle.vend_core.specs.Law.Life.{Life, MayLeave, present};
 ghost use Rattle.vend_core.specs.Office.{Office};
 ghost use Rattle.vend_core.specs.Law.Store.{sales_above};
-ghost use Rattle.book_tables.specs.Reading.{HasTables};
-ghost use Rattle.books.specs.Failing.{IsToldOfRead};
-ghost use Rattle.books.specs.Keeps.{HaveTables, IsNextOrOneBefore, Stores, Represents, seen};
-ghost use Rattle.books.specs.Others.{LeavesOthers};
-ghost use Rattle.books.specs.Same.{ChangesNothing};
+ghost use Rattle.book_requests.specs.Failing.{IsToldOfRead};
+ghost use Rattle.books.specs.Keeps.{HaveTables, IsNextOrOneBefore, Represents, seen};
+ghost use Rattle.book_requests.specs.Others.{LeavesOthers};
+ghost use Rattle.book_states.specs.Same.{ChangesNothing};
 
 use super::Books;
-use super::failing::{has_failed, refusal_of};
-use book_tables::sale_lists;
-use sqlite::{Alter, Connection};
-use std::alloc::Global;
+use book_requests::{has_failed, page};
+use sqlite::Alter;
 use sts_token::BlockTransform;
 use vend_core::{Refusal, Sale};
 
@@ -77,36 +74,5 @@ impl<S: Alter, T: BlockTransform> Books<S, T> {
             → (o : Office) → MayLeave life o → IsNextOrOneBefore o result }
     {
         self.next_number
-    }
-}
-
-// A page of the tables' sales.
-fn page<S: Alter>(
-    alloc: Global,
-    conn: &mut Connection<S>,
-    number: u32,
-    limit: u32,
-) -> Result<Vec<Sale>, Refusal>
-    requires { conn.old.in_transaction ≡ false }
-    ensures given { HasCleanDisk (state S.Store conn.new)
-        → (o : Office) → Stores (state S.Store conn.old) o
-        → IfOk result (λ sales. sales.items ≡ sales_above o number limit) }
-    ensures nothing { HasCleanDisk (state S.Store conn.new)
-        → HasTables (state S.Store conn.old)
-        → ChangesNothing (state S.Store conn.old) (state S.Store conn.new) }
-    ensures clean { HasCleanDisk (state S.Store conn.new) → HasCleanDisk (state S.Store conn.old) }
-    ensures failures { HasCleanDisk (state S.Store conn.new)
-        → HasTables (state S.Store conn.old)
-        → IfErr result (λ refusal. IsToldOfRead refusal
-        (state S.Store conn.old) (state S.Store conn.new)) }
-    ensures refusals { IfErr result (λ refusal.
-        (refusal ≡ Refusal.Memory) ⊎ (refusal ≡ Refusal.Store)) }
-    ensures outside { conn.new.in_transaction ≡ false }
-{
-    // Outside a transaction an open connection has what was committed last.
-    let _settled = conn.is_autocommit();
-    match sale_lists::sales_after(alloc, conn, number, limit) {
-        Ok(sales) => Ok(sales),
-        Err(error) => Err(refusal_of(error)),
     }
 }

@@ -9,9 +9,8 @@ ghost use Rattle.books.specs.Keeps.{HaveTables, Represents, seen};
 ghost use Rattle.books.specs.Path.{OpensFiles, RefusedAt, RefusesPath, StandsIn};
 
 use crate::books::Books;
-use crate::fault::OpenFault;
-use crate::opening::fault_of;
 use crate::reopening::opening_law;
+use book_opening::{OpenFault, fault_of};
 use sqlite::{Connection, FileFrom, FileStore, Start};
 use sqlite_disk::Disk;
 use std::rt::HostRuntime;

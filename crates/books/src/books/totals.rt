@@ -4,19 +4,16 @@ ghost use Rattle.std.specs.Prelude.{◌≡◌, ◌↔◌, ◌⊎◌, false, true
 ghost use Rattle.sqlite.specs.Held.{state};
 ghost use Rattle.sqlite.specs.State.{HasCleanDisk};
 ghost use Rattle.vend_core.specs.Law.Life.{Life, present};
-ghost use Rattle.vend_core.specs.Office.{Office};
-ghost use Rattle.book_tables.specs.Reading.{HasTables};
-ghost use Rattle.books.specs.Failing.{IsToldOfRead};
-ghost use Rattle.books.specs.Keeps.{HaveTables, Represents, Stores, seen};
-ghost use Rattle.books.specs.Others.{LeavesOthers};
-ghost use Rattle.books.specs.Same.{ChangesNothing};
-ghost use Rattle.books.specs.Totals.{shift_totals};
+ghost use Rattle.book_requests.specs.Failing.{IsToldOfRead};
+ghost use Rattle.books.specs.Keeps.{HaveTables, Represents, seen};
+ghost use Rattle.book_requests.specs.Others.{LeavesOthers};
+ghost use Rattle.book_states.specs.Same.{ChangesNothing};
+ghost use Rattle.book_requests.specs.Totals.{shift_totals};
 
 use super::Books;
-use super::failing::{has_failed, refusal_of};
-use crate::facts::shifts::totals_of;
+use book_requests::{has_failed, totals};
 use book_tables::Totals;
-use sqlite::{Alter, Connection};
+use sqlite::Alter;
 use sts_token::BlockTransform;
 use vend_core::Refusal;
 
@@ -67,35 +64,5 @@ impl<S: Alter, T: BlockTransform> Books<S, T> {
         let totals = totals(&mut self.conn, number);
         self.stopped = has_failed(&totals);
         totals
-    }
-}
-
-// The totals that the tables have of a shift.
-fn totals<S: Alter>(conn: &mut Connection<S>, number: u32) -> Result<Totals, Refusal>
-    requires { conn.old.in_transaction ≡ false }
-    ensures given { HasCleanDisk (state S.Store conn.new)
-        → (o : Office) → Stores (state S.Store conn.old) o
-        → IfOk result (λ totals. shift_totals o number ≡ Some totals) }
-    ensures none { HasCleanDisk (state S.Store conn.new)
-        → (o : Office) → Stores (state S.Store conn.old) o
-        → result ≡ Err Refusal.NoSuchShift → shift_totals o number ≡ None }
-    ensures nothing { HasCleanDisk (state S.Store conn.new)
-        → HasTables (state S.Store conn.old)
-        → ChangesNothing (state S.Store conn.old) (state S.Store conn.new) }
-    ensures clean { HasCleanDisk (state S.Store conn.new) → HasCleanDisk (state S.Store conn.old) }
-    ensures failures { HasCleanDisk (state S.Store conn.new)
-        → HasTables (state S.Store conn.old)
-        → IfErr result (λ refusal. (refusal ≡ Refusal.NoSuchShift) ⊎ IsToldOfRead refusal
-        (state S.Store conn.old) (state S.Store conn.new)) }
-    ensures refusals { IfErr result (λ refusal. (refusal ≡ Refusal.NoSuchShift)
-        ⊎ ((refusal ≡ Refusal.Memory) ⊎ (refusal ≡ Refusal.Store))) }
-    ensures outside { conn.new.in_transaction ≡ false }
-{
-    // Outside a transaction an open connection has what was committed last.
-    let _settled = conn.is_autocommit();
-    match totals_of(conn, number) {
-        Ok(Some(totals)) => Ok(totals),
-        Ok(None) => Err(Refusal::NoSuchShift),
-        Err(error) => Err(refusal_of(error)),
     }
 }

@@ -3,10 +3,11 @@ use Rattle.sqlite.specs.Held.{state}
 use Rattle.vend_core.specs.Office.{IsOffice}
 use Rattle.books.specs.Keeps.{seen}
 use Rattle.books.specs.Serving.{IsDecidedFor, IsGrantedWith}
-use Rattle.books.proofs.AttemptLemmas.{committed_ends, failed_ends, handed_on, is_applied, is_decision, none_of, refused_ends, unchanged_ends}
-use Rattle.books.proofs.CommitLemmas.{commits_others, fails_after, has_after}
-use Rattle.books.proofs.OthersLemmas.{nothing_others, others_then, tables_stay}
-use Rattle.books.proofs.StayLemmas.{has_tables, still_held}
+use Rattle.books.proofs.AttemptLemmas.{committed_ends, failed_ends, handed_on, is_applied, is_decision, refused_ends, unchanged_ends}
+use Rattle.book_requests.proofs.FactsLemmas.{none_of}
+use Rattle.book_requests.proofs.CommitLemmas.{commits_others, fails_after, has_after}
+use Rattle.book_requests.proofs.OthersLemmas.{nothing_others, others_then, tables_stay}
+use Rattle.book_states.proofs.StayLemmas.{has_tables, still_held}
 use Rattle.books.proofs.books.Books.attempt.Goals as goal
 use Rattle.books.proofs.books.Books.attempt.Goals.{in-Some+in_ok-commit, in_default}
 
@@ -15,13 +16,13 @@ returns-in_err-change-clause-attempts g c clean o held =
     let now = c.args.self.now in
     let forward = g.T.BlockTransform.forwards now.transform in
     let old = seen g.S.Store g.T.BlockTransform.forwards now in
-    let new = record old { state = state g.S.Store c.decided.new.conn } in
-    let nothing = c.decided.ensures.nothing clean (has_tables o old.state held.at) in
+    let new = record old { state = state g.S.Store c.decision_of.new.conn } in
+    let nothing = c.decision_of.ensures.nothing clean (has_tables o old.state held.at) in
     let same = handed_on c.from_residual.result c.in_err-change.field-0.0 c.from_residual.ensures.1 in
     rw same (refused_ends forward o c.args.at.now c.in_err-change.field-0.0 old new held (c.in_err-change.ensures.decides clean o held.at held.next) clean nothing refl)
 
 pub returns-in_err-change-clause-others : goal.returns-in_err-change-clause-others
-returns-in_err-change-clause-others g c clean tables = nothing_others (state g.S.Store c.args.self.now.conn) (state g.S.Store c.decided.new.conn) clean (c.decided.ensures.nothing clean tables)
+returns-in_err-change-clause-others g c clean tables = nothing_others (state g.S.Store c.args.self.now.conn) (state g.S.Store c.decision_of.new.conn) clean (c.decision_of.ensures.nothing clean tables)
 
 pub returns-in_err-commit-clause-attempts : goal.returns-in_err-commit-clause-attempts
 returns-in_err-commit-clause-attempts g c clean o held =
@@ -31,14 +32,14 @@ returns-in_err-commit-clause-attempts g c clean o held =
     let range = g.met.T.BlockTransform.forward_range now.transform in
     let at = c.args.at.now in
     let change = c.in_ok-change.field-0.change in
-    let mid = state g.S.Store c.decided.new.conn in
+    let mid = state g.S.Store c.decision_of.new.conn in
     let early = c.commit.ensures.clean clean in
     let decided = c.in_ok-change.ensures.decides early o held.at held.next in
     let is = is_decision forward o at change decided in
     let old = seen g.S.Store g.T.BlockTransform.forwards now in
     let new = record old { state = state g.S.Store c.commit.new.conn } in
     let tables = has_tables o old.state held.at in
-    let here = still_held o old.state mid early held.at (c.decided.ensures.nothing early tables) in
+    let here = still_held o old.state mid early held.at (c.decision_of.ensures.nothing early tables) in
     let meets = c.store_law.ensures.meets forward o at change c.in-Some.edit held.at.office c.requires.stamped range is c.in-Some.is in
     let applied = is_applied forward o at change decided new c.in-Some.edit c.in-Some.is in
     let office = subst IsOffice applied (c.office_law.ensures.keeps_office forward o at held.at.office c.requires.stamped range) in
@@ -48,10 +49,10 @@ returns-in_err-commit-clause-attempts g c clean o held =
 pub returns-in_err-commit-clause-others : goal.returns-in_err-commit-clause-others
 returns-in_err-commit-clause-others g c clean tables =
     let old = state g.S.Store c.args.self.now.conn in
-    let mid = state g.S.Store c.decided.new.conn in
+    let mid = state g.S.Store c.decision_of.new.conn in
     let new = state g.S.Store c.commit.new.conn in
     let early = c.commit.ensures.clean clean in
-    let first = nothing_others old mid early (c.decided.ensures.nothing early tables) in
+    let first = nothing_others old mid early (c.decision_of.ensures.nothing early tables) in
     others_then old mid new first (commits_others c.in-Some.edit _ mid new clean (c.in_err-commit.ensures.commits clean (tables_stay old mid first tables)))
 
 pub returns-clause-attempts : goal.returns-clause-attempts
@@ -61,7 +62,7 @@ returns-clause-attempts g c clean o held =
     let range = g.met.T.BlockTransform.forward_range now.transform in
     let at = c.args.at.now in
     let change = c.in_ok-change.field-0.change in
-    let mid = state g.S.Store c.decided.new.conn in
+    let mid = state g.S.Store c.decision_of.new.conn in
     let old = seen g.S.Store g.T.BlockTransform.forwards now in
     let tables = has_tables o old.state held.at in
     elim c.match-edit.branch [
@@ -72,7 +73,7 @@ returns-clause-attempts g c clean o held =
           let decided = c.in_ok-change.ensures.decides early o held.at held.next in
           let is = is_decision forward o at change decided in
           let edit = w.in-Some.edit in
-          let here = still_held o old.state mid early held.at (c.decided.ensures.nothing early tables) in
+          let here = still_held o old.state mid early held.at (c.decision_of.ensures.nothing early tables) in
           let meets = c.store_law.ensures.meets forward o at change edit held.at.office c.requires.stamped range is w.in-Some.is in
           let applied = is_applied forward o at change decided new edit w.in-Some.is in
           let office = subst IsOffice applied (c.office_law.ensures.keeps_office forward o at held.at.office c.requires.stamped range) in
@@ -83,39 +84,39 @@ returns-clause-attempts g c clean o held =
           let late = rw w.self-is at clean in
           let new = record old { state = mid } in
           let decided = c.in_ok-change.ensures.decides late o held.at held.next in
-          let here = still_held o old.state mid late held.at (c.decided.ensures.nothing late tables) in
+          let here = still_held o old.state mid late held.at (c.decision_of.ensures.nothing late tables) in
           rw w.self-is (unchanged_ends forward o at change decided new (none_of change.edit w.in_default.not-Some) (record { at = here; next = held.next }))
     ]
 
 pub returns-clause-others : goal.returns-clause-others
 returns-clause-others g c clean tables =
     let old = state g.S.Store c.args.self.now.conn in
-    let mid = state g.S.Store c.decided.new.conn in
+    let mid = state g.S.Store c.decision_of.new.conn in
     elim c.match-edit.branch [
       | in-Some+in_ok-commit w ↦
           let late = rw w.self-is at clean in
           let early = w.commit.ensures.clean late in
           let new = state g.S.Store w.commit.new.conn in
-          let first = nothing_others old mid early (c.decided.ensures.nothing early tables) in
+          let first = nothing_others old mid early (c.decision_of.ensures.nothing early tables) in
           rw w.self-is (others_then old mid new first (commits_others w.in-Some.edit _ mid new late (w.in_ok-commit.ensures.commits late (tables_stay old mid first tables))))
       | in_default w ↦
           let late = rw w.self-is at clean in
-          rw w.self-is (nothing_others old mid late (c.decided.ensures.nothing late tables))
+          rw w.self-is (nothing_others old mid late (c.decision_of.ensures.nothing late tables))
     ]
 
 pub returns-in_err-change-clause-failures : goal.returns-in_err-change-clause-failures
 returns-in_err-change-clause-failures g c clean tables =
     let same = handed_on c.from_residual.result c.in_err-change.field-0.0 c.from_residual.ensures.1 in
-    rw same (inl (c.decided.ensures.nothing clean tables, c.in_err-change.ensures.failures clean tables))
+    rw same (inl (c.decision_of.ensures.nothing clean tables, c.in_err-change.ensures.failures clean tables))
 
 pub returns-in_err-commit-clause-failures : goal.returns-in_err-commit-clause-failures
 returns-in_err-commit-clause-failures g c clean tables =
     let same = handed_on c.from_residual-in_err-commit.result c.in_err-commit.field-0.0 c.from_residual-in_err-commit.ensures.1 in
     let old = state g.S.Store c.args.self.now.conn in
-    let mid = state g.S.Store c.decided.new.conn in
+    let mid = state g.S.Store c.decision_of.new.conn in
     let new = state g.S.Store c.commit.new.conn in
     let early = c.commit.ensures.clean clean in
-    let nothing = c.decided.ensures.nothing early tables in
+    let nothing = c.decision_of.ensures.nothing early tables in
     let commits = c.in_err-commit.ensures.commits clean (tables_stay old mid (nothing_others old mid early nothing) tables) in
     let decided : IsDecidedFor c.args.at.now (seen g.S.Store g.T.BlockTransform.forwards c.args.self.now) c.in-Some.edit = λ o held. (
       c.in_ok-change.field-0.change,
@@ -127,7 +128,7 @@ returns-in_err-commit-clause-failures g c clean tables =
 pub returns-clause-granted : goal.returns-clause-granted
 returns-clause-granted g c clean tables =
     let old = state g.S.Store c.args.self.now.conn in
-    let mid = state g.S.Store c.decided.new.conn in
+    let mid = state g.S.Store c.decision_of.new.conn in
     let books = seen g.S.Store g.T.BlockTransform.forwards c.args.self.now in
     let change = c.in_ok-change.field-0.change in
     elim c.match-edit.branch [
@@ -135,7 +136,7 @@ returns-clause-granted g c clean tables =
           let late = rw w.self-is at clean in
           let early = w.commit.ensures.clean late in
           let new = state g.S.Store w.commit.new.conn in
-          let nothing = c.decided.ensures.nothing early tables in
+          let nothing = c.decision_of.ensures.nothing early tables in
           let commits = w.in_ok-commit.ensures.commits late (tables_stay old mid (nothing_others old mid early nothing) tables) in
           let decided : IsGrantedWith c.args.at.now books (Some w.in-Some.edit) = λ o held. (
             change,
@@ -150,5 +151,5 @@ returns-clause-granted g c clean tables =
             is_decision (g.T.BlockTransform.forwards c.args.self.now.transform) o c.args.at.now change (c.in_ok-change.ensures.decides late o held.at held.next),
             none_of change.edit w.in_default.not-Some,
           ) in
-          rw w.self-is (inl (decided, c.decided.ensures.nothing late tables))
+          rw w.self-is (inl (decided, c.decision_of.ensures.nothing late tables))
     ]

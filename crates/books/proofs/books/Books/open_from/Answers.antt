@@ -1,6 +1,6 @@
 use Rattle.std.proofs.Common.{refl, subst}
 use Rattle.sqlite.specs.Held.{state}
-use Rattle.books.specs.Opening.{ShowsNoOffice}
+use Rattle.book_opening.specs.Opening.{ShowsNoOffice}
 use Rattle.books.proofs.OpenedLemmas.{keeps_opened, opened_tables}
 use Rattle.books.proofs.books.Books.open_from.Goals as goal
 

@@ -1,0 +1,4 @@
+mod BringingLemmas
+mod BroughtLemmas
+mod OlderLemmas
+mod OpeningLemmas

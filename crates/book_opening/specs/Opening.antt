@@ -1,0 +1,124 @@
+-- What the opening of an office makes of a database.
+use Rattle.std.specs.Prelude.{◌≡◌, ◌<◌, ◌⊎◌, ℕ, ◌+◌, length, Result, IfErr, IfOk, IsTrue, OnErr, OnOk}
+use Rattle.sqlite.specs.Effect.{Database, IsDatabase}
+use Rattle.sqlite.specs.State.{HasCleanDisk, IsUnchanged, State, Survives}
+use Rattle.sqlite.specs.declared.error.Error.{Error}
+use Rattle.sqlite.specs.declared.error.Error.TheVariants.{SqliteFailure}
+use Rattle.sqlite.specs.declared.error.ErrorCode.TheVariants.{OutOfMemory}
+use Rattle.sqlite_trees.specs.Tree.{Trees}
+use Rattle.one_table.specs.Answer.{IsLeft}
+use Rattle.one_table.specs.Committing.{LeavesMade}
+use Rattle.vend_core.specs.Office.{Office}
+use Rattle.book_tables.specs.Format.{HasFormat, TellsFormat}
+use Rattle.book_tables.specs.Holds.{HasOffice, HasOfficeOf, StandsFor}
+use Rattle.book_tables.specs.Making.{BringsOffice}
+use Rattle.book_tables.specs.Rows.{present_format}
+use Rattle.book_tables.specs.declared.error.TableError.{TableError}
+use Rattle.book_tables.specs.declared.error.TableError.TheVariants as table
+use Rattle.book_states.specs.Stores.{Stores, StoreStandsFor}
+use Rattle.book_states.specs.Same.{IsSame}
+use Rattle.book_opening.specs.declared.fault.OpenFault.{OpenFault}
+use Rattle.book_opening.specs.declared.fault.OpenFault.TheVariants.{NotAnOffice, Store, Memory}
+
+-- The tables of a format were brought to the present one, in place of none or of those of an older
+-- format.
+abbrev pub BringsAny : Database → Database → Type 0
+BringsAny old new = (from : ℕ) × (from < present_format) × BringsOffice from old new
+
+-- they were brought to it, and had told their format
+abbrev pub BringsTold : Database → Database → Type 0
+BringsTold old new =
+    (from : ℕ) × (from < present_format) × BringsOffice from old new × TellsFormat from old
+
+-- the office may be brought to the present format in a sound database that has the tables of a format
+abbrev pub BringsSound : ℕ → Database → Database → Type 0
+BringsSound from old new = IsDatabase old → HasOfficeOf from old.schema → BringsOffice from old new
+
+-- an open connection has the office in the present format
+pub record IsBrought (from : ℕ) (old new : State) : Type 0 where
+  pub was_open : IsTrue old.is_open
+  pub is_open : IsTrue new.is_open
+  pub brings : BringsOffice from old.now new.now
+
+-- What is opened is an office of the present format, which stays as it is, or one of an older format
+-- or of none, which is brought to it. Where tables are found, `about` tells their format.
+pub record OpensAs (old new : State) : Type 0 where
+  pub was_open : IsTrue old.is_open
+  pub is_open : IsTrue new.is_open
+  pub now : BringsTold old.now new.now
+      ⊎ (HasOffice old.now.schema × HasFormat old.now present_format × (new.now ≡ old.now))
+
+-- while the connection is open, it has a sound database
+abbrev pub HasSoundDatabase : State → Type 0
+HasSoundDatabase s = IsTrue s.is_open → IsDatabase s.now
+
+-- what an error of the database is answered as
+abbrev pub fault_of : Error → OpenFault
+fault_of (SqliteFailure OutOfMemory) = Memory
+fault_of e = Store
+
+abbrev pub fault_of_table : TableError → OpenFault
+fault_of_table (table.Database e) = fault_of e
+fault_of_table table.RowOfNoOffice = NotAnOffice
+
+-- a fault that names the file is answered only where the store stands for no office
+abbrev pub ShowsNoOffice : State → OpenFault → Type 0
+ShowsNoOffice s NotAnOffice = (o : Office) → ¬ StoreStandsFor s o
+ShowsNoOffice s Store = Unit {0}
+ShowsNoOffice s Memory = Unit {0}
+
+-- the same, by the database of a connection that was open
+abbrev pub TellsNoOffice : State → OpenFault → Type 0
+TellsNoOffice s NotAnOffice = IsTrue s.is_open × ((o : Office) → ¬ StandsFor s.now o)
+TellsNoOffice s Store = Unit {0}
+TellsNoOffice s Memory = Unit {0}
+
+-- of the office that the store stands for, this is the number of the next sale
+abbrev pub IsNextSale : State → ℕ → Type 0
+IsNextSale s next = (o : Office) → StoreStandsFor s o → next ≡ length o.sales + 1
+
+-- while the connection is open, it has the tables of a format
+abbrev pub HasTablesOf : ℕ → State → Type 0
+HasTablesOf n s = IsTrue s.is_open → HasOfficeOf n s.now.schema
+
+-- The tables of a format were only looked at, where they are there: this holds of what was found, and
+-- a fault that names the file is true of it.
+pub record LooksAt {T : Type 0} (n : ℕ) (Says : T → Type 0) (old new : State)
+    (result : Result T OpenFault) : Type 0 where
+  pub finds : HasCleanDisk new → HasTablesOf n old → HasSoundDatabase old → IfOk result Says
+  pub same : HasCleanDisk new → HasTablesOf n old → OnOk result (IsUnchanged old new)
+  pub kept : HasCleanDisk new → HasTablesOf n old → OnErr result (IsLeft old new)
+  pub other : HasCleanDisk new → HasTablesOf n old → HasSoundDatabase old
+      → IfErr result (ShowsNoOffice old)
+  pub survives : HasTablesOf n old → Survives old new (λ _. ⊥)
+
+-- The office that the store stood for is held now, and this is the number of its next sale.
+abbrev pub OpensAt : State → State → ℕ → Type 0
+OpensAt old new next =
+    (o : Office) → StoreStandsFor old o → Stores new o × (next ≡ length o.sales + 1)
+
+-- A fault that names the file is true of it. A connection that is still open has what it had, and
+-- what the store stood for it still stands for.
+pub record Refuses (old new : State) (fault : OpenFault) : Type 0 where
+  pub told : ShowsNoOffice old fault
+  pub same : IsSame old new
+  pub kept : (o : Office) → StoreStandsFor old o → StoreStandsFor new o
+
+-- what a crash may leave of an opening, beside what it left before
+abbrev pub LeavesBrought : State → Trees → Type 0
+LeavesBrought old trees = IsTrue old.is_open × LeavesMade BringsAny old.now trees
+
+-- a refusal leaves nothing new but after Store, where the commit may have been carried out
+abbrev pub LeavesRefused : State → OpenFault → Trees → Type 0
+LeavesRefused old Store trees = LeavesBrought old trees
+LeavesRefused old fault trees = ⊥
+
+-- How an opening ends. The office that the store stood for is held, and what is opened was there or
+-- was brought to the present format; or it is refused. A crash leaves what it left before, or the
+-- office in the present format, which a refusal leaves after Store alone.
+pub record EndsOpening (old new : State) (result : Result ℕ OpenFault) : Type 0 where
+  pub opens : HasCleanDisk new → IfOk result (OpensAt old new)
+  pub finds : HasCleanDisk new → OnOk result (OpensAs old new)
+  pub refused : HasCleanDisk new → IfErr result (Refuses old new)
+  pub survives : Survives old new (LeavesBrought old)
+  pub risks : IfErr result (λ fault. Survives old new (LeavesRefused old fault))

@@ -1,0 +1,75 @@
+//! The bringing of a database to the present format, from none or from an older one.
+
+ghost use Rattle.std.specs.Prelude.{◌≡◌, ◌<◌, false, IsTrue, IfErr, OnErr, OnOk};
+ghost use Rattle.sqlite.specs.State.{HasCleanDisk, Survives};
+ghost use Rattle.sqlite.specs.Held.{state};
+ghost use Rattle.book_tables.specs.Making.{HasFormatTables, TellsOf};
+ghost use Rattle.book_tables.specs.Rows.{present_format};
+ghost use Rattle.book_opening.specs.Opening.{BringsSound, IsBrought, LeavesBrought, LeavesRefused, TellsNoOffice};
+ghost use Rattle.book_states.specs.Same.{IsSame};
+
+use crate::fault::OpenFault;
+use crate::opening::fault_of_table;
+use book_tables::TableError;
+use book_tables::making::bring;
+use one_table::{Change, CommitFault, change_once};
+use sqlite::{Alter, Connection, Transaction};
+use std::alloc::Global;
+
+/// The tables of a format, or none, are brought to the present one.
+#[derive(Drop)]
+struct Bringing {
+    alloc: Global,
+    from: u32,
+    ghost older: { from < present_format },
+}
+
+impl<S: Alter> Change<S> for Bringing {
+    type Fault = TableError;
+
+    ghost makes = { λ change. BringsSound change.from };
+
+    ghost tells = { λ change. TellsOf change.from };
+
+    fn make(&self, tx: &mut Transaction<'_, S>) -> Result<(), TableError> {
+        bring(self.alloc, tx, self.from)
+    }
+}
+
+/// Brings the tables of a format to the present one, in one commit; format 0 is that there are none.
+pub(crate) fn bring_office<S: Alter>(
+    alloc: Global,
+    conn: &mut Connection<S>,
+    from: u32,
+) -> Result<(), OpenFault>
+    requires outside { conn.old.in_transaction ≡ false }
+    requires older { from < present_format }
+    ensures brought { HasCleanDisk (state S.Store conn.new)
+        → HasFormatTables from (state S.Store conn.old)
+        → OnOk result (IsBrought from (state S.Store conn.old) (state S.Store conn.new)) }
+    ensures told { HasCleanDisk (state S.Store conn.new)
+        → IsTrue (state S.Store conn.old).is_open → HasFormatTables from (state S.Store conn.old)
+        → IfErr result (TellsNoOffice (state S.Store conn.old)) }
+    ensures undone { HasCleanDisk (state S.Store conn.new)
+        → OnErr result (IsSame (state S.Store conn.old) (state S.Store conn.new)) }
+    ensures survives { (HasCleanDisk (state S.Store conn.old)
+        → IsTrue (state S.Store conn.old).is_open)
+        → HasFormatTables from (state S.Store conn.old)
+        → Survives (state S.Store conn.old) (state S.Store conn.new)
+        (LeavesBrought (state S.Store conn.old)) }
+    ensures risks { (HasCleanDisk (state S.Store conn.old)
+        → IsTrue (state S.Store conn.old).is_open)
+        → HasFormatTables from (state S.Store conn.old)
+        → IfErr result (λ fault. Survives (state S.Store conn.old) (state S.Store conn.new)
+        (LeavesRefused (state S.Store conn.old) fault)) }
+    ensures mode { conn.new.in_transaction ≡ false }
+{
+    // Outside a transaction a connection has what is committed.
+    let outside = conn.is_autocommit();
+    prove!(outside);
+    match change_once(conn, &Bringing { alloc, from }) {
+        Ok(()) => Ok(()),
+        Err(CommitFault::Unmade(error)) => Err(fault_of_table(error)),
+        Err(CommitFault::InDoubt(_)) => Err(OpenFault::Store),
+    }
+}

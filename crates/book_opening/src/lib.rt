@@ -1,0 +1,11 @@
+//! The opening of an office over a connection, and the bringing of its tables to the present format.
+//!
+//! `docs/LIVES.md` has it in words ("Opening"). `specs/Opening.antt` says what is found and left.
+#![tactic(auto)]
+
+pub use fault::OpenFault;
+pub use opening::{fault_of, next_here};
+
+mod bringing;
+mod fault;
+mod opening;
