@@ -13,12 +13,13 @@ use Rattle.papers.specs.Receipt.{receipt_of}
 use Rattle.papers.specs.Report.{report_of}
 use Rattle.papers.specs.Text.{change_of}
 use Rattle.sts_fields.specs.Base.{year_of}
-use Rattle.vend_core.specs.Decision.Refusals.{refusal_name, refusal_number}
+use Rattle.vend_core.specs.Decision.Refusals.{refusal_category, refusal_name, refusal_number}
 use Rattle.vend_core.specs.Decision.RowCauses.{cause_text}
 use Rattle.vend_core.specs.declared.decision.answer.Answer.{Answer}
 use Rattle.vend_core.specs.declared.decision.answer.Answer.TheVariants.{Done, Imported, Opened, Closed, Sold, Reprinted, Report}
+use Rattle.vend_core.specs.declared.decision.category.Category.{Category}
+use Rattle.vend_core.specs.declared.decision.category.Category.TheVariants.{Missing, Forbidden, Unfit, UnfitRow, Unable}
 use Rattle.vend_core.specs.declared.decision.refusal.Refusal.{Refusal}
-use Rattle.vend_core.specs.declared.decision.refusal.Refusal.TheVariants.{RefReused, NoShift, ShiftOpen, NoMeter, NoTariff, Differs, BeforeBase, IdentifiersSpent, IdentifierAhead, TooLittle, OfficeFull, NoSale, NoSuchShift, ImportRow, Memory, Store, Stopped, NotLater, DayPast}
 use Rattle.vend_core.specs.declared.office.sale.Sale.{Sale}
 
 -- a fault of the desk is told by its word
@@ -41,28 +42,17 @@ name_members refusal =
     ∷ (codes "refusal", whole_number (refusal_number refusal))
     ∷ []
 
--- what each refusal is told by
+-- what a refusal of this category is told by
+abbrev pub category_members : Refusal → Category → List Pair
+category_members refusal (UnfitRow row cause) =
+    row_members (refusal_name refusal) (refusal_number refusal) row (cause_text cause)
+category_members refusal Missing = name_members refusal
+category_members refusal Forbidden = name_members refusal
+category_members refusal Unfit = name_members refusal
+category_members refusal Unable = name_members refusal
+
 abbrev pub refusal_members : Refusal → List Pair
-refusal_members RefReused = name_members RefReused
-refusal_members NoShift = name_members NoShift
-refusal_members ShiftOpen = name_members ShiftOpen
-refusal_members NoMeter = name_members NoMeter
-refusal_members NoTariff = name_members NoTariff
-refusal_members Differs = name_members Differs
-refusal_members BeforeBase = name_members BeforeBase
-refusal_members IdentifiersSpent = name_members IdentifiersSpent
-refusal_members IdentifierAhead = name_members IdentifierAhead
-refusal_members TooLittle = name_members TooLittle
-refusal_members OfficeFull = name_members OfficeFull
-refusal_members NoSale = name_members NoSale
-refusal_members NoSuchShift = name_members NoSuchShift
-refusal_members (ImportRow row cause) =
-    row_members (refusal_name (ImportRow row cause)) (refusal_number (ImportRow row cause)) row (cause_text cause)
-refusal_members Memory = name_members Memory
-refusal_members Store = name_members Store
-refusal_members Stopped = name_members Stopped
-refusal_members NotLater = name_members NotLater
-refusal_members DayPast = name_members DayPast
+refusal_members refusal = category_members refusal (refusal_category refusal)
 
 -- a sale; the digits of its token are text already, as those of an office are
 abbrev pub sale_members : Sale → List Pair

@@ -12,31 +12,22 @@ use Rattle.desk.specs.declared.reply.head.ReplyHead.{ReplyHead}
 use Rattle.desk.specs.DeskFault.{desk_fault_status}
 use Rattle.vend_core.specs.declared.decision.answer.Answer.{Answer}
 use Rattle.vend_core.specs.declared.decision.answer.Answer.TheVariants.{Done, Imported, Opened, Closed, Sold, Reprinted, Report}
+use Rattle.vend_core.specs.Decision.Refusals.{refusal_category}
+use Rattle.vend_core.specs.declared.decision.category.Category.{Category}
+use Rattle.vend_core.specs.declared.decision.category.Category.TheVariants.{Missing, Forbidden, Unfit, UnfitRow, Unable}
 use Rattle.vend_core.specs.declared.decision.refusal.Refusal.{Refusal}
-use Rattle.vend_core.specs.declared.decision.refusal.Refusal.TheVariants.{RefReused, NoShift, ShiftOpen, NoMeter, NoTariff, Differs, BeforeBase, IdentifiersSpent, IdentifierAhead, TooLittle, OfficeFull, NoSale, NoSuchShift, ImportRow, Memory, Store, Stopped, NotLater, DayPast}
 
--- 404 for what is not there, 422 for what cannot be done as it was asked, 503 where the office is
--- unable to answer, and 409 for what it forbids as it stands
+-- 404 for what is not there, 409 for what the office forbids as it stands, 422 for what cannot be done
+-- as it was asked, and 503 where the office is unable to answer
+abbrev pub category_status : Category → ℕ
+category_status Missing = 404
+category_status Forbidden = 409
+category_status Unfit = 422
+category_status (UnfitRow row cause) = 422
+category_status Unable = 503
+
 abbrev pub refusal_status : Refusal → ℕ
-refusal_status RefReused = 409
-refusal_status NoShift = 409
-refusal_status ShiftOpen = 409
-refusal_status NoMeter = 404
-refusal_status NoTariff = 404
-refusal_status Differs = 409
-refusal_status BeforeBase = 409
-refusal_status IdentifiersSpent = 409
-refusal_status IdentifierAhead = 409
-refusal_status TooLittle = 422
-refusal_status OfficeFull = 409
-refusal_status NoSale = 404
-refusal_status NoSuchShift = 404
-refusal_status (ImportRow row cause) = 422
-refusal_status Memory = 503
-refusal_status Store = 503
-refusal_status Stopped = 503
-refusal_status NotLater = 409
-refusal_status DayPast = 409
+refusal_status refusal = category_status (refusal_category refusal)
 
 -- the method that is allowed, where another one than the route's was used
 abbrev pub allowed_by : DeskFault → Option Method

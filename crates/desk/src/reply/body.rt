@@ -8,7 +8,7 @@ use crate::reply::members::{Member, object_text};
 use crate::reply::outcome::Outcome;
 use papers::{receipt, shift_report};
 use std::alloc::{AllocError, Global};
-use vend_core::{Answer, Moment, Refusal, Sale};
+use vend_core::{Answer, Category, Moment, Refusal, Sale};
 
 // The body for what came of a message.
 pub(crate) fn body_of(alloc: Global, outcome: &Outcome) -> Result<Vec<u8>, AllocError>
@@ -33,29 +33,14 @@ fn fault_body(alloc: Global, word: &str) -> Result<Vec<u8>, AllocError>
 fn refusal_body(alloc: Global, refusal: Refusal) -> Result<Vec<u8>, AllocError>
     ensures { IfOk result (λ body. body.items ≡ json_text (refusal_members refusal)) }
 {
-    match refusal {
-        Refusal::ImportRow(row, cause) => {
+    match refusal.category() {
+        Category::UnfitRow(row, cause) => {
             let cause = format!(in alloc; "{cause}")?;
             row_body(alloc, refusal.name(), refusal.number(), row, &cause)
         }
-        Refusal::RefReused
-        | Refusal::NoShift
-        | Refusal::ShiftOpen
-        | Refusal::NoMeter
-        | Refusal::NoTariff
-        | Refusal::Differs
-        | Refusal::BeforeBase
-        | Refusal::IdentifiersSpent
-        | Refusal::IdentifierAhead
-        | Refusal::TooLittle
-        | Refusal::OfficeFull
-        | Refusal::NoSale
-        | Refusal::NoSuchShift
-        | Refusal::Memory
-        | Refusal::Store
-        | Refusal::Stopped
-        | Refusal::NotLater
-        | Refusal::DayPast => name_body(alloc, refusal),
+        Category::Missing | Category::Forbidden | Category::Unfit | Category::Unable => {
+            name_body(alloc, refusal)
+        }
     }
 }
 

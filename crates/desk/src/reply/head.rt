@@ -6,7 +6,7 @@ use crate::desk_fault::DeskFault;
 use crate::reply::form::Form;
 use crate::reply::outcome::Outcome;
 use conversation::Method;
-use vend_core::Refusal;
+use vend_core::{Category, Refusal};
 
 // What the head of a reply says besides the length of the body.
 #[derive(Clone, Copy)]
@@ -66,19 +66,10 @@ fn allowed_by(fault: DeskFault) -> Option<Method>
 fn refusal_status(refusal: Refusal) -> u16
     ensures { result ≡ refusal_status refusal }
 {
-    match refusal {
-        Refusal::NoMeter | Refusal::NoTariff | Refusal::NoSale | Refusal::NoSuchShift => 404,
-        Refusal::TooLittle | Refusal::ImportRow(..) => 422,
-        Refusal::Memory | Refusal::Store | Refusal::Stopped => 503,
-        Refusal::RefReused
-        | Refusal::NoShift
-        | Refusal::ShiftOpen
-        | Refusal::Differs
-        | Refusal::BeforeBase
-        | Refusal::IdentifiersSpent
-        | Refusal::IdentifierAhead
-        | Refusal::OfficeFull
-        | Refusal::NotLater
-        | Refusal::DayPast => 409,
+    match refusal.category() {
+        Category::Missing => 404,
+        Category::Forbidden => 409,
+        Category::Unfit | Category::UnfitRow(..) => 422,
+        Category::Unable => 503,
     }
 }
