@@ -7,7 +7,7 @@ use Rattle.sqlite_schema.specs.declared.schema.Schema.{Schema}
 use Rattle.sqlite_schema.specs.declared.schema.Table.{Table}
 use Rattle.sqlite_trees.specs.Tree.{Trees}
 use Rattle.sqlite_trees.proofs.ListLemmas.{all_of}
-use Rattle.vend_core.specs.Life.{Life}
+use Rattle.vend_core.specs.Law.Life.{Life}
 use Rattle.book_tables.specs.Holds.{HasOffice, table_names}
 use Rattle.book_tables.specs.Reading.{HasTables}
 use Rattle.book_tables.specs.Writing.{IsOfNone}

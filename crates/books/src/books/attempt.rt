@@ -5,11 +5,11 @@ ghost use Rattle.std.specs.Prelude.{◌≡◌, ◌≢◌, ◌+◌, Err, IfErr, O
 ghost use Rattle.sqlite.specs.State.{HasCleanDisk};
 ghost use Rattle.sqlite.specs.Held.{state};
 ghost use Rattle.vend_core.specs.Decision.{decision};
-ghost use Rattle.vend_core.specs.Edits.{applied};
-ghost use Rattle.vend_core.specs.Facts.{AreFacts, IsUnlessMemory};
+ghost use Rattle.vend_core.specs.Decision.Edits.{applied};
+ghost use Rattle.vend_core.specs.Decision.Facts.{AreFacts, IsUnlessMemory};
 ghost use Rattle.vend_core.specs.Office.{Office};
-ghost use Rattle.vend_core.specs.Request.{IsStamped};
-ghost use Rattle.vend_core.specs.Store.{Meets};
+ghost use Rattle.vend_core.specs.Decision.Requests.{IsStamped};
+ghost use Rattle.vend_core.specs.Law.Store.{Meets};
 ghost use Rattle.book_tables.specs.Reading.{HasTables};
 ghost use Rattle.books.specs.Failing.{RefusesUnchanged};
 ghost use Rattle.books.specs.Keeps.{Stores, seen};

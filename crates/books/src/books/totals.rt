@@ -3,7 +3,7 @@
 ghost use Rattle.std.specs.Prelude.{◌≡◌, ◌↔◌, ◌⊎◌, false, true, Err, None, Some, IfErr, IfOk};
 ghost use Rattle.sqlite.specs.Held.{state};
 ghost use Rattle.sqlite.specs.State.{HasCleanDisk};
-ghost use Rattle.vend_core.specs.Life.{Life, present};
+ghost use Rattle.vend_core.specs.Law.Life.{Life, present};
 ghost use Rattle.vend_core.specs.Office.{Office};
 ghost use Rattle.book_tables.specs.Reading.{HasTables};
 ghost use Rattle.books.specs.Failing.{IsToldOfRead};

@@ -6,7 +6,7 @@ use Rattle.desk.specs.Clock.{script_answers}
 use Rattle.desk.specs.Exchanges.{Timed}
 use Rattle.desk.specs.Run.{IsRun}
 use Rattle.desk.specs.declared.end.End.TheVariants.{Closed}
-use Rattle.vend_core.specs.Life.{Life}
+use Rattle.vend_core.specs.Law.Life.{Life}
 use Rattle.vend_commands.proofs.selfcheck.answer.Goals as goal
 
 pub returns-in-Closed : goal.returns-in-Closed
