@@ -1,12 +1,12 @@
 -- The life of an office along a conversation.
 use Rattle.std.proofs.Common.{◌≡◌, ◌∙◌, ℕ, ℤ, inl, inr, List, [], ◌∷◌, Option, Result, refl, ap, sym, append_assoc, append-nil}
-use Rattle.vend_core.specs.Life.{Life}
-use Rattle.vend_core.specs.Life as lives
-use Rattle.vend_core.specs.LifeLaws.{exchanges_of, extended_along, extended_by}
-use Rattle.vend_core.specs.declared.answer.Answer.{Answer}
-use Rattle.vend_core.specs.declared.refusal.Refusal.{Refusal}
-use Rattle.vend_core.specs.declared.request.Request.{Request}
-use Rattle.vend_core.specs.declared.request.Stamped.{Stamped}
+use Rattle.vend_core.specs.Law.Life.{Life}
+use Rattle.vend_core.specs.Law.Life as lives
+use Rattle.vend_core.specs.Law.LifeLaws.{exchanges_of, extended_along, extended_by}
+use Rattle.vend_core.specs.declared.decision.answer.Answer.{Answer}
+use Rattle.vend_core.specs.declared.decision.refusal.Refusal.{Refusal}
+use Rattle.vend_core.specs.declared.decision.request.Request.{Request}
+use Rattle.vend_core.specs.declared.decision.request.Stamped.{Stamped}
 use Rattle.conversation.specs.Exchanges.{MessageExchange, Exchanged, Timed, timed}
 use Rattle.conversation.specs.message.Messages.{Message}
 use Rattle.desk.specs.Along.{AreAsked}

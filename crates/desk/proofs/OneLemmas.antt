@@ -1,11 +1,11 @@
 -- A message has one meaning, and an input one conversation.
 use Rattle.std.proofs.Common.{◌≡◌, ◌≢◌, ◌∙◌, ℕ, ℤ, pos, inl, inr, List, [], ◌∷◌, Option, Some, Result, Ok, Err, refl, ap, sym, subst}
 use Rattle.sts_fields.specs.Moment.{IsMoment}
-use Rattle.vend_core.specs.declared.answer.Answer.{Answer}
-use Rattle.vend_core.specs.declared.refusal.Refusal.{Refusal}
-use Rattle.vend_core.specs.declared.refusal.Refusal.TheVariants.{ImportRow}
-use Rattle.vend_core.specs.declared.request.Request.{Request}
-use Rattle.vend_core.specs.declared.request.Stamped.{Stamped}
+use Rattle.vend_core.specs.declared.decision.answer.Answer.{Answer}
+use Rattle.vend_core.specs.declared.decision.refusal.Refusal.{Refusal}
+use Rattle.vend_core.specs.declared.decision.refusal.Refusal.TheVariants.{ImportRow}
+use Rattle.vend_core.specs.declared.decision.request.Request.{Request}
+use Rattle.vend_core.specs.declared.decision.request.Stamped.{Stamped}
 use Rattle.conversation.specs.declared.message.method.Method.{Method}
 use Rattle.conversation.specs.Conversation.{messages_of}
 use Rattle.conversation.specs.Exchanges.{MessageExchange}

@@ -13,8 +13,8 @@ use Rattle.desk.specs.reply.Members.{json_text, whole_number}
 use Rattle.desk.specs.reply.Body.{sale_members}
 use Rattle.desk.specs.reply.SaleText.{IsTellableSale, sale_text}
 use Rattle.desk.proofs.SaleLemmas.{digits-kept}
-use Rattle.vend_core.specs.Names.{is_name_byte}
-use Rattle.vend_core.specs.declared.sale.Sale.{Sale}
+use Rattle.vend_core.specs.Name.{is_name_byte}
+use Rattle.vend_core.specs.declared.office.sale.Sale.{Sale}
 
 plain_digit : (b : ℕ) → is_ascii_digit b ≡ true → escape_byte b ≡ b ∷ []
 unfolding escape_byte

@@ -1,8 +1,8 @@
 -- The requests that messages asked, and the replies that they got.
 use Rattle.std.specs.Prelude.{◌≡◌, ◌⊎◌, List, [], ◌∷◌, Result}
-use Rattle.vend_core.specs.declared.answer.Answer.{Answer}
-use Rattle.vend_core.specs.declared.refusal.Refusal.{Refusal}
-use Rattle.vend_core.specs.declared.request.Stamped.{Stamped}
+use Rattle.vend_core.specs.declared.decision.answer.Answer.{Answer}
+use Rattle.vend_core.specs.declared.decision.refusal.Refusal.{Refusal}
+use Rattle.vend_core.specs.declared.decision.request.Stamped.{Stamped}
 use Rattle.conversation.specs.Exchanges.{MessageExchange}
 use Rattle.desk.specs.declared.reply.form.Form.{Form}
 use Rattle.desk.specs.declared.reply.outcome.Outcome.{Outcome}

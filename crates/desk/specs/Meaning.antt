@@ -3,8 +3,8 @@
 -- A target and a method are looked at first, then the clock, and then the body.
 use Rattle.std.specs.Prelude.{◌≡◌, ◌≢◌, ℕ, ℤ, pos, Option, None, Some, Ok, Err, ⊤}
 use Rattle.sts_fields.specs.Moment.{IsMoment}
-use Rattle.vend_core.specs.declared.refusal.Refusal.TheVariants.{ImportRow}
-use Rattle.vend_core.specs.declared.request.Request.{Request}
+use Rattle.vend_core.specs.declared.decision.refusal.Refusal.TheVariants.{ImportRow}
+use Rattle.vend_core.specs.declared.decision.request.Request.{Request}
 use Rattle.conversation.specs.message.Messages.{Message}
 use Rattle.desk.specs.declared.body_fault.BodyFault.TheVariants.{OutsideRule, Row}
 use Rattle.desk.specs.declared.desk_fault.DeskFault.{DeskFault}

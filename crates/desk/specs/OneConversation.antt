@@ -1,7 +1,7 @@
 -- What is one: the meaning of a message, and the conversation of an input.
 use Rattle.std.specs.Prelude.{◌≡◌, ℕ, ℤ, List, ◌++◌, map, Option}
-use Rattle.vend_core.specs.declared.request.Request.{Request}
-use Rattle.vend_core.specs.declared.request.Stamped.{Stamped}
+use Rattle.vend_core.specs.declared.decision.request.Request.{Request}
+use Rattle.vend_core.specs.declared.decision.request.Stamped.{Stamped}
 use Rattle.conversation.specs.Conversation.{last_words, replies_of}
 use Rattle.conversation.specs.Exchanges.{MessageExchange}
 use Rattle.conversation.specs.message.Messages.{AgreeBy, Ending, Message, Stop, ended}

@@ -1,9 +1,9 @@
 ghost use Rattle.std.specs.Prelude.{◌≡◌, ℕ, ℤ, List, Option, Result};
-ghost use Rattle.vend_core.specs.Life.{Life};
-ghost use Rattle.vend_core.specs.LifeLaws.{extended_along};
-ghost use Rattle.vend_core.specs.declared.answer.Answer.{Answer};
-ghost use Rattle.vend_core.specs.declared.refusal.Refusal.{Refusal};
-ghost use Rattle.vend_core.specs.declared.request.Stamped.{Stamped};
+ghost use Rattle.vend_core.specs.Law.Life.{Life};
+ghost use Rattle.vend_core.specs.Law.LifeLaws.{extended_along};
+ghost use Rattle.vend_core.specs.declared.decision.answer.Answer.{Answer};
+ghost use Rattle.vend_core.specs.declared.decision.refusal.Refusal.{Refusal};
+ghost use Rattle.vend_core.specs.declared.decision.request.Stamped.{Stamped};
 ghost use Rattle.conversation.specs.Conversation.{messages_of};
 ghost use Rattle.conversation.specs.Exchanges.{Exchanged, MessageExchange, Timed, timed};
 ghost use Rattle.conversation.specs.message.Messages.{Ending, Message, Messages, Stop};

@@ -2,7 +2,7 @@ ghost use Rattle.std.specs.Prelude.{◌≡◌, ◌≢◌, ℕ, List, Result, Err
 ghost use Rattle.desk.specs.Asking.{AsksByJson, BodyAsks, import_of};
 ghost use Rattle.desk.specs.declared.body_fault.BodyFault.{BodyFault};
 ghost use Rattle.desk.specs.declared.route.Route.{Route};
-ghost use Rattle.vend_core.specs.declared.request.Request.{Request};
+ghost use Rattle.vend_core.specs.declared.decision.request.Request.{Request};
 
 use crate::body_fault::BodyFault;
 use crate::json::kind::JsonKind;

@@ -1,6 +1,6 @@
 ghost use Rattle.std.specs.Prelude.{◌≡◌, ℤ, List, Option};
 ghost use Rattle.sqlite.specs.State.{HasCleanDisk};
-ghost use Rattle.vend_core.specs.Life.{Life};
+ghost use Rattle.vend_core.specs.Law.Life.{Life};
 ghost use Rattle.books.specs.Keeps.{Represents, seen};
 ghost use Rattle.books.specs.Others.{LeavesOthers};
 ghost use Rattle.conversation.specs.Exchanges.{ReadsClock};

@@ -11,8 +11,8 @@ use Rattle.conversation.specs.Run.{IsRun}
 use Rattle.conversation.specs.declared.end.End as conversation
 use Rattle.conversation.specs.declared.end.End.TheVariants.{Closed, BadMessage, ReadFault, WriteFault, Memory}
 use Rattle.sts_token.specs.Token.{BlockFunction}
-use Rattle.vend_core.specs.Life.{AreLives, IsLife, Life, MayLeave}
-use Rattle.vend_core.specs.LifeLaws.{opened}
+use Rattle.vend_core.specs.Law.Life.{AreLives, IsLife, Life, MayLeave}
+use Rattle.vend_core.specs.Law.LifeLaws.{opened}
 use Rattle.vend_core.specs.Office.{Office}
 use Rattle.vend_commands.specs.Connections.{AreHeld, AreReady, Service, service}
 use Rattle.vend_commands.specs.Courses.{Course, IsNext, LiveOn, course}

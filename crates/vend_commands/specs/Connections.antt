@@ -9,7 +9,7 @@ use Rattle.conversation.specs.Run.{IsRun}
 use Rattle.conversation.specs.Uses.{IsPaced, Use}
 use Rattle.conversation.specs.declared.end.End as conversation
 use Rattle.sts_token.specs.Token.{BlockFunction}
-use Rattle.vend_core.specs.Life.{Life}
+use Rattle.vend_core.specs.Law.Life.{Life}
 use Rattle.vend_commands.specs.Places.{Way}
 use Rattle.vend_commands.specs.Reopened.{IsNextLife}
 

@@ -6,8 +6,8 @@ use Rattle.desk.specs.Answering.{answers_by, life_serves, message_refusal_of}
 use Rattle.conversation.specs.Run.{IsRun}
 use Rattle.conversation.specs.declared.end.End as conversation
 use Rattle.sts_token.specs.Token.{BlockFunction}
-use Rattle.vend_core.specs.Life.{Life, MayLeave}
-use Rattle.vend_core.specs.LifeLaws.{opened}
+use Rattle.vend_core.specs.Law.Life.{Life, MayLeave}
+use Rattle.vend_core.specs.Law.LifeLaws.{opened}
 use Rattle.vend_core.specs.Office.{Office}
 use Rattle.vend_commands.specs.Connections.{Service, service}
 use Rattle.vend_commands.specs.Places.{Way}

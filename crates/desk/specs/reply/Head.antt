@@ -10,10 +10,10 @@ use Rattle.desk.specs.declared.reply.outcome.Outcome.{Outcome}
 use Rattle.desk.specs.declared.reply.outcome.Outcome.TheVariants.{Refused, Faulty, Replied}
 use Rattle.desk.specs.declared.reply.head.ReplyHead.{ReplyHead}
 use Rattle.desk.specs.DeskFault.{desk_fault_status}
-use Rattle.vend_core.specs.declared.answer.Answer.{Answer}
-use Rattle.vend_core.specs.declared.answer.Answer.TheVariants.{Done, Imported, Opened, Closed, Sold, Reprinted, Report}
-use Rattle.vend_core.specs.declared.refusal.Refusal.{Refusal}
-use Rattle.vend_core.specs.declared.refusal.Refusal.TheVariants.{RefReused, NoShift, ShiftOpen, NoMeter, NoTariff, Differs, BeforeBase, IdentifiersSpent, IdentifierAhead, TooLittle, OfficeFull, NoSale, NoSuchShift, ImportRow, Memory, Store, Stopped, NotLater, DayPast}
+use Rattle.vend_core.specs.declared.decision.answer.Answer.{Answer}
+use Rattle.vend_core.specs.declared.decision.answer.Answer.TheVariants.{Done, Imported, Opened, Closed, Sold, Reprinted, Report}
+use Rattle.vend_core.specs.declared.decision.refusal.Refusal.{Refusal}
+use Rattle.vend_core.specs.declared.decision.refusal.Refusal.TheVariants.{RefReused, NoShift, ShiftOpen, NoMeter, NoTariff, Differs, BeforeBase, IdentifiersSpent, IdentifierAhead, TooLittle, OfficeFull, NoSale, NoSuchShift, ImportRow, Memory, Store, Stopped, NotLater, DayPast}
 
 -- 404 for what is not there, 422 for what cannot be done as it was asked, 503 where the office is
 -- unable to answer, and 409 for what it forbids as it stands

@@ -5,7 +5,7 @@ ghost use Rattle.serde_json.specs.View.{view};
 ghost use Rattle.desk.specs.json.Body.{IsBaseAt, IsDayAt, IsKeyAt, IsStepsAt};
 ghost use Rattle.desk.specs.Reads.{IsFound, IsFoundIn, ReadsWritten};
 ghost use Rattle.tariff.specs.Tender.{IsTender};
-ghost use Rattle.vend_core.specs.Names.{IsMeterNo, IsName, IsOperator};
+ghost use Rattle.vend_core.specs.Name.{IsMeterNo, IsName, IsOperator};
 
 use crate::body_fault::BodyFault;
 use crate::json::value::{number_at, text_at};

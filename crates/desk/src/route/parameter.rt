@@ -1,7 +1,7 @@
 ghost use Rattle.std.specs.Prelude.{◌≡◌, ◌≢◌, ◌++◌, ◌≤◌, ◌↔◌, ℕ, List, IsTrue, MatchOption, decimal, slice_index};
 ghost use Rattle.desk.specs.Reads.{ReadsWritten};
 ghost use Rattle.desk.specs.route.Route.{IsTargetNumber};
-ghost use Rattle.vend_core.specs.Names.{IsMeterNo, IsName};
+ghost use Rattle.vend_core.specs.Name.{IsMeterNo, IsName};
 
 use std::str;
 use vend_core::{GREATEST_COUNT, MeterNo, TariffName};

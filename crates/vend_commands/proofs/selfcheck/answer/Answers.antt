@@ -6,7 +6,7 @@ use Rattle.conversation.specs.Clock.{script_answers}
 use Rattle.conversation.specs.Exchanges.{Timed}
 use Rattle.conversation.specs.Run.{IsRun}
 use Rattle.conversation.specs.declared.end.End.TheVariants.{Closed}
-use Rattle.vend_core.specs.Life.{Life}
+use Rattle.vend_core.specs.Law.Life.{Life}
 use Rattle.vend_commands.proofs.selfcheck.answer.Goals as goal
 
 pub returns-in-Closed : goal.returns-in-Closed

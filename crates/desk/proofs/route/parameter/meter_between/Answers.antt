@@ -1,4 +1,4 @@
-use Rattle.vend_core.specs.Names.{IsMeterNo}
+use Rattle.vend_core.specs.Name.{IsMeterNo}
 use Rattle.desk.proofs.ParameterLemmas.{reads_between, reads_name}
 use Rattle.desk.proofs.route.parameter.meter_between.Goals as goal
 

@@ -1,4 +1,4 @@
-use Rattle.vend_core.specs.Names.{IsName}
+use Rattle.vend_core.specs.Name.{IsName}
 use Rattle.desk.proofs.ParameterLemmas.{reads_between, reads_name}
 use Rattle.desk.proofs.route.parameter.tariff_between.Goals as goal
 
