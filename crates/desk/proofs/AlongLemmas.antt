@@ -7,6 +7,8 @@ use Rattle.vend_core.specs.declared.decision.answer.Answer.{Answer}
 use Rattle.vend_core.specs.declared.decision.refusal.Refusal.{Refusal}
 use Rattle.vend_core.specs.declared.decision.request.Request.{Request}
 use Rattle.vend_core.specs.declared.decision.request.Stamped.{Stamped}
+use Rattle.conversation.specs.Exchanges.{MessageExchange, Exchanged, Timed, timed}
+use Rattle.conversation.specs.message.Messages.{Message}
 use Rattle.desk.specs.Along.{AreAsked}
 use Rattle.desk.specs.Answering.{answers_by, life_serves}
 use Rattle.desk.specs.Meaning.{MessageAsks}

@@ -9,11 +9,12 @@ use Rattle.vend_core.specs.declared.decision.refusal.Refusal.{Refusal}
 use Rattle.vend_core.specs.declared.decision.refusal.Refusal.TheVariants.{Stopped}
 use Rattle.vend_core.specs.declared.decision.request.Request.{Request}
 use Rattle.vend_core.specs.declared.decision.request.Stamped.{Stamped}
-use Rattle.desk.specs.declared.form.Form.{Form}
-use Rattle.desk.specs.declared.message_fault.MessageFault.{MessageFault}
-use Rattle.desk.specs.declared.outcome.Outcome.{Outcome}
-use Rattle.desk.specs.declared.outcome.Outcome.TheVariants.{Refused, Replied}
-use Rattle.desk.specs.Exchanges.{MessageExchange}
+use Rattle.conversation.specs.declared.message.message_fault.MessageFault.{MessageFault}
+use Rattle.conversation.specs.Exchanges.{MessageExchange}
+use Rattle.conversation.specs.message.Messages.{Message}
+use Rattle.desk.specs.declared.reply.form.Form.{Form}
+use Rattle.desk.specs.declared.reply.outcome.Outcome.{Outcome}
+use Rattle.desk.specs.declared.reply.outcome.Outcome.TheVariants.{Refused, Replied}
 use Rattle.desk.specs.Meaning.{MessageAsks, IsIdle}
 use Rattle.desk.specs.reply.Text.{reply_bytes_of}
 

@@ -5,6 +5,7 @@ use Rattle.std.specs.Prelude.{◌≡◌, ◌≢◌, ℕ, ℤ, pos, Option, None,
 use Rattle.sts_fields.specs.Moment.{IsMoment}
 use Rattle.vend_core.specs.declared.decision.refusal.Refusal.TheVariants.{ImportRow}
 use Rattle.vend_core.specs.declared.decision.request.Request.{Request}
+use Rattle.conversation.specs.message.Messages.{Message}
 use Rattle.desk.specs.declared.body_fault.BodyFault.TheVariants.{OutsideRule, Row}
 use Rattle.desk.specs.declared.desk_fault.DeskFault.{DeskFault}
 use Rattle.desk.specs.declared.desk_fault.DeskFault.TheVariants as faults

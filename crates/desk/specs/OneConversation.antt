@@ -2,8 +2,11 @@
 use Rattle.std.specs.Prelude.{◌≡◌, ℕ, ℤ, List, ◌++◌, map, Option}
 use Rattle.vend_core.specs.declared.decision.request.Request.{Request}
 use Rattle.vend_core.specs.declared.decision.request.Stamped.{Stamped}
-use Rattle.desk.specs.declared.form.Form.{Form}
-use Rattle.desk.specs.declared.outcome.Outcome.{Outcome}
+use Rattle.conversation.specs.Conversation.{last_words, replies_of}
+use Rattle.conversation.specs.Exchanges.{MessageExchange}
+use Rattle.conversation.specs.message.Messages.{AgreeBy, Ending, Message, Stop, ended}
+use Rattle.desk.specs.declared.reply.form.Form.{Form}
+use Rattle.desk.specs.declared.reply.outcome.Outcome.{Outcome}
 use Rattle.desk.specs.Answering.{message_refusal_of}
 use Rattle.desk.specs.Meaning.{IsIdle, MessageAsks}
 

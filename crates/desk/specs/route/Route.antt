@@ -3,6 +3,7 @@ use Rattle.std.specs.Prelude.{◌≡◌, ◌≢◌, ℕ, ◌≤◌, List, ◌++�
 use Rattle.matchit.specs.Router.{RouteOf}
 use Rattle.matchit.specs.Seek.{first}
 use Rattle.vend_core.specs.Name.{IsMeterNo, IsName}
+use Rattle.conversation.specs.declared.message.method.Method.{Method}
 use Rattle.desk.specs.declared.desk_fault.DeskFault.{DeskFault}
 use Rattle.desk.specs.declared.desk_fault.DeskFault.TheVariants as faults
 use Rattle.desk.specs.declared.route.endpoint.Endpoint.{Endpoint}

@@ -1,6 +1,6 @@
 ghost use Rattle.std.specs.Prelude.{◌≡◌, ◌≢◌, ◌++◌, ◌≤◌, ◌↔◌, ℕ, List, IsTrue, MatchOption, decimal, slice_index};
 ghost use Rattle.desk.specs.Reads.{ReadsWritten};
-ghost use Rattle.desk.specs.Route.{IsTargetNumber};
+ghost use Rattle.desk.specs.route.Route.{IsTargetNumber};
 ghost use Rattle.vend_core.specs.Name.{IsMeterNo, IsName};
 
 use std::str;
