@@ -1,8 +1,8 @@
 use Rattle.std.proofs.Common.{List, subst}
 use Rattle.sqlite.specs.Held.{state}
 use Rattle.tariff.specs.declared.step.Step.{Step}
-use Rattle.vend_core.specs.declared.change.Edit.TheVariants as edits
-use Rattle.vend_core.specs.declared.row.Row.{Row}
+use Rattle.vend_core.specs.declared.decision.change.Edit.TheVariants as edits
+use Rattle.vend_core.specs.declared.office.row.Row.{Row}
 use Rattle.book_tables.specs.Writing.{AddsSteps, AddsTariff}
 use Rattle.book_requests.specs.Changing.{MakesRows}
 use Rattle.book_requests.proofs.ChangeLemmas.{made_by, makes_closing, makes_import, makes_meter, makes_moving, makes_sale, makes_setting, makes_shift, makes_steps, makes_tariff}

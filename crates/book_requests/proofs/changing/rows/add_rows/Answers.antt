@@ -3,7 +3,7 @@ use Rattle.std.proofs.lemmas.List.{take_more}
 use Rattle.sqlite.specs.Held.{state}
 use Rattle.sqlite.specs.State.{HasCleanDisk}
 use Rattle.one_table.proofs.ChangeLemmas.{transaction_off, transaction_on, transaction_then}
-use Rattle.vend_core.specs.declared.row.Row.{Row}
+use Rattle.vend_core.specs.declared.office.row.Row.{Row}
 use Rattle.book_requests.specs.Changing.{MakesRows}
 use Rattle.book_requests.proofs.ChangeLemmas.{makes_more, still_has}
 use Rattle.book_requests.proofs.changing.rows.add_rows.Goals as goal
