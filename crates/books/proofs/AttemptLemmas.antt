@@ -17,11 +17,14 @@ use Rattle.vend_core.specs.declared.decision.request.Stamped.{Stamped}
 use Rattle.vend_core.specs.declared.office.row.Row.{Row}
 use Rattle.vend_core.specs.declared.office.row.Row.TheVariants as kinds
 use Rattle.vend_core.specs.declared.office.sale.Sale.{Sale}
-use Rattle.books.specs.Keeps.{Stores, Seen}
-use Rattle.books.specs.Same.{ChangesNothing}
-use Rattle.books.specs.Serving.{Commits, HoldsOffice, ServingEnds, IsDecided, MayBeLeft}
-use Rattle.books.proofs.CommitLemmas.{edit_doubted, edit_held}
-use Rattle.books.proofs.StayLemmas.{still_held}
+use Rattle.book_states.specs.Stores.{Stores}
+use Rattle.books.specs.Keeps.{Seen}
+use Rattle.book_states.specs.Same.{ChangesNothing}
+use Rattle.book_requests.specs.Transaction.{Commits, MayBeLeft}
+use Rattle.books.specs.Serving.{HoldsOffice, ServingEnds}
+use Rattle.book_requests.specs.Deciding.{IsDecided}
+use Rattle.book_requests.proofs.CommitLemmas.{edit_doubted, edit_held}
+use Rattle.book_states.proofs.StayLemmas.{still_held}
 
 -- the error of a call, which is handed on
 pub handed_on : {A E : Type 0} (r : Result A E) (e : E) → IsErrAnd r (λ x. x ≡ e) → r ≡ Err e

@@ -1,16 +1,5 @@
--- What leaves the tables of other names as they were, one step after another.
-use Rattle.std.proofs.Common.{◌≡◌, IsTrue, List, [], ◌∷◌, refl, sym, ap, subst, ◌∙◌, inl, inr}
-use Rattle.std.specs.List.{AllByRecursion}
-use Rattle.sqlite.specs.Effect.{Database}
-use Rattle.sqlite.specs.State.{HasCleanDisk, State}
-use Rattle.sqlite_schema.specs.declared.schema.Schema.{Schema}
-use Rattle.sqlite_schema.specs.declared.schema.Table.{Table}
-use Rattle.sqlite_trees.specs.Tree.{Trees}
-use Rattle.sqlite_trees.proofs.ListLemmas.{all_of}
+-- What books have of the office's own tables, and leave of the tables of other names.
 use Rattle.vend_core.specs.Law.Life.{Life}
-use Rattle.book_tables.specs.Holds.{HasOffice, table_names}
-use Rattle.book_tables.specs.Reading.{HasTables}
-use Rattle.book_tables.specs.Writing.{IsOfNone}
 use Rattle.books.specs.Keeps.{HaveTables, Represents, Seen}
 pub use Rattle.book_requests.proofs.OthersLemmas.{others_same, others_then}
 

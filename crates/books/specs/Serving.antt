@@ -10,53 +10,11 @@ use Rattle.vend_core.specs.declared.decision.change.Edit.{Edit}
 use Rattle.vend_core.specs.declared.decision.refusal.Refusal.{Refusal}
 use Rattle.vend_core.specs.declared.decision.refusal.Refusal.TheVariants.{Memory, Store}
 use Rattle.vend_core.specs.declared.decision.request.Stamped.{Stamped}
-use Rattle.book_tables.specs.declared.error.TableError.{TableError}
-use Rattle.books.specs.Changing.{MakesEdit}
-use Rattle.books.specs.Failing.{RefusesUnchanged, refusal_for}
-use Rattle.books.specs.Keeps.{Stores, RecoversTo, Seen}
-use Rattle.books.specs.Same.{ChangesNothing, IsSame}
-use Rattle.books.specs.declared.decided.Decided.{Decided}
-
--- all that a crash may leave stands for one of the two offices
-abbrev pub MayBeLeft : State → Office → Office → Type 0
-MayBeLeft s o p = (trees : Trees) → s.may_leave trees → RecoversTo trees o ⊎ RecoversTo trees p
-
--- the office decided the request, or there was no memory, or the store failed
-abbrev pub IsDecided : BlockFunction → Office → Stamped → Result Change Refusal → Type 0
-IsDecided forward o at result =
-    (result ≡ decision forward o at) ⊎ ((result ≡ Err Memory) ⊎ (result ≡ Err Store))
-
--- the change of what was decided
-abbrev pub change_in : Result Decided Refusal → Result Change Refusal
-change_in (Ok decided) = Ok decided.change
-change_in (Err refusal) = Err refusal
-
--- an open connection has the edit, which is committed: a crash leaves nothing else. It has the limit
--- on steps that it had.
-pub record HasEdit (edit : Edit) (old new : State) : Type 0 where
-  pub was_open : IsTrue old.is_open
-  pub makes : MakesEdit edit old.now new.now
-  pub exact : (trees : Trees) → new.may_leave trees → trees ≡ new.now.trees
-  pub limit : new.step_limit ≡ old.step_limit
-
--- the commit failed: an open connection has what it had, and a crash leaves what it left before, or
--- the edit
-pub record DoubtsEdit (edit : Edit) (old new : State) : Type 0 where
-  pub was_open : IsTrue old.is_open
-  pub same : IsSame old new
-  pub survives : Survives old new (LeavesMade (MakesEdit edit) old.now)
-
--- the edit was not made, and nothing has changed; the error of the statement is answered so
-pub record IsToldOfEdit (refusal : Refusal) (old new : State) : Type 0 where
-  pub error : TableError
-  pub answered : refusal ≡ refusal_for error
-  pub either : (refusal ≡ Memory) ⊎ (refusal ≡ Store)
-  pub nothing : ChangesNothing old new
-
--- why an edit is not known to be committed: it was not made, or its commit failed
-abbrev pub FailsToEdit : Edit → State → State → Refusal → Type 0
-FailsToEdit edit old new refusal =
-    IsToldOfEdit refusal old new ⊎ ((refusal ≡ Store) × DoubtsEdit edit old new)
+use Rattle.book_requests.specs.Failing.{RefusesUnchanged}
+use Rattle.book_requests.specs.Transaction.{FailsToEdit, HasEdit, MayBeLeft}
+use Rattle.book_states.specs.Stores.{Stores}
+use Rattle.books.specs.Keeps.{Seen}
+use Rattle.book_states.specs.Same.{ChangesNothing}
 
 -- the books hold the office
 pub record HoldsOffice (o : Office) (books : Seen) : Type 0 where

@@ -6,11 +6,10 @@ ghost use Rattle.sqlite.specs.Held.{state};
 ghost use Rattle.vend_core.specs.Law.Life.{Life, MayLeave, present};
 ghost use Rattle.vend_core.specs.Office.{Office};
 ghost use Rattle.vend_core.specs.Law.Store.{sales_above};
-ghost use Rattle.book_tables.specs.Reading.{HasTables};
-ghost use Rattle.books.specs.Failing.{IsToldOfRead};
-ghost use Rattle.books.specs.Keeps.{HaveTables, IsNextOrOneBefore, Stores, Represents, seen};
-ghost use Rattle.books.specs.Others.{LeavesOthers};
-ghost use Rattle.books.specs.Same.{ChangesNothing};
+ghost use Rattle.book_requests.specs.Failing.{IsToldOfRead};
+ghost use Rattle.books.specs.Keeps.{HaveTables, IsNextOrOneBefore, Represents, seen};
+ghost use Rattle.book_requests.specs.Others.{LeavesOthers};
+ghost use Rattle.book_states.specs.Same.{ChangesNothing};
 
 use super::Books;
 use book_requests::{has_failed, page};

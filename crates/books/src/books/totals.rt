@@ -4,13 +4,11 @@ ghost use Rattle.std.specs.Prelude.{◌≡◌, ◌↔◌, ◌⊎◌, false, true
 ghost use Rattle.sqlite.specs.Held.{state};
 ghost use Rattle.sqlite.specs.State.{HasCleanDisk};
 ghost use Rattle.vend_core.specs.Law.Life.{Life, present};
-ghost use Rattle.vend_core.specs.Office.{Office};
-ghost use Rattle.book_tables.specs.Reading.{HasTables};
-ghost use Rattle.books.specs.Failing.{IsToldOfRead};
-ghost use Rattle.books.specs.Keeps.{HaveTables, Represents, Stores, seen};
-ghost use Rattle.books.specs.Others.{LeavesOthers};
-ghost use Rattle.books.specs.Same.{ChangesNothing};
-ghost use Rattle.books.specs.Totals.{shift_totals};
+ghost use Rattle.book_requests.specs.Failing.{IsToldOfRead};
+ghost use Rattle.books.specs.Keeps.{HaveTables, Represents, seen};
+ghost use Rattle.book_requests.specs.Others.{LeavesOthers};
+ghost use Rattle.book_states.specs.Same.{ChangesNothing};
+ghost use Rattle.book_requests.specs.Totals.{shift_totals};
 
 use super::Books;
 use book_requests::{has_failed, totals};

@@ -4,9 +4,9 @@ use Rattle.sqlite.specs.Held.{state}
 use Rattle.sqlite.specs.State.{HasCleanDisk}
 use Rattle.one_table.proofs.ChangeLemmas.{transaction_off, transaction_on, transaction_then}
 use Rattle.vend_core.specs.declared.office.row.Row.{Row}
-use Rattle.books.specs.Changing.{MakesRows}
-use Rattle.books.proofs.ChangeLemmas.{makes_more, still_has}
-use Rattle.books.proofs.changing.rows.add_rows.Goals as goal
+use Rattle.book_requests.specs.Changing.{MakesRows}
+use Rattle.book_requests.proofs.ChangeLemmas.{makes_more, still_has}
+use Rattle.book_requests.proofs.changing.rows.add_rows.Goals as goal
 
 pub others-preserved : goal.others-preserved
 others-preserved g c =

@@ -4,9 +4,9 @@ use Rattle.sqlite.specs.State.{HasCleanDisk}
 use Rattle.vend_core.specs.Decision.Facts.{AreRowsFacts}
 use Rattle.vend_core.specs.Office.{IsOffice, Office}
 use Rattle.vend_core.specs.declared.decision.row_facts.RowFacts.{RowFacts}
-use Rattle.books.specs.Members.{HasMembers}
-use Rattle.books.proofs.PassedLemmas.{HasPassed}
-use Rattle.books.proofs.facts.imports.found_of.Given as goal
+use Rattle.book_requests.specs.Members.{HasMembers}
+use Rattle.book_requests.proofs.PassedLemmas.{HasPassed}
+use Rattle.book_requests.proofs.facts.imports.found_of.Given as goal
 
 -- nothing was changed, and what is found for the other rows is, behind what is found so far, found
 -- for all

@@ -4,8 +4,8 @@ use Rattle.sqlite.specs.Held.{state}
 use Rattle.vend_core.specs.Decision.Facts.{meter_found}
 use Rattle.vend_core.specs.declared.office.meter.Meter.{Meter}
 use Rattle.vend_core.specs.declared.decision.row_facts.RowFacts.TheVariants.{NoMeter}
-use Rattle.books.proofs.FactsLemmas.{meter_told, tariff_told, was_clean}
-use Rattle.books.proofs.PassedLemmas.{passed, passed_none, read_after}
+use Rattle.book_requests.proofs.FactsLemmas.{meter_told, tariff_told, was_clean}
+use Rattle.book_requests.proofs.PassedLemmas.{passed, passed_none, read_after}
 use Rattle.book_tables.proofs.OfficeTableLemmas.{meters_in, tariffs_in, read_in_office}
 use Rattle.book_requests.proofs.facts.imports.meter_row_facts.Goals as goal
 

@@ -5,8 +5,8 @@ use Rattle.tariff.specs.declared.step.Step.{Step}
 use Rattle.vend_core.specs.Office.{Office}
 use Rattle.vend_core.specs.declared.decision.row_facts.RowFacts.{RowFacts}
 use Rattle.vend_core.specs.declared.decision.row_facts.RowFacts.TheVariants as found
-use Rattle.books.proofs.FactsLemmas.{office_told}
-use Rattle.books.proofs.PassedLemmas.{passed_none}
+use Rattle.book_requests.proofs.FactsLemmas.{office_told}
+use Rattle.book_requests.proofs.PassedLemmas.{passed_none}
 use Rattle.one_table.proofs.ReadsOnlyLemmas.{fail_on, read_on}
 use Rattle.book_tables.proofs.OfficeTableLemmas.{steps_in, read_in_office}
 use Rattle.book_requests.proofs.facts.imports.row_facts.Goals as goal

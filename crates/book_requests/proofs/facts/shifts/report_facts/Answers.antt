@@ -5,9 +5,9 @@ use Rattle.vend_core.specs.Office.Lookup.{sales_of_shift}
 use Rattle.vend_core.specs.declared.decision.facts.Facts.{Facts}
 use Rattle.vend_core.specs.declared.office.sale.Sale.{Sale}
 use Rattle.vend_core.specs.declared.office.shift.Shift.{Shift}
-use Rattle.books.proofs.AttemptLemmas.{none_of}
-use Rattle.books.proofs.FactsLemmas.{sales_told, shifts_told, was_clean}
-use Rattle.books.proofs.PassedLemmas.{passed, passed_none, read_after}
+use Rattle.book_requests.proofs.FactsLemmas.{none_of}
+use Rattle.book_requests.proofs.FactsLemmas.{sales_told, shifts_told, was_clean}
+use Rattle.book_requests.proofs.PassedLemmas.{passed, passed_none, read_after}
 use Rattle.book_tables.proofs.OfficeTableLemmas.{sales_in, shifts_in, read_in_office}
 use Rattle.book_requests.proofs.facts.shifts.report_facts.Goals as goal
 
