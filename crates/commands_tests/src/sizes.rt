@@ -6,7 +6,7 @@ use crate::support::{
 use office_lines::lines::stamped_of;
 use office_testing::both::{Both, serve_all};
 use office_testing::in_file::{Life, live};
-use office_testing::listed::OLDER;
+use office_testing::older::OLDER;
 use sqlite::Alter;
 use std::test::Fail;
 use sts_token::{BlockTransform, Plain};

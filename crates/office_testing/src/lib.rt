@@ -11,4 +11,3 @@ pub mod in_file;
 pub mod older;
 
 pub use office_lines::values;
-pub use older as listed;
