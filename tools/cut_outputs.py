@@ -9,7 +9,8 @@ import tempfile
 from collections import namedtuple
 from pathlib import Path
 
-from program import AT, METER, RECEIPT, VEND, WAIT, prepare, sell_words
+from program import AT, METER, OLDER, RECEIPT, VEND, WAIT, change, prepare, query, sell_words
+from shared import FORMAT
 
 # No file grows beyond so many bytes here. An output that is to take some bytes begins that far below.
 LIMIT = 1 << 30
@@ -174,7 +175,11 @@ def cut_listening(folder):
     words = ["serve", "--file", str(file), "--listen", "127.0.0.1:0", "--connections", "1"]
     told = b"listening 127.0.0.1:"
     for room in range(len(told) + 1):
+        change(file, OLDER[-1])
         same(words, run(folder, words, errors_room=room), Ran(1, b"", told[:room]))
+        # The file alone is the office, which was brought to the format of today.
+        Path(f"{file}-wal").unlink(missing_ok=True)
+        same("the format", query(file, "SELECT format FROM about;"), [str(FORMAT)])
     return len(told) + 1
 
 

@@ -2,8 +2,8 @@
 no script of its own."""
 import os
 import shutil
-import stat
 import subprocess
+from pathlib import Path
 
 from program import AT, RECEIPT, VEND, WAIT, expect, is_sound, prepare, sell_words, vend
 
@@ -95,13 +95,11 @@ def check_folders(folder):
         raise SystemExit("wrong: something was made in a folder that is no office")
     for kind in ("tariffs", "meters"):
         expect(vend("import", "--file", str(file), "--at", AT, kind, str(folder)), 1, b"", b"file\n")
-    shutil.rmtree(f"{file}-wal", ignore_errors=True)
-    for log in (f"{file}-wal",):
-        if os.path.exists(log):
-            os.unlink(log)
-        os.mkdir(log)
-        expect(vend(*sell_words(file, "A-1")), *UNOPENED)
-        os.rmdir(log)
+    log = Path(f"{file}-wal")
+    log.unlink(missing_ok=True)
+    log.mkdir()
+    expect(vend(*sell_words(file, "A-1")), *UNOPENED)
+    log.rmdir()
     expect(vend(*sell_words(file, "A-1")), 0, RECEIPT, b"")
 
 
@@ -130,9 +128,7 @@ def check_rights(folder):
             expect(as_other(words, shop), *UNOPENED)
     # A folder in which nothing can be made has no room for a log.
     file.chmod(0o666)
-    for end in ("-wal",):
-        if os.path.exists(f"{file}{end}"):
-            os.unlink(f"{file}{end}")
+    Path(f"{file}-wal").unlink(missing_ok=True)
     shop.chmod(0o555)
     for words in (report_words("office.db"), sell_words("office.db", "A-2"),
                   report_words("new.db")):

@@ -1,21 +1,14 @@
 """An office of many sales and shifts, whose rows another program wrote: a part of tools/check_program.
 It is no script of its own."""
-import subprocess
 from importlib.machinery import SourceFileLoader
 from importlib.util import module_from_spec, spec_from_loader
 
 from cut_outputs import Ran, limited, run, same
-from program import AT, METER, RECEIPT, TOP, expect, is_sound, prepare, query, sell_words, vend
+from program import (AT, METER, OLDER, RECEIPT, TOP, change, expect, is_sound, prepare, query,
+                     sell_words, vend)
 
 SALES, SHIFTS = 2001, 300
 METERS = ("10000000009", METER)
-# By format, from 1 on, what takes the tables back to it.
-OLDER = (
-    "DROP TABLE dated_steps; DROP TABLE meter_bases; DROP TABLE shift_totals;"
-    " DROP TABLE month_tenths; DROP TABLE last_ids; UPDATE about SET format = 1;",
-    "DROP TABLE dated_steps; DROP TABLE meter_bases; UPDATE about SET format = 2;",
-    "DROP TABLE dated_steps; UPDATE about SET format = 3;",
-)
 
 
 def oracle():
@@ -76,12 +69,6 @@ def receipt(number, meter, digits):
     groups = " ".join(digits[place:place + 4] for place in range(0, 20, 4))
     return (f"SALE {number}\nMETER {meter}\nTIME 2014-01-01T00:00:30Z\nKWH 0.1\nPRICE 10\n"
             f"TENDER 10\nCHANGE 0\nTOKEN {groups}\n").encode()
-
-
-def change(file, text):
-    ran = subprocess.run(["sqlite3", file], input=text, capture_output=True, text=True)
-    if ran.returncode or ran.stderr:
-        raise SystemExit(f"wrong: sqlite3 at {file}: {ran}")
 
 
 def check_many(folder):

@@ -15,6 +15,13 @@ RECEIPT = (
     b"CHANGE 0\nTOKEN 0007 2057 6026 2798 1690\n"
 )
 WAIT = 30  # seconds for one run
+# By format, from 1 on, what takes the tables back to it.
+OLDER = (
+    "DROP TABLE dated_steps; DROP TABLE meter_bases; DROP TABLE shift_totals;"
+    " DROP TABLE month_tenths; DROP TABLE last_ids; UPDATE about SET format = 1;",
+    "DROP TABLE dated_steps; DROP TABLE meter_bases; UPDATE about SET format = 2;",
+    "DROP TABLE dated_steps; UPDATE about SET format = 3;",
+)
 
 
 def vend(*words, **options):
@@ -61,3 +68,10 @@ def query(file, text):
 def is_sound(file):
     if query(file, "PRAGMA integrity_check; PRAGMA foreign_key_check;") != ["ok"]:
         raise SystemExit(f"sqlite3 finds {file} broken")
+
+
+def change(file, text):
+    """Has the shell change the tables of a file."""
+    ran = subprocess.run(["sqlite3", file], input=text, capture_output=True, text=True)
+    if ran.returncode or ran.stderr:
+        raise SystemExit(f"wrong: sqlite3 at {file}: {ran}")
