@@ -5,7 +5,7 @@ import shutil
 import subprocess
 from pathlib import Path
 
-from program import AT, RECEIPT, VEND, WAIT, expect, is_sound, prepare, sell_words, vend
+from program import AT, RECEIPT, TOP, VEND, WAIT, expect, is_sound, prepare, sell_words, vend
 
 UNOPENED = (1, b"", b"open 3 Store\n")
 # Who has no right to a file that only others may write.
@@ -16,11 +16,18 @@ def report_words(file, kind="totals"):
     return ["report", "--file", str(file), "--kind", kind]
 
 
+def program():
+    """The program that is named, or the one that ./vend has run."""
+    built = TOP / "crates" / "vend" / "out" / "vend"
+    if "VEND" in os.environ:
+        return VEND
+    return built if built.exists() else TOP / "release" / "vend-x86_64-linux"
+
+
 def as_other(words, cwd):
     """A run that has the rights of the files alone: for root these are no bounds."""
     who = {"user": NOBODY, "group": NOBODY, "extra_groups": []} if os.geteuid() == 0 else {}
-    program = cwd / "vend"
-    return subprocess.run([program, *words], capture_output=True, stdin=subprocess.DEVNULL, cwd=cwd,
+    return subprocess.run([cwd / "vend", *words], capture_output=True, stdin=subprocess.DEVNULL, cwd=cwd,
                           timeout=WAIT, **who)
 
 
@@ -111,7 +118,7 @@ def check_rights(folder):
     shop.chmod(0o777)
     folder.chmod(0o755)
     os.chmod(folder.parent, 0o755)
-    shutil.copy(VEND, shop / "vend")
+    shutil.copy(program(), shop / "vend")
     (shop / "vend").chmod(0o755)
     file, rows = shop / "office.db", shop / "rows.csv"
     sells(file)
