@@ -1,5 +1,5 @@
-"""An office of many sales and shifts, whose rows another program wrote: a part of tools/check_program.
-It is no script of its own."""
+"""An office of many sales and shifts, whose rows another program wrote, and one of many meters: a part of
+tools/check_program. It is no script of its own."""
 from importlib.machinery import SourceFileLoader
 from importlib.util import module_from_spec, spec_from_loader
 
@@ -71,6 +71,31 @@ def receipt(number, meter, digits):
             f"TENDER 10\nCHANGE 0\nTOKEN {groups}\n").encode()
 
 
+def meter_of(digits):
+    """The meter's number of ten digits: the last one is their check by Luhn's formula."""
+    doubled = [int(digit) * (1 + place % 2) for place, digit in enumerate(reversed(digits), start=1)]
+    return digits + str(-sum(it // 10 + it % 10 for it in doubled) % 10)
+
+
+def check_many_meters(folder):
+    """As many rows as a file may have: none is added where the last is refused, or all."""
+    file, csv = folder / "meters.db", folder / "many.csv"
+    prepare(file)
+    bring = ["import", "--file", str(file), "--at", AT, "meters", str(csv)]
+    rows = [f"{meter_of(f'{number:010}')},2014,flat,{'0' * 16}\n" for number in range(10_000)]
+    header = "meter,base,tariff,key\n"
+    csv.write_text(header + "".join(rows[:-1]) + rows[-1].replace("flat", "none"))
+    expect(vend(*bring), 1, b"", b"refused 14 ImportRow 10000 NoTariff\n")
+    if query(file, "SELECT count(*) FROM meters;") != ["2"]:
+        raise SystemExit("wrong: an import that was refused has added rows")
+    csv.write_text(header + "".join(rows))
+    for added in (b"added 10000\n", b"added 0\n"):
+        expect(vend(*bring), 0, added, b"")
+    csv.write_text(header + "".join(rows) + rows[0])
+    expect(vend(*bring), 1, b"", b"refused 14 ImportRow 10001 TooManyRows\n")
+    is_sound(file)
+
+
 def check_many(folder):
     """Papers of many sales; their export cut in each of its pages, and from a file of each format."""
     file = folder / "many.db"
@@ -104,4 +129,6 @@ def check_many(folder):
     is_sound(file)
     if query(file, "SELECT count(*) FROM sales;") != [str(SALES + 1)]:
         raise SystemExit("wrong: the sales after many")
-    print(f"many sales: the papers of {SALES} sales and {SHIFTS + 1} shifts, and of each older format")
+    check_many_meters(folder)
+    print(f"many sales: the papers of {SALES} sales and {SHIFTS + 1} shifts, and of each older format; "
+          "imports of 10000 meters")
