@@ -7,19 +7,9 @@
 #![tactic(auto)]
 
 #[cfg(test)]
-mod drawn;
-#[cfg(test)]
-mod files;
-#[cfg(test)]
-mod imports;
-#[cfg(test)]
-mod listed;
-#[cfg(test)]
 mod older;
 #[cfg(test)]
 mod pages;
-#[cfg(test)]
-mod paths;
 #[cfg(test)]
 mod shown;
 #[cfg(test)]

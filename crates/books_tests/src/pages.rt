@@ -4,7 +4,7 @@ use crate::shown::all_shown;
 use books::{Books, OpenFault};
 use office_testing::both::{Both, agree, ask, in_memory, is_same, office, serve, serve_all, sold};
 use office_testing::in_file::change_tables;
-use office_testing::listed::OLDER;
+use office_testing::older::OLDER;
 use office_testing::values::{FIRST_DAY, METER, OTHER_METER, flat, order, stamped};
 use papers::{TextFault, sales_csv};
 use sqlite::{Connection, MemStore};

@@ -4,7 +4,7 @@ use sqlite::{Alter, Connection, Error};
 use std::alloc::Global;
 use std::test::Fail;
 
-static TABLES: [&str; 13] = [
+static TABLES: [&str; 12] = [
     "SELECT 'table ' || name FROM sqlite_schema WHERE type = 'table' ORDER BY name",
     "SELECT 'about ' || id || ' ' || format FROM about ORDER BY id",
     "SELECT 'tariff ' || name FROM tariffs ORDER BY name",
@@ -25,7 +25,6 @@ static TABLES: [&str; 13] = [
     "SELECT 'base ' || meter || ' ' || base FROM meter_bases ORDER BY meter, base",
     "SELECT 'from ' || tariff || ' ' || day || ' ' || place || ' ' || coalesce(ends, '-') \
     || ' ' || price FROM dated_steps ORDER BY tariff, day, place",
-    "SELECT 'other ' || id FROM other ORDER BY id",
 ];
 
 /// The names of the tables of an office, as `all_shown` shows them.

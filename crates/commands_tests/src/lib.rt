@@ -1,20 +1,15 @@
-//! Runs of the program whose outputs, disks or connections fail, offices of many sales, and the desk on
-//! a port. There is no code here. What words print where nothing fails is in `tools/rows`.
+//! The desk of the program on a machine in memory, whose files, connections or outputs fail. There is
+//! no code here. What words print, and what an output that is cut leaves, is in `tools/rows` and
+//! `tools/check_program`.
 #![tactic(auto)]
 
-#[cfg(test)]
-mod cuts;
-#[cfg(test)]
-mod faults;
 #[cfg(test)]
 mod folder;
 #[cfg(test)]
 mod lapses;
 #[cfg(test)]
+mod options;
+#[cfg(test)]
 mod selfchecks;
-#[cfg(test)]
-mod serving;
-#[cfg(test)]
-mod sizes;
 #[cfg(test)]
 mod support;

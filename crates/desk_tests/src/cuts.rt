@@ -113,6 +113,29 @@ fn two_pieces_cut_after_any_byte(rt: HostRuntime) -> Result<(), Fail> {
     Ok(())
 }
 
+// More than 5,000 reads of a byte each.
+#[test]
+fn a_long_conversation_byte_by_byte(rt: HostRuntime) -> Result<(), Fail> {
+    let alloc = rt.alloc();
+    let mut input = Vec::from_slice(alloc, SALE)?;
+    let mut replies = Vec::from_slice(alloc, SOLD)?;
+    for _ in 0..120 {
+        input.extend_from_slice(RECEIPT)?;
+        replies.extend_from_slice(PRINTED)?;
+    }
+    let mut reader = Pieces {
+        rest: &input,
+        size: 1,
+        fails: false,
+    };
+    let mut text = Vec::new(alloc);
+    let mut books = prepared(alloc).ok_or("no office")?;
+    let end = hold(alloc, &mut books, &mut reader, &mut text).ok_or("no desk")?;
+    assert_eq!(rt; text, replies);
+    assert_eq!(rt; end, End::Closed);
+    Ok(())
+}
+
 // The sale is served, and its reply lost.
 #[test]
 fn a_writer_that_takes_nothing(rt: HostRuntime) -> Result<(), Fail> {

@@ -1,9 +1,9 @@
 //! Tests of the desk, which have no code of their own.
 //!
-//! Messages as they are written, cut anywhere, at the limits, and with each fault; bodies, routes
-//! and replies; and whole conversations, with an office in memory or in a file too, beside the
-//! office over plain lists. What is expected was worked out by hand, from `docs/DESK.md` and
-//! `docs/OFFICE.md`.
+//! Messages as they are written, cut anywhere, and with each fault; bodies, routes and replies; and
+//! whole conversations, with an office in memory or in a file too, beside the office over plain
+//! lists. What is expected was worked out by hand, from `docs/DESK.md` and `docs/OFFICE.md`. Messages
+//! at their limits are in `tools/check_desk`.
 #![tactic(auto)]
 
 #[cfg(test)]
@@ -21,8 +21,6 @@ mod inputs;
 #[cfg(test)]
 mod later;
 #[cfg(test)]
-mod limits;
-#[cfg(test)]
 mod messages;
 #[cfg(test)]
 mod moments;
@@ -37,8 +35,4 @@ mod replies;
 #[cfg(test)]
 mod routes;
 #[cfg(test)]
-mod rows;
-#[cfg(test)]
 mod streams;
-#[cfg(test)]
-mod wanted;

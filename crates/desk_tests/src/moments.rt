@@ -1,12 +1,19 @@
 //! A clock of several answers: each message that has a route takes the next one, and no other does.
 use crate::prepared::prepared;
-use crate::wanted::{ADDED, NO_ROUTE};
 use books::Books;
 use desk::{Desk, End, Script};
 use sqlite::MemStore;
 use std::alloc::Global;
 use std::test::Fail;
 use sts_token::Plain;
+
+const NO_ROUTE: &[u8] = b"HTTP/1.1 404 Not Found\r\n\
+    Content-Type: application/json\r\nContent-Length: 19\r\n\r\n\
+    {\"error\":\"NoRoute\"}";
+
+const ADDED: &[u8] = b"HTTP/1.1 200 OK\r\n\
+    Content-Type: application/json\r\nContent-Length: 11\r\n\r\n\
+    {\"added\":1}";
 
 // 2014-01-01T00:00:30Z, then 2014-01-31T23:59:59Z and the second after it.
 const MOMENTS: (i64, [i64; 2]) = (1_388_534_430, [1_391_212_799, 1_391_212_800]);

@@ -5,8 +5,6 @@
 //! message.
 #![tactic(auto)]
 
-pub mod differences;
 pub mod lines;
-pub mod lists;
 pub mod plain;
 pub mod values;

@@ -24,51 +24,51 @@ pub fn stamped_of(alloc: Global, sale_count: usize, line: &str) -> Result<Stampe
 }
 
 fn request(alloc: Global, word: &str, text: &str) -> Result<Request, Fail> {
-    let [one, two, three, four, _] = values(text, ' ');
-    match word {
-        "add-tariff" => Ok(Request::AddTariff(name(one)?, steps(alloc, two)?)),
-        "add-steps" => { Ok(Request::AddSteps(name(one)?, day(two)?, steps(alloc, three)?)) }
-        "add-meter" => Ok(Request::AddMeter(number(one)?, meter(two, three, four)?)),
-        "set-tariff" => Ok(Request::SetTariff(number(one)?, name(two)?)),
-        "move-base" => Ok(Request::MoveBase(number(one)?, base(two)?)),
-        "open-shift" => Ok(Request::OpenShift(operator(one.as_bytes())?)),
-        "close-shift" => Ok(Request::CloseShift(operator(one.as_bytes())?)),
-        "sell" => order_of(
+    let (count, [one, two, three, four, _]) = values(text, ' ');
+    match (word, count) {
+        ("add-tariff", 2) => Ok(Request::AddTariff(name(one)?, steps(alloc, two)?)),
+        ("add-steps", 3) => { Ok(Request::AddSteps(name(one)?, day(two)?, steps(alloc, three)?)) }
+        ("add-meter", 4) => Ok(Request::AddMeter(number(one)?, meter(two, three, four)?)),
+        ("set-tariff", 2) => Ok(Request::SetTariff(number(one)?, name(two)?)),
+        ("move-base", 2) => Ok(Request::MoveBase(number(one)?, base(two)?)),
+        ("open-shift", 1) => Ok(Request::OpenShift(operator(one.as_bytes())?)),
+        ("close-shift", 1) => Ok(Request::CloseShift(operator(one.as_bytes())?)),
+        ("sell", 4) => order_of(
             one.as_bytes(),
             two.as_bytes(),
             three.as_bytes(),
             four.parse()?,
         ),
-        "reprint" => Ok(Request::Reprint(one.parse()?)),
-        "report" => Ok(Request::ShiftReport(one.parse()?)),
-        "import" => rows(alloc, text),
-        _ => Err(Fail::new(format_args!("no request: {word}"))),
+        ("reprint", 1) => Ok(Request::Reprint(one.parse()?)),
+        ("report", 1) => Ok(Request::ShiftReport(one.parse()?)),
+        ("import", _) => rows(alloc, text),
+        _ => Err(Fail::new(format_args!("no request: {word} {text}"))),
     }
 }
 
 fn rows(alloc: Global, text: &str) -> Result<Request, Fail> {
     let mut rows = Vec::new(alloc);
     for row in text.split_whitespace() {
-        let [kind, one, two, three, four] = values(row, ',');
-        rows.push(match kind {
-            "t" => Row::Tariff(name(one)?, steps(alloc, two)?),
-            "s" => Row::Steps(name(one)?, day(two)?, steps(alloc, three)?),
-            "m" => Row::Meter(number(one)?, meter(two, three, four)?),
+        let (count, [kind, one, two, three, four]) = values(row, ',');
+        rows.push(match (kind, count) {
+            ("t", 3) => Row::Tariff(name(one)?, steps(alloc, two)?),
+            ("s", 4) => Row::Steps(name(one)?, day(two)?, steps(alloc, three)?),
+            ("m", 5) => Row::Meter(number(one)?, meter(two, three, four)?),
             _ => return Err(Fail::new(format_args!("no row: {row}"))),
         })?;
     }
     import(rows)
 }
 
-// The first values of a text, and empty ones where it has fewer.
-fn values(text: &str, between: char) -> [&str; 5] {
+// How many values a text has, and the first of them; empty ones where it has fewer.
+fn values(text: &str, between: char) -> (usize, [&str; 5]) {
     let mut pieces = text.split(between);
     let one = pieces.next().unwrap_or("");
     let two = pieces.next().unwrap_or("");
     let three = pieces.next().unwrap_or("");
     let four = pieces.next().unwrap_or("");
     let five = pieces.next().unwrap_or("");
-    [one, two, three, four, five]
+    (text.split(between).count(), [one, two, three, four, five])
 }
 
 fn name(text: &str) -> Result<vend_core::TariffName, Fail> {

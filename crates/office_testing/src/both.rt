@@ -133,26 +133,6 @@ pub fn sold<S: Alter, T: BlockTransform>(
     }
 }
 
-/// Both refuse the request on the office's first day, and show as before.
-pub fn refuses<S: Alter, T: BlockTransform>(
-    both: &mut Both<S, T>,
-    request: Request,
-    refusal: Refusal,
-) -> Result<(), Fail> {
-    let next = next_number(&both.books);
-    let is_refused = match ask(both, FIRST_DAY, request)? {
-        Ok(_) => false,
-        Err(given) => given == refusal,
-    };
-    if !is_refused {
-        return Err(Fail::new(format_args!("not refused: {refusal}")));
-    }
-    if next_number(&both.books) != next {
-        return Err(Fail::new(format_args!("changed by {refusal}")));
-    }
-    agree(both)
-}
-
 /// Both have the same sales and the same shifts, which they show by number, and the books have the
 /// totals of these.
 pub fn agree<S: Alter, T: BlockTransform>(both: &mut Both<S, T>) -> Result<(), Fail> {

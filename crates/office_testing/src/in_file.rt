@@ -1,13 +1,13 @@
 //! Both offices, the one in tables over a file.
 
-use crate::both::{Both, next_number, stop};
+use crate::both::{Both, stop};
 use books::{Books, OpenFault};
 use sqlite::{Alter, Connection, Error, FileFrom, FileStore, Unknown};
 use std::alloc::Global;
 use std::fs;
 use std::rt::Files;
 use std::test::Fail;
-use sts_token::{BlockTransform, Plain};
+use sts_token::BlockTransform;
 use vend_core::Lists;
 
 type InFile<T> = Both<FileStore<FileFrom<Unknown>>, T>;
@@ -92,18 +92,6 @@ pub fn live_and_stop<T: BlockTransform + Drop, R: Drop, L: Life<T, R> + Drop>(
     let result = life.live(&mut both);
     let lists = stop(both);
     Ok((lists, result?))
-}
-
-// The number of the next sale of an office that stops.
-fn next_of(both: InFile<Plain>) -> u64 {
-    let next = next_number(&both.books);
-    let _ = stop(both);
-    next
-}
-
-/// The number of the next sale of a file's office, or why it is not opened.
-pub fn next_in_file(host: &HostRuntime, path: &str) -> Result<u64, OpenFault> {
-    open(host, path, Plain, Lists::new(host.alloc(), Plain)).map(next_of)
 }
 
 /// Removes a database and its log, where they are.

@@ -1,5 +1,5 @@
 //! What tests of the office share: the office in tables beside the office over plain lists, which
-//! has to answer the same; a list of requests with their replies, and such lists as lines of text.
+//! has to answer the same, its lives in a file, and a list of requests with their replies.
 //!
 //! Nothing here has a contract beyond that it returns: a difference comes back as a failed test's
 //! message.
@@ -8,6 +8,6 @@
 pub mod asks;
 pub mod both;
 pub mod in_file;
-pub mod listed;
+pub mod older;
 
 pub use office_lines::values;

@@ -28,8 +28,3 @@ pub(crate) const SECOND_TABLES: &str = "CREATE TABLE last_ids (meter TEXT NOT NU
 /// The one that came with format 3.
 pub(crate) const THIRD_TABLES: &str = "CREATE TABLE meter_bases (meter TEXT NOT NULL \
     REFERENCES meters (meter), base INTEGER NOT NULL, UNIQUE (meter, base)) STRICT";
-
-/// The one that came with format 4.
-pub(crate) const FOURTH_TABLES: &str = "CREATE TABLE dated_steps (tariff TEXT NOT NULL \
-    REFERENCES tariffs (name), day INTEGER NOT NULL, place INTEGER NOT NULL, ends INTEGER, \
-    price INTEGER NOT NULL, UNIQUE (tariff, day, place)) STRICT";

@@ -1,0 +1,194 @@
+"""Outputs of the built program that fail after each of their bytes in turn: a part of
+tools/check_program. It is no script of its own."""
+import contextlib
+import os
+import resource
+import signal
+import subprocess
+import tempfile
+from collections import namedtuple
+from pathlib import Path
+
+from program import AT, METER, OLDER, RECEIPT, VEND, WAIT, change, prepare, query, sell_words
+from shared import FORMAT
+
+# No file grows beyond so many bytes here. An output that is to take some bytes begins that far below.
+LIMIT = 1 << 30
+# An output is cut at so many places at the most.
+PLACES = 250
+# A disk that is memory takes hundreds of sales in a second.
+DISK = "/dev/shm" if os.access("/dev/shm", os.W_OK) else None
+# The words of a trial, up to its amounts.
+TRIAL = ["trial", "--base", "2014", "--key", "0" * 16, "--at", AT]
+TOKEN = "00072057602627981690"
+# Words that need no office: what they print is cut, and what they tell on the error output.
+PRINTED = [[*TRIAL, "1", "1"], [*TRIAL, "1", "16385"], ["meter", "--key", "0" * 16, TOKEN, TOKEN, "x"],
+           ["quote", ":1", "0", "100000000"], ["quote", "--help"], ["help", "base"], ["selfcheck"]]
+TOLD = [[*TRIAL, "1", "16385"], ["quote", ":100", "0", "9"], ["quote", ":100", "0", "0"],
+        ["quote", ":100"]]
+
+# How a run ended, and what it left on its output and its error output.
+Ran = namedtuple("Ran", "status output errors")
+
+
+@contextlib.contextmanager
+def limited():
+    """Files grow up to the limit, and a write beyond it fails."""
+    before, most = resource.getrlimit(resource.RLIMIT_FSIZE)
+    ignored = signal.signal(signal.SIGXFSZ, signal.SIG_IGN)
+    resource.setrlimit(resource.RLIMIT_FSIZE, (LIMIT, most))
+    try:
+        yield
+    finally:
+        resource.setrlimit(resource.RLIMIT_FSIZE, (before, most))
+        signal.signal(signal.SIGXFSZ, ignored)
+
+
+def run(folder, words, room=LIMIT, errors_room=LIMIT):
+    """A run whose output takes so many bytes, and whose error output so many."""
+    starts = [LIMIT - room, LIMIT - errors_room]
+    files = [os.open(folder / name, os.O_RDWR | os.O_CREAT | os.O_TRUNC) for name in ("out", "err")]
+    try:
+        for file, start in zip(files, starts):
+            os.ftruncate(file, start)
+            os.lseek(file, start, os.SEEK_SET)
+        # The signal of a file that is too large stays ignored.
+        ended = subprocess.run([VEND, *words], stdin=subprocess.DEVNULL, stdout=files[0],
+                               stderr=files[1], cwd=folder, restore_signals=False, timeout=WAIT)
+        return Ran(ended.returncode, *(os.pread(file, 1 << 20, start)
+                                       for file, start in zip(files, starts)))
+    finally:
+        for file in files:
+            os.close(file)
+
+
+def same(words, ran, expected):
+    if ran != expected:
+        raise SystemExit(f"wrong: {words}: {ran}\nexpected {expected}")
+
+
+def places_of(text):
+    """How many bytes of a text are taken: each number of them, or some where it is long."""
+    return range(0, len(text), 1 + len(text) // PLACES)
+
+
+def cut_output(folder, words):
+    """The output is cut after each of its bytes: a beginning comes, all errors, and the status 1."""
+    whole = run(folder, words)
+    if not whole.output:
+        raise SystemExit(f"wrong: {words} print nothing")
+    places = places_of(whole.output)
+    for room in places:
+        same(words, run(folder, words, room), Ran(1, whole.output[:room], whole.errors))
+    return len(places)
+
+
+def cut_errors(folder, words, errors=None):
+    """The error output is cut after each of its bytes: the rest is as before."""
+    whole = run(folder, words)
+    if not whole.errors or errors not in (None, whole.errors):
+        raise SystemExit(f"wrong: {words}: {whole}\nexpected the errors {errors}")
+    for room in (places := places_of(whole.errors)):
+        same(words, run(folder, words, errors_room=room), whole._replace(errors=whole.errors[:room]))
+    return len(places)
+
+
+def cut_reports(folder):
+    """The papers of an office with a sale, and what is told of words that are refused."""
+    file = folder / "papers.db"
+    prepare(file)
+    same("the sale", run(folder, sell_words(file, "A-1")), Ran(0, RECEIPT, b""))
+    at = ["--at", AT, "--file", str(file)]
+    report = ["report", "--file", str(file), "--kind"]
+    count = sum(cut_output(folder, [*report, kind]) for kind in ("receipt", "shift", "sales", "totals"))
+    (folder / "wrong.csv").write_bytes(b"name,steps\nflat,:100\nhome,100\n")
+    refused = [
+        (["import", *at, "tariffs", "wrong.csv"], b"refused 14 ImportRow 2 Field 2\n"),
+        (["import", *at, "meters", "missing.csv"], b"file\n"),
+        (["shift", *at, "--operator", "ann", "open"], b"refused 3 ShiftOpen\n"),
+        (["shift", *at, "--operator", "bob", "close"], b"refused 2 NoShift\n"),
+        (["base", *at, "--meter", METER, "--base", "1993"], b"refused 18 NotLater\n"),
+        (sell_words(file, "A-1", "20"), b"refused 1 RefReused\n"),
+        ([*report, "totals", "--number", "2"], b"refused 13 NoSuchShift\n"),
+        (["report", "--file", ".", "--kind", "sales"], b"open 3 Store\n"),
+        (["base", *at, "--meter", "1", "--base", "2014"], b"bad word\n"),
+    ]
+    count += sum(cut_errors(folder, words, errors) for words, errors in refused)
+    same("the sale after all", run(folder, sell_words(file, "A-1")), Ran(0, RECEIPT, b""))
+    return count
+
+
+def cut_once(folder, words, printed, room):
+    """What stands by then is done, whether its answer is taken or not."""
+    same(words, run(folder, words, room), Ran(1, printed[:room], b""))
+
+
+def cut_sales(folder):
+    """Each sale stands, and the same words again print its receipt, whose beginning was taken."""
+    file = folder / "sales.db"
+    prepare(file)
+    for room in range(len(RECEIPT)):
+        words = sell_words(file, f"B-{room}")
+        cut = run(folder, words, room)
+        whole = run(folder, words)
+        head = f"SALE {room + 1}\nMETER {METER}\nTIME 2014-01-01T00:00:30Z\nKWH 0.1\n".encode()
+        if whole.status or whole.errors or not whole.output.startswith(head):
+            raise SystemExit(f"wrong: {words}: {whole}")
+        same(words, cut, Ran(1, whole.output[:room], b""))
+    count = len(RECEIPT)
+    totals = f"shift 1 sales {count} tenths {count} cash {10 * count}\n".encode()
+    same("the totals", run(folder, ["report", "--file", str(file), "--kind", "totals"]),
+         Ran(0, totals, b""))
+    return count
+
+
+def cut_answers(folder):
+    """A shift, an import and a later base date stand where their answers are cut."""
+    file = folder / "answers.db"
+    prepare(file)
+    at = ["--at", AT, "--file", str(file)]
+    shift = ["shift", *at, "--operator", "bob"]
+    for room in range(8):
+        printed = f"shift {room + 2}\n".encode()
+        cut_once(folder, [*shift, "open"], printed, room)
+        same("open", run(folder, [*shift, "open"]), Ran(1, b"", b"refused 3 ShiftOpen\n"))
+        cut_once(folder, [*shift, "close"], printed, room)
+        same("close", run(folder, [*shift, "close"]), Ran(1, b"", b"refused 2 NoShift\n"))
+        (folder / "next.csv").write_text(f"name,steps\nt{room},:100\n")
+        cut_once(folder, ["import", *at, "tariffs", "next.csv"], b"added 1\n", room)
+        same("import", run(folder, ["import", *at, "tariffs", "next.csv"]), Ran(0, b"added 0\n", b""))
+    meters = ["00000000000", "20000000008", "30000000007", "79927398713", "10000000017"]
+    rows = "".join(f"{meter},1993,flat,{'0' * 16}\n" for meter in meters)
+    (folder / "old.csv").write_text(f"meter,base,tariff,key\n{rows}")
+    same("meters", run(folder, ["import", *at, "meters", "old.csv"]), Ran(0, b"added 5\n", b""))
+    for room, meter in enumerate(meters):
+        move = ["base", *at, "--meter", meter, "--base"]
+        cut_once(folder, [*move, "2014"], b"done\n", room)
+        same(move, run(folder, [*move, "1993"]), Ran(1, b"", b"refused 18 NotLater\n"))
+    return 8 * 3 + len(meters)
+
+
+def cut_listening(folder):
+    """Nobody is waited for where the error output does not take the line that says where."""
+    file = folder / "serve.db"
+    prepare(file)
+    words = ["serve", "--file", str(file), "--listen", "127.0.0.1:0", "--connections", "1"]
+    told = b"listening 127.0.0.1:"
+    for room in range(len(told) + 1):
+        change(file, OLDER[-1])
+        same(words, run(folder, words, errors_room=room), Ran(1, b"", told[:room]))
+        # The file alone is the office, which was brought to the format of today.
+        Path(f"{file}-wal").unlink(missing_ok=True)
+        same("the format", query(file, "SELECT format FROM about;"), [str(FORMAT)])
+    return len(told) + 1
+
+
+def check_cuts():
+    """Outputs that take a beginning: a beginning is what comes, with the status 1, and what was asked
+    stands."""
+    with tempfile.TemporaryDirectory(dir=DISK) as name, limited():
+        folder = Path(name)
+        count = sum(cut_output(folder, words) for words in PRINTED)
+        count += sum(cut_errors(folder, words) for words in TOLD)
+        count += sum(part(folder) for part in (cut_reports, cut_sales, cut_answers, cut_listening))
+    print(f"outputs that end after some bytes: {count} of them, each with a beginning and its status")

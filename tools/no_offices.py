@@ -1,0 +1,127 @@
+"""Databases that are no office, or have more than one: a part of tools/check_program. It is no script of
+its own."""
+import shutil
+import subprocess
+
+from program import AT, OLDER, RECEIPT, change, expect, prepare, query, sell_words, vend
+from shared import FORMAT
+
+NO_OFFICE = (1, b"", b"open 1 NotAnOffice\n")
+AUDIT = "CREATE TABLE audit (sale INTEGER REFERENCES sales (number));"
+FAR = "UPDATE sales SET number = 5000000000;"
+# Each of these alone is in a new database.
+OTHERS = [
+    "CREATE TABLE about (id INTEGER PRIMARY KEY, word TEXT);",
+    "CREATE VIEW meters AS SELECT 1 AS one;",
+    "CREATE TABLE words (word TEXT); CREATE INDEX sales ON words (word);",
+    AUDIT,
+]
+# What is done to an office of a format before it is opened.
+SPOILED = [
+    # A row of a sale that no office has.
+    *((1, f"UPDATE sales SET {it};") for it in (
+        "price = 11", "tender = 100000001", "tid = 16777216", "tid = -1", "rnd = 16",
+        "tenths = 16385", "base = 2015", "moment = 4102444800", "operator = 'ann '", "ref = ''",
+        "digits = '0007205760262798169'", "digits = '0007205760262798169x'")),
+    (1, FAR), (2, FAR), (3, FAR), (4, FAR),
+    (1, "UPDATE meters SET base = 2000 WHERE meter = '10000000009';"),
+    (2, "UPDATE meters SET base = 2000 WHERE meter = '10000000009';"),
+    # A table or a column that is missing.
+    (1, "DROP TABLE sales;"), (4, "DROP TABLE sales;"),
+    (1, "DROP TABLE about;"), (4, "DROP TABLE about;"),
+    (1, "DROP TABLE tariff_steps; CREATE TABLE tariff_steps (tariff TEXT NOT NULL REFERENCES"
+        " tariffs (name), place INTEGER NOT NULL, price INTEGER NOT NULL, UNIQUE (tariff, place))"
+        " STRICT;"),
+    (2, "DROP TABLE month_tenths;"),
+    (2, "DROP TABLE shift_totals; CREATE TABLE shift_totals (shift INTEGER PRIMARY KEY, sales INTEGER"
+        " NOT NULL, tenths INTEGER NOT NULL) STRICT;"),
+    (3, "DROP TABLE meter_bases;"),
+    (3, "DROP TABLE meter_bases; CREATE TABLE meter_bases (meter TEXT NOT NULL REFERENCES meters"
+        " (meter), UNIQUE (meter)) STRICT;"),
+    (4, "DROP TABLE shift_totals;"), (4, "DROP TABLE meter_bases;"),
+    (4, "DROP TABLE about; CREATE TABLE about (id INTEGER PRIMARY KEY, word TEXT) STRICT;"),
+    (4, "DROP TABLE tariff_steps; CREATE TABLE tariff_steps (tariff TEXT NOT NULL, place INTEGER NOT"
+        " NULL, ends INTEGER, price INTEGER NOT NULL) STRICT;"),
+    # A name of a later format that is another's.
+    (1, "CREATE TABLE last_ids (id INTEGER PRIMARY KEY);"),
+    (1, "CREATE TABLE dated_steps (id INTEGER PRIMARY KEY); INSERT INTO dated_steps VALUES (7);"),
+    (1, "CREATE VIEW meter_bases AS SELECT 1 AS one;"),
+    (2, "CREATE TABLE meter_bases (id INTEGER PRIMARY KEY);"),
+    (2, "CREATE TABLE other (id INTEGER PRIMARY KEY); CREATE INDEX dated_steps ON other (id);"),
+    (3, "CREATE TABLE dated_steps (id INTEGER PRIMARY KEY);"),
+    (1, "CREATE TABLE other (id INTEGER PRIMARY KEY REFERENCES shift_totals (shift));"),
+    (4, AUDIT), (4, "CREATE INDEX stray ON sales (moment);"),
+    # The number of another format, or of none.
+    *((1, f"UPDATE about SET format = {number};") for number in (0, -1, 2, 5)),
+    *((2, f"UPDATE about SET format = {number};") for number in (1, 2**32 + 2)),
+    (3, "UPDATE about SET format = 4;"), (3, "DELETE FROM about;"),
+    *((4, f"UPDATE about SET format = {number};") for number in (0, 1, 2, 3, 5, -1)),
+    (4, "UPDATE about SET id = 2;"), (4, "INSERT INTO about VALUES (2, 1);"),
+    (4, "DELETE FROM about;"),
+]
+# What may stand beside an office.
+BESIDE = (
+    "CREATE TABLE before (id INTEGER PRIMARY KEY, word TEXT); INSERT INTO before VALUES (7, 'a');"
+    " CREATE INDEX word_of ON before (word); CREATE TABLE counted (id INTEGER PRIMARY KEY"
+    " AUTOINCREMENT); CREATE VIEW seen AS SELECT 1 AS one;"
+)
+AFTER = "CREATE TABLE after (id INTEGER PRIMARY KEY); INSERT INTO after VALUES (8);"
+
+
+def rows_of(file):
+    """All that a database has, as the shell writes it."""
+    ran = subprocess.run(["sqlite3", file, ".dump"], capture_output=True, text=True, check=True)
+    return ran.stdout
+
+
+def is_refused(file, text):
+    before = rows_of(file)
+    for words in (["report", "--file", str(file), "--kind", "totals"], sell_words(file, "A-1"),
+                  sell_words(file, "A-2")):
+        ran = vend(*words)
+        if (ran.returncode, ran.stdout, ran.stderr) != NO_OFFICE:
+            raise SystemExit(f"wrong: {text} {ran}\nexpected {NO_OFFICE}")
+    if rows_of(file) != before:
+        raise SystemExit(f"wrong: {text} has changed when it was opened")
+
+
+def office_of(folder, number):
+    """The file of an office of a format, with one sale."""
+    file = folder / f"format-{number}.db"
+    prepare(file)
+    expect(vend(*sell_words(file, "A-1")), 0, RECEIPT, b"")
+    change(file, OLDER[number - 1] if number < FORMAT else "")
+    change(file, "PRAGMA wal_checkpoint(TRUNCATE);")
+    return file
+
+
+def check_beside(folder):
+    """An office is made beside tables of other names, which are as they were, and more may come."""
+    file = folder / "beside.db"
+    change(file, BESIDE)
+    prepare(file)
+    change(file, AFTER)
+    expect(vend(*sell_words(file, "A-1")), 0, RECEIPT, b"")
+    found = [query(file, f"SELECT * FROM {name};") for name in ("before", "after", "seen", "counted")]
+    if found != [["7|a"], ["8"], ["1"], []]:
+        raise SystemExit(f"wrong: beside an office are {found}")
+
+
+def check_no_offices(folder):
+    """What is no office is refused, and left as it was."""
+    folder = folder / "none"
+    folder.mkdir()
+    file = folder / "office.db"
+    for text in OTHERS:
+        file.unlink(missing_ok=True)
+        change(file, text)
+        is_refused(file, text)
+    files = {number: office_of(folder, number) for number in range(1, FORMAT + 1)}
+    for number, text in SPOILED:
+        shutil.copy(files[number], file)
+        change(file, text)
+        is_refused(file, f"format {number}: {text}")
+    for number, whole in files.items():
+        expect(vend(*sell_words(whole, "A-1")), 0, RECEIPT, b"")
+    check_beside(folder)
+    print(f"no offices: {len(OTHERS) + len(SPOILED)} databases, each left as it was")
