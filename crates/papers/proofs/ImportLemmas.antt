@@ -3,7 +3,7 @@ use Rattle.std.proofs.Common.{◌≡◌, ◌≢◌, ◌∙◌, ◌+◌, ◌-◌,
 use Rattle.std.specs.Prelude.{◌==◌}
 use Rattle.std.specs.Result.{IfErr, IsErrAnd, OnOk, is_ok}
 use Rattle.papers.specs.File.{Fields, IsFirstOutside, IsFromText, IsTariffText, KeepsRuleAt, RecordSays, RecordSaysTariff, base_text, header_of, kind_of}
-use Rattle.papers.specs.Import.{AreRowsIn, AreSaid, HasCause, HasForm, FileHasFault, IsFault, IsFirstFault, IsNoRow, IsRowAt, IsRowFault, TakesRoom, looked_at}
+use Rattle.papers.specs.Import.{AreRowsIn, AreSaid, HasCause, HasForm, FileHasFault, IsFault, IsFirstFault, IsNoRow, IsReading, IsRowAt, IsRowFault, TakesRoom, looked_at}
 use Rattle.papers.specs.declared.row_fault.RowFault.{RowFault}
 use Rattle.papers.specs.declared.row_fault.RowFault.TheVariants.{At, Memory}
 use Rattle.vend_core.specs.Name.{IsName}
@@ -312,3 +312,8 @@ on_ok (Err e) f = tt
 pub if_err : {T : Type 0} (r : Result T RowFault) (fault : RowFault) (P : RowFault → Type 0) → IsErrAnd r (λ e. e ≡ fault) → P fault → IfErr r P
 if_err (Ok x) fault P is holds = absurd is
 if_err (Err e) fault P is holds = subst P (sym is) holds
+
+-- what a reading answers then
+pub reading_err : (r : Result (List Row) RowFault) (fault : RowFault) (kind : FileKind) (records : List Fields) → IsErrAnd r (λ e. e ≡ fault) → IsFault kind records fault → IsReading kind records r
+reading_err (Ok rows) fault kind records is holds = absurd is
+reading_err (Err e) fault kind records is holds = subst (IsFault kind records) (sym is) holds

@@ -1,9 +1,11 @@
 -- A file has one reading.
-use Rattle.std.proofs.Common.{◌≡◌, ◌∙◌, ◌+◌, ◌-◌, ◌<◌, ℕ, zero, suc, [], ◌∷◌, List, length, get_or, slice_get, Some, None, ap, refl, sym, subst, arith}
+use Rattle.std.proofs.Common.{◌≡◌, ◌∙◌, ◌+◌, ◌-◌, ◌<◌, ◌^◌, lit<, ℕ, zero, suc, [], ◌∷◌, List, length, slice_get, Some, None, ap, refl, sym, subst, arith}
 use Rattle.std.proofs.lemmas.List.{append-nil}
 use Rattle.csv.specs.Machine.{next_record}
 use Rattle.csv.specs.Reading.{AreRecords, Reached, default_config}
 use Rattle.csv.specs.declared.parser.State.{State}
+use Rattle.std.proofs.lemmas.Fmt.{decimal_injective}
+use Rattle.sts_fields.specs.Base.{year_of}
 use Rattle.papers.proofs.ImportLemmas.{no-fault-within, one-form, same-form}
 use Rattle.papers.specs.File.{Fields, IsFirstOutside, RecordSays, RecordSaysTariff, base_text, header_of, kind_of}
 use Rattle.papers.specs.Import.{AreRows, AreSaid, FileHasFault, HasCause, IsFirstFault, IsNoRow}
@@ -128,15 +130,23 @@ one-fault kind records n m c d a b =
     let there = rw (← same) at b.here in
     (same, same-cause kind records n c d a.here there)
 
+short : (base : Base) → year_of base < 2 ^ 64
+short Y1993 = lit< tt
+short Y2014 = lit< tt
+short Y2035 = lit< tt
+
+years : (a b : Base) → base_text a ≡ base_text b → year_of a ≡ year_of b
+years a b e = decimal_injective (year_of a) (year_of b) (short a) (short b) e
+
 base-same : (a b : Base) → base_text a ≡ base_text b → a ≡ b
 base-same Y1993 Y1993 e = refl
-base-same Y1993 Y2014 e = let third : 57 ≡ 49 = ap (λ text. get_or text 2 0) e in absurd (omega (arith, third))
-base-same Y1993 Y2035 e = let third : 57 ≡ 51 = ap (λ text. get_or text 2 0) e in absurd (omega (arith, third))
-base-same Y2014 Y1993 e = let third : 49 ≡ 57 = ap (λ text. get_or text 2 0) e in absurd (omega (arith, third))
+base-same Y1993 Y2014 e = absurd (omega (arith, years Y1993 Y2014 e))
+base-same Y1993 Y2035 e = absurd (omega (arith, years Y1993 Y2035 e))
+base-same Y2014 Y1993 e = absurd (omega (arith, years Y2014 Y1993 e))
 base-same Y2014 Y2014 e = refl
-base-same Y2014 Y2035 e = let third : 49 ≡ 51 = ap (λ text. get_or text 2 0) e in absurd (omega (arith, third))
-base-same Y2035 Y1993 e = let third : 51 ≡ 57 = ap (λ text. get_or text 2 0) e in absurd (omega (arith, third))
-base-same Y2035 Y2014 e = let third : 51 ≡ 49 = ap (λ text. get_or text 2 0) e in absurd (omega (arith, third))
+base-same Y2014 Y2035 e = absurd (omega (arith, years Y2014 Y2035 e))
+base-same Y2035 Y1993 e = absurd (omega (arith, years Y2035 Y1993 e))
+base-same Y2035 Y2014 e = absurd (omega (arith, years Y2035 Y2014 e))
 base-same Y2035 Y2035 e = refl
 
 -- a text of steps is that of one list of them

@@ -1,5 +1,5 @@
 -- Fields of letters, digits and hyphens, which a record of CSV has as they are.
-use Rattle.std.proofs.Common.{◌≡◌, ◌∙◌, ◌+◌, ◌^◌, ◌<◌, ◌≤◌, ℕ, [], ◌∷◌, ◌++◌, Bool, true, false, List, Option, None, length, slice_get, Some, refl, ap, arith}
+use Rattle.std.proofs.Common.{◌≡◌, ◌∙◌, ◌+◌, ◌^◌, ◌<◌, ◌≤◌, ℕ, [], ◌∷◌, ◌++◌, Bool, true, false, List, Option, None, slice_get, Some, refl, ap, arith}
 use Rattle.std.specs.Prelude.{All, Contains, ◌%◌, IsSome, if◌then◌else◌}
 use Rattle.std.specs.Char.{is_ascii_alphanumeric, is_ascii_digit}
 use Rattle.std.specs.Fmt.{decimal}

@@ -1,11 +1,11 @@
 -- How the parts of a line stand one behind the other.
-use Rattle.std.proofs.Common.{◌≡◌, ◌∙◌, ℕ, zero, suc, ◌+◌, ◌-◌, ◌*◌, ◌/◌, ◌%◌, ◌<◌, ◌≤◌, [], ◌∷◌, List, ◌++◌, length, map, take, replicate, slice_range, Result, Ok, ap, sym, refl, append_assoc, arith, lit<}
+use Rattle.std.proofs.Common.{◌≡◌, ◌∙◌, ℕ, ◌+◌, ◌*◌, ◌/◌, ◌%◌, ◌<◌, [], ◌∷◌, List, ◌++◌, length, map, slice_range, Result, Ok, ap, sym, refl, append_assoc, arith, lit<}
 use Rattle.std.proofs.lemmas.List.FromFn.{length-map-range_with_len, map-range_with_len_more}
 use Rattle.std.proofs.Padding.{padded_integral_right, styled_decimal_is}
 use Rattle.std.specs.Fmt.{decimal, format_spec, styled_decimal}
 use Rattle.std.specs.List.{join_with_byte, range_with_len}
 use Rattle.papers.specs.Report.{sale_line}
-use Rattle.papers.specs.Text.{change_of, clock_text, date_text, groups, kwh_text, line, right, time_text}
+use Rattle.papers.specs.Text.{change_of, groups, kwh_text, line, right, time_text}
 use Rattle.sts_fields.specs.Calendar.{civil_at}
 use Rattle.sts_fields.specs.Day.{iso_date, two_digits}
 use Rattle.sts_fields.specs.declared.calendar.date_time.Civil.{Civil}

@@ -2,7 +2,7 @@ use Rattle.std.proofs.Common.{◌∙◌, arith, refl, ◌∷◌, [], ◌++◌, l
 use Rattle.csv.specs.Reading.{strip_bom}
 use Rattle.csv.specs.Records.{fields_of}
 use Rattle.csv.specs.declared.parser.State.TheVariants as st
-use Rattle.papers.proofs.ImportLemmas.{header-missing, header-read, no-header, read-count}
+use Rattle.papers.proofs.ImportLemmas.{header-missing, header-read, no-header, read-count, reading_err}
 use Rattle.papers.proofs.ReaderLemmas.{given-all, given-more, given-some}
 use Rattle.papers.proofs.RecordLemmas.{records-exist}
 use Rattle.papers.proofs.imports.read_rows.Goals as goal
@@ -39,15 +39,18 @@ loop-record-init c =
 pub returns-in_default-record : goal.returns-in_default-record
 returns-in_default-record c = let all = records-exist st.StartRecord (strip_bom c.args.bytes.now) in (all.0, all.1, tt)
 
-pub returns-in-Err : goal.returns-in-Err
-returns-in-Err c =
+pub returns-in_err-take_row : goal.returns-in_err-take_row
+returns-in_err-take_row c =
     let inv = c.loop-record.invariant in
     let fields = fields_of c.in-Ok-record.record in
     let step = rw (c.in-Some-record.is, c.in-Ok-record.is) at ((c.next-in-loop-record.ensures.steps inv.1.left inv.1.plain).0 inv.1.ready) in
     let given = given-more c.args.bytes.now c.loop-record.record-iterator c.next-in-loop-record.new.self inv.0 fields inv.1 step.0 step.1 step.2 in
     let after = given-some c.args.bytes.now c.next-in-loop-record.new.self (inv.0 ++ fields ∷ []) given in
-    let fault = rw c.in-Err.is at (c.take_row.ensures.fault inv.0 after.0 inv.2 inv.3) in
-    (inv.0 ++ fields ∷ after.0, rw append_assoc at after.1, rw c.in-Some-form_of.ensures.0 at fault)
+    let fault = c.in_err-take_row.ensures.fault inv.0 after.0 inv.2 inv.3 in (
+      inv.0 ++ fields ∷ after.0,
+      rw append_assoc at after.1,
+      reading_err _ c.in_err-take_row.field-0.0 _ _ c.from_residual.ensures.1 (rw c.in-Some-form_of.ensures.0 at fault),
+    )
 
 pub overflow_add-number : goal.overflow_add-number
 overflow_add-number c =
@@ -61,5 +64,5 @@ loop-record-preserved c =
     let fields = fields_of c.in-Ok-record.record in
     let step = rw (c.in-Some-record.is, c.in-Ok-record.is) at ((c.next-in-loop-record.ensures.steps inv.1.left inv.1.plain).0 inv.1.ready) in
     let given = given-more c.args.bytes.now c.loop-record.record-iterator c.next-in-loop-record.new.self inv.0 fields inv.1 step.0 step.1 step.2 in
-    let taken = rw c.in_default-take_row.is at (c.take_row.ensures.taken inv.0 inv.2 inv.3) in
+    let taken = c.in_ok-take_row.ensures.taken inv.0 inv.2 inv.3 in
     (inv.0 ++ fields ∷ [], given, taken, omega (arith, inv.3, length-append inv.0 (fields ∷ [])))

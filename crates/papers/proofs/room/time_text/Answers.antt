@@ -1,5 +1,4 @@
-use Rattle.std.proofs.Common.{◌≡◌, arith}
-use Rattle.sts_fields.specs.Calendar.{civil_at}
+use Rattle.std.proofs.Common.{arith}
 use Rattle.papers.proofs.TextLemmas.{same-value, time-parts}
 use Rattle.papers.proofs.room.time_text.Goals as goal
 
