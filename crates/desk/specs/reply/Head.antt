@@ -12,8 +12,19 @@ use Rattle.desk.specs.declared.reply.head.ReplyHead.{ReplyHead}
 use Rattle.desk.specs.DeskFault.{desk_fault_status}
 use Rattle.vend_core.specs.declared.decision.answer.Answer.{Answer}
 use Rattle.vend_core.specs.declared.decision.answer.Answer.TheVariants.{Done, Imported, Opened, Closed, Sold, Reprinted, Report}
+use Rattle.vend_core.specs.Decision.Refusals.{refusal_category}
+use Rattle.vend_core.specs.declared.decision.category.Category.{Category}
+use Rattle.vend_core.specs.declared.decision.category.Category.TheVariants.{Missing, Forbidden, Unfit, UnfitRow, Unable}
 use Rattle.vend_core.specs.declared.decision.refusal.Refusal.{Refusal}
-use Rattle.vend_core.specs.declared.decision.refusal.Refusal.TheVariants.{RefReused, NoShift, ShiftOpen, NoMeter, NoTariff, Differs, BeforeBase, IdentifiersSpent, IdentifierAhead, TooLittle, OfficeFull, NoSale, NoSuchShift, ImportRow, Memory, Store, Stopped, NotLater, DayPast}
+
+-- 404 for what is not there, 409 for what the office forbids as it stands, 422 for what cannot be done
+-- as it was asked, and 503 where the office is unable to answer
+abbrev pub category_status : Category → ℕ
+category_status Missing = 404
+category_status Forbidden = 409
+category_status Unfit = 422
+category_status (UnfitRow row cause) = 422
+category_status Unable = 503
 
 abbrev pub refusal_status : Refusal → ℕ
 refusal_status refusal = category_status (refusal_category refusal)
