@@ -277,6 +277,13 @@ totals_then from mid_number to old mid new first second = record {
       second.rows told (with_totals_of one.0 rows) full one.1 one.2;
 }
 
+-- before the first page
+pub totals_begun : (old mid : State) → IsUnderWay old → IsUnchanged old mid → TotalsUpto 0 0 old mid
+totals_begun old mid way same = record {
+  others = leaves_read totals_names old mid way same;
+  rows = λ told rows full held upto. (rows, held_after told rows old mid same held, same_totals 0 full rows rows upto upto.totals);
+}
+
 -- how many pages there are at least
 pub page_more : (from done last : ℕ) (old mid new : State) → TotalsUpto from done old mid → TotalsPage done last mid new → last ≢ done
     → (told : ℕ) (rows full : Rows) → HoldsOf present_format told old.now rows → HasTotalsUpto from full rows → done < last

@@ -88,3 +88,7 @@ returns-clause-fills g c clean way has =
     let some = subst (λ (l : List MeterRow). BasesSome l old new) (take_all c.bases.present-index items c.bases-test.false) (c.bases.invariant.bases clean way has) in
     fills_bases items old new some
     (λ told rows full held awaits. subst (λ (l : List MeterRow). IsPermutation (map meter_row full.meters) l) (sym c.deref-present-items.ensures.value) (c.in_ok-found.ensures.given (c.bases.invariant.clean clean) full (λ _. meters_there told old.now rows full held awaits.same) awaits.office))
+
+pub returns-clause-shows : goal.returns-clause-shows
+returns-clause-shows g c clean has =
+    c.in_ok-found.ensures.shows (c.bases.invariant.clean clean) (has_table meters_in (state g.S.Store c.args.tx.now.conn.now) has)
