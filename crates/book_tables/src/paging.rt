@@ -113,8 +113,12 @@ pub fn sales_inside<S: Alter>(
     ensures transaction { KeepsTransaction
         (state S.Store tx.old.conn.now) (state S.Store tx.new.conn.now) result }
 {
-    let booked: Vec<Booked> =
-        records_inside(alloc, tx, BOOKED_SALES_AFTER, &page_values(number, limit))?;
+    let booked: Vec<Booked> = records_inside(
+        alloc,
+        tx,
+        BOOKED_SALES_AFTER,
+        &page_values(number, limit),
+    )?;
     Ok(sales_of(alloc, booked)?)
 }
 

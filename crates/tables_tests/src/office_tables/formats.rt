@@ -72,10 +72,12 @@ fn stays(alloc: Global, format: u32, sql: &str) -> Result<bool, Fail> {
     batch(&mut conn, sql)?;
     let sales = count(&mut conn, "SELECT count(*) FROM sales")?;
     let brought = brought(alloc, &mut conn, format);
-    Ok(brought == Err(TableError::RowOfNoOffice)
-        && format_here(alloc, conn.schema())? == Some(format)
-        && format_number(alloc, &mut conn)? == Some(format)
-        && count(&mut conn, "SELECT count(*) FROM sales")? == sales)
+    Ok(
+        brought == Err(TableError::RowOfNoOffice)
+            && format_here(alloc, conn.schema())? == Some(format)
+            && format_number(alloc, &mut conn)? == Some(format)
+            && count(&mut conn, "SELECT count(*) FROM sales")? == sales,
+    )
 }
 
 #[test]

@@ -25,6 +25,12 @@ returns-in_err-page-clause-no_false_row g c clean way format rows held known tol
     let none = subst (FailsToReadOf (TableHolds sales_kept) old new) is fails in
     none.0 known.0 (sales_there format old.now rows known.0 (held none.1.0.was_open) known.1.same) known.1.office
 
+pub returns-in_default-clause-no_false_row : goal.returns-in_default-clause-no_false_row
+returns-in_default-clause-no_false_row g c clean way format rows held known told_so =
+    let old = state g.S.Store c.args.tx.now.conn.now in
+    let found = c.in_ok-page.ensures.given clean known.0 (λ runs. sales_there format old.now rows known.0 (held runs) known.1.same) known.1.office in
+    c.in_default.ensures (page_is_next c.deref.result.now c.args.done known.0 known.1.office (c.deref.ensures.value ∙ found))
+
 pub sales-init : goal.sales-init
 sales-init g c = record {
   same = search rules;
