@@ -7,7 +7,7 @@ use Rattle.sqlite.specs.State.{HasCleanDisk, IsUnchanged, State}
 use Rattle.sqlite.proofs.Callers.{unchanged_then}
 use Rattle.one_table.specs.Numbered.{IsInOrder}
 use Rattle.vend_core.specs.Office.{greatest_count}
-use Rattle.vend_core.specs.declared.sale.Sale.{Sale}
+use Rattle.vend_core.specs.declared.office.sale.Sale.{Sale}
 use Rattle.book_tables.specs.Holds.{IsKept, rows_in}
 use Rattle.book_tables.specs.Kept.{Kept, sales_kept}
 use Rattle.book_tables.specs.Looking.{AreFrom1, AreNext, AreSales, Looks, ShowFirst, ShowSales, ShowsPage, ShowsUpto}

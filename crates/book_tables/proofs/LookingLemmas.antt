@@ -23,10 +23,10 @@ use Rattle.sqlite_value.specs.Order.{value_cmp}
 use Rattle.one_table.specs.Numbered.{IsInOrder}
 use Rattle.one_table.proofs.ListedLemmas.{all_rows, first_by_key}
 use Rattle.one_table.proofs.TestsLemmas.{number_above}
-use Rattle.vend_core.specs.Names.{IsMeterNo}
+use Rattle.vend_core.specs.Name.{IsMeterNo}
 use Rattle.vend_core.specs.Office.{AreNumbered}
-use Rattle.vend_core.specs.declared.meter.Meter.{Meter}
-use Rattle.vend_core.specs.declared.sale.Sale.{Sale}
+use Rattle.vend_core.specs.declared.office.meter.Meter.{Meter}
+use Rattle.vend_core.specs.declared.office.sale.Sale.{Sale}
 use Rattle.book_tables.specs.Looking.{AreFrom1, AreMeters, AreNext, AreSales, ShowFirst, ShowMeters, ShowsPage, ShowsUpto, StartsFrom1, meter_values, sale_values}
 use Rattle.book_tables.specs.Reading.{HasTable, IsShown}
 use Rattle.book_tables.specs.Holds.{rows_in}

@@ -6,10 +6,10 @@ use Rattle.sqlite.specs.Effect.{Database}
 use Rattle.sqlite.specs.Order.{Row, column}
 use Rattle.sqlite.specs.State.{HasCleanDisk, IsUnchanged, State}
 use Rattle.one_table.specs.Numbered.{IsInOrder}
-use Rattle.vend_core.specs.Names.{IsMeterNo}
+use Rattle.vend_core.specs.Name.{IsMeterNo}
 use Rattle.vend_core.specs.Office.{AreNumbered}
-use Rattle.vend_core.specs.declared.meter.Meter.{Meter}
-use Rattle.vend_core.specs.declared.sale.Sale.{Sale}
+use Rattle.vend_core.specs.declared.office.meter.Meter.{Meter}
+use Rattle.vend_core.specs.declared.office.sale.Sale.{Sale}
 use Rattle.book_tables.specs.Holds.{rows_in}
 use Rattle.book_tables.specs.Kept.{Kept}
 use Rattle.book_tables.specs.Reading.{AreOfOffice, HasTable, HasTableRows}

@@ -1,5 +1,5 @@
 use Rattle.std.proofs.Common.{◌≡◌, ◌≤◌, ◌<◌, ◌+◌, ℕ, length, slice_get, Some}
-use Rattle.vend_core.specs.declared.sale.Sale.{Sale}
+use Rattle.vend_core.specs.declared.office.sale.Sale.{Sale}
 use Rattle.book_tables.proofs.looking.last_of.Given as goal
 
 abbrev pub invariant-sales : goal.invariant-sales
