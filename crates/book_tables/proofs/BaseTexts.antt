@@ -48,17 +48,17 @@ pub base_set_whole : is_whole base_set_text 2 ≡ true
 unfolding everything is_whole
 base_set_whole = refl
 
--- ---- the present bases of all meters
+-- ---- all meters
 
-abbrev pub present_bases_text : List ℕ
-present_bases_text = codes "SELECT meter, base FROM meters"
+abbrev pub all_meters_text : List ℕ
+all_meters_text = codes "SELECT meter, base, tariff, secret FROM meters"
 
-abbrev pub present_bases_names : List Name
-present_bases_names = codes "meter" ∷ codes "base" ∷ []
+abbrev pub all_meters_names : List Name
+all_meters_names = codes "meter" ∷ codes "base" ∷ codes "tariff" ∷ codes "secret" ∷ []
 
-abbrev pub present_bases_query : ℕ → Query
-present_bases_query tree = query_on tree [] (col 1 1 ∷ col 1 2 ∷ []) [] no_limit
+abbrev pub all_meters_query : ℕ → Query
+all_meters_query tree = query_on tree [] (col 1 1 ∷ col 1 2 ∷ col 1 3 ∷ col 1 4 ∷ []) [] no_limit
 
-pub present_bases_asks : Asks meters_table present_bases_query present_bases_names present_bases_text []
+pub all_meters_asks : Asks meters_table all_meters_query all_meters_names all_meters_text []
 unfolding everything is_whole meant select_meant text_meant
-present_bases_asks = record { is = λ tree. record { means = refl; from = refl }; bare = λ tree. refl; typed = λ tree. refl; whole = refl }
+all_meters_asks = record { is = λ tree. record { means = refl; from = refl }; bare = λ tree. refl; typed = λ tree. refl; whole = refl }

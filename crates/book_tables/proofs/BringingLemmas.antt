@@ -7,7 +7,7 @@ use Rattle.std.proofs.lemmas.List.Sorted.{Contains-permutation, IsPermutation-re
 use Rattle.std.proofs.lemmas.Map.Keys.{IsDistinct-IsPermutation}
 use Rattle.std.proofs.lemmas.Map.Made.{AllPairs-from_IsDistinct, IsDistinct-from_AllPairs}
 use Rattle.sqlite.specs.Effect.{Database, IsDatabase}
-use Rattle.sqlite.specs.State.{State}
+use Rattle.sqlite.specs.State.{IsUnchanged, State}
 use Rattle.sqlite_rules.specs.Lists.{Has as Member}
 use Rattle.sts_fields.specs.declared.base.Base.{Base}
 use Rattle.vend_core.specs.Office.{IsOffice, Office}
@@ -15,19 +15,20 @@ use Rattle.one_table.specs.InTransaction.{StaysInside}
 use Rattle.one_table.proofs.ChangeLemmas.{stays_then}
 use Rattle.book_tables.specs.Filling.{AwaitsBases, FillsBases, FillsTotals, HasTotalsUpto}
 use Rattle.book_tables.specs.Format.{HasFormat, TellsFormat}
-use Rattle.book_tables.specs.Holds.{HasOffice, HasOfficeOf, HoldsMembers, HoldsOf, StandsFor}
-use Rattle.book_tables.specs.Kept.{Kept, about_kept, bases_kept, kept, kept_names, last_ids_kept, month_tenths_kept, shift_totals_kept}
+use Rattle.book_tables.specs.Holds.{HasOffice, HasOfficeOf, HoldsMembers, HoldsOf, StandsFor, rows_in}
+use Rattle.book_tables.specs.Kept.{Kept, about_kept, bases_kept, kept, kept_names, last_ids_kept, meters_kept, month_tenths_kept, sales_kept, shift_totals_kept}
+use Rattle.book_tables.specs.Looking.{ShowMeters, ShowSales, ShowsRows, ShowsRowsOf}
 use Rattle.book_tables.specs.Making.{Brings, MakesMissing, TellsOf, TellsPresent, rows_upto}
 use Rattle.book_tables.specs.Rows.{DatedStepRow, Rows, present_format}
 use Rattle.book_tables.specs.Stands.{AreDatedApart, AreMembersOf, AreTotalsOf, HasDatedStep}
 use Rattle.book_tables.specs.Writing.{WritesOnly, is_under, totals_names, with_totals_of}
 use Rattle.book_tables.specs.declared.error.TableError.{TableError}
 use Rattle.book_tables.specs.declared.error.TableError.TheVariants as fails
-use Rattle.book_tables.proofs.AboutLemmas.{IsAnother, told_left}
+use Rattle.book_tables.proofs.AboutLemmas.{IsAnother, IsAnotherThan, rows_left, told_left}
 use Rattle.book_tables.proofs.EditLemmas.{no_members}
 use Rattle.book_tables.proofs.HoldsLemmas.{held_as}
 use Rattle.book_tables.proofs.MakingLemmas.{MayChange, about_may, still_beside}
-use Rattle.book_tables.proofs.OfficeTableLemmas.{bases_in, last_ids_in, month_tenths_in, shift_totals_in}
+use Rattle.book_tables.proofs.OfficeTableLemmas.{bases_in, last_ids_in, meters_in, month_tenths_in, sales_in, shift_totals_in}
 use Rattle.book_tables.proofs.OnlyLemmas.{AreAmong, only_among, only_both}
 use Rattle.book_tables.proofs.SalesOfLemmas.{same_test, tells_under}
 
@@ -72,7 +73,7 @@ from_third = about_kept ∷ []
 abbrev from_second : List Kept
 from_second = about_kept ∷ bases_kept ∷ []
 
-abbrev totals_kept : List Kept
+abbrev pub totals_kept : List Kept
 totals_kept = last_ids_kept ∷ month_tenths_kept ∷ shift_totals_kept ∷ []
 
 abbrev from_first : List Kept
@@ -107,6 +108,29 @@ bases_another = ((bases_in, refl), tt)
 totals_another : AllByRecursion IsAnother totals_kept
 totals_another = ((last_ids_in, refl), ((month_tenths_in, refl), ((shift_totals_in, refl), tt)))
 
+sales_others : AllByRecursion (IsAnotherThan sales_kept) totals_kept
+sales_others = ((last_ids_in, refl), ((month_tenths_in, refl), ((shift_totals_in, refl), tt)))
+
+meters_others : AllByRecursion (IsAnotherThan meters_kept) totals_kept
+meters_others = ((last_ids_in, refl), ((month_tenths_in, refl), ((shift_totals_in, refl), tt)))
+
+-- the rows of sales and of meters are as they were after a write of the totals
+pub sales_left : (old new : State) → HasOffice old.now.schema → WritesOnly totals_names old new → rows_in new.now (codes "sales") ≡ rows_in old.now (codes "sales")
+sales_left old new has only = rows_left sales_kept sales_in old new has totals_kept sales_others only
+
+pub meters_left : (old new : State) → HasOffice old.now.schema → WritesOnly totals_names old new → rows_in new.now (codes "meters") ≡ rows_in old.now (codes "meters")
+meters_left old new has only = rows_left meters_kept meters_in old new has totals_kept meters_others only
+
+-- what was seen once the missing tables were made
+pub shows_made : (from : ℕ) → 1 ≤ from → (old mid : Database) → MakesMissing from old mid → ShowSales (rows_in mid (codes "sales")) → ShowMeters (rows_in mid (codes "meters")) → ShowsRows old
+shows_made from some old mid made sales meters =
+    let left = made.left some in
+    record { sales = subst ShowSales left.sales sales; meters = subst ShowMeters left.meters meters }
+
+-- they are made, and then a look leaves all as it was
+pub made_still : (from : ℕ) (old : Database) (mid new : State) → IsUnchanged mid new → MakesMissing from old mid.now → MakesMissing from old new.now
+made_still from old mid new same made = subst (λ (d : Database). MakesMissing from old d) (sym same.0.now_is) made
+
 -- they are among more tables
 about_among : (ks : List Kept) → AreAmong (codes "about" ∷ []) (kept_names (about_kept ∷ ks))
 about_among ks s tree none = (none.0, tt)
@@ -122,8 +146,8 @@ totals_among s tree none = (none.1.1.0, (none.1.1.1.0, (none.1.1.1.1.0, tt)))
 -- what is brought, by what is made of the office's rows
 brings : (from : ℕ) → from ≤ present_format → 1 ≤ from → (old mid new : State) → StaysInside old mid → MakesMissing from old.now mid.now
     → (ks : List Kept) → AllByRecursion (MayChange from) ks → WritesOnly (kept_names ks) mid new → ((o : Office) (rows : Rows) → IsOffice o → HoldsOf from from old.now rows → AreMembersOf rows o → HoldsOf present_format from mid.now (rows_upto from rows) → HoldsMembers new.now o)
-    → (TellsFormat from old.now → HasFormat new.now present_format) → Brings from old new
-brings from known some old mid new inside made ks may only members told = record {
+    → (TellsFormat from old.now → HasFormat new.now present_format) → ShowsRowsOf from old.now → Brings from old new
+brings from known some old mid new inside made ks may only members told shows = record {
   inside = stays_then old mid new inside only.inside;
   brings = record {
     had = made.had;
@@ -132,28 +156,29 @@ brings from known some old mid new inside made ks may only members told = record
         let held = (held_as old.now o from stands known made.had).0 in
         members o held.0 stands.office held.1 held.2 (made.rows held.0 held.1);
     tells = told;
+    shows = shows;
     beside = still_beside from old.now made.had mid new made.beside made.has ks may only;
   };
 }
 
 -- from format 3
-pub brings_third : (old mid new : State) → StaysInside old mid → MakesMissing 3 old.now mid.now → TellsPresent 3 mid new → Brings 3 old new
-brings_third old mid new inside made tells =
+pub brings_third : (old mid new : State) → StaysInside old mid → MakesMissing 3 old.now mid.now → ShowsRows old.now → TellsPresent 3 mid new → Brings 3 old new
+brings_third old mid new inside made shows tells =
     brings 3 (omega arith) (omega arith) old mid new inside made from_third (about_may 3, tt) tells.only (λ o rows office held are here.
-    (record rows { dated_steps = [] }, tells.rows (rows_upto 3 rows) here, members_brought rows rows rows.bases o are (held.of_format.dated_steps (omega arith)) (IsPermutation-refl rows.bases) are.totals)) (λ told. tells.tells (made.tells told))
+    (record rows { dated_steps = [] }, tells.rows (rows_upto 3 rows) here, members_brought rows rows rows.bases o are (held.of_format.dated_steps (omega arith)) (IsPermutation-refl rows.bases) are.totals)) (λ told. tells.tells (made.tells told)) shows
 
 -- from format 2
 pub awaits_bases : (rows : Rows) (o : Office) → IsOffice o → AreMembersOf rows o → AwaitsBases rows (rows_upto 2 rows)
 awaits_bases rows o office are = record { office = (o, office, are); same = refl; none = refl }
 
-pub brings_second : (old mid filled new : State) → StaysInside old mid → MakesMissing 2 old.now mid.now → FillsBases mid filled → TellsPresent 2 filled new → Brings 2 old new
-brings_second old mid filled new inside made fills tells =
+pub brings_second : (old mid filled new : State) → StaysInside old mid → MakesMissing 2 old.now mid.now → ShowsRows old.now → FillsBases mid filled → TellsPresent 2 filled new → Brings 2 old new
+brings_second old mid filled new inside made shows fills tells =
     let filling = only_among _ (kept_names from_second) (bases_among []) mid filled (fills.others.only made.beside.sound) in
     let only = only_both (kept_names from_second) mid filled new filling (only_among _ (kept_names from_second) (about_among (bases_kept ∷ [])) filled new tells.only) in
     brings 2 (omega arith) (omega arith) old mid new inside made from_second second_may only (λ o rows office held are here.
     let it = fills.rows 2 (rows_upto 2 rows) rows here (awaits_bases rows o office are) in
     let same = subst (λ (l : List (List ℕ × Base)). IsPermutation l it.0) (sym (held.of_format.bases (omega arith))) it.1 in
-    (record rows { bases = it.0; dated_steps = [] }, tells.rows (record rows { bases = it.0; dated_steps = [] }) it.2, members_brought rows rows it.0 o are (held.of_format.dated_steps (omega arith)) same are.totals)) (λ told. tells.tells (told_left mid filled made.has (bases_kept ∷ []) bases_another (fills.others.only made.beside.sound) ∙ made.tells told))
+    (record rows { bases = it.0; dated_steps = [] }, tells.rows (record rows { bases = it.0; dated_steps = [] }) it.2, members_brought rows rows it.0 o are (held.of_format.dated_steps (omega arith)) same are.totals)) (λ told. tells.tells (told_left mid filled made.has (bases_kept ∷ []) bases_another (fills.others.only made.beside.sound) ∙ made.tells told)) shows
 
 -- from format 1
 pub awaits_totals : (rows : Rows) (o : Office) → IsOffice o → AreMembersOf rows o → HasTotalsUpto 0 rows (rows_upto 1 rows)
@@ -168,8 +193,8 @@ awaits_totals rows o office are = record {
 pub awaits_later : (rows totals : Rows) (o : Office) → IsOffice o → AreMembersOf rows o → AwaitsBases rows (with_totals_of totals (rows_upto 1 rows))
 awaits_later rows totals o office are = record { office = (o, office, are); same = refl; none = refl }
 
-pub brings_with_totals : (old mid totalled filled new : State) → StaysInside old mid → MakesMissing 1 old.now mid.now → FillsTotals mid totalled → FillsBases totalled filled → TellsPresent 1 filled new → Brings 1 old new
-brings_with_totals old mid totalled filled new inside made totals fills tells =
+pub brings_with_totals : (old mid totalled filled new : State) → StaysInside old mid → MakesMissing 1 old.now mid.now → ShowsRows old.now → FillsTotals mid totalled → FillsBases totalled filled → TellsPresent 1 filled new → Brings 1 old new
+brings_with_totals old mid totalled filled new inside made shows totals fills tells =
     let names = kept_names from_first in
     let totalling = totals.others.only made.beside.sound in
     let has = subst HasOffice (sym totals.others.schema) made.has in
@@ -182,7 +207,7 @@ brings_with_totals old mid totalled filled new inside made totals fills tells =
     let it = fills.rows 1 some rows sums.1 (awaits_later rows sums.0 o office are) in
     let same = subst (λ (l : List (List ℕ × Base)). IsPermutation l it.0) (sym (held.of_format.bases (omega arith))) it.1 in
     let they = subst (λ l. AreTotalsOf l sums.0) are.sales sums.2 in
-    (record some { bases = it.0 }, tells.rows (record some { bases = it.0 }) it.2, members_brought rows sums.0 it.0 o are (held.of_format.dated_steps (omega arith)) same they)) (λ told. tells.tells (told_left totalled filled has (bases_kept ∷ []) bases_another (fills.others.only totalling.sound) ∙ told_left mid totalled made.has totals_kept totals_another totalling ∙ made.tells told))
+    (record some { bases = it.0 }, tells.rows (record some { bases = it.0 }) it.2, members_brought rows sums.0 it.0 o are (held.of_format.dated_steps (omega arith)) same they)) (λ told. tells.tells (told_left totalled filled has (bases_kept ∷ []) bases_another (fills.others.only totalling.sound) ∙ told_left mid totalled made.has totals_kept totals_another totalling ∙ made.tells told)) shows
 
 -- ---- why it fails
 

@@ -11,18 +11,18 @@ use Rattle.one_table.specs.InTransaction.{IsUnderWay}
 use Rattle.book_tables.specs.Filling.{AwaitsBases, FillsBases, LeavesOthers}
 use Rattle.book_tables.specs.Holds.{AreStoredRows, HoldsOf, rows_in}
 use Rattle.book_tables.specs.Kept.{meters_kept}
-use Rattle.book_tables.specs.Reading.{TableHolds, present_base}
+use Rattle.book_tables.specs.Reading.{TableHolds, meter_row}
 use Rattle.book_tables.specs.Rows.{Rows, meter_columns, present_format}
 use Rattle.book_tables.specs.Writing.{AddsBase}
-use Rattle.book_tables.specs.declared.paging.MeterBase.{MeterBase}
+use Rattle.book_tables.specs.declared.paging.MeterRow.{MeterRow}
 use Rattle.book_tables.proofs.FillingLemmas.{held_after, leaves_read, leaves_then}
 use Rattle.book_tables.proofs.OfficeTableLemmas.{meters_in}
 
 abbrev pub bases_name : List (List ℕ)
 bases_name = codes "meter_bases" ∷ []
 
-abbrev row_of : MeterBase → List ℕ × Base
-row_of m = (m.number, m.base)
+abbrev row_of : MeterRow → List ℕ × Base
+row_of m = (m.number, m.meter.base)
 
 -- the meters of the office are there
 pub meters_there : (told : ℕ) (db : Database) (rows full : Rows) → HoldsOf present_format told db rows → rows.meters ≡ full.meters → TableHolds meters_kept db full
@@ -30,7 +30,7 @@ meters_there told db rows full held same =
     (meters_in.there db.schema held.has, (told, subst (λ (ms : List (List ℕ × Meter)). AreStoredRows false (rows_in db (codes "meters")) (map meter_columns ms)) same (meters_in.holds told db rows held)))
 
 -- these bases stand after those that were there
-pub record BasesSome (found : List MeterBase) (old new : State) : Type 0 where
+pub record BasesSome (found : List MeterRow) (old new : State) : Type 0 where
   pub others : LeavesOthers bases_name old new
   pub rows : (told : ℕ) (rows : Rows) → HoldsOf present_format told old.now rows → HoldsOf present_format told new.now (record rows { bases = rows.bases ++ map row_of found })
 
@@ -40,7 +40,7 @@ bases_none old mid way same = record {
   rows = λ told rows held. subst (λ (bases : List (List ℕ × Base)). HoldsOf present_format told mid.now (record rows { bases = bases })) (sym (append-nil rows.bases)) (held_after told rows old mid same held);
 }
 
-pub bases_more : (found : List MeterBase) (m : MeterBase) (old mid new : State) → BasesSome found old mid → AddsBase m.number m.base mid new → BasesSome (found ++ m ∷ []) old new
+pub bases_more : (found : List MeterRow) (m : MeterRow) (old mid new : State) → BasesSome found old mid → AddsBase m.number m.meter.base mid new → BasesSome (found ++ m ∷ []) old new
 bases_more found m old mid new first second = record {
   others = leaves_then bases_name old mid new first.others second.only;
   rows = λ told rows held.
@@ -49,15 +49,15 @@ bases_more found m old mid new first second = record {
       subst (λ (bases : List (List ℕ × Base)). HoldsOf present_format told new.now (record rows { bases = bases })) same these;
 }
 
-pub fills_bases : (found : List MeterBase) (old new : State) → BasesSome found old new
-    → ((told : ℕ) (rows full : Rows) → HoldsOf present_format told old.now rows → AwaitsBases full rows → IsPermutation (map present_base full.meters) found) → FillsBases old new
+pub fills_bases : (found : List MeterRow) (old new : State) → BasesSome found old new
+    → ((told : ℕ) (rows full : Rows) → HoldsOf present_format told old.now rows → AwaitsBases full rows → IsPermutation (map meter_row full.meters) found) → FillsBases old new
 fills_bases found old new some given = record {
   others = some.others;
   rows = λ told rows full held awaits.
-      let all = IsPermutation-map row_of (map present_base full.meters) found (given told rows full held awaits) in
+      let all = IsPermutation-map row_of (map meter_row full.meters) found (given told rows full held awaits) in
       let these = some.rows told rows held in (
         map row_of found,
-        subst (λ (l : List (List ℕ × Base)). IsPermutation l (map row_of found)) (map-map row_of present_base full.meters) all,
+        subst (λ (l : List (List ℕ × Base)). IsPermutation l (map row_of found)) (map-map row_of meter_row full.meters) all,
         subst (λ (before : List (List ℕ × Base)). HoldsOf present_format told new.now (record rows { bases = before ++ map row_of found })) awaits.none these,
       );
 }

@@ -180,17 +180,17 @@ pub record IsPageOf (page : List Sale) (done : ℕ) (full : Rows) : Type 0 where
   pub numbered : AreNumbered (λ (s : Sale). s.number) full.sales
 
 module _ (page : List Sale) (done : ℕ) (full : Rows) (it : IsPageOf page done full) where
-  dropped : page ≡ take 1000 (drop done full.sales)
-  dropped = it.is ∙ ap (take 1000) (after_numbered (λ (s : Sale). s.number) done full.sales it.numbered)
+  pub page_dropped : page ≡ take 1000 (drop done full.sales)
+  page_dropped = it.is ∙ ap (take 1000) (after_numbered (λ (s : Sale). s.number) done full.sales it.numbered)
 
   pub in_page : (i : ℕ) (s : Sale) → slice_get page i ≡ Some s → slice_get full.sales (done + i) ≡ Some s
-  in_page i s at = in_drop done full.sales i (done + i) s refl (in_take 1000 (drop done full.sales) i s (subst (λ l. slice_get l i ≡ Some s) dropped at))
+  in_page i s at = in_drop done full.sales i (done + i) s refl (in_take 1000 (drop done full.sales) i s (subst (λ l. slice_get l i ≡ Some s) page_dropped at))
 
   pub number_in_page : (i : ℕ) (s : Sale) → slice_get page i ≡ Some s → s.number ≡ done + (i + 1)
   number_in_page i s at = omega (arith, it.numbered (done + i) s (in_page i s at))
 
   pub page_empty : length page ≤ 0 → length full.sales ≤ done
-  page_empty none = none_dropped done full.sales (none_taken 999 (drop done full.sales) (subst (λ l. length l ≤ 0) dropped none))
+  page_empty none = none_dropped done full.sales (none_taken 999 (drop done full.sales) (subst (λ l. length l ≤ 0) page_dropped none))
 
 -- the totals of the sales before a page and of so many of it
 pub record TotalsSome (page : List Sale) (done i : ℕ) (old new : State) : Type 0 where
@@ -277,6 +277,13 @@ totals_then from mid_number to old mid new first second = record {
       second.rows told (with_totals_of one.0 rows) full one.1 one.2;
 }
 
+-- before the first page
+pub totals_begun : (old mid : State) → IsUnderWay old → IsUnchanged old mid → TotalsUpto 0 0 old mid
+totals_begun old mid way same = record {
+  others = leaves_read totals_names old mid way same;
+  rows = λ told rows full held upto. (rows, held_after told rows old mid same held, same_totals 0 full rows rows upto upto.totals);
+}
+
 -- how many pages there are at least
 pub page_more : (from done last : ℕ) (old mid new : State) → TotalsUpto from done old mid → TotalsPage done last mid new → last ≢ done
     → (told : ℕ) (rows full : Rows) → HoldsOf present_format told old.now rows → HasTotalsUpto from full rows → done < last
@@ -295,7 +302,7 @@ fills_totals done last old mid new first page same = record {
       (two.0, two.1, record { last_ids = are.last_ids; month_tenths = are.month_tenths; shift_totals = are.shift_totals; by_shift = are.by_shift });
 }
 
-few_in_office : (full : Rows) → AreOfOffice full → length full.sales ≤ greatest_count
+pub few_in_office : (full : Rows) → AreOfOffice full → length full.sales ≤ greatest_count
 few_in_office full (o, office, are) = subst (λ (l : List Sale). length l ≤ greatest_count) (sym are.sales) office.sale_count
 
 -- no office has so many

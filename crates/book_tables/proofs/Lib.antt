@@ -25,6 +25,8 @@ pub mod LastLemmas
 pub mod LatestLemmas
 pub mod ListLemmas
 pub mod ListingLemmas
+pub mod LookLemmas
+pub mod LookingLemmas
 pub mod MakingLemmas
 pub mod MemberLemmas
 pub mod MeterEditLemmas

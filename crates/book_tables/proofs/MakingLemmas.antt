@@ -1,8 +1,8 @@
 -- The tables that an older format lacks are made, and `about` tells the present format: the same office.
-use Rattle.std.proofs.Common.{◌≡◌, ◌≢◌, ◌<◌, ℕ, zero, suc, ◌+◌, ◌==◌, arith, Bool, true, false, not, cond, List, [], ◌∷◌, drop, filter, find, length, map, nat_le, Option, None, Some, refl, sym, ap, subst, ◌∙◌, inl, inr, IfErr, Result, Ok, Err}
+use Rattle.std.proofs.Common.{◌≡◌, ◌≢◌, ◌≤◌, ◌<◌, ℕ, zero, suc, ◌+◌, ◌==◌, arith, Bool, true, false, not, cond, List, [], ◌∷◌, drop, filter, find, length, map, nat_le, Option, None, Some, refl, sym, ap, subst, ◌∙◌, inl, inr, IfErr, Result, Ok, Err}
 use Rattle.std.specs.Prelude.{codes, pos}
 use Rattle.std.specs.List.{AllByRecursion, position_from}
-use Rattle.std.proofs.lemmas.Bool.{cases_Bool, eq-eqb, false≢true}
+use Rattle.std.proofs.lemmas.Bool.{cases_Bool, eq-eqb, false≢true, le-leb}
 use Rattle.std.proofs.lemmas.Option.{same_Some}
 use Rattle.sqlite.specs.Effect.{Database}
 use Rattle.sqlite.specs.Order.{Row}
@@ -33,14 +33,14 @@ use Rattle.one_table.proofs.GrowthLemmas.{Grows, found_stays}
 use Rattle.one_table.proofs.MakingLemmas.{all_grow}
 use Rattle.book_tables.specs.Edited.{no_rows}
 use Rattle.book_tables.specs.Holds.{AreStoredRows, HasOffice, HasOfficeOf, HoldsMembers, HoldsOf, HoldsRows, IsKept, rows_in, table_names}
-use Rattle.book_tables.specs.Kept.{Kept, about_kept, kept, kept_names, kept_tables, kept_texts, later, upto}
-use Rattle.book_tables.specs.Making.{Brings, LeavesBeside, MakesMissing, TellsOf, TellsPresent, rows_upto, told_names}
+use Rattle.book_tables.specs.Kept.{Kept, about_kept, kept, kept_names, kept_tables, kept_texts, later, meters_kept, sales_kept, upto}
+use Rattle.book_tables.specs.Making.{AreLeft, Brings, LeavesBeside, MakesMissing, TellsOf, TellsPresent, rows_upto, told_names}
 use Rattle.book_tables.specs.Rows.{Rows, about_rows, number, present_format}
 use Rattle.book_tables.specs.Tables.{about_table}
 use Rattle.book_tables.specs.Writing.{IsOfNone, WritesOnly}
 use Rattle.book_tables.specs.declared.error.TableError.{TableError}
 use Rattle.book_tables.specs.declared.error.TableError.TheVariants as fails
-use Rattle.book_tables.proofs.AboutLemmas.{told_made}
+use Rattle.book_tables.proofs.AboutLemmas.{left_made, told_made}
 use Rattle.book_tables.proofs.EditLemmas.{no_members}
 use Rattle.book_tables.proofs.HoldsLemmas.{free_later, held_as, of_upto}
 use Rattle.book_tables.proofs.KeptLemmas.{about_changed}
@@ -133,8 +133,14 @@ beside_tables n a b m = record {
   sound = m.sound;
 }
 
+made_left : (n : ℕ) → 1 ≤ n → (a b : Database) → HasOfficeOf n a.schema → MakesTables (kept_tables (later n)) a b → AreLeft a b
+made_left n some a b had m = record {
+  sales = left_made n a b had m sales_kept (inr (inr (inr (inr (inr (inl refl)))))) (le-leb 1 n some);
+  meters = left_made n a b had m meters_kept (inr (inr (inr (inl refl)))) (le-leb 1 n some);
+}
+
 pub makes_missing : (n : ℕ) → n < present_format → (a b : Database) → HasOfficeOf n a.schema → MakesTables (kept_tables (later n)) a b → MakesMissing n a b
-makes_missing n below a b had m = record { had = had; has = has_all n a b had m; rows = rows_made n below a b had m; tells = told_made n a b had m; beside = beside_tables n a b m }
+makes_missing n below a b had m = record { had = had; has = has_all n a b had m; rows = rows_made n below a b had m; tells = told_made n a b had m; left = λ some. made_left n some a b had m; beside = beside_tables n a b m }
 
 -- a format below the present one lacks some table
 pub lacks_some : (n : ℕ) → n < present_format → 0 < length (kept_texts (later n))
@@ -282,6 +288,7 @@ brings_first old mid new inside made tells =
             let is = (held_as old.now o 0 stands (omega arith) made.had).1 refl in
             subst (HoldsMembers new.now) (sym is) (no_rows, tells.rows no_rows held, no_members);
         tells = λ told. tells.tells (made.tells told);
+        shows = tt;
         beside = still_beside 0 old.now made.had mid new made.beside made.has (about_kept ∷ []) (about_may 0, tt) tells.only;
       };
     }

@@ -1,5 +1,5 @@
 -- What reads inside a transaction give, and what they leave.
-use Rattle.std.proofs.Common.{◌≡◌, ◌∙◌, ℕ, true, List, [], map, Result, Ok, Err, IfErr, IfSome, IsErrAnd, Option, None, Some, slice_get, inl, get_or, refl, sym, subst, IsPermutation}
+use Rattle.std.proofs.Common.{◌≡◌, ◌∙◌, ℕ, true, List, [], map, Result, Ok, Err, IfErr, IfSome, IsErrAnd, Option, None, Some, slice_get, inl, get_or, refl, sym, subst, IsPermutation, ap, drop}
 use Rattle.std.specs.Prelude.{All}
 use Rattle.std.proofs.lemmas.List.Elements.{All-cons, All-map, All-nil, All-same, Contains-get_or}
 use Rattle.std.specs.Option.{option_to_list}
@@ -14,16 +14,18 @@ use Rattle.one_table.specs.Answer.{OnlyAsks}
 use Rattle.one_table.specs.ReadsOnly.{ReadsInside}
 use Rattle.one_table.proofs.HiddenLemmas.{all_hidden}
 use Rattle.book_tables.specs.Kept.{Kept, meters_kept}
-use Rattle.book_tables.specs.Reading.{AreOfOffice, FailsToShow, ReadsTableInside, ShowsRecord, present_base}
-use Rattle.book_tables.specs.Rows.{Rows, base_columns, meter_columns}
+use Rattle.book_tables.specs.Reading.{AreOfOffice, FailsToShow, ReadsTableInside, ShowsRecord, meter_row}
+use Rattle.book_tables.specs.Rows.{Rows, meter_columns, shown_meter}
 use Rattle.book_tables.specs.Tables.{meters_table}
 use Rattle.book_tables.specs.declared.error.TableError.{TableError}
-use Rattle.book_tables.specs.declared.paging.MeterBase.{MeterBase}
+use Rattle.book_tables.specs.Values.{AreMeterValues}
+use Rattle.book_tables.specs.declared.paging.MeterRow.{MeterRow}
 use Rattle.book_tables.proofs.FindLemmas.{Finds}
-use Rattle.book_tables.proofs.BaseTexts.{present_bases_asks, present_bases_names, present_bases_query, present_bases_text}
+use Rattle.book_tables.proofs.BaseTexts.{all_meters_asks, all_meters_names, all_meters_query, all_meters_text}
 use Rattle.book_tables.proofs.LastLemmas.{all_pass}
 use Rattle.book_tables.proofs.ListingLemmas.{Lists, fails, only_asks}
-use Rattle.book_tables.proofs.RowLemmas.{one_base}
+use Rattle.book_tables.proofs.RowLemmas.{one_shown_meter}
+use Rattle.book_tables.proofs.ValueLemmas.{meters_keep}
 
 -- ---- what is left, from what is known of the read that it is made of
 
@@ -80,44 +82,46 @@ pub first_listed : {M : Type 0} (o : Option M) → slice_get (option_to_list o) 
 first_listed None = refl
 first_listed (Some x) = refl
 
--- ---- the present bases of all meters
+-- ---- all meters
 
-abbrev pub shown_base : MeterBase → Row
-shown_base m = base_columns (m.number, m.base)
+abbrev pub shown_row : MeterRow → Row
+shown_row m = meter_columns (m.number, m.meter)
 
-abbrev pub keeps_base : MeterBase → Type 0
-keeps_base m = IsMeterNo m.number
+abbrev pub keeps_row : MeterRow → Type 0
+keeps_row m = IsMeterNo m.number × AreMeterValues m.meter
 
--- of each meter its present base, once and in any order
-abbrev pub ArePresent : Rows → List MeterBase → Type 0
-ArePresent rows found = IsPermutation (map present_base rows.meters) found
+-- each meter once and in any order
+abbrev pub AreAllMeters : Rows → List MeterRow → Type 0
+AreAllMeters rows found = IsPermutation (map meter_row rows.meters) found
 
-one_shown_base : (a b : MeterBase) → shown_base a ≡ shown_base b → a ≡ b
-one_shown_base a b e =
-    let base : a.base ≡ b.base = one_base a.base b.base (cc) in
-    let A : MeterBase = record { number = a.number; base = a.base } in
-    let B : MeterBase = record { number = b.number; base = b.base } in
+one_shown_row : (a b : MeterRow) → keeps_row a → keeps_row b → shown_row a ≡ shown_row b → a ≡ b
+one_shown_row a b keeps_a keeps_b e =
+    let shown : shown_meter a.meter ≡ shown_meter b.meter = ap (drop 1) e in
+    let meter : a.meter ≡ b.meter = one_shown_meter a.meter b.meter keeps_a.1.key keeps_b.1.key shown in
+    let A : MeterRow = record { number = a.number; meter = a.meter } in
+    let B : MeterRow = record { number = b.number; meter = b.meter } in
     let same : A ≡ B = cc in
     same
 
-numbers_keep : (rows : Rows) → AreOfOffice rows → All (λ (m : List ℕ × Meter). IsMeterNo m.0) rows.meters
-numbers_keep rows (o, office, are) i d within =
+rows_keep : (rows : Rows) → AreOfOffice rows → All (λ (m : List ℕ × Meter). IsMeterNo m.0 × AreMeterValues m.1) rows.meters
+rows_keep rows (o, office, are) i d within =
     let m = get_or rows.meters i d in
-    (office.meters m.0 m.1 ((are.meters m.0 m.1).1 (Contains-get_or rows.meters i d within))).numbered
+    let there = (are.meters m.0 m.1).1 (Contains-get_or rows.meters i d within) in
+    ((office.meters m.0 m.1 there).numbered, meters_keep o office m.0 m.1 there)
 
-pub present_bases : Lists meters_kept present_bases_text [] shown_base keeps_base ArePresent
-present_bases = record {
+pub all_meters : Lists meters_kept all_meters_text [] shown_row keeps_row AreAllMeters
+all_meters = record {
   table = meters_table;
-  query = present_bases_query;
-  names = present_bases_names;
-  asks = present_bases_asks;
+  query = all_meters_query;
+  names = all_meters_names;
+  asks = all_meters_asks;
   stands = λ s has. has.0.has;
-  one = λ a b keeps_a keeps_b same. one_shown_base a b same;
-  kept = λ rows of_office found are. All-permutation keeps_base (map present_base rows.meters) found are (All-map keeps_base present_base rows.meters (numbers_keep rows of_office));
+  one = one_shown_row;
+  kept = λ rows of_office found are. All-permutation keeps_row (map meter_row rows.meters) found are (All-map keeps_row meter_row rows.meters (rows_keep rows of_office));
   answers = λ db rows held of_office answer is.
-      let show : List ℕ × Meter → Row = λ m. shown_base (present_base m) in
+      let show : List ℕ × Meter → Row = λ m. shown_row (meter_row m) in
       let all = all_hidden {stored = meter_columns} {xs = rows.meters} {p = λ _. true} {show = show} (record { holds_them = held.1.1.0; some = λ r none. cc; passes = λ hidden r. refl; shows = λ hidden r. refl }) answer is in
       let shown : IsPermutation (map show rows.meters) answer = subst (λ (l : List (List ℕ × Meter)). IsPermutation (map show l) answer) (all_pass rows.meters) all in
       let found = pull_back show (map show rows.meters) answer shown rows.meters refl in
-      (map present_base found.0, IsPermutation-map present_base rows.meters found.0 found.1, found.2 ∙ sym (map-map shown_base present_base found.0));
+      (map meter_row found.0, IsPermutation-map meter_row rows.meters found.0 found.1, found.2 ∙ sym (map-map shown_row meter_row found.0));
 }

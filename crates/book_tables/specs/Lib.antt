@@ -5,6 +5,7 @@ pub mod Format
 pub mod Found
 pub mod Holds
 pub mod Kept
+pub mod Looking
 pub mod Making
 pub mod Parts
 pub mod ReadBack

@@ -1,6 +1,6 @@
 -- The tables of an office that are made in a database, beside whatever other tables it has, and the
 -- tables of an older format that are brought up to the present one.
-use Rattle.std.specs.Prelude.{◌≡◌, ℕ, zero, suc, true, List, [], ◌∷◌, codes, fold, IsTrue}
+use Rattle.std.specs.Prelude.{◌≡◌, ◌≤◌, ℕ, zero, suc, true, List, [], ◌∷◌, codes, fold, IsTrue}
 use Rattle.std.specs.List.{AllByRecursion}
 use Rattle.sqlite.specs.Effect.{Database, IsDatabase}
 use Rattle.sqlite.specs.State.{Shows, State}
@@ -12,6 +12,7 @@ use Rattle.book_tables.specs.Edited.{no_rows}
 use Rattle.book_tables.specs.Format.{HasFormat, TellsFormat}
 use Rattle.book_tables.specs.Holds.{HasOffice, HasOfficeOf, Holds, HoldsMembers, HoldsOf, StandsFor, rows_in}
 use Rattle.book_tables.specs.Kept.{kept_tables, later}
+use Rattle.book_tables.specs.Looking.{ShowsRowsOf}
 use Rattle.book_tables.specs.Rows.{Rows, about_rows, present_format}
 use Rattle.book_tables.specs.declared.error.TableError.{TableError}
 use Rattle.book_tables.specs.declared.error.TableError.TheVariants as fails
@@ -46,6 +47,11 @@ pub record LeavesBeside (from : ℕ) (old new : Database) : Type 0 where
       → new.trees u.tree ≡ old.trees u.tree) old.schema.tables
   pub sound : IsDatabase new
 
+-- the rows that are looked at are as they were
+pub record AreLeft (old new : Database) : Type 0 where
+  pub sales : rows_in new (codes "sales") ≡ rows_in old (codes "sales")
+  pub meters : rows_in new (codes "meters") ≡ rows_in old (codes "meters")
+
 -- the tables that a format lacks are made, with nothing in them
 pub record MakesMissing (from : ℕ) (old new : Database) : Type 0 where
   pub had : HasOfficeOf from old.schema
@@ -53,6 +59,7 @@ pub record MakesMissing (from : ℕ) (old new : Database) : Type 0 where
   pub rows : (rows : Rows) → HoldsOf from from old rows
       → HoldsOf present_format from new (rows_upto from rows)
   pub tells : TellsFormat from old → rows_in new (codes "about") ≡ about_rows from
+  pub left : 1 ≤ from → AreLeft old new
   pub beside : LeavesBeside from old new
 
 -- `about` tells the present format, where it told another or none
@@ -63,12 +70,14 @@ pub record TellsPresent (told : ℕ) (old new : State) : Type 0 where
 
 -- The database has the present tables in place of those of a format, or of none, and holds the
 -- office that it stood for: the empty one, where there was none. Whatever the other rows are, `about`
--- tells the present format in place of that of the tables.
+-- tells the present format in place of that of the tables. The rows of `sales` and of `meters` were
+-- looked at, and are sales and meters.
 pub record BringsOffice (from : ℕ) (old new : Database) : Type 0 where
   pub had : HasOfficeOf from old.schema
   pub has : HasOffice new.schema
   pub members : (o : Office) → StandsFor old o → HoldsMembers new o
   pub tells : TellsFormat from old → HasFormat new present_format
+  pub shows : ShowsRowsOf from old
   pub beside : LeavesBeside from old new
 
 -- it is not, where a row is that of no office: then the database stands for none

@@ -42,3 +42,9 @@ order_columns r = column r 3 ∷ column r 4 ∷ column r 5 ∷ column r 11 ∷ [
 
 abbrev pub token_columns : Row → Row
 token_columns r = column r 6 ∷ column r 7 ∷ column r 8 ∷ column r 9 ∷ column r 12 ∷ []
+
+-- the columns of a sale, before whatever else the row has
+abbrev pub sale_part : Row → Row
+sale_part r =
+    column r 0 ∷ column r 1 ∷ column r 2 ∷ column r 3 ∷ column r 4 ∷ column r 5 ∷ column r 6
+    ∷ column r 7 ∷ column r 8 ∷ column r 9 ∷ column r 10 ∷ column r 11 ∷ column r 12 ∷ []

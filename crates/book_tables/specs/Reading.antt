@@ -25,7 +25,7 @@ use Rattle.book_tables.specs.Rows.{Rows}
 use Rattle.book_tables.specs.Stands.{AreMembersOf}
 use Rattle.book_tables.specs.declared.error.TableError.{TableError}
 use Rattle.book_tables.specs.declared.error.TableError.TheVariants as fails
-use Rattle.book_tables.specs.declared.paging.MeterBase.{MeterBase}
+use Rattle.book_tables.specs.declared.paging.MeterRow.{MeterRow}
 
 -- the rows are the members of an office
 abbrev pub AreOfOffice : Rows → Type 0
@@ -83,9 +83,9 @@ abbrev pub IsFirstDay : (ℕ → Option (List Step)) → ℕ → Option ℕ → 
 IsFirstDay dated day None = NoneBegun dated day
 IsFirstDay dated day (Some first) = IsLastBegun dated day first
 
--- the present base of a meter
-abbrev pub present_base : (List ℕ × Meter) → MeterBase
-present_base m = record { number = m.0; base = m.1.base }
+-- a meter under its number
+abbrev pub meter_row : (List ℕ × Meter) → MeterRow
+meter_row m = record { number = m.0; meter = m.1 }
 
 -- ---- all tables
 

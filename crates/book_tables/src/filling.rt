@@ -1,24 +1,26 @@
 //! The filling of tables that a format lacked, from the rows that its tables have.
 
-ghost use Rattle.std.specs.Prelude.{◌≡◌, IfOk, OnOk, max, unwrap_or};
+ghost use Rattle.std.specs.Prelude.{◌≡◌, IfOk, OnOk, codes, max, unwrap_or};
+ghost use Rattle.sqlite.specs.Effect.{IsDatabase};
 ghost use Rattle.sqlite.specs.Held.{state};
 ghost use Rattle.sqlite.specs.State.{HasCleanDisk};
 ghost use Rattle.one_table.specs.InTransaction.{IsUnderWay, KeepsTransaction};
 ghost use Rattle.book_tables.specs.Filling.{AwaitsSomeBases, FillsBases, FillsTotals, FollowsTotals, HasSomeTotals, TotalsPage, TotalsSale};
-ghost use Rattle.book_tables.specs.Reading.{HasTables};
+ghost use Rattle.book_tables.specs.Holds.{rows_in};
+ghost use Rattle.book_tables.specs.Kept.{sales_kept};
+ghost use Rattle.book_tables.specs.Looking.{ShowMeters, ShowSales, ShowsUpto};
+ghost use Rattle.book_tables.specs.Reading.{HasTable, HasTables};
 ghost use Rattle.book_tables.specs.Writing.{FindsNoFalseRow};
 
 use crate::bases::add_base;
 use crate::error::TableError;
-use crate::paging::{greatest_inside, present_bases, sales_inside};
+use crate::looking::{PAGE, last_of};
+use crate::paging::{first_sale_inside, greatest_inside, meters_inside, sales_inside};
 use crate::totalling::add_totals;
 use sqlite::{Alter, Transaction};
 use std::alloc::Global;
 use sts_fields::amount_law;
 use vend_core::Sale;
-
-// How many sales are read at a time, so that a long file takes no more memory than a short one.
-const PAGE: u32 = 1000;
 
 // The greater of two identifiers, of which the first may be missing.
 fn later_tid(greatest: Option<u32>, tid: u32) -> u32
@@ -66,16 +68,21 @@ fn total_page<S: Alter>(
         → HasTables (state S.Store tx.old.conn.now)
         → IfOk result (λ last. TotalsPage done last
         (state S.Store tx.old.conn.now) (state S.Store tx.new.conn.now)) }
+    ensures shows { HasCleanDisk (state S.Store tx.new.conn.now)
+        → HasTable sales_kept (state S.Store tx.old.conn.now)
+        → IfOk result (λ last. ShowsUpto done last
+        (rows_in (state S.Store tx.old.conn.now).now (codes "sales"))) }
     ensures transaction { KeepsTransaction
         (state S.Store tx.old.conn.now) (state S.Store tx.new.conn.now) result }
     ensures no_false_row { FindsNoFalseRow (HasSomeTotals done)
         (state S.Store tx.old.conn.now) (state S.Store tx.new.conn.now) result }
 {
     let page = sales_inside(alloc, tx, done, PAGE)?;
-    let mut last = done;
+    let Some(last) = last_of(&page, done) else {
+        return Err(TableError::RowOfNoOffice);
+    };
     'sales: for sale in &page {
         total_sale(alloc, tx, sale)?;
-        last = sale.number;
     }
     Ok(last)
 }
@@ -94,12 +101,18 @@ pub(crate) fn fill_totals<S: Alter>(
         → HasTables (state S.Store tx.old.conn.now)
         → OnOk result (FillsTotals
         (state S.Store tx.old.conn.now) (state S.Store tx.new.conn.now)) }
+    ensures shows { HasCleanDisk (state S.Store tx.new.conn.now)
+        → IsUnderWay (state S.Store tx.old.conn.now)
+        → HasTables (state S.Store tx.old.conn.now)
+        → IsDatabase (state S.Store tx.old.conn.now).now
+        → OnOk result (ShowSales (rows_in (state S.Store tx.old.conn.now).now (codes "sales"))) }
     ensures transaction { KeepsTransaction
         (state S.Store tx.old.conn.now) (state S.Store tx.new.conn.now) result }
     ensures no_false_row { FindsNoFalseRow (HasSomeTotals 0)
         (state S.Store tx.old.conn.now) (state S.Store tx.new.conn.now) result }
 {
-    let mut done = total_page(alloc, tx, 0)?;
+    first_sale_inside(alloc, tx)?;
+    let mut done = 0;
     'pages: for turn in 0..u32::MAX {
         let last = total_page(alloc, tx, done)?;
         if last == done {
@@ -125,14 +138,17 @@ pub(crate) fn fill_bases<S: Alter>(
         → HasTables (state S.Store tx.old.conn.now)
         → OnOk result (FillsBases
         (state S.Store tx.old.conn.now) (state S.Store tx.new.conn.now)) }
+    ensures shows { HasCleanDisk (state S.Store tx.new.conn.now)
+        → HasTables (state S.Store tx.old.conn.now)
+        → OnOk result (ShowMeters (rows_in (state S.Store tx.old.conn.now).now (codes "meters"))) }
     ensures transaction { KeepsTransaction
         (state S.Store tx.old.conn.now) (state S.Store tx.new.conn.now) result }
     ensures no_false_row { FindsNoFalseRow AwaitsSomeBases
         (state S.Store tx.old.conn.now) (state S.Store tx.new.conn.now) result }
 {
-    let found = present_bases(alloc, tx)?;
+    let found = meters_inside(alloc, tx)?;
     'bases: for present in &found {
-        add_base(tx, &present.number, present.base)?;
+        add_base(tx, &present.number, present.meter.base)?;
     }
     Ok(())
 }

@@ -20,6 +20,7 @@ pub mod format;
 mod formats;
 mod laws;
 mod listed;
+mod looking;
 pub mod making;
 mod merging;
 pub mod meters;

@@ -11,6 +11,8 @@ ghost use Rattle.book_tables.specs.Writing.{WritesTables};
 use crate::error::TableError;
 use crate::filling::{fill_bases, fill_totals};
 use crate::formats::tables_after;
+use crate::looking::look_at_sales;
+use crate::paging::meters_inside;
 use crate::storing::{put, set};
 use crate::texts::{FORMAT_SET, NEW_FORMAT};
 use one_table::make::create_tables;
@@ -103,12 +105,13 @@ fn bring_second<S: Alter>(alloc: Global, tx: &mut Transaction<'_, S>) -> Result<
         (state S.Store tx.old.conn.now) (state S.Store tx.new.conn.now) result }
 {
     make_missing(tx, 2)?;
+    look_at_sales(alloc, tx)?;
     fill_bases(alloc, tx)?;
     tell_present(tx)
 }
 
 // The tables of format 3, which has no steps of later days.
-fn bring_third<S: Alter>(tx: &mut Transaction<'_, S>) -> Result<(), TableError>
+fn bring_third<S: Alter>(alloc: Global, tx: &mut Transaction<'_, S>) -> Result<(), TableError>
     ensures same_reference { tx.new.conn.ghost_name ≡ tx.old.conn.ghost_name }
     ensures brings { HasCleanDisk (state S.Store tx.new.conn.now)
         → HasFormatTables 3 (state S.Store tx.old.conn.now)
@@ -120,6 +123,8 @@ fn bring_third<S: Alter>(tx: &mut Transaction<'_, S>) -> Result<(), TableError>
         (state S.Store tx.old.conn.now) (state S.Store tx.new.conn.now) result }
 {
     make_missing(tx, 3)?;
+    look_at_sales(alloc, tx)?;
+    meters_inside(alloc, tx)?;
     tell_present(tx)
 }
 
@@ -151,6 +156,6 @@ pub fn bring<S: Alter>(
         0 => begin(tx),
         1 => bring_first(alloc, tx),
         2 => bring_second(alloc, tx),
-        _ => bring_third(tx),
+        _ => bring_third(alloc, tx),
     }
 }

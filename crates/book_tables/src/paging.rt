@@ -1,7 +1,7 @@
 //! Reads inside a transaction, as one makes that brings a file of an older format up to the present
 //! one.
 
-ghost use Rattle.std.specs.Prelude.{◌≡◌, IsPermutation, filter, map, nat_lt, option_map, slice_get, take, IfOk};
+ghost use Rattle.std.specs.Prelude.{◌≡◌, IsPermutation, codes, filter, map, nat_lt, option_map, slice_get, take, IfOk, OnOk};
 ghost use Rattle.sqlite.specs.State.{HasCleanDisk};
 ghost use Rattle.sqlite.specs.Held.{state};
 ghost use Rattle.sqlite.specs.Values.{bound};
@@ -11,45 +11,53 @@ ghost use Rattle.one_table.specs.Answer.{GivesAll, OnlyAsks};
 ghost use Rattle.one_table.specs.InTransaction.{KeepsTransaction};
 ghost use Rattle.one_table.specs.ReadsOnly.{ReadsInside};
 ghost use Rattle.book_tables.specs.Kept.{last_ids_kept, meters_kept, sales_kept};
-ghost use Rattle.book_tables.specs.Reading.{FailsToShow, IsShown, ReadsTableInside, SaysOfTable, ShowsRecord, present_base};
-ghost use Rattle.book_tables.specs.Rows.{base_columns};
+ghost use Rattle.book_tables.specs.Holds.{rows_in};
+ghost use Rattle.book_tables.specs.Looking.{ShowMeters, ShowsPage, StartsFrom1};
+ghost use Rattle.book_tables.specs.Reading.{FailsToShow, HasTable, IsShown, ReadsTableInside, SaysOfTable, ShowsRecord, meter_row};
+ghost use Rattle.book_tables.specs.Rows.{meter_columns};
 ghost use Rattle.book_tables.specs.Stands.{sales_under};
+ghost use Rattle.book_tables.specs.Values.{AreMeterValues};
 
 use crate::cells;
 use crate::counted::Tid;
 use crate::error::TableError;
 use crate::listed::records_of;
+use crate::records::Booked;
 use crate::shown::{Record, Shown};
-use crate::texts::{LAST_ID, PRESENT_BASES, SALES_AFTER};
+use crate::texts::{ALL_METERS, BOOKED_SALES_AFTER, FIRST_SALE_NUMBER, LAST_ID};
 use crate::values::{base_values, page_values};
 use one_table::read_rows_inside;
 use sqlite::types::ValueRef;
 use sqlite::{Alter, Row, Transaction};
-use std::alloc::Global;
+use std::alloc::{AllocError, Global};
 use sts_fields::Base;
-use vend_core::{MeterNo, Sale};
+use vend_core::{Meter, MeterNo, Sale};
 
-/// A meter's number, and a base.
+/// A meter under its number.
 #[derive(Clone, Copy, Debug, PartialEq, Eq)]
-pub struct MeterBase {
+pub struct MeterRow {
     /// The number of the meter.
     pub number: MeterNo,
-    /// The base.
-    pub base: Base,
+    /// The meter.
+    pub meter: Meter,
 }
 
-impl Record for MeterBase {
-    ghost shown = { λ m. base_columns (m.number, m.base) };
+impl Record for MeterRow {
+    ghost shown = { λ m. meter_columns (m.number, m.meter) };
 
-    ghost keeps = { λ m. IsMeterNo m.number };
+    ghost keeps = { λ m. IsMeterNo m.number × AreMeterValues m.meter };
 
-    fn of_row(row: &Row) -> Option<MeterBase> {
-        if row.column_count() != 2 {
+    fn of_row(row: &Row) -> Option<MeterRow> {
+        if row.column_count() != 4 {
             return None;
         }
-        Some(MeterBase {
+        Some(MeterRow {
             number: cells::meter_no_at(row, 0)?,
-            base: cells::base_at(row, 1)?,
+            meter: Meter {
+                base: cells::base_at(row, 1)?,
+                tariff: cells::tariff_at(row, 2)?,
+                key: cells::key_at(row, 3)?,
+            },
         })
     }
 }
@@ -76,7 +84,13 @@ fn records_inside<S: Alter, T: Record + Drop>(
     Ok(records_of(alloc, shown)?)
 }
 
-/// A page: the first sales after a number, at most so many.
+fn sales_of(alloc: Global, booked: Vec<Booked>) -> Result<Vec<Sale>, AllocError>
+    ensures { IfOk result (λ sales. sales.items ≡ map (λ b. b.sale) booked.items) }
+{
+    booked.into_iter().map(|booked| booked.sale).collect(alloc)
+}
+
+/// A page: the first sales after a number, at most so many. The month of each is that of its moment.
 ///
 /// # Errors
 /// What the database refuses, and a row that is no office's.
@@ -90,31 +104,67 @@ pub fn sales_inside<S: Alter>(
     ensures given { SaysOfTable sales_kept (λ rows found. found.items
         ≡ take limit (filter (λ s. nat_lt number s.number) rows.sales))
         (state S.Store tx.old.conn.now) (state S.Store tx.new.conn.now) result }
+    ensures shows { HasCleanDisk (state S.Store tx.new.conn.now)
+        → HasTable sales_kept (state S.Store tx.old.conn.now)
+        → IfOk result (λ found. ShowsPage number limit found.items
+        (rows_in (state S.Store tx.old.conn.now).now (codes "sales"))) }
     ensures reads { ReadsTableInside sales_kept
         (state S.Store tx.old.conn.now) (state S.Store tx.new.conn.now) result }
     ensures transaction { KeepsTransaction
         (state S.Store tx.old.conn.now) (state S.Store tx.new.conn.now) result }
 {
-    records_inside(alloc, tx, SALES_AFTER, &page_values(number, limit))
+    let booked: Vec<Booked> = records_inside(
+        alloc,
+        tx,
+        BOOKED_SALES_AFTER,
+        &page_values(number, limit),
+    )?;
+    Ok(sales_of(alloc, booked)?)
 }
 
-/// Each meter with its present base, once and in any order.
+/// The least number of a sale, if there is one.
+///
+/// # Errors
+/// What the database refuses, and a number that is no office's.
+pub fn first_sale_inside<S: Alter>(
+    alloc: Global,
+    tx: &mut Transaction<'_, S>,
+) -> Result<(), TableError>
+    ensures same_reference { tx.new.conn.ghost_name ≡ tx.old.conn.ghost_name }
+    ensures shows { HasCleanDisk (state S.Store tx.new.conn.now)
+        → HasTable sales_kept (state S.Store tx.old.conn.now)
+        → OnOk result (StartsFrom1
+        (rows_in (state S.Store tx.old.conn.now).now (codes "sales"))) }
+    ensures reads { ReadsTableInside sales_kept
+        (state S.Store tx.old.conn.now) (state S.Store tx.new.conn.now) result }
+    ensures transaction { KeepsTransaction
+        (state S.Store tx.old.conn.now) (state S.Store tx.new.conn.now) result }
+{
+    let _least: Vec<u32> = records_inside(alloc, tx, FIRST_SALE_NUMBER, &[])?;
+    Ok(())
+}
+
+/// Each meter, once and in any order.
 ///
 /// # Errors
 /// What the database refuses, and a row that is no office's.
-pub fn present_bases<S: Alter>(
+pub fn meters_inside<S: Alter>(
     alloc: Global,
     tx: &mut Transaction<'_, S>,
-) -> Result<Vec<MeterBase>, TableError>
+) -> Result<Vec<MeterRow>, TableError>
     ensures same_reference { tx.new.conn.ghost_name ≡ tx.old.conn.ghost_name }
-    ensures given { SaysOfTable meters_kept (λ rows found. IsPermutation (map present_base rows.meters) found.items)
+    ensures given { SaysOfTable meters_kept (λ rows found. IsPermutation (map meter_row rows.meters) found.items)
         (state S.Store tx.old.conn.now) (state S.Store tx.new.conn.now) result }
+    ensures shows { HasCleanDisk (state S.Store tx.new.conn.now)
+        → HasTable meters_kept (state S.Store tx.old.conn.now)
+        → OnOk result (ShowMeters
+        (rows_in (state S.Store tx.old.conn.now).now (codes "meters"))) }
     ensures reads { ReadsTableInside meters_kept
         (state S.Store tx.old.conn.now) (state S.Store tx.new.conn.now) result }
     ensures transaction { KeepsTransaction
         (state S.Store tx.old.conn.now) (state S.Store tx.new.conn.now) result }
 {
-    records_inside(alloc, tx, PRESENT_BASES, &[])
+    records_inside(alloc, tx, ALL_METERS, &[])
 }
 
 /// The greatest identifier that is kept of a meter under a base.

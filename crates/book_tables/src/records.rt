@@ -5,7 +5,7 @@
 
 ghost use Rattle.vend_core.specs.Decision.Requests.{IsOrder};
 ghost use Rattle.book_tables.specs.ReadBack.{ReadsBack};
-ghost use Rattle.book_tables.specs.Parts.{AreEntryValues, AreTokenValues, entry_columns, order_columns, shown_entry, shown_order, shown_token, token_columns};
+ghost use Rattle.book_tables.specs.Parts.{AreEntryValues, AreTokenValues, entry_columns, order_columns, shown_entry, sale_part, shown_order, shown_token, token_columns};
 ghost use Rattle.book_tables.specs.Rows.{shown_meter, shown_number, shown_sale, shown_shift, shown_step, tariff_columns};
 ghost use Rattle.std.specs.Prelude.{◌∷◌, [], ℕ};
 ghost use Rattle.sqlite_value.specs.Order.{column};
@@ -15,7 +15,7 @@ ghost use Rattle.book_tables.specs.Values.{AreMeterValues, AreSaleValues, AreShi
 use crate::cells;
 use crate::shown::Record;
 use sqlite::Row;
-use sts_fields::{Amount, Base, Moment};
+use sts_fields::{Amount, Base, Moment, month_of};
 use tariff::Step;
 use vend_core::{Meter, Order, Sale, Shift, TariffName};
 
@@ -162,6 +162,40 @@ fn token_of(row: &Row) -> Option<Token>
     })
 }
 
+// The sale of the first thirteen columns.
+fn sale_of(row: &Row) -> Option<Sale>
+    ensures { ReadsBack shown_sale AreSaleValues (sale_part row.now) result }
+{
+    let Some(entry) = entry_of(row) else {
+        return None;
+    };
+    let Some(order) = order_of(row) else {
+        return None;
+    };
+    let Some(token) = token_of(row) else {
+        return None;
+    };
+    let (tender, digits) = (order.tender, token.digits);
+    let Some(price) = cells::between_at(row, 10, 0, tender.cents()) else {
+        return None;
+    };
+    Some(Sale {
+        number: entry.number,
+        moment: entry.moment,
+        shift: entry.shift,
+        operator: order.operator,
+        order_ref: order.order_ref,
+        meter: order.meter,
+        base: token.base,
+        tid: token.tid,
+        rnd: token.rnd,
+        tenths: token.tenths,
+        price,
+        tender,
+        digits,
+    })
+}
+
 impl Record for Sale {
     ghost shown = { shown_sale };
 
@@ -171,33 +205,34 @@ impl Record for Sale {
         if row.column_count() != 13 {
             return None;
         }
-        let Some(entry) = entry_of(row) else {
+        sale_of(row)
+    }
+}
+
+/// A sale whose row has the month of its moment.
+#[derive(Drop)]
+pub(crate) struct Booked {
+    pub(crate) sale: Sale,
+}
+
+impl Record for Booked {
+    ghost use Rattle.book_tables.specs.Rows.{shown_booked};
+
+    ghost shown = { λ b. shown_booked b.sale };
+
+    ghost keeps = { λ b. AreSaleValues b.sale };
+
+    fn of_row(row: &Row) -> Option<Booked> {
+        if row.column_count() != 14 {
+            return None;
+        }
+        let Some(sale) = sale_of(row) else {
             return None;
         };
-        let Some(order) = order_of(row) else {
-            return None;
-        };
-        let Some(token) = token_of(row) else {
-            return None;
-        };
-        let (tender, digits) = (order.tender, token.digits);
-        let Some(price) = cells::between_at(row, 10, 0, tender.cents()) else {
-            return None;
-        };
-        Some(Sale {
-            number: entry.number,
-            moment: entry.moment,
-            shift: entry.shift,
-            operator: order.operator,
-            order_ref: order.order_ref,
-            meter: order.meter,
-            base: token.base,
-            tid: token.tid,
-            rnd: token.rnd,
-            tenths: token.tenths,
-            price,
-            tender,
-            digits,
-        })
+        let month = month_of(sale.moment).unwrap();
+        match cells::between_at(row, 13, month, month) {
+            Some(_) => Some(Booked { sale }),
+            None => None,
+        }
     }
 }

@@ -100,6 +100,13 @@ pub(crate) const SALES_AFTER: &str =
     "SELECT number, moment, shift, operator, ref, meter, base, tid, rnd, tenths, price, tender, \
     digits FROM sales WHERE number > ?1 ORDER BY number LIMIT ?2";
 
+// The same with the month, which a sale tells by its moment.
+pub(crate) const BOOKED_SALES_AFTER: &str =
+    "SELECT number, moment, shift, operator, ref, meter, base, tid, rnd, tenths, price, tender, \
+    digits, month FROM sales WHERE number > ?1 ORDER BY number LIMIT ?2";
+
+pub(crate) const FIRST_SALE_NUMBER: &str = "SELECT number FROM sales ORDER BY number LIMIT 1";
+
 // No index serves it: it walks all sales.
 pub(crate) const SALES_OF_SHIFT: &str =
     "SELECT number, moment, shift, operator, ref, meter, base, tid, rnd, tenths, price, tender, \
@@ -122,7 +129,7 @@ pub(crate) const NEW_BASE: &str = "INSERT INTO meter_bases (meter, base) VALUES 
 
 pub(crate) const BASE_SET: &str = "UPDATE meters SET base = ?2 WHERE meter = ?1";
 
-pub(crate) const PRESENT_BASES: &str = "SELECT meter, base FROM meters";
+pub(crate) const ALL_METERS: &str = "SELECT meter, base, tariff, secret FROM meters";
 
 pub(crate) const MONTH_TENTHS: &str =
     "SELECT tenths FROM month_tenths WHERE meter = ?1 AND month = ?2";

@@ -44,14 +44,40 @@ fn brought(alloc: Global, conn: &mut Connection<MemStore>, from: u32) -> Result<
     Ok(())
 }
 
-// A file of the office's tables in format 1 or 2.
+const THIRD: &str = "UPDATE about SET format = 3; \
+    INSERT INTO meter_bases VALUES ('12345678903', 2014), ('10000000009', 2014), \
+    ('79927398713', 1993)";
+
+// A file of the office's tables in format 1, 2 or 3.
 fn office(alloc: Global, format: u32) -> Result<Connection<MemStore>, Error> {
-    let mut conn = file(alloc, if format > 1 { 9 } else { 6 })?;
+    let tables = match format {
+        1 => 6,
+        2 => 9,
+        _ => 10,
+    };
+    let mut conn = file(alloc, tables)?;
     batch(&mut conn, FIRST)?;
     if format > 1 {
         batch(&mut conn, SECOND)?;
     }
+    if format > 2 {
+        batch(&mut conn, THIRD)?;
+    }
     Ok(conn)
+}
+
+// Spoils the office of a format, which cannot be brought up then and stays as it was.
+fn stays(alloc: Global, format: u32, sql: &str) -> Result<bool, Fail> {
+    let mut conn = office(alloc, format)?;
+    batch(&mut conn, sql)?;
+    let sales = count(&mut conn, "SELECT count(*) FROM sales")?;
+    let brought = brought(alloc, &mut conn, format);
+    Ok(
+        brought == Err(TableError::RowOfNoOffice)
+            && format_here(alloc, conn.schema())? == Some(format)
+            && format_number(alloc, &mut conn)? == Some(format)
+            && count(&mut conn, "SELECT count(*) FROM sales")? == sales,
+    )
 }
 
 #[test]
@@ -72,30 +98,45 @@ fn a_file_with_no_sales_has_no_totals(rt: HostRuntime) -> Result<(), Fail> {
     Ok(())
 }
 
-// Rows that are no office's: the file stays as it was.
+// Rows that are no office's, in a file of each older format.
 #[test]
 fn a_bad_row_leaves_the_older_file(rt: HostRuntime) -> Result<(), Fail> {
     let spoils = [
-        (1, "UPDATE sales SET price = 101 WHERE number = 2"),
-        (1, "UPDATE sales SET digits = '123' WHERE number = 4"),
-        (1, "UPDATE sales SET tid = 16777216 WHERE number = 1"),
-        (
-            1,
-            "UPDATE meters SET base = 2000 WHERE meter = '79927398713'",
-        ),
-        (
-            2,
-            "UPDATE meters SET base = 2000 WHERE meter = '79927398713'",
-        ),
+        "UPDATE sales SET price = 101 WHERE number = 2",
+        "UPDATE sales SET digits = '123' WHERE number = 4",
+        "UPDATE sales SET tid = 16777216 WHERE number = 1",
+        "UPDATE sales SET month = 253 WHERE number = 2",
+        "UPDATE sales SET month = -1 WHERE number = 4",
+        "UPDATE sales SET number = 5 WHERE number = 4",
+        "UPDATE sales SET number = 6 WHERE number = 1",
+        "UPDATE sales SET number = 0 WHERE number = 1",
+        "INSERT INTO sales VALUES (0, 1388534400, 252, 1, 'ann', 'r-0', '10000000009', 2014, 1, \
+        0, 5, 50, 50, '00216172799293731483')",
+        "INSERT INTO sales VALUES (-7, 1388534400, 252, 1, 'ann', 'r-0', '10000000009', 2014, 1, \
+        0, 5, 50, 50, '00216172799293731483')",
+        "UPDATE meters SET base = 2000 WHERE meter = '79927398713'",
+        "UPDATE meters SET secret = '0123456789ABCDEF' WHERE meter = '79927398713'",
+        "UPDATE meters SET secret = '0123456789abcde' WHERE meter = '10000000009'",
     ];
-    for (format, sql) in spoils {
+    for sql in spoils {
+        for format in [1, 2, 3] {
+            let stays = stays(rt.alloc(), format, sql)?;
+            assert!(rt; stays, "{format}: {sql}");
+        }
+    }
+    Ok(())
+}
+
+// The same offices as they were, so that the rows above are refused for what they spoil.
+#[test]
+fn an_older_office_is_brought_up(rt: HostRuntime) -> Result<(), Fail> {
+    for format in [1, 2, 3] {
         let mut conn = office(rt.alloc(), format)?;
-        batch(&mut conn, sql)?;
-        let brought = brought(rt.alloc(), &mut conn, format);
-        assert_eq!(rt; brought, Err(TableError::RowOfNoOffice), "{sql}");
-        assert_eq!(rt; format_here(rt.alloc(), conn.schema())?, Some(format));
-        assert_eq!(rt; format_number(rt.alloc(), &mut conn)?, Some(format));
-        assert_eq!(rt; count(&mut conn, "SELECT count(*) FROM sales")?, 4);
+        brought(rt.alloc(), &mut conn, format)?;
+        assert_eq!(rt; format_here(rt.alloc(), conn.schema())?, Some(4));
+        assert_eq!(rt; format_number(rt.alloc(), &mut conn)?, Some(4));
+        assert_eq!(rt; count(&mut conn, "SELECT count(*) FROM meter_bases")?, 3);
+        assert_eq!(rt; count(&mut conn, "SELECT count(*) FROM shift_totals")?, 2);
     }
     Ok(())
 }

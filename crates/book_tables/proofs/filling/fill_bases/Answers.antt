@@ -4,9 +4,9 @@ use Rattle.sqlite.specs.Held.{state}
 use Rattle.sqlite.specs.State.{HasCleanDisk}
 use Rattle.one_table.proofs.ChangeLemmas.{transaction_off, transaction_on, transaction_then}
 use Rattle.book_tables.specs.Kept.{meters_kept}
-use Rattle.book_tables.specs.Reading.{FailsToReadOf, FailsToStore, TableHolds, present_base}
+use Rattle.book_tables.specs.Reading.{FailsToReadOf, FailsToStore, TableHolds, meter_row}
 use Rattle.book_tables.specs.declared.error.TableError.TheVariants.{RowOfNoOffice}
-use Rattle.book_tables.specs.declared.paging.MeterBase.{MeterBase}
+use Rattle.book_tables.specs.declared.paging.MeterRow.{MeterRow}
 use Rattle.book_tables.proofs.FillingLemmas.{tables_left}
 use Rattle.book_tables.proofs.FillingBasesLemmas.{BasesSome, bases_more, bases_name, bases_none, fills_bases, meters_there}
 use Rattle.book_tables.proofs.OfficeTableLemmas.{has_table, meters_in}
@@ -21,7 +21,7 @@ returns-in_err-found-clause-transaction g c =
 pub returns-in_err-found-clause-no_false_row : goal.returns-in_err-found-clause-no_false_row
 returns-in_err-found-clause-no_false_row g c clean way format rows held known told_so =
     let old = state g.S.Store c.args.tx.now.conn.now in
-    let new = state g.S.Store c.present_bases.new.tx.conn.now in
+    let new = state g.S.Store c.meters_inside.new.tx.conn.now in
     let e = c.in_err-found.field-0.0 in
     let fails : FailsToReadOf (TableHolds meters_kept) old new e = c.in_err-found.ensures.reads.faults clean (has_table meters_in old (λ runs. (held runs).has)) in
     let is = same_error {A = Unit {0}} e RowOfNoOffice (handed_on e RowOfNoOffice c.from_residual.result c.from_residual.ensures.1 told_so) in
@@ -35,7 +35,7 @@ bases-init g c = record {
   transaction = transaction_on c.in_ok-found.ensures.transaction;
   bases = λ clean way has.
       let old = state g.S.Store c.args.tx.now.conn.now in
-      let mid = state g.S.Store c.present_bases.new.tx.conn.now in
+      let mid = state g.S.Store c.meters_inside.new.tx.conn.now in
       bases_none old mid way (c.in_ok-found.ensures.reads.same clean (has_table meters_in old has));
 }
 
@@ -56,8 +56,8 @@ bases-preserved g c =
           let first = c.bases.invariant.bases early way has in
           let inside = c.bases.invariant.transaction.inside early way in
           let second = c.in_ok-add_base.ensures.writes.made clean (tables_left bases_name old mid inside.was_open first.others has) in
-          let next = take_more items i m c.bases-test.true ∙ ap (λ (x : MeterBase). take i items ++ x ∷ []) (sym c.present-item.is) in
-          subst (λ (l : List MeterBase). BasesSome l old new) (sym next) (bases_more (take i items) m old mid new first second);
+          let next = take_more items i m c.bases-test.true ∙ ap (λ (x : MeterRow). take i items ++ x ∷ []) (sym c.present-item.is) in
+          subst (λ (l : List MeterRow). BasesSome l old new) (sym next) (bases_more (take i items) m old mid new first second);
     }
 
 pub returns-in_err-add_base-clause-transaction : goal.returns-in_err-add_base-clause-transaction
@@ -85,6 +85,10 @@ returns-clause-fills g c clean way has =
     let old = state g.S.Store c.args.tx.now.conn.now in
     let new = state g.S.Store c.bases.tx.conn.now in
     let items = c.deref-present-items.result.now in
-    let some = subst (λ (l : List MeterBase). BasesSome l old new) (take_all c.bases.present-index items c.bases-test.false) (c.bases.invariant.bases clean way has) in
+    let some = subst (λ (l : List MeterRow). BasesSome l old new) (take_all c.bases.present-index items c.bases-test.false) (c.bases.invariant.bases clean way has) in
     fills_bases items old new some
-    (λ told rows full held awaits. subst (λ (l : List MeterBase). IsPermutation (map present_base full.meters) l) (sym c.deref-present-items.ensures.value) (c.in_ok-found.ensures.given (c.bases.invariant.clean clean) full (λ _. meters_there told old.now rows full held awaits.same) awaits.office))
+    (λ told rows full held awaits. subst (λ (l : List MeterRow). IsPermutation (map meter_row full.meters) l) (sym c.deref-present-items.ensures.value) (c.in_ok-found.ensures.given (c.bases.invariant.clean clean) full (λ _. meters_there told old.now rows full held awaits.same) awaits.office))
+
+pub returns-clause-shows : goal.returns-clause-shows
+returns-clause-shows g c clean has =
+    c.in_ok-found.ensures.shows (c.bases.invariant.clean clean) (has_table meters_in (state g.S.Store c.args.tx.now.conn.now) has)

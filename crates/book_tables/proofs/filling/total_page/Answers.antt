@@ -1,14 +1,16 @@
-use Rattle.std.proofs.Common.{◌≡◌, ◌∙◌, rules, arith, ap, slice_get, subst, sym, Ok, Some}
+use Rattle.std.proofs.Common.{◌≡◌, ◌∙◌, rules, arith, ap, codes, length, slice_get, subst, sym, Ok, Some}
 use Rattle.std.proofs.lemmas.Option.{slice_get-get_or}
 use Rattle.sqlite.specs.Held.{state}
 use Rattle.sqlite.specs.State.{HasCleanDisk}
 use Rattle.vend_core.specs.declared.office.sale.Sale.{Sale}
 use Rattle.one_table.proofs.ChangeLemmas.{transaction_off, transaction_on, transaction_then}
+use Rattle.book_tables.specs.Holds.{rows_in}
 use Rattle.book_tables.specs.Kept.{sales_kept}
 use Rattle.book_tables.specs.Reading.{FailsToReadOf, TableHolds}
 use Rattle.book_tables.specs.Writing.{totals_names, with_totals_of}
 use Rattle.book_tables.specs.declared.error.TableError.TheVariants.{RowOfNoOffice}
-use Rattle.book_tables.proofs.FillingLemmas.{follows, number_in_page, page_is, sales_there, tables_left, totals_more, totals_none, totals_page}
+use Rattle.book_tables.proofs.FillingLemmas.{follows, page_is, sales_there, tables_left, totals_more, totals_none, totals_page}
+use Rattle.book_tables.proofs.LookLemmas.{page_is_next, page_shows}
 use Rattle.book_tables.proofs.OfficeTableLemmas.{has_table, sales_in}
 use Rattle.book_tables.proofs.RefusalLemmas.{handed_on, same_error}
 use Rattle.book_tables.proofs.filling.total_page.Goals as goal
@@ -23,11 +25,17 @@ returns-in_err-page-clause-no_false_row g c clean way format rows held known tol
     let none = subst (FailsToReadOf (TableHolds sales_kept) old new) is fails in
     none.0 known.0 (sales_there format old.now rows known.0 (held none.1.0.was_open) known.1.same) known.1.office
 
+pub returns-in_default-clause-no_false_row : goal.returns-in_default-clause-no_false_row
+returns-in_default-clause-no_false_row g c clean way format rows held known told_so =
+    let old = state g.S.Store c.args.tx.now.conn.now in
+    let found = c.in_ok-page.ensures.given clean known.0 (λ runs. sales_there format old.now rows known.0 (held runs) known.1.same) known.1.office in
+    c.in_default.ensures (page_is_next c.deref.result.now c.args.done known.0 known.1.office (c.deref.ensures.value ∙ found))
+
 pub sales-init : goal.sales-init
 sales-init g c = record {
   same = search rules;
   clean = λ clean. clean;
-  last = λ full it. omega arith;
+  within = omega arith;
   transaction = transaction_on c.in_ok-page.ensures.transaction;
   totals = λ clean way has.
       let old = state g.S.Store c.args.tx.now.conn.now in
@@ -47,7 +55,7 @@ sales-preserved g c =
     record {
       same = search rules;
       clean = λ clean. c.sales.invariant.clean (omega (arith, c.total_sale.ensures.transaction.survives.clean));
-      last = λ full it. number_in_page page c.args.done full it i s at;
+      within = omega (arith, c.sales-test.true);
       transaction = transaction_then old mid new (Ok tt) c.sales.invariant.transaction (transaction_on c.in_ok-total_sale.ensures.transaction);
       totals = λ clean way has.
           let early : HasCleanDisk mid = omega (arith, c.total_sale.ensures.transaction.survives.clean) in
@@ -87,6 +95,11 @@ returns-clause-adds g c clean way has =
     let old = state g.S.Store c.args.tx.now.conn.now in
     let new = state g.S.Store c.sales.tx.conn.now in
     let page = c.deref-sale-items.result.now in
-    totals_page page c.args.done c.sales.sale-index c.sales.last old new c.sales-test.false (c.sales.invariant.totals clean way has)
+    totals_page page c.args.done c.sales.sale-index c.in-Some.last old new c.sales-test.false (c.sales.invariant.totals clean way has)
     (λ told rows full held upto. page_is page c.args.done full upto.office (c.deref-sale-items.ensures.value ∙ c.in_ok-page.ensures.given (c.sales.invariant.clean clean) full (λ _. sales_there told old.now rows full held upto.same) upto.office))
-    c.sales.invariant.last
+    (λ full it. omega (arith, c.in-Some.ensures.1, ap length (c.deref.ensures.value ∙ sym c.deref-sale-items.ensures.value), c.sales-test.false, c.sales.invariant.within))
+
+pub returns-clause-shows : goal.returns-clause-shows
+returns-clause-shows g c clean has =
+    let old = state g.S.Store c.args.tx.now.conn.now in
+    page_shows c.args.done c.in-Some.last c.deref.result.now c.in_ok-page.page.items (rows_in old.now (codes "sales")) c.deref.ensures.value (c.in_ok-page.ensures.shows (c.sales.invariant.clean clean) has) c.in-Some.ensures.0 c.in-Some.ensures.1

@@ -1,11 +1,10 @@
-use Rattle.std.proofs.Common.{◌≡◌, ◌+◌, Ok}
+use Rattle.std.proofs.Common.{◌≡◌, ◌≤◌, length, Ok}
 use Rattle.sqlite.specs.Held.{state}
 use Rattle.sqlite.specs.State.{HasCleanDisk}
 use Rattle.one_table.specs.InTransaction.{IsUnderWay, KeepsTransaction}
 use Rattle.book_tables.specs.Reading.{HasTables}
-use Rattle.book_tables.specs.Rows.{Rows}
 use Rattle.book_tables.specs.declared.error.TableError.{TableError}
-use Rattle.book_tables.proofs.FillingLemmas.{IsPageOf, TotalsSome}
+use Rattle.book_tables.proofs.FillingLemmas.{TotalsSome}
 use Rattle.book_tables.proofs.filling.total_page.Given as goal
 
 abbrev pub invariant-sales : goal.invariant-sales
@@ -15,7 +14,7 @@ invariant-sales g l =
     record {
       same : l.tx.conn.ghost_name ≡ l.fn.tx.conn.ghost_name;
       clean : HasCleanDisk now → HasCleanDisk (state g.S.Store l.initial.tx.conn.now);
-      last : (full : Rows) → IsPageOf l.sale-items l.done full → l.last ≡ l.done + l.sale-index;
+      within : l.sale-index ≤ length l.sale-items;
       transaction : KeepsTransaction {T = Unit {0}} {E = TableError} old now (Ok tt);
       totals : HasCleanDisk now → IsUnderWay old → HasTables old → TotalsSome l.sale-items l.done l.sale-index old now;
     }

@@ -3,10 +3,11 @@ use Rattle.sqlite.specs.Held.{state}
 use Rattle.sqlite.specs.State.{HasCleanDisk}
 use Rattle.one_table.proofs.ChangeLemmas.{on_ok, told_as, transaction_off, transaction_then}
 use Rattle.book_tables.specs.Holds.{HasOffice}
+use Rattle.book_tables.specs.Looking.{ShowMeters}
 use Rattle.book_tables.specs.Making.{TellsOf, rows_upto}
 use Rattle.book_tables.specs.Writing.{with_totals_of}
 use Rattle.book_tables.specs.declared.error.TableError.TheVariants.{RowOfNoOffice}
-use Rattle.book_tables.proofs.BringingLemmas.{awaits_later, awaits_totals, brings_with_totals, tells_unless}
+use Rattle.book_tables.proofs.BringingLemmas.{awaits_later, awaits_totals, brings_with_totals, meters_left, shows_made, tells_unless}
 use Rattle.book_tables.proofs.HoldsLemmas.{held_as}
 use Rattle.book_tables.proofs.MakingLemmas.{tells_error, tells_none}
 use Rattle.book_tables.proofs.RefusalLemmas.{handed_on}
@@ -88,7 +89,9 @@ returns-clause-brings g c clean has =
     let totals = c.in_ok-fill_totals.ensures.fills late inside.mode (λ _. made.has) in
     let has_totals = subst HasOffice (sym totals.others.schema) made.has in
     let fills = c.in_ok-fill_bases.ensures.fills last then.mode (λ _. has_totals) in
-    on_ok c.tell_present.result (brings_with_totals old mid totalled filled new inside made totals fills) (tells.made clean (λ _. subst HasOffice (sym fills.others.schema) has_totals))
+    let sales = c.in_ok-fill_totals.ensures.shows late inside.mode (λ _. made.has) made.beside.sound in
+    let meters = subst ShowMeters (meters_left mid totalled made.has (totals.others.only made.beside.sound)) (c.in_ok-fill_bases.ensures.shows last (λ _. has_totals)) in
+    on_ok c.tell_present.result (brings_with_totals old mid totalled filled new inside made (shows_made 1 (omega arith) old.now mid.now made sales meters) totals fills) (tells.made clean (λ _. subst HasOffice (sym fills.others.schema) has_totals))
 
 pub returns-clause-told : goal.returns-clause-told
 returns-clause-told g c clean = tells_none 1 (state g.S.Store c.args.tx.now.conn.now).now c.tell_present.result c.tell_present.ensures.database
