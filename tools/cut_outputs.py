@@ -14,8 +14,8 @@ from shared import FORMAT
 
 # No file grows beyond so many bytes here. An output that is to take some bytes begins that far below.
 LIMIT = 1 << 30
-# An output is cut at so many places at the most.
-PLACES = 250
+# An output is cut after each of its bytes, or at so many places where it is longer.
+PLACES = 120
 # A disk that is memory takes hundreds of sales in a second.
 DISK = "/dev/shm" if os.access("/dev/shm", os.W_OK) else None
 # The words of a trial, up to its amounts.
@@ -69,7 +69,7 @@ def same(words, ran, expected):
 
 def places_of(text):
     """How many bytes of a text are taken: each number of them, or some where it is long."""
-    return range(0, len(text), 1 + len(text) // PLACES)
+    return range(0, len(text), 1 + len(text) // (PLACES + 1))
 
 
 def cut_output(folder, words):
