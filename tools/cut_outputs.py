@@ -5,7 +5,6 @@ import os
 import resource
 import signal
 import subprocess
-import tempfile
 from collections import namedtuple
 from pathlib import Path
 
@@ -16,8 +15,6 @@ from shared import FORMAT
 LIMIT = 1 << 30
 # An output is cut after each of its bytes, or at so many places where it is longer.
 PLACES = 120
-# A disk that is memory takes hundreds of sales in a second.
-DISK = "/dev/shm" if os.access("/dev/shm", os.W_OK) else None
 # The words of a trial, up to its amounts.
 TRIAL = ["trial", "--base", "2014", "--key", "0" * 16, "--at", AT]
 TOKEN = "00072057602627981690"
@@ -183,11 +180,12 @@ def cut_listening(folder):
     return len(told) + 1
 
 
-def check_cuts():
+def check_cuts(folder):
     """Outputs that take a beginning: a beginning is what comes, with the status 1, and what was asked
     stands."""
-    with tempfile.TemporaryDirectory(dir=DISK) as name, limited():
-        folder = Path(name)
+    folder = folder / "cuts"
+    folder.mkdir()
+    with limited():
         count = sum(cut_output(folder, words) for words in PRINTED)
         count += sum(cut_errors(folder, words) for words in TOLD)
         count += sum(part(folder) for part in (cut_reports, cut_sales, cut_answers, cut_listening))
