@@ -5,7 +5,6 @@ import os
 import resource
 import signal
 import subprocess
-import tempfile
 from collections import namedtuple
 from pathlib import Path
 
@@ -14,10 +13,8 @@ from shared import FORMAT
 
 # No file grows beyond so many bytes here. An output that is to take some bytes begins that far below.
 LIMIT = 1 << 30
-# An output is cut at so many places at the most.
-PLACES = 250
-# A disk that is memory takes hundreds of sales in a second.
-DISK = "/dev/shm" if os.access("/dev/shm", os.W_OK) else None
+# An output is cut after each of its bytes, or at so many places where it is longer.
+PLACES = 120
 # The words of a trial, up to its amounts.
 TRIAL = ["trial", "--base", "2014", "--key", "0" * 16, "--at", AT]
 TOKEN = "00072057602627981690"
@@ -69,7 +66,7 @@ def same(words, ran, expected):
 
 def places_of(text):
     """How many bytes of a text are taken: each number of them, or some where it is long."""
-    return range(0, len(text), 1 + len(text) // PLACES)
+    return range(0, len(text), 1 + len(text) // (PLACES + 1))
 
 
 def cut_output(folder, words):
@@ -183,11 +180,12 @@ def cut_listening(folder):
     return len(told) + 1
 
 
-def check_cuts():
+def check_cuts(folder):
     """Outputs that take a beginning: a beginning is what comes, with the status 1, and what was asked
     stands."""
-    with tempfile.TemporaryDirectory(dir=DISK) as name, limited():
-        folder = Path(name)
+    folder = folder / "cuts"
+    folder.mkdir()
+    with limited():
         count = sum(cut_output(folder, words) for words in PRINTED)
         count += sum(cut_errors(folder, words) for words in TOLD)
         count += sum(part(folder) for part in (cut_reports, cut_sales, cut_answers, cut_listening))

@@ -3,7 +3,7 @@ its own."""
 import shutil
 import subprocess
 
-from program import AT, OLDER, RECEIPT, change, expect, prepare, query, sell_words, vend
+from program import OLDER, RECEIPT, change, expect, prepare, query, sell_words, vend
 from shared import FORMAT
 
 NO_OFFICE = (1, b"", b"open 1 NotAnOffice\n")
