@@ -17,9 +17,9 @@ use Rattle.command_line.specs.declared.commands.selfcheck.SelfcheckWords.{Selfch
 use Rattle.command_line.specs.declared.commands.serve.ServeWords.{ServeWords}
 use Rattle.command_line.specs.declared.commands.trial.TrialWords.{TrialWords}
 use Rattle.command_line.specs.declared.request_words.RequestWords.{RequestWords}
-use Rattle.vend_core.specs.declared.request.Order.{Order}
-use Rattle.vend_core.specs.declared.request.Request.{Request}
-use Rattle.vend_core.specs.declared.request.Request.TheVariants.{MoveBase, OpenShift, CloseShift, Sell}
+use Rattle.vend_core.specs.declared.decision.request.Order.{Order}
+use Rattle.vend_core.specs.declared.decision.request.Request.{Request}
+use Rattle.vend_core.specs.declared.decision.request.Request.TheVariants.{MoveBase, OpenShift, CloseShift, Sell}
 
 pub record SaysTrial (rows : List Row) (words : TrialWords) : Type 0 where
   pub transform : IsArgument SaysTransform (parsed_argument (codes "transform") rows) words.transform

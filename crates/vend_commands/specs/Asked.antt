@@ -2,7 +2,7 @@
 use Rattle.std.specs.Prelude.{ℕ}
 use Rattle.sqlite_trees.specs.declared.store.Store.{Ghosts}
 use Rattle.sts_fields.specs.Text.{Text}
-use Rattle.vend_core.specs.declared.request.Request.{Request}
+use Rattle.vend_core.specs.declared.decision.request.Request.{Request}
 use Rattle.vend_commands.specs.Places.{Place}
 use Rattle.vend_commands.specs.Served.{IsServedAndTold}
 use Rattle.vend_commands.specs.Told.{Outputs}

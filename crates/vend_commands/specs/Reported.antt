@@ -3,7 +3,7 @@ use Rattle.sqlite_trees.specs.declared.store.Store.{Ghosts}
 use Rattle.sts_fields.specs.Moment.{first_moment}
 use Rattle.sts_fields.specs.Text.{Text}
 use Rattle.books.specs.Keeps.{Seen}
-use Rattle.vend_core.specs.declared.request.Request.TheVariants.{Reprint, ShiftReport}
+use Rattle.vend_core.specs.declared.decision.request.Request.TheVariants.{Reprint, ShiftReport}
 use Rattle.vend_commands.specs.Exported.{IsExported}
 use Rattle.vend_commands.specs.Places.{Place}
 use Rattle.vend_commands.specs.Served.{IsServedAndTold}
