@@ -9,11 +9,11 @@ use Rattle.sqlite.specs.State.{HasCleanDisk, State, Survives, mode_of}
 use Rattle.sqlite.proofs.StateLemmas.{survives_then}
 use Rattle.sqlite_trees.specs.Tree.{Trees}
 use Rattle.one_table.specs.Committing.{HasCommitted, IsUndone, LeavesMade}
-use Rattle.vend_core.specs.Edits.{applied}
+use Rattle.vend_core.specs.Decision.Edits.{applied}
 use Rattle.vend_core.specs.Office.{IsOffice, Office}
-use Rattle.vend_core.specs.Store.{Meets}
-use Rattle.vend_core.specs.declared.change.Edit.{Edit}
-use Rattle.vend_core.specs.declared.refusal.Refusal.{Refusal}
+use Rattle.vend_core.specs.Law.Store.{Meets}
+use Rattle.vend_core.specs.declared.decision.change.Edit.{Edit}
+use Rattle.vend_core.specs.declared.decision.refusal.Refusal.{Refusal}
 use Rattle.book_tables.proofs.HoldsLemmas.{stands_present}
 use Rattle.book_tables.specs.Failing.{IsRefused}
 use Rattle.book_tables.specs.Holds.{HoldsMembers}

@@ -10,17 +10,17 @@ use Rattle.sts_fields.specs.Calendar.{month_at}
 use Rattle.sts_fields.specs.Day.{day_at}
 use Rattle.tariff.specs.declared.step.Step.{Step}
 use Rattle.vend_core.specs.Decision.{MeterAccount, account_of, row_decision}
-use Rattle.vend_core.specs.Facts.{AreNewSaleFacts, AreRowsFacts, AreSaleFacts, row_facts}
-use Rattle.vend_core.specs.Lookup.{greatest_of, latest, open_shift, prior, sale_of_ref, steps_on, used}
+use Rattle.vend_core.specs.Decision.Facts.{AreNewSaleFacts, AreRowsFacts, AreSaleFacts, row_facts}
+use Rattle.vend_core.specs.Office.Lookup.{greatest_of, latest, open_shift, prior, sale_of_ref, steps_on, used}
 use Rattle.vend_core.specs.Office.{IsOffice, Office}
-use Rattle.vend_core.specs.declared.facts.Facts.{Facts}
-use Rattle.vend_core.specs.declared.meter.Meter.{Meter}
-use Rattle.vend_core.specs.declared.refusal.Refusal.TheVariants.{Differs}
-use Rattle.vend_core.specs.declared.request.Order.{Order}
-use Rattle.vend_core.specs.declared.row.Row.{Row}
-use Rattle.vend_core.specs.declared.row_facts.RowFacts.{RowFacts}
-use Rattle.vend_core.specs.declared.sale.Sale.{Sale}
-use Rattle.vend_core.specs.declared.shift.Shift.{Shift}
+use Rattle.vend_core.specs.declared.decision.facts.Facts.{Facts}
+use Rattle.vend_core.specs.declared.office.meter.Meter.{Meter}
+use Rattle.vend_core.specs.declared.decision.refusal.Refusal.TheVariants.{Differs}
+use Rattle.vend_core.specs.declared.decision.request.Order.{Order}
+use Rattle.vend_core.specs.declared.office.row.Row.{Row}
+use Rattle.vend_core.specs.declared.decision.row_facts.RowFacts.{RowFacts}
+use Rattle.vend_core.specs.declared.office.sale.Sale.{Sale}
+use Rattle.vend_core.specs.declared.office.shift.Shift.{Shift}
 use Rattle.book_tables.specs.Found.{meters_numbered}
 use Rattle.book_tables.specs.Holds.{Holds, HoldsMembers}
 use Rattle.book_tables.specs.Reading.{AreOfOffice, FailsToRead, HasTableRows, HasTables, OnlyReads}

@@ -8,10 +8,10 @@ use Rattle.sqlite_trees.specs.declared.error.StoreError.{StoreError}
 use Rattle.sqlite_trees.specs.declared.store.Store.{Ghosts}
 use Rattle.sqlite_trees.specs.declared.error.StoreError.TheVariants.{OutOfMemory, Io, Corrupt, Full, Broken, Unstorable}
 use Rattle.one_table.specs.Reading.{FailsPlainly}
-use Rattle.vend_core.specs.declared.change.Edit.{Edit}
-use Rattle.vend_core.specs.declared.refusal.Refusal.{Refusal}
-use Rattle.vend_core.specs.declared.refusal.Refusal.TheVariants.{Store}
-use Rattle.vend_core.specs.declared.request.Stamped.{Stamped}
+use Rattle.vend_core.specs.declared.decision.change.Edit.{Edit}
+use Rattle.vend_core.specs.declared.decision.refusal.Refusal.{Refusal}
+use Rattle.vend_core.specs.declared.decision.refusal.Refusal.TheVariants.{Store}
+use Rattle.vend_core.specs.declared.decision.request.Stamped.{Stamped}
 use Rattle.book_tables.specs.Failing.{IsRefused}
 use Rattle.book_tables.specs.Reading.{FailsToRead, HasTables}
 use Rattle.book_tables.specs.declared.error.TableError.{TableError}

@@ -2,13 +2,13 @@
 use Rattle.std.specs.Prelude.{◌≡◌, ◌≢◌, ◌+◌, ◌++◌, ◌∷◌, [], ℕ, List}
 use Rattle.sqlite.specs.Effect.{Database, IsDatabase}
 use Rattle.sqlite.specs.State.{State}
-use Rattle.vend_core.specs.Edits.{applied, with_rows}
+use Rattle.vend_core.specs.Decision.Edits.{applied, with_rows}
 use Rattle.vend_core.specs.Office.{IsOffice, Office}
-use Rattle.vend_core.specs.Store.{MeetRows, Meets, MeetsNewSale}
-use Rattle.vend_core.specs.declared.change.Edit.{Edit}
-use Rattle.vend_core.specs.declared.change.Edit.TheVariants.{AddSale}
-use Rattle.vend_core.specs.declared.row.Row.{Row}
-use Rattle.vend_core.specs.declared.sale.Sale.{Sale}
+use Rattle.vend_core.specs.Law.Store.{MeetRows, Meets, MeetsNewSale}
+use Rattle.vend_core.specs.declared.decision.change.Edit.{Edit}
+use Rattle.vend_core.specs.declared.decision.change.Edit.TheVariants.{AddSale}
+use Rattle.vend_core.specs.declared.office.row.Row.{Row}
+use Rattle.vend_core.specs.declared.office.sale.Sale.{Sale}
 use Rattle.book_tables.specs.Holds.{HasOffice, HoldsMembers}
 use Rattle.book_tables.specs.Writing.{AreSaleTotals, TellsSold}
 use Rattle.book_tables.specs.declared.totals.SaleTotals.{SaleTotals}

@@ -3,10 +3,10 @@ use Rattle.std.specs.Prelude.{◌≡◌, ◌⊎◌, Result, Ok, Err}
 use Rattle.sts_token.specs.Token.{BlockFunction}
 use Rattle.vend_core.specs.Decision.{decision}
 use Rattle.vend_core.specs.Office.{Office}
-use Rattle.vend_core.specs.declared.change.Change.{Change}
-use Rattle.vend_core.specs.declared.refusal.Refusal.{Refusal}
-use Rattle.vend_core.specs.declared.refusal.Refusal.TheVariants.{Memory, Store}
-use Rattle.vend_core.specs.declared.request.Stamped.{Stamped}
+use Rattle.vend_core.specs.declared.decision.change.Change.{Change}
+use Rattle.vend_core.specs.declared.decision.refusal.Refusal.{Refusal}
+use Rattle.vend_core.specs.declared.decision.refusal.Refusal.TheVariants.{Memory, Store}
+use Rattle.vend_core.specs.declared.decision.request.Stamped.{Stamped}
 use Rattle.book_requests.specs.declared.decided.Decided.{Decided}
 
 -- the office decided the request, or there was no memory, or the store failed

@@ -6,14 +6,14 @@ use Rattle.sqlite.specs.declared.error.Error.{Error}
 use Rattle.sqlite.specs.declared.error.Error.TheVariants.{SqliteFailure}
 use Rattle.sqlite.specs.declared.error.ErrorCode.TheVariants.{OutOfMemory}
 use Rattle.vend_core.specs.Decision.{MeterAccount}
-use Rattle.vend_core.specs.Facts.{AreFacts}
+use Rattle.vend_core.specs.Decision.Facts.{AreFacts}
 use Rattle.vend_core.specs.Office.{IsOffice, Office}
-use Rattle.vend_core.specs.Store.{Meets}
-use Rattle.vend_core.specs.declared.change.Edit.{Edit}
-use Rattle.vend_core.specs.declared.facts.Facts.{Facts}
-use Rattle.vend_core.specs.declared.refusal.Refusal.{Refusal}
-use Rattle.vend_core.specs.declared.refusal.Refusal.TheVariants.{Memory, Store}
-use Rattle.vend_core.specs.declared.request.Stamped.{Stamped}
+use Rattle.vend_core.specs.Law.Store.{Meets}
+use Rattle.vend_core.specs.declared.decision.change.Edit.{Edit}
+use Rattle.vend_core.specs.declared.decision.facts.Facts.{Facts}
+use Rattle.vend_core.specs.declared.decision.refusal.Refusal.{Refusal}
+use Rattle.vend_core.specs.declared.decision.refusal.Refusal.TheVariants.{Memory, Store}
+use Rattle.vend_core.specs.declared.decision.request.Stamped.{Stamped}
 use Rattle.book_tables.specs.Failing.{FailsToWriteAll, IsRefused}
 use Rattle.book_tables.specs.Holds.{Holds, HoldsMembers}
 use Rattle.book_tables.specs.Reading.{AreOfOffice, FailsToRead}

@@ -1,6 +1,6 @@
 -- The totals of a shift.
 use Rattle.std.specs.Prelude.{ℕ, Option, option_map}
-use Rattle.vend_core.specs.Lookup.{sales_of_shift, shift_numbered}
+use Rattle.vend_core.specs.Office.Lookup.{sales_of_shift, shift_numbered}
 use Rattle.vend_core.specs.Office.{Office}
 use Rattle.book_tables.specs.Stands.{all_totals}
 use Rattle.book_tables.specs.declared.totals.Totals.{Totals}

@@ -4,7 +4,7 @@ ghost use Rattle.std.specs.Prelude.{◌≡◌, ◌⊎◌, Err, IfErr, IfOk, fals
 ghost use Rattle.sqlite.specs.State.{HasCleanDisk};
 ghost use Rattle.sqlite.specs.Held.{state};
 ghost use Rattle.vend_core.specs.Office.{Office};
-ghost use Rattle.vend_core.specs.Store.{sales_above};
+ghost use Rattle.vend_core.specs.Law.Store.{sales_above};
 ghost use Rattle.book_tables.specs.Reading.{HasTables};
 ghost use Rattle.book_requests.specs.Failing.{IsToldOfRead};
 ghost use Rattle.book_states.specs.Stores.{Stores};

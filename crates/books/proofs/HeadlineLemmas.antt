@@ -1,7 +1,7 @@
 -- From what books keep to the lives of an office.
 use Rattle.std.proofs.Common.{◌≡◌, ◌++◌, ◌∷◌, [], List, refl, inl}
 use Rattle.sqlite_trees.specs.Tree.{Trees}
-use Rattle.vend_core.specs.Life.{AreLives, IsLife, Life, MayLeave, present}
+use Rattle.vend_core.specs.Law.Life.{AreLives, IsLife, Life, MayLeave, present}
 use Rattle.vend_core.specs.Office.{Office}
 use Rattle.books.specs.Headline.{RepresentTheLast, with_last}
 use Rattle.book_states.specs.Stores.{RecoversTo}

@@ -3,8 +3,8 @@ use Rattle.std.proofs.Common.{◌≡◌, ◌↔◌, ◌+◌, length, refl, sym, 
 use Rattle.sqlite.specs.Effect.{Database}
 use Rattle.sqlite.specs.State.{State}
 use Rattle.sts_token.specs.Token.{BlockFunction}
-use Rattle.vend_core.specs.Life.{MayLeave}
-use Rattle.vend_core.specs.LifeLaws.{IsRunning, opened}
+use Rattle.vend_core.specs.Law.Life.{MayLeave}
+use Rattle.vend_core.specs.Law.LifeLaws.{IsRunning, opened}
 use Rattle.vend_core.specs.Office.{Office}
 use Rattle.book_tables.specs.Holds.{HasOffice}
 use Rattle.book_tables.specs.Reading.{HasTables}

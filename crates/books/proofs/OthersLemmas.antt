@@ -1,5 +1,5 @@
 -- What books have of the office's own tables, and leave of the tables of other names.
-use Rattle.vend_core.specs.Life.{Life}
+use Rattle.vend_core.specs.Law.Life.{Life}
 use Rattle.books.specs.Keeps.{HaveTables, Represents, Seen}
 pub use Rattle.book_requests.proofs.OthersLemmas.{others_same, others_then}
 

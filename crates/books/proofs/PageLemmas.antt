@@ -1,6 +1,6 @@
 -- What reading leaves of a life.
 use Rattle.std.proofs.Common.{◌≡◌, sym, ◌∙◌, inl}
-use Rattle.vend_core.specs.Life.{Life}
+use Rattle.vend_core.specs.Law.Life.{Life}
 use Rattle.book_states.specs.Stores.{Stores}
 use Rattle.books.specs.Keeps.{IsRepresented, IsPresent, Seen}
 

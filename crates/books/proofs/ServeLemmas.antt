@@ -3,14 +3,14 @@ use Rattle.std.proofs.Common.{◌≡◌, ◌≢◌, ◌⊎◌, ◌↔◌, ℕ, �
 use Rattle.std.proofs.lemmas.Bool.{false≢true}
 use Rattle.sts_token.specs.Token.{BlockFunction}
 use Rattle.vend_core.specs.Decision.{decision}
-use Rattle.vend_core.specs.Fold.{reply, step}
-use Rattle.vend_core.specs.Life.{IsLife, Life, MayLeave}
-use Rattle.vend_core.specs.LifeLaws.{IsRunning, extended_by}
+use Rattle.vend_core.specs.Decision.Fold.{reply, step}
+use Rattle.vend_core.specs.Law.Life.{IsLife, Life, MayLeave}
+use Rattle.vend_core.specs.Law.LifeLaws.{IsRunning, extended_by}
 use Rattle.vend_core.specs.Office.{IsOffice, Office}
-use Rattle.vend_core.specs.declared.answer.Answer.{Answer}
-use Rattle.vend_core.specs.declared.refusal.Refusal.{Refusal}
-use Rattle.vend_core.specs.declared.refusal.Refusal.TheVariants.{Memory, Store, Stopped}
-use Rattle.vend_core.specs.declared.request.Stamped.{Stamped}
+use Rattle.vend_core.specs.declared.decision.answer.Answer.{Answer}
+use Rattle.vend_core.specs.declared.decision.refusal.Refusal.{Refusal}
+use Rattle.vend_core.specs.declared.decision.refusal.Refusal.TheVariants.{Memory, Store, Stopped}
+use Rattle.vend_core.specs.declared.decision.request.Stamped.{Stamped}
 use Rattle.books.specs.Keeps.{IsNextOrOneBefore, IsRepresented, Seen}
 use Rattle.books.specs.Serving.{HoldsOffice, ServingEnds}
 use Rattle.book_requests.specs.Transaction.{MayBeLeft}

@@ -1,13 +1,13 @@
 -- What books make of a request that they are asked at a moment.
 use Rattle.std.specs.Prelude.{◌≡◌, ◌↔◌, ◌⊎◌, ℕ, ◌%◌, false, true, List, [], ◌∷◌, Result, Err, IfErr, OnOk}
 use Rattle.sqlite.specs.State.{HasCleanDisk}
-use Rattle.vend_core.specs.Life.{Life}
-use Rattle.vend_core.specs.LifeLaws.{extended_by}
-use Rattle.vend_core.specs.declared.answer.Answer.{Answer}
-use Rattle.vend_core.specs.declared.refusal.Refusal.{Refusal}
-use Rattle.vend_core.specs.declared.refusal.Refusal.TheVariants.{Store, Stopped}
-use Rattle.vend_core.specs.declared.request.Request.{Request}
-use Rattle.vend_core.specs.declared.request.Stamped.{Stamped}
+use Rattle.vend_core.specs.Law.Life.{Life}
+use Rattle.vend_core.specs.Law.LifeLaws.{extended_by}
+use Rattle.vend_core.specs.declared.decision.answer.Answer.{Answer}
+use Rattle.vend_core.specs.declared.decision.refusal.Refusal.{Refusal}
+use Rattle.vend_core.specs.declared.decision.refusal.Refusal.TheVariants.{Store, Stopped}
+use Rattle.vend_core.specs.declared.decision.request.Request.{Request}
+use Rattle.vend_core.specs.declared.decision.request.Stamped.{Stamped}
 use Rattle.books.specs.Keeps.{HaveTables, Represents, Seen}
 use Rattle.book_requests.specs.Others.{LeavesOthers}
 use Rattle.books.specs.Serving.{FailsToServe, ServesGranted}

@@ -1,7 +1,7 @@
 -- The lives of an office of which books keep the last one.
 use Rattle.std.specs.Prelude.{List, [], ◌∷◌, ◌++◌}
 use Rattle.sqlite.specs.State.{HasCleanDisk}
-use Rattle.vend_core.specs.Life.{AreLives, Life}
+use Rattle.vend_core.specs.Law.Life.{AreLives, Life}
 use Rattle.books.specs.Keeps.{Represents, Seen}
 
 -- Books keep this life, after others that lead from the empty office to the one that it opened, and

@@ -5,8 +5,8 @@ use Rattle.sqlite.specs.State.{HasCleanDisk, State}
 use Rattle.sqlite_trees.specs.Tree.{Trees}
 use Rattle.sqlite_trees.specs.declared.store.Store.{Ghosts}
 use Rattle.sts_token.specs.Token.{BlockFunction}
-use Rattle.vend_core.specs.Life.{IsLife, Life, MayLeave}
-use Rattle.vend_core.specs.LifeLaws.{IsRunning}
+use Rattle.vend_core.specs.Law.Life.{IsLife, Life, MayLeave}
+use Rattle.vend_core.specs.Law.LifeLaws.{IsRunning}
 use Rattle.vend_core.specs.Office.{IsOffice, Office}
 use Rattle.book_tables.specs.Reading.{HasTables}
 pub use Rattle.book_states.specs.Stores.{RecoversTo, StoreStandsFor, Stores}

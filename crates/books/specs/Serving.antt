@@ -2,14 +2,14 @@
 use Rattle.std.specs.Prelude.{◌≡◌, ◌⊎◌, ◌+◌, ℕ, Option, Some, None, Result, Ok, Err, length}
 use Rattle.sts_token.specs.Token.{BlockFunction}
 use Rattle.vend_core.specs.Decision.{decision}
-use Rattle.vend_core.specs.Fold.{reply, step}
+use Rattle.vend_core.specs.Decision.Fold.{reply, step}
 use Rattle.vend_core.specs.Office.{Office}
-use Rattle.vend_core.specs.declared.answer.Answer.{Answer}
-use Rattle.vend_core.specs.declared.change.Change.{Change}
-use Rattle.vend_core.specs.declared.change.Edit.{Edit}
-use Rattle.vend_core.specs.declared.refusal.Refusal.{Refusal}
-use Rattle.vend_core.specs.declared.refusal.Refusal.TheVariants.{Memory, Store}
-use Rattle.vend_core.specs.declared.request.Stamped.{Stamped}
+use Rattle.vend_core.specs.declared.decision.answer.Answer.{Answer}
+use Rattle.vend_core.specs.declared.decision.change.Change.{Change}
+use Rattle.vend_core.specs.declared.decision.change.Edit.{Edit}
+use Rattle.vend_core.specs.declared.decision.refusal.Refusal.{Refusal}
+use Rattle.vend_core.specs.declared.decision.refusal.Refusal.TheVariants.{Memory, Store}
+use Rattle.vend_core.specs.declared.decision.request.Stamped.{Stamped}
 use Rattle.book_requests.specs.Changing.{IsCounted}
 use Rattle.book_requests.specs.Failing.{IsPriorRead, RefusesUnchanged}
 use Rattle.book_requests.specs.Transaction.{FailsToEdit, HasEdit, MayBeLeft}

@@ -5,7 +5,7 @@ ghost use Rattle.sqlite.specs.State.{HasCleanDisk};
 ghost use Rattle.sqlite.specs.Held.{state};
 ghost use Rattle.one_table.specs.InTransaction.{IsUnderWay, KeepsTransaction};
 ghost use Rattle.book_tables.specs.Reading.{HasTables};
-ghost use Rattle.vend_core.specs.declared.change.Edit.TheVariants.{AddSale};
+ghost use Rattle.vend_core.specs.declared.decision.change.Edit.TheVariants.{AddSale};
 ghost use Rattle.book_requests.specs.Changing.{AddsAsComputed};
 ghost use Rattle.book_requests.specs.Failing.{FailsToMake};
 

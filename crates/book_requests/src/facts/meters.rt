@@ -3,7 +3,7 @@
 ghost use Rattle.std.specs.Prelude.{◌≡◌, ℕ};
 ghost use Rattle.sqlite.specs.State.{IsUnchanged};
 ghost use Rattle.sqlite.specs.Held.{state};
-ghost use Rattle.vend_core.specs.Facts.{AreMeterFacts, AreSettingFacts};
+ghost use Rattle.vend_core.specs.Decision.Facts.{AreMeterFacts, AreSettingFacts};
 ghost use Rattle.book_tables.specs.Reading.{OnlyReads};
 ghost use Rattle.book_requests.specs.Members.{SaysOfOffice};
 

@@ -3,8 +3,8 @@
 ghost use Rattle.std.specs.Prelude.{◌≡◌, IfOk, IsNone, length};
 ghost use Rattle.sqlite.specs.State.{IsUnchanged};
 ghost use Rattle.sqlite.specs.Held.{state};
-ghost use Rattle.vend_core.specs.Facts.{AreNewSaleFacts, AreSaleFacts};
-ghost use Rattle.vend_core.specs.Lookup.{sale_numbered};
+ghost use Rattle.vend_core.specs.Decision.Facts.{AreNewSaleFacts, AreSaleFacts};
+ghost use Rattle.vend_core.specs.Office.Lookup.{sale_numbered};
 ghost use Rattle.book_tables.specs.Reading.{OnlyReads};
 ghost use Rattle.book_requests.specs.Members.{SaysOfOffice};
 

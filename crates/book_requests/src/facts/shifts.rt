@@ -3,8 +3,8 @@
 ghost use Rattle.std.specs.Prelude.{◌≡◌};
 ghost use Rattle.sqlite.specs.State.{IsUnchanged};
 ghost use Rattle.sqlite.specs.Held.{state};
-ghost use Rattle.vend_core.specs.Facts.{AreOpeningFacts, report_of};
-ghost use Rattle.vend_core.specs.Lookup.{open_shift};
+ghost use Rattle.vend_core.specs.Decision.Facts.{AreOpeningFacts, report_of};
+ghost use Rattle.vend_core.specs.Office.Lookup.{open_shift};
 ghost use Rattle.book_tables.specs.Reading.{OnlyReads};
 ghost use Rattle.book_requests.specs.Members.{SaysOfOffice};
 ghost use Rattle.book_requests.specs.Totals.{shift_totals};

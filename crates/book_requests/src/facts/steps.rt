@@ -4,8 +4,8 @@ ghost use Rattle.std.specs.Prelude.{◌≡◌};
 ghost use Rattle.std.specs.Option.{option_or};
 ghost use Rattle.sqlite.specs.Held.{state};
 ghost use Rattle.sqlite.specs.State.{IsUnchanged};
-ghost use Rattle.vend_core.specs.Facts.{AreDatedFacts};
-ghost use Rattle.vend_core.specs.Lookup.{latest};
+ghost use Rattle.vend_core.specs.Decision.Facts.{AreDatedFacts};
+ghost use Rattle.vend_core.specs.Office.Lookup.{latest};
 ghost use Rattle.book_tables.specs.Reading.{OnlyReads};
 ghost use Rattle.book_requests.specs.Members.{SaysOfOffice};
 

@@ -4,10 +4,10 @@
 ghost use Rattle.std.specs.Prelude.{◌≡◌, ◌≢◌, ◌+◌, Err, IfErr, OnOk, length};
 ghost use Rattle.sqlite.specs.State.{HasCleanDisk};
 ghost use Rattle.sqlite.specs.Held.{state};
-ghost use Rattle.vend_core.specs.Edits.{applied};
+ghost use Rattle.vend_core.specs.Decision.Edits.{applied};
 ghost use Rattle.vend_core.specs.Office.{Office};
-ghost use Rattle.vend_core.specs.Request.{IsStamped};
-ghost use Rattle.vend_core.specs.Store.{Meets};
+ghost use Rattle.vend_core.specs.Decision.Requests.{IsStamped};
+ghost use Rattle.vend_core.specs.Law.Store.{Meets};
 ghost use Rattle.book_tables.specs.Reading.{HasTables};
 ghost use Rattle.books.specs.Keeps.{seen};
 ghost use Rattle.book_requests.specs.Others.{LeavesOthers};

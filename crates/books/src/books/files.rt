@@ -2,7 +2,7 @@
 
 ghost use Rattle.std.specs.Prelude.{◌≡◌, false, IfErr, IfOk, IsTrue};
 ghost use Rattle.sqlite.specs.Files.{image_of, over_files};
-ghost use Rattle.vend_core.specs.LifeLaws.{opened};
+ghost use Rattle.vend_core.specs.Law.LifeLaws.{opened};
 ghost use Rattle.vend_core.specs.Office.{Office};
 ghost use Rattle.books.specs.Keeps.{HaveTables, Represents, seen};
 ghost use Rattle.books.specs.Path.{OpensFiles, RefusesFiles, StandsIn};

@@ -2,7 +2,7 @@
 
 ghost use Rattle.std.specs.Prelude.{◌≡◌, ◌⊎◌, false, None, IfOk, IfErr};
 ghost use Rattle.sqlite.specs.Steps.{over_memory};
-ghost use Rattle.vend_core.specs.LifeLaws.{opened};
+ghost use Rattle.vend_core.specs.Law.LifeLaws.{opened};
 ghost use Rattle.vend_core.specs.Office.{empty_office};
 ghost use Rattle.books.specs.Keeps.{HaveTables, Represents, seen};
 

@@ -3,7 +3,7 @@
 ghost use Rattle.std.specs.Prelude.{◌≡◌, ◌≢◌, false, IfOk, IfErr, MatchResult};
 ghost use Rattle.sqlite.specs.State.{HasCleanDisk, Survives};
 ghost use Rattle.sqlite.specs.Held.{state};
-ghost use Rattle.vend_core.specs.LifeLaws.{opened};
+ghost use Rattle.vend_core.specs.Law.LifeLaws.{opened};
 ghost use Rattle.vend_core.specs.Office.{Office};
 ghost use Rattle.books.specs.Keeps.{HaveTables, Represents, seen};
 ghost use Rattle.book_states.specs.Stores.{StoreStandsFor};

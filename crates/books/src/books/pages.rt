@@ -3,9 +3,9 @@
 ghost use Rattle.std.specs.Prelude.{◌≡◌, ◌≤◌, ◌+◌, ◌⊎◌, ◌↔◌, Err, IfErr, IfOk, false, length, true};
 ghost use Rattle.sqlite.specs.State.{HasCleanDisk};
 ghost use Rattle.sqlite.specs.Held.{state};
-ghost use Rattle.vend_core.specs.Life.{Life, MayLeave, present};
+ghost use Rattle.vend_core.specs.Law.Life.{Life, MayLeave, present};
 ghost use Rattle.vend_core.specs.Office.{Office};
-ghost use Rattle.vend_core.specs.Store.{sales_above};
+ghost use Rattle.vend_core.specs.Law.Store.{sales_above};
 ghost use Rattle.book_requests.specs.Failing.{IsToldOfRead};
 ghost use Rattle.books.specs.Keeps.{HaveTables, IsNextOrOneBefore, Represents, seen};
 ghost use Rattle.book_requests.specs.Others.{LeavesOthers};

@@ -2,8 +2,8 @@
 
 ghost use Rattle.std.specs.Prelude.{◌≡◌, IfErr, IfOk, OnErr, length, true};
 ghost use Rattle.sqlite.specs.State.{HasCleanDisk};
-ghost use Rattle.vend_core.specs.Life.{Life};
-ghost use Rattle.vend_core.specs.LifeLaws.{extended_along};
+ghost use Rattle.vend_core.specs.Law.Life.{Life};
+ghost use Rattle.vend_core.specs.Law.LifeLaws.{extended_along};
 ghost use Rattle.books.specs.Asking.{AreServedInTurn};
 ghost use Rattle.books.specs.Keeps.{HaveTables, Represents, seen};
 ghost use Rattle.book_requests.specs.Others.{LeavesOthers};

@@ -3,7 +3,7 @@
 ghost use Rattle.std.specs.Prelude.{◌≡◌, ◌↔◌, ◌⊎◌, false, true, Err, None, Some, IfErr, IfOk};
 ghost use Rattle.sqlite.specs.Held.{state};
 ghost use Rattle.sqlite.specs.State.{HasCleanDisk};
-ghost use Rattle.vend_core.specs.Life.{Life, present};
+ghost use Rattle.vend_core.specs.Law.Life.{Life, present};
 ghost use Rattle.book_requests.specs.Failing.{IsToldOfRead};
 ghost use Rattle.books.specs.Keeps.{HaveTables, Represents, seen};
 ghost use Rattle.book_requests.specs.Others.{LeavesOthers};

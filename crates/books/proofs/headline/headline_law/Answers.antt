@@ -1,7 +1,7 @@
 use Rattle.sqlite.specs.Held.{state}
 use Rattle.books.specs.Headline.{with_last}
 use Rattle.books.specs.Keeps.{seen}
-use Rattle.vend_core.specs.Life.{present}
+use Rattle.vend_core.specs.Law.Life.{present}
 use Rattle.books.proofs.HeadlineLemmas.{lead_on, leave}
 use Rattle.books.proofs.headline.headline_law.Goals as goal
 

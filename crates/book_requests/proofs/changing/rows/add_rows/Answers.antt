@@ -5,7 +5,7 @@ use Rattle.sqlite.specs.State.{HasCleanDisk}
 use Rattle.one_table.proofs.ChangeLemmas.{told_as, transaction_off, transaction_on, transaction_then}
 use Rattle.book_tables.specs.Failing.{FailsToWriteAll}
 use Rattle.book_tables.proofs.CauseLemmas.{came_inside, of_later}
-use Rattle.vend_core.specs.declared.row.Row.{Row}
+use Rattle.vend_core.specs.declared.office.row.Row.{Row}
 use Rattle.book_requests.specs.Changing.{MakesRows}
 use Rattle.book_requests.proofs.ChangeLemmas.{makes_more, still_has}
 use Rattle.book_requests.proofs.changing.rows.add_rows.Goals as goal

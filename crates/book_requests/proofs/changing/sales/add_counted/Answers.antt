@@ -1,6 +1,6 @@
 use Rattle.sqlite.specs.Held.{state}
 use Rattle.one_table.proofs.ChangeLemmas.{told_as, transaction_off}
-use Rattle.vend_core.specs.declared.change.Edit.TheVariants.{AddSale}
+use Rattle.vend_core.specs.declared.decision.change.Edit.TheVariants.{AddSale}
 use Rattle.book_requests.specs.Failing.{FailsToMake}
 use Rattle.book_requests.proofs.ChangeLemmas.{sold_refused}
 use Rattle.book_requests.proofs.changing.sales.add_counted.Goals as goal

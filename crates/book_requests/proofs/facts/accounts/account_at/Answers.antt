@@ -6,8 +6,8 @@ use Rattle.sts_fields.specs.Base.{base_eq}
 use Rattle.sts_fields.specs.Calendar.{month_at}
 use Rattle.sts_fields.specs.Tid.{last_tid}
 use Rattle.vend_core.specs.Decision.{MeterAccount}
-use Rattle.vend_core.specs.Lookup.{greatest_of, prior, used}
-use Rattle.vend_core.specs.declared.sale.Sale.{Sale}
+use Rattle.vend_core.specs.Office.Lookup.{greatest_of, prior, used}
+use Rattle.vend_core.specs.declared.office.sale.Sale.{Sale}
 use Rattle.book_tables.specs.declared.error.TableError.TheVariants.{RowOfNoOffice}
 use Rattle.book_requests.proofs.facts.accounts.account_at.Goals.{then-unwrap_or-gt-LAST_TID-via-then-unwrap_or-gt-LAST_TID, then-unwrap_or-gt-LAST_TID-via-else-unwrap_or-gt-LAST_TID+then-prior-gt-MAX_PRIOR}
 use Rattle.book_requests.proofs.FactsLemmas.{last_within, of_no_office, sales_told, was_clean}

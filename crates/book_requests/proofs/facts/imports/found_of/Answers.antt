@@ -5,9 +5,9 @@ use Rattle.std.proofs.lemmas.List.{drop_all}
 use Rattle.sqlite.specs.Held.{state}
 use Rattle.sqlite.specs.declared.error.Error.TheVariants.{SqliteFailure}
 use Rattle.sqlite.specs.declared.error.ErrorCode.TheVariants.{OutOfMemory}
-use Rattle.vend_core.specs.Facts.{AreRowsFacts}
-use Rattle.vend_core.specs.declared.row.Row.{Row}
-use Rattle.vend_core.specs.declared.row_facts.RowFacts.{RowFacts}
+use Rattle.vend_core.specs.Decision.Facts.{AreRowsFacts}
+use Rattle.vend_core.specs.declared.office.row.Row.{Row}
+use Rattle.vend_core.specs.declared.decision.row_facts.RowFacts.{RowFacts}
 use Rattle.book_tables.specs.declared.error.TableError.TheVariants.{Database}
 use Rattle.book_requests.proofs.FactsLemmas.{members_after, rows_more, was_clean}
 use Rattle.book_requests.proofs.PassedLemmas.{passed_after, passed_none, passed_reads, read_after, same_on, stops_on}

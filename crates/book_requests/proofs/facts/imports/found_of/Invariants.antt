@@ -1,9 +1,9 @@
 use Rattle.std.proofs.Common.{ℕ, ◌++◌, List, drop}
 use Rattle.sqlite.specs.Held.{state}
 use Rattle.sqlite.specs.State.{HasCleanDisk}
-use Rattle.vend_core.specs.Facts.{AreRowsFacts}
+use Rattle.vend_core.specs.Decision.Facts.{AreRowsFacts}
 use Rattle.vend_core.specs.Office.{IsOffice, Office}
-use Rattle.vend_core.specs.declared.row_facts.RowFacts.{RowFacts}
+use Rattle.vend_core.specs.declared.decision.row_facts.RowFacts.{RowFacts}
 use Rattle.book_requests.specs.Members.{HasMembers}
 use Rattle.book_requests.proofs.PassedLemmas.{HasPassed}
 use Rattle.book_requests.proofs.facts.imports.found_of.Given as goal

@@ -1,9 +1,9 @@
 use Rattle.one_table.proofs.ReadsOnlyLemmas.{fail_on, read_on}
 use Rattle.std.proofs.Common.{Bool, Option, ap, is_some, sym, ◌∙◌}
 use Rattle.sqlite.specs.Held.{state}
-use Rattle.vend_core.specs.Facts.{meter_found}
-use Rattle.vend_core.specs.declared.meter.Meter.{Meter}
-use Rattle.vend_core.specs.declared.row_facts.RowFacts.TheVariants.{NoMeter}
+use Rattle.vend_core.specs.Decision.Facts.{meter_found}
+use Rattle.vend_core.specs.declared.office.meter.Meter.{Meter}
+use Rattle.vend_core.specs.declared.decision.row_facts.RowFacts.TheVariants.{NoMeter}
 use Rattle.book_requests.proofs.FactsLemmas.{meter_told, tariff_told, was_clean}
 use Rattle.book_requests.proofs.PassedLemmas.{passed, passed_none, read_after}
 use Rattle.book_tables.proofs.OfficeTableLemmas.{meters_in, tariffs_in, read_in_office}

@@ -3,8 +3,8 @@ use Rattle.std.proofs.lemmas.Result.{IfOk-weaker}
 use Rattle.sqlite.specs.Held.{state}
 use Rattle.tariff.specs.declared.step.Step.{Step}
 use Rattle.vend_core.specs.Office.{Office}
-use Rattle.vend_core.specs.declared.row_facts.RowFacts.{RowFacts}
-use Rattle.vend_core.specs.declared.row_facts.RowFacts.TheVariants as found
+use Rattle.vend_core.specs.declared.decision.row_facts.RowFacts.{RowFacts}
+use Rattle.vend_core.specs.declared.decision.row_facts.RowFacts.TheVariants as found
 use Rattle.book_requests.proofs.FactsLemmas.{office_told}
 use Rattle.book_requests.proofs.PassedLemmas.{passed_none}
 use Rattle.one_table.proofs.ReadsOnlyLemmas.{fail_on, read_on}

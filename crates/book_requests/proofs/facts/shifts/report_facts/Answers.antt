@@ -1,10 +1,10 @@
 use Rattle.one_table.proofs.ReadsOnlyLemmas.{fail_on, read_on}
 use Rattle.std.proofs.Common.{List, Option, Some, ap, filter, find, option_map, sym, ◌==◌, ◌∙◌}
 use Rattle.sqlite.specs.Held.{state}
-use Rattle.vend_core.specs.Lookup.{sales_of_shift}
-use Rattle.vend_core.specs.declared.facts.Facts.{Facts}
-use Rattle.vend_core.specs.declared.sale.Sale.{Sale}
-use Rattle.vend_core.specs.declared.shift.Shift.{Shift}
+use Rattle.vend_core.specs.Office.Lookup.{sales_of_shift}
+use Rattle.vend_core.specs.declared.decision.facts.Facts.{Facts}
+use Rattle.vend_core.specs.declared.office.sale.Sale.{Sale}
+use Rattle.vend_core.specs.declared.office.shift.Shift.{Shift}
 use Rattle.book_requests.proofs.FactsLemmas.{none_of}
 use Rattle.book_requests.proofs.FactsLemmas.{sales_told, shifts_told, was_clean}
 use Rattle.book_requests.proofs.PassedLemmas.{passed, passed_none, read_after}

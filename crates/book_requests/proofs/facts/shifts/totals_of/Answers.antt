@@ -1,9 +1,9 @@
 use Rattle.one_table.proofs.ReadsOnlyLemmas.{fail_on, read_on}
 use Rattle.std.proofs.Common.{List, Option, Some, ap, false, find, is_none, option_map, rules, true, ◌==◌, ◌∙◌, ◌≡◌}
 use Rattle.sqlite.specs.Held.{state}
-use Rattle.vend_core.specs.Lookup.{sales_of_shift}
-use Rattle.vend_core.specs.declared.sale.Sale.{Sale}
-use Rattle.vend_core.specs.declared.shift.Shift.{Shift}
+use Rattle.vend_core.specs.Office.Lookup.{sales_of_shift}
+use Rattle.vend_core.specs.declared.office.sale.Sale.{Sale}
+use Rattle.vend_core.specs.declared.office.shift.Shift.{Shift}
 use Rattle.book_tables.specs.Stands.{all_totals, sales_in_shift}
 use Rattle.book_tables.specs.declared.totals.Totals.{Totals}
 use Rattle.book_requests.proofs.FactsLemmas.{none_if, sales_told, shifts_told, told_there, was_clean}

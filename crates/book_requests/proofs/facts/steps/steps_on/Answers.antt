@@ -3,7 +3,7 @@ use Rattle.std.proofs.lemmas.Result.{IfOk-weaker}
 use Rattle.std.specs.Option.{option_or}
 use Rattle.sqlite.specs.Held.{state}
 use Rattle.tariff.specs.declared.step.Step.{Step}
-use Rattle.vend_core.specs.Lookup.{latest}
+use Rattle.vend_core.specs.Office.Lookup.{latest}
 use Rattle.vend_core.specs.Office.{Office}
 use Rattle.book_requests.proofs.FactsLemmas.{begun_alone, begun_or_first, office_told, office_told_of, tables_of}
 use Rattle.book_requests.proofs.PassedLemmas.{clean_before, passed, passed_none, read_after}
