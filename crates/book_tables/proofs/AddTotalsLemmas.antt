@@ -9,12 +9,12 @@ use Rattle.sqlite_schema.specs.declared.schema.Table.{Table}
 use Rattle.sts_fields.specs.Amount.{IsRepresentable}
 use Rattle.sts_fields.specs.Calendar.{month_at}
 use Rattle.one_table.proofs.ChangeLemmas.{stays_then}
-use Rattle.vend_core.specs.Edits.{applied}
-use Rattle.vend_core.specs.Lookup.{greatest_of}
+use Rattle.vend_core.specs.Decision.Edits.{applied}
+use Rattle.vend_core.specs.Office.Lookup.{greatest_of}
 use Rattle.vend_core.specs.Office.{AreNumbered, IsOffice, Office}
-use Rattle.vend_core.specs.Store.{MeetsNewSale}
-use Rattle.vend_core.specs.declared.change.Edit.TheVariants.{AddSale}
-use Rattle.vend_core.specs.declared.sale.Sale.{Sale}
+use Rattle.vend_core.specs.Law.Store.{MeetsNewSale}
+use Rattle.vend_core.specs.declared.decision.change.Edit.TheVariants.{AddSale}
+use Rattle.vend_core.specs.declared.office.sale.Sale.{Sale}
 use Rattle.book_tables.specs.Holds.{HasOffice, HoldsMembers, HoldsOf}
 use Rattle.book_tables.specs.Reading.{HasTables}
 use Rattle.book_tables.specs.Rows.{Rows, present_format}

@@ -6,7 +6,7 @@ use Rattle.sqlite.specs.Effect.{Database}
 use Rattle.sqlite.specs.State.{IsUnchanged, State}
 use Rattle.sqlite_keyed.proofs.ListLemmas.{map-map}
 use Rattle.sts_fields.specs.declared.base.Base.{Base}
-use Rattle.vend_core.specs.declared.meter.Meter.{Meter}
+use Rattle.vend_core.specs.declared.office.meter.Meter.{Meter}
 use Rattle.one_table.specs.InTransaction.{IsUnderWay}
 use Rattle.book_tables.specs.Filling.{AwaitsBases, FillsBases, LeavesOthers}
 use Rattle.book_tables.specs.Holds.{AreStoredRows, HoldsOf, rows_in}

@@ -12,9 +12,9 @@ use Rattle.sqlite_trees.specs.Tree.{Trees}
 use Rattle.sqlite_schema.specs.declared.schema.Table.{Table}
 use Rattle.sts_fields.specs.Amount.{IsRepresentable}
 use Rattle.one_table.specs.InTransaction.{IsUnderWay}
-use Rattle.vend_core.specs.Lookup.{greatest_of}
+use Rattle.vend_core.specs.Office.Lookup.{greatest_of}
 use Rattle.vend_core.specs.Office.{AreNumbered, greatest_count}
-use Rattle.vend_core.specs.declared.sale.Sale.{Sale}
+use Rattle.vend_core.specs.declared.office.sale.Sale.{Sale}
 use Rattle.book_tables.specs.Filling.{FillsTotals, FollowsTotals, HasTotalsUpto, LeavesOthers, TotalsPage, TotalsSale, TotalsUpto}
 use Rattle.book_tables.specs.Holds.{HasOffice, HoldsOf}
 use Rattle.book_tables.specs.Kept.{last_ids_kept, sales_kept}

@@ -9,9 +9,9 @@ use Rattle.std.proofs.lemmas.Option.{same_Some, slice_get-get_or, slice_get_with
 use Rattle.sts_fields.specs.Amount.{IsRepresentable}
 use Rattle.sts_fields.specs.Tid.{last_tid}
 use Rattle.sts_fields.specs.declared.base.Base.{Base}
-use Rattle.vend_core.specs.Lookup.{greatest_of}
+use Rattle.vend_core.specs.Office.Lookup.{greatest_of}
 use Rattle.vend_core.specs.Office.{AreNumbered, IsBefore, IsOffice, IsSaleRow, Office, greatest_count}
-use Rattle.vend_core.specs.declared.sale.Sale.{Sale}
+use Rattle.vend_core.specs.declared.office.sale.Sale.{Sale}
 use Rattle.book_tables.specs.Reading.{AreOfOffice}
 use Rattle.book_tables.specs.Rows.{Rows}
 use Rattle.book_tables.specs.Stands.{AreMembersOf, AreTotalsOf, sales_under}

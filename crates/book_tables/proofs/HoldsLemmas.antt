@@ -10,7 +10,7 @@ use Rattle.sqlite_schema.specs.Names.{table_named}
 use Rattle.sqlite_schema.specs.declared.schema.Schema.{Schema}
 use Rattle.vend_core.specs.Office.{IsOffice, Office, empty_office}
 use Rattle.vend_core.proofs.OfficeLemmas.{empty_is_office}
-use Rattle.vend_core.specs.declared.meter.Meter.{Meter}
+use Rattle.vend_core.specs.declared.office.meter.Meter.{Meter}
 use Rattle.book_tables.specs.Holds.{HasOfficeOf, HoldsMembers, HoldsMembersOf, HoldsOf, HoldsRows, IsKept, IsUntaken, StandsFor}
 use Rattle.book_tables.specs.Edited.{no_rows}
 use Rattle.book_tables.specs.Kept.{Kept, bases_kept, dated_steps_kept, kept, kept_names, last_ids_kept, later, meters_kept, sales_kept, shifts_kept, steps_kept, tariffs_kept}

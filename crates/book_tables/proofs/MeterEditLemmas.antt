@@ -8,10 +8,10 @@ use Rattle.std.proofs.lemmas.Slice.Eq.{bytes_eq-Decides}
 use Rattle.sts_fields.specs.Base.{base_eq}
 use Rattle.sts_fields.specs.declared.base.Base.{Base}
 use Rattle.sts_fields.specs.declared.base.Base.TheVariants.{Y1993, Y2014, Y2035}
-use Rattle.vend_core.specs.Edits.{applied, one_base_more, set_meter, with_base, with_tariff}
+use Rattle.vend_core.specs.Decision.Edits.{applied, one_base_more, set_meter, with_base, with_tariff}
 use Rattle.vend_core.specs.Office.{Office}
-use Rattle.vend_core.specs.declared.change.Edit.TheVariants as edits
-use Rattle.vend_core.specs.declared.meter.Meter.{Meter}
+use Rattle.vend_core.specs.declared.decision.change.Edit.TheVariants as edits
+use Rattle.vend_core.specs.declared.office.meter.Meter.{Meter}
 use Rattle.book_tables.specs.Edited.{edited}
 use Rattle.book_tables.specs.Rows.{Rows}
 use Rattle.book_tables.specs.Stands.{AreMembersOf}

@@ -12,7 +12,7 @@ use Rattle.book_tables.specs.Reading.{AreOfOffice}
 use Rattle.book_tables.proofs.FindLemmas.{Finds}
 use Rattle.book_tables.proofs.ReadLemmas.{few, found_keeps}
 use Rattle.book_tables.proofs.ListLemmas.{NotBothPass, first_is_all, pairs_weaker}
-use Rattle.vend_core.specs.declared.meter.Meter.{Meter}
+use Rattle.vend_core.specs.declared.office.meter.Meter.{Meter}
 use Rattle.book_tables.specs.Kept.{meters_kept}
 use Rattle.book_tables.specs.Rows.{Rows, shown_meter}
 use Rattle.book_tables.specs.Tables.{meters_table}

@@ -8,8 +8,8 @@ use Rattle.sqlite.specs.Order.{Row}
 use Rattle.sqlite.specs.State.{HasCleanDisk, State}
 use Rattle.sqlite_keyed.proofs.ListLemmas.{map-map}
 use Rattle.sqlite_trees.proofs.ListLemmas.{pull_back}
-use Rattle.vend_core.specs.Names.{IsMeterNo}
-use Rattle.vend_core.specs.declared.meter.Meter.{Meter}
+use Rattle.vend_core.specs.Name.{IsMeterNo}
+use Rattle.vend_core.specs.declared.office.meter.Meter.{Meter}
 use Rattle.one_table.specs.Answer.{OnlyAsks}
 use Rattle.one_table.specs.ReadsOnly.{ReadsInside}
 use Rattle.one_table.proofs.HiddenLemmas.{all_hidden}

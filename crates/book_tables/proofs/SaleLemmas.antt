@@ -10,7 +10,7 @@ use Rattle.sqlite_typed.proofs.TestLemmas.{last_term, then_term}
 use Rattle.one_table.proofs.ListedLemmas.{last_by_key, one_row}
 use Rattle.one_table.proofs.TestsLemmas.{number_is, text_is}
 use Rattle.vend_core.specs.Office.{AreNumbered, IsOffice, Office}
-use Rattle.vend_core.specs.declared.sale.Sale.{Sale}
+use Rattle.vend_core.specs.declared.office.sale.Sale.{Sale}
 use Rattle.book_tables.specs.Reading.{AreOfOffice}
 use Rattle.book_tables.specs.Kept.{sales_kept}
 use Rattle.book_tables.specs.Rows.{Rows, number, shown_number, shown_sale}

@@ -12,8 +12,8 @@ use Rattle.one_table.specs.InTransaction.{SetsRows}
 use Rattle.one_table.specs.Updating.{Sets}
 use Rattle.one_table.proofs.TestsLemmas.{number_is}
 use Rattle.one_table.proofs.UpdateLemmas.{sets_listed}
-use Rattle.vend_core.specs.Fold.{closed_at}
-use Rattle.vend_core.specs.declared.shift.Shift.{Shift}
+use Rattle.vend_core.specs.Decision.Fold.{closed_at}
+use Rattle.vend_core.specs.declared.office.shift.Shift.{Shift}
 use Rattle.book_tables.specs.Edited.{shift_closed}
 use Rattle.book_tables.specs.Rows.{optional, present_format, shift_columns, shift_row}
 use Rattle.book_tables.specs.Tables.{shifts_table}
@@ -32,7 +32,7 @@ use Rattle.one_table.specs.Standing.{tree_in}
 use Rattle.one_table.proofs.AppendLemmas.{appends}
 use Rattle.one_table.proofs.CastLemmas.{cast_int, cast_no_int}
 use Rattle.vend_core.specs.Office.{AreNumbered}
-use Rattle.vend_core.specs.declared.sale.Sale.{Sale}
+use Rattle.vend_core.specs.declared.office.sale.Sale.{Sale}
 use Rattle.sts_fields.specs.Base.{year_of}
 use Rattle.sts_fields.specs.Calendar.{month_at}
 use Rattle.book_tables.specs.Rows.{sale_columns, sale_row}

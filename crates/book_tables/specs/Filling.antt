@@ -4,8 +4,8 @@ use Rattle.std.specs.Prelude.{◌≡◌, ◌≤◌, ℕ, suc, List, [], ◌∷�
 use Rattle.sqlite.specs.Effect.{IsDatabase}
 use Rattle.sqlite.specs.State.{State}
 use Rattle.sts_fields.specs.declared.base.Base.{Base}
-use Rattle.vend_core.specs.declared.meter.Meter.{Meter}
-use Rattle.vend_core.specs.declared.sale.Sale.{Sale}
+use Rattle.vend_core.specs.declared.office.meter.Meter.{Meter}
+use Rattle.vend_core.specs.declared.office.sale.Sale.{Sale}
 use Rattle.book_tables.specs.Holds.{HoldsOf}
 use Rattle.book_tables.specs.Reading.{AreOfOffice}
 use Rattle.book_tables.specs.Rows.{Rows, present_format}

@@ -17,8 +17,8 @@ use Rattle.one_table.specs.declared.read_fault.ReadFault.{ReadFault}
 use Rattle.one_table.specs.declared.read_fault.ReadFault.TheVariants as fault
 use Rattle.tariff.specs.declared.step.Step.{Step}
 use Rattle.vend_core.specs.Office.{IsOffice, Office}
-use Rattle.vend_core.specs.OfficeLaws.{NoneBegun}
-use Rattle.vend_core.specs.declared.meter.Meter.{Meter}
+use Rattle.vend_core.specs.Law.OfficeLaws.{NoneBegun}
+use Rattle.vend_core.specs.declared.office.meter.Meter.{Meter}
 use Rattle.book_tables.specs.Holds.{HasOffice, Holds, HoldsRows, IsKept}
 use Rattle.book_tables.specs.Kept.{Kept}
 use Rattle.book_tables.specs.Rows.{Rows}

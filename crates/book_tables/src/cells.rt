@@ -12,7 +12,7 @@ ghost use Rattle.sts_fields.specs.Base.{year_of};
 ghost use Rattle.sts_fields.specs.Day.{IsDay};
 ghost use Rattle.sts_token.specs.Token.{AreTwentyDigits};
 ghost use Rattle.tariff.specs.Tender.{IsTender};
-ghost use Rattle.vend_core.specs.Names.{IsMeterNo, IsName, IsOperator};
+ghost use Rattle.vend_core.specs.Name.{IsMeterNo, IsName, IsOperator};
 ghost use Rattle.sts_fields.specs.Moment.{IsMoment};
 ghost use Rattle.book_tables.specs.ReadBack.{ReadsBack};
 ghost use Rattle.book_tables.specs.Rows.{number, optional, secret_of};

@@ -4,7 +4,7 @@ ghost use Rattle.std.specs.Prelude.{◌≡◌, ◌≤◌, length, IfErr, IfOk, O
 ghost use Rattle.sqlite.specs.State.{HasCleanDisk};
 ghost use Rattle.sqlite.specs.Held.{state};
 ghost use Rattle.sts_fields.specs.Day.{IsDay};
-ghost use Rattle.vend_core.specs.Lookup.{latest};
+ghost use Rattle.vend_core.specs.Office.Lookup.{latest};
 ghost use Rattle.vend_core.specs.Office.{IsOffice, Office};
 ghost use Rattle.one_table.specs.InTransaction.{IsUnderWay, KeepsTransaction};
 ghost use Rattle.book_tables.specs.Failing.{FailsToWriteAll};

@@ -5,8 +5,8 @@ ghost use Rattle.std.specs.Prelude.{◌≡◌, IsPermutation, filter, map, nat_l
 ghost use Rattle.sqlite.specs.State.{HasCleanDisk};
 ghost use Rattle.sqlite.specs.Held.{state};
 ghost use Rattle.sqlite.specs.Values.{bound};
-ghost use Rattle.vend_core.specs.Lookup.{greatest_of};
-ghost use Rattle.vend_core.specs.Names.{IsMeterNo};
+ghost use Rattle.vend_core.specs.Office.Lookup.{greatest_of};
+ghost use Rattle.vend_core.specs.Name.{IsMeterNo};
 ghost use Rattle.one_table.specs.Answer.{GivesAll, OnlyAsks};
 ghost use Rattle.one_table.specs.InTransaction.{KeepsTransaction};
 ghost use Rattle.one_table.specs.ReadsOnly.{ReadsInside};

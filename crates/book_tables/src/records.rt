@@ -3,13 +3,13 @@
 //! A record is read of a row of its columns, in their order. There is none exactly where they are
 //! those of no record whose values keep their rules: such a row is no office's.
 
-ghost use Rattle.vend_core.specs.Request.{IsOrder};
+ghost use Rattle.vend_core.specs.Decision.Requests.{IsOrder};
 ghost use Rattle.book_tables.specs.ReadBack.{ReadsBack};
 ghost use Rattle.book_tables.specs.Parts.{AreEntryValues, AreTokenValues, entry_columns, order_columns, shown_entry, shown_order, shown_token, token_columns};
 ghost use Rattle.book_tables.specs.Rows.{shown_meter, shown_number, shown_sale, shown_shift, shown_step, tariff_columns};
 ghost use Rattle.std.specs.Prelude.{◌∷◌, [], ℕ};
 ghost use Rattle.sqlite_value.specs.Order.{column};
-ghost use Rattle.vend_core.specs.Names.{IsName};
+ghost use Rattle.vend_core.specs.Name.{IsName};
 ghost use Rattle.book_tables.specs.Values.{AreMeterValues, AreSaleValues, AreShiftValues, AreStepValues, IsNumber, IsSoldAmount};
 
 use crate::cells;

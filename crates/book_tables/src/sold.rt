@@ -3,8 +3,8 @@
 
 ghost use Rattle.std.specs.Prelude.{◌≡◌, length, map, option_map, sum_by, unwrap_or};
 ghost use Rattle.sqlite.specs.Held.{state};
-ghost use Rattle.vend_core.specs.Cash.{cash_of};
-ghost use Rattle.vend_core.specs.Lookup.{greatest_of};
+ghost use Rattle.vend_core.specs.Law.Cash.{cash_of};
+ghost use Rattle.vend_core.specs.Office.Lookup.{greatest_of};
 ghost use Rattle.book_tables.specs.Kept.{last_ids_kept, month_tenths_kept, shift_totals_kept};
 ghost use Rattle.book_tables.specs.Reading.{ReadsTable, SaysOfTable};
 ghost use Rattle.book_tables.specs.Stands.{sales_in_month, sales_in_shift, sales_under};

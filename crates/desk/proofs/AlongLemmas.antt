@@ -1,19 +1,19 @@
 -- The life of an office along a conversation.
 use Rattle.std.proofs.Common.{◌≡◌, ◌∙◌, ℕ, ℤ, inl, inr, List, [], ◌∷◌, Option, Result, refl, ap, sym, append_assoc, append-nil}
-use Rattle.vend_core.specs.Life.{Life}
-use Rattle.vend_core.specs.Life as lives
-use Rattle.vend_core.specs.LifeLaws.{exchanges_of, extended_along, extended_by}
-use Rattle.vend_core.specs.declared.answer.Answer.{Answer}
-use Rattle.vend_core.specs.declared.refusal.Refusal.{Refusal}
-use Rattle.vend_core.specs.declared.request.Request.{Request}
-use Rattle.vend_core.specs.declared.request.Stamped.{Stamped}
+use Rattle.vend_core.specs.Law.Life.{Life}
+use Rattle.vend_core.specs.Law.Life as lives
+use Rattle.vend_core.specs.Law.LifeLaws.{exchanges_of, extended_along, extended_by}
+use Rattle.vend_core.specs.declared.decision.answer.Answer.{Answer}
+use Rattle.vend_core.specs.declared.decision.refusal.Refusal.{Refusal}
+use Rattle.vend_core.specs.declared.decision.request.Request.{Request}
+use Rattle.vend_core.specs.declared.decision.request.Stamped.{Stamped}
+use Rattle.conversation.specs.Exchanges.{MessageExchange, Exchanged, Timed, timed}
+use Rattle.conversation.specs.message.Messages.{Message}
 use Rattle.desk.specs.Along.{AreAsked}
 use Rattle.desk.specs.Answering.{answers_by, life_serves}
-use Rattle.desk.specs.Exchanges.{MessageExchange, Exchanged, Timed, timed}
 use Rattle.desk.specs.Meaning.{MessageAsks}
-use Rattle.desk.specs.Messages.{Message}
-use Rattle.desk.specs.Replies.{reply_bytes_of}
-use Rattle.desk.specs.declared.form.Form.{Form}
+use Rattle.desk.specs.reply.Text.{reply_bytes_of}
+use Rattle.desk.specs.declared.reply.form.Form.{Form}
 
 along_none : (life : Life) → life ≡ extended_along life [] []
 along_none life = sym (ap (λ es. record life { exchanges = es }) (append-nil life.exchanges))

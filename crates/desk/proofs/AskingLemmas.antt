@@ -16,20 +16,20 @@ use Rattle.sts_fields.specs.declared.base.Base.{Base}
 use Rattle.sts_fields.specs.declared.base.Base.TheVariants.{Y1993, Y2014, Y2035}
 use Rattle.tariff.specs.StepsText.{IsStepsText}
 use Rattle.tariff.specs.declared.step.Step.{Step}
-use Rattle.vend_core.specs.declared.meter.Meter.{Meter}
-use Rattle.vend_core.specs.declared.request.Order.{Order}
-use Rattle.vend_core.specs.declared.request.Request.{Request}
-use Rattle.vend_core.specs.declared.request.Request.TheVariants as requests
-use Rattle.vend_core.specs.declared.row.Row.{Row}
-use Rattle.vend_core.specs.declared.row_cause.RowCause.{RowCause}
+use Rattle.vend_core.specs.declared.office.meter.Meter.{Meter}
+use Rattle.vend_core.specs.declared.decision.request.Order.{Order}
+use Rattle.vend_core.specs.declared.decision.request.Request.{Request}
+use Rattle.vend_core.specs.declared.decision.request.Request.TheVariants as requests
+use Rattle.vend_core.specs.declared.office.row.Row.{Row}
+use Rattle.vend_core.specs.declared.decision.row_cause.RowCause.{RowCause}
 use Rattle.desk.specs.declared.body_fault.BodyFault.{BodyFault}
 use Rattle.desk.specs.declared.body_fault.BodyFault.TheVariants as faults
 use Rattle.desk.specs.declared.route.Route.{Route}
 use Rattle.desk.specs.declared.route.Route.TheVariants.{AddTariff, AddSteps, AddMeter, SetTariff, MoveBase, OpenShift, CloseShift, ShiftReport, Sell, Reprint, Receipt, ImportMeters, ImportTariffs}
-use Rattle.desk.specs.declared.json_kind.JsonKind.{JsonKind}
-use Rattle.desk.specs.declared.json_kind.JsonKind.TheVariants as kinds
+use Rattle.desk.specs.declared.json.kind.JsonKind.{JsonKind}
+use Rattle.desk.specs.declared.json.kind.JsonKind.TheVariants as kinds
 use Rattle.desk.specs.Asking.{AsksByJson, AsksImport, BodyAsks, SaysJson, import_of}
-use Rattle.desk.specs.JsonBody.{BodySays, BodySaysMeter, BodySaysOperator, BodySaysBase, BodySaysDatedSteps, BodySaysOrder, BodySaysTariff, BodySaysTariffName}
+use Rattle.desk.specs.json.Body.{BodySays, BodySaysMeter, BodySaysOperator, BodySaysBase, BodySaysDatedSteps, BodySaysOrder, BodySaysTariff, BodySaysTariffName}
 use Rattle.desk.specs.Reads.{IsFoundIn}
 
 -- ---- members

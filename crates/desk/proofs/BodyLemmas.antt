@@ -9,13 +9,13 @@ use Rattle.serde_json.specs.View.{members_view}
 use Rattle.serde_json.specs.declared.value.Value.{Value}
 use Rattle.serde_json.proofs.Views.{members_len-members_view}
 use Rattle.tariff.specs.declared.step.Step.{Step}
-use Rattle.vend_core.specs.declared.meter.Meter.{Meter}
-use Rattle.vend_core.specs.declared.request.Request.{Request}
+use Rattle.vend_core.specs.declared.office.meter.Meter.{Meter}
+use Rattle.vend_core.specs.declared.decision.request.Request.{Request}
 use Rattle.desk.specs.declared.body_fault.BodyFault.{BodyFault}
 use Rattle.desk.specs.declared.body_fault.BodyFault.TheVariants.{OutsideRule, Row, Memory}
-use Rattle.desk.specs.declared.json_kind.JsonKind.{JsonKind}
-use Rattle.desk.specs.declared.json_kind.JsonKind.TheVariants.{Tariff, TariffSteps}
-use Rattle.desk.specs.JsonBody.{HasMemberCount, IsKeyAt, BodySays, BodySaysMeter, BodySaysTariff, BodySaysDatedSteps}
+use Rattle.desk.specs.declared.json.kind.JsonKind.{JsonKind}
+use Rattle.desk.specs.declared.json.kind.JsonKind.TheVariants.{Tariff, TariffSteps}
+use Rattle.desk.specs.json.Body.{HasMemberCount, IsKeyAt, BodySays, BodySaysMeter, BodySaysTariff, BodySaysDatedSteps}
 use Rattle.desk.specs.Reads.{IsFoundIn}
 
 -- a map has as many entries as its object has members

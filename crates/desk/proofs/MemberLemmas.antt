@@ -7,9 +7,9 @@ use Rattle.std.specs.Ordering.{nat_cmp, match_ordering}
 use Rattle.std.specs.Cmp.Lexicographic.{slice_cmp}
 use Rattle.serde_json.specs.Data.{Data, Members, no_members, member, put}
 use Rattle.serde_json.specs.Written.{has_float, members_have_float}
-use Rattle.desk.specs.declared.members.Member.{Member}
-use Rattle.desk.specs.declared.members.Member.TheVariants.{Truth, Number, Word, Text}
-use Rattle.desk.specs.Members.{Pair, data_of, put_all}
+use Rattle.desk.specs.declared.reply.members.Member.{Member}
+use Rattle.desk.specs.declared.reply.members.Member.TheVariants.{Truth, Number, Word, Text}
+use Rattle.desk.specs.reply.Members.{Pair, data_of, put_all}
 
 -- one member more
 pub put_all-more : {X : Type 0} (xs : List X) (f : X → Pair) (i : ℕ) (d : X) → i < length xs

@@ -1,30 +1,30 @@
 -- A message has one meaning, and an input one conversation.
 use Rattle.std.proofs.Common.{◌≡◌, ◌≢◌, ◌∙◌, ℕ, ℤ, pos, inl, inr, List, [], ◌∷◌, Option, Some, Result, Ok, Err, refl, ap, sym, subst}
 use Rattle.sts_fields.specs.Moment.{IsMoment}
-use Rattle.vend_core.specs.declared.answer.Answer.{Answer}
-use Rattle.vend_core.specs.declared.refusal.Refusal.{Refusal}
-use Rattle.vend_core.specs.declared.refusal.Refusal.TheVariants.{ImportRow}
-use Rattle.vend_core.specs.declared.request.Request.{Request}
-use Rattle.vend_core.specs.declared.request.Stamped.{Stamped}
+use Rattle.vend_core.specs.declared.decision.answer.Answer.{Answer}
+use Rattle.vend_core.specs.declared.decision.refusal.Refusal.{Refusal}
+use Rattle.vend_core.specs.declared.decision.refusal.Refusal.TheVariants.{ImportRow}
+use Rattle.vend_core.specs.declared.decision.request.Request.{Request}
+use Rattle.vend_core.specs.declared.decision.request.Stamped.{Stamped}
+use Rattle.conversation.specs.declared.message.method.Method.{Method}
+use Rattle.conversation.specs.Conversation.{messages_of}
+use Rattle.conversation.specs.Exchanges.{MessageExchange}
+use Rattle.conversation.specs.message.Messages.{AgreeBy, Ending, Message, Stop, ended, failed}
 use Rattle.desk.specs.declared.body_fault.BodyFault.{BodyFault}
 use Rattle.desk.specs.declared.body_fault.BodyFault.TheVariants as body_faults
 use Rattle.desk.specs.declared.desk_fault.DeskFault.{DeskFault}
 use Rattle.desk.specs.declared.desk_fault.DeskFault.TheVariants as faults
-use Rattle.desk.specs.declared.form.Form.{Form}
-use Rattle.desk.specs.declared.form.Form.TheVariants.{Json}
-use Rattle.desk.specs.declared.method.Method.{Method}
-use Rattle.desk.specs.declared.outcome.Outcome.{Outcome}
-use Rattle.desk.specs.declared.outcome.Outcome.TheVariants.{Faulty, Replied}
+use Rattle.desk.specs.declared.reply.form.Form.{Form}
+use Rattle.desk.specs.declared.reply.form.Form.TheVariants.{Json}
+use Rattle.desk.specs.declared.reply.outcome.Outcome.{Outcome}
+use Rattle.desk.specs.declared.reply.outcome.Outcome.TheVariants.{Faulty, Replied}
 use Rattle.desk.specs.declared.route.Route.{Route}
 use Rattle.desk.specs.Along.{AreAsked}
 use Rattle.desk.specs.Asking.{BodyAsks}
-use Rattle.desk.specs.Conversation.{messages_of}
-use Rattle.desk.specs.Exchanges.{MessageExchange}
 use Rattle.desk.specs.Meaning.{ComesAt, ComesOutside, IsFor, IsIdle, MessageAsks, sale_form_of}
-use Rattle.desk.specs.Messages.{AgreeBy, Ending, Message, Stop, ended, failed}
 use Rattle.desk.specs.OneConversation.{HasOneMeaning, IsOneConversation, asked_at, conversation_text, moments_of}
-use Rattle.desk.specs.Replies.{reply_bytes_of}
-use Rattle.desk.specs.Route.{IsRouted}
+use Rattle.desk.specs.reply.Text.{reply_bytes_of}
+use Rattle.desk.specs.route.Route.{IsRouted}
 
 -- a target and a method ask for one thing, and so does a body of a route
 pub record AreOne : Type 0 where

@@ -8,7 +8,7 @@ use Rattle.std.proofs.lemmas.List.{append_cancel_left, append_cancel_right}
 use Rattle.std.proofs.lemmas.Str.{IsUtf8-from_ascii}
 use Rattle.std.proofs.lemmas.Str.Parse.{IsNumeralModel, digit_at, numerals_by_value, parse_plain, tells_digits}
 use Rattle.desk.specs.Reads.{ReadsWritten}
-use Rattle.desk.specs.Route.{IsTargetNumber}
+use Rattle.desk.specs.route.Route.{IsTargetNumber}
 
 -- ---- between a front and an end
 

@@ -1,8 +1,8 @@
 -- The parts of a reply, one behind the other.
 use Rattle.std.proofs.Common.{◌≡◌, ◌++◌, ℕ, List, [], ◌∷◌, length, codes, refl}
 use Rattle.std.specs.Fmt.{decimal}
-use Rattle.desk.specs.declared.reply_head.ReplyHead.{ReplyHead}
-use Rattle.desk.specs.Replies.{allow_line, connection_line, field_line, media_type, reply_text, status_line}
+use Rattle.desk.specs.declared.reply.head.ReplyHead.{ReplyHead}
+use Rattle.desk.specs.reply.Text.{allow_line, connection_line, field_line, media_type, reply_text, status_line}
 
 -- each part of a reply stands behind those before it
 pub reply_text-parts : (head : ReplyHead) (body len none a b c d e f text : List ℕ) → none ≡ [] → len ≡ decimal (length body)

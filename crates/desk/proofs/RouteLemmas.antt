@@ -7,15 +7,15 @@ use Rattle.std.proofs.lemmas.List.Sums.{fold_more}
 use Rattle.matchit.specs.Route.{Scan, parse_route}
 use Rattle.matchit.specs.Router.{InsertsRead}
 use Rattle.matchit.specs.declared.error.InsertError.{InsertError}
+use Rattle.conversation.specs.declared.message.method.Method.{Method}
 use Rattle.desk.specs.declared.desk_fault.DeskFault.{DeskFault}
 use Rattle.desk.specs.declared.desk_fault.DeskFault.TheVariants as faults
-use Rattle.desk.specs.declared.endpoint.Endpoint.{Endpoint}
-use Rattle.desk.specs.declared.endpoint.Endpoint.TheVariants.{Tariffs}
-use Rattle.desk.specs.declared.method.Method.{Method}
+use Rattle.desk.specs.declared.route.endpoint.Endpoint.{Endpoint}
+use Rattle.desk.specs.declared.route.endpoint.Endpoint.TheVariants.{Tariffs}
 use Rattle.desk.specs.declared.route.Route.{Route}
 use Rattle.desk.specs.declared.route.Route.TheVariants.{AddTariff, AddSteps, AddMeter, SetTariff, MoveBase, OpenShift, CloseShift, ShiftReport, Sell, Reprint, Receipt, ImportMeters, ImportTariffs}
-use Rattle.desk.specs.Endpoint.{Table, endpoints, endpoint_method, pattern_of, with_endpoint, with_pattern}
-use Rattle.desk.specs.Route.{Finds, IsRouted, LeadsTo, Names, endpoint_of}
+use Rattle.desk.specs.route.Endpoint.{Table, endpoints, endpoint_method, pattern_of, with_endpoint, with_pattern}
+use Rattle.desk.specs.route.Route.{Finds, IsRouted, LeadsTo, Names, endpoint_of}
 use Rattle.desk.proofs.ParameterLemmas.{same_number}
 
 -- what `insert` leaves where it succeeds

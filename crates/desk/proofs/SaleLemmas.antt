@@ -9,12 +9,12 @@ use Rattle.std.proofs.lemmas.Bool.Decides.{nat_tests}
 use Rattle.std.proofs.lemmas.List.{get_or_past}
 use Rattle.std.proofs.lemmas.Str.{IsUtf8-from_ascii, utf8_lossy-IsUtf8}
 use Rattle.serde_json.specs.Data.{string}
-use Rattle.desk.specs.Members.{Pair, whole_number}
-use Rattle.desk.specs.ReplyBody.{sale_members}
+use Rattle.desk.specs.reply.Members.{Pair, whole_number}
+use Rattle.desk.specs.reply.Body.{sale_members}
 use Rattle.papers.specs.Text.{change_of}
 use Rattle.sts_fields.specs.Base.{year_of}
-use Rattle.vend_core.specs.Names.{IsMeterNo, IsName, IsOperator, is_name_byte}
-use Rattle.vend_core.specs.declared.sale.Sale.{Sale}
+use Rattle.vend_core.specs.Name.{IsMeterNo, IsName, IsOperator, is_name_byte}
+use Rattle.vend_core.specs.declared.office.sale.Sale.{Sale}
 
 -- text of bytes that pass a test of ASCII is kept as it is
 kept : (test : ℕ → Bool) → ((b : ℕ) → test b ≡ true → b < 128) → (text : List ℕ) → AllPass test text → utf8_lossy text ≡ text

@@ -9,12 +9,12 @@ use Rattle.std.proofs.lemmas.List.Elements.{recursion_from_All}
 use Rattle.json.specs.Print.{escape_byte, quoted}
 use Rattle.serde_json.proofs.OnLiterals.{serde_json_on_literals}
 use Rattle.serde_json.specs.Data.{string}
-use Rattle.desk.specs.Members.{json_text, whole_number}
-use Rattle.desk.specs.ReplyBody.{sale_members}
-use Rattle.desk.specs.SaleText.{IsTellableSale, sale_text}
+use Rattle.desk.specs.reply.Members.{json_text, whole_number}
+use Rattle.desk.specs.reply.Body.{sale_members}
+use Rattle.desk.specs.reply.SaleText.{IsTellableSale, sale_text}
 use Rattle.desk.proofs.SaleLemmas.{digits-kept}
-use Rattle.vend_core.specs.Names.{is_name_byte}
-use Rattle.vend_core.specs.declared.sale.Sale.{Sale}
+use Rattle.vend_core.specs.Name.{is_name_byte}
+use Rattle.vend_core.specs.declared.office.sale.Sale.{Sale}
 
 plain_digit : (b : ℕ) → is_ascii_digit b ≡ true → escape_byte b ≡ b ∷ []
 unfolding escape_byte

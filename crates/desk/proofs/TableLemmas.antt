@@ -5,10 +5,10 @@ use Rattle.std.specs.Prelude.{IsUtf8}
 use Rattle.matchit.specs.Router.{RouteOf}
 use Rattle.matchit.specs.Seek.{first}
 use Rattle.matchit.proofs.OnLiterals.{matchit_on_literals}
-use Rattle.desk.specs.declared.endpoint.Endpoint.{Endpoint}
-use Rattle.desk.specs.declared.endpoint.Endpoint.TheVariants.{Tariffs, TariffSteps, Meters, MeterTariff, MeterBase, Shifts, ShiftClosing, Shift, Sales, Sale, SaleReceipt, MeterImports, TariffImports}
-use Rattle.desk.specs.Endpoint.{table}
-use Rattle.desk.specs.Route.{Finds}
+use Rattle.desk.specs.declared.route.endpoint.Endpoint.{Endpoint}
+use Rattle.desk.specs.declared.route.endpoint.Endpoint.TheVariants.{Tariffs, TariffSteps, Meters, MeterTariff, MeterBase, Shifts, ShiftClosing, Shift, Sales, Sale, SaleReceipt, MeterImports, TariffImports}
+use Rattle.desk.specs.route.Endpoint.{table}
+use Rattle.desk.specs.route.Route.{Finds}
 
 -- a target of each endpoint
 abbrev pub target_of : Endpoint → List ℕ

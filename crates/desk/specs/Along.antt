@@ -1,14 +1,14 @@
 -- The requests that messages asked, and the replies that they got.
 use Rattle.std.specs.Prelude.{◌≡◌, ◌⊎◌, List, [], ◌∷◌, Result}
-use Rattle.vend_core.specs.declared.answer.Answer.{Answer}
-use Rattle.vend_core.specs.declared.refusal.Refusal.{Refusal}
-use Rattle.vend_core.specs.declared.request.Stamped.{Stamped}
-use Rattle.desk.specs.declared.form.Form.{Form}
-use Rattle.desk.specs.declared.outcome.Outcome.{Outcome}
-use Rattle.desk.specs.declared.outcome.Outcome.TheVariants.{Replied}
-use Rattle.desk.specs.Exchanges.{MessageExchange}
+use Rattle.vend_core.specs.declared.decision.answer.Answer.{Answer}
+use Rattle.vend_core.specs.declared.decision.refusal.Refusal.{Refusal}
+use Rattle.vend_core.specs.declared.decision.request.Stamped.{Stamped}
+use Rattle.conversation.specs.Exchanges.{MessageExchange}
+use Rattle.desk.specs.declared.reply.form.Form.{Form}
+use Rattle.desk.specs.declared.reply.outcome.Outcome.{Outcome}
+use Rattle.desk.specs.declared.reply.outcome.Outcome.TheVariants.{Replied}
 use Rattle.desk.specs.Meaning.{MessageAsks, IsIdle}
-use Rattle.desk.specs.Replies.{reply_bytes_of}
+use Rattle.desk.specs.reply.Text.{reply_bytes_of}
 
 -- the message asked nothing of the office, and was told so
 pub record AskedNothing (x : MessageExchange) : Type 0 where

@@ -2,21 +2,21 @@
 use Rattle.std.specs.Prelude.{◌≡◌, ◌≢◌, ℕ, ◌+◌, ◌%◌, ℤ, ◌⊎◌, true, List, length, Option, Result, Err}
 use Rattle.books.specs.Asking.{ReplyAt}
 use Rattle.books.specs.Keeps.{Seen}
-use Rattle.vend_core.specs.Life.{Life, present}
-use Rattle.vend_core.specs.LifeLaws.{extended_by}
-use Rattle.vend_core.specs.declared.answer.Answer.{Answer}
-use Rattle.vend_core.specs.declared.refusal.Refusal.{Refusal}
-use Rattle.vend_core.specs.declared.refusal.Refusal.TheVariants.{Stopped}
-use Rattle.vend_core.specs.declared.request.Request.{Request}
-use Rattle.vend_core.specs.declared.request.Stamped.{Stamped}
-use Rattle.desk.specs.declared.form.Form.{Form}
-use Rattle.desk.specs.declared.message_fault.MessageFault.{MessageFault}
-use Rattle.desk.specs.declared.outcome.Outcome.{Outcome}
-use Rattle.desk.specs.declared.outcome.Outcome.TheVariants.{Refused, Replied}
-use Rattle.desk.specs.Exchanges.{MessageExchange}
+use Rattle.vend_core.specs.Law.Life.{Life, present}
+use Rattle.vend_core.specs.Law.LifeLaws.{extended_by}
+use Rattle.vend_core.specs.declared.decision.answer.Answer.{Answer}
+use Rattle.vend_core.specs.declared.decision.refusal.Refusal.{Refusal}
+use Rattle.vend_core.specs.declared.decision.refusal.Refusal.TheVariants.{Stopped}
+use Rattle.vend_core.specs.declared.decision.request.Request.{Request}
+use Rattle.vend_core.specs.declared.decision.request.Stamped.{Stamped}
+use Rattle.conversation.specs.declared.message.message_fault.MessageFault.{MessageFault}
+use Rattle.conversation.specs.Exchanges.{MessageExchange}
+use Rattle.conversation.specs.message.Messages.{Message}
+use Rattle.desk.specs.declared.reply.form.Form.{Form}
+use Rattle.desk.specs.declared.reply.outcome.Outcome.{Outcome}
+use Rattle.desk.specs.declared.reply.outcome.Outcome.TheVariants.{Refused, Replied}
 use Rattle.desk.specs.Meaning.{MessageAsks, IsIdle}
-use Rattle.desk.specs.Messages.{Message}
-use Rattle.desk.specs.Replies.{reply_bytes_of}
+use Rattle.desk.specs.reply.Text.{reply_bytes_of}
 
 -- How an office serves: at a moment a request gets a reply, between the office before it and the
 -- office after it.

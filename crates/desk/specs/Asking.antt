@@ -7,16 +7,16 @@ use Rattle.papers.specs.declared.file_kind.FileKind.TheVariants.{Meters, Tariffs
 use Rattle.papers.specs.declared.row_fault.RowFault.{RowFault}
 use Rattle.papers.specs.declared.row_fault.RowFault.TheVariants as row_faults
 use Rattle.serde_json.specs.Data.{Data}
-use Rattle.vend_core.specs.declared.request.Request.{Request}
-use Rattle.vend_core.specs.declared.request.Request.TheVariants as requests
-use Rattle.vend_core.specs.declared.row.Row.{Row}
+use Rattle.vend_core.specs.declared.decision.request.Request.{Request}
+use Rattle.vend_core.specs.declared.decision.request.Request.TheVariants as requests
+use Rattle.vend_core.specs.declared.office.row.Row.{Row}
 use Rattle.desk.specs.declared.body_fault.BodyFault.{BodyFault}
 use Rattle.desk.specs.declared.body_fault.BodyFault.TheVariants as faults
 use Rattle.desk.specs.declared.route.Route.{Route}
-use Rattle.desk.specs.declared.json_kind.JsonKind.{JsonKind}
-use Rattle.desk.specs.declared.json_kind.JsonKind.TheVariants as kinds
+use Rattle.desk.specs.declared.json.kind.JsonKind.{JsonKind}
+use Rattle.desk.specs.declared.json.kind.JsonKind.TheVariants as kinds
 use Rattle.desk.specs.declared.route.Route.TheVariants.{AddTariff, AddSteps, AddMeter, SetTariff, MoveBase, OpenShift, CloseShift, ShiftReport, Sell, Reprint, Receipt, ImportMeters, ImportTariffs}
-use Rattle.desk.specs.JsonBody.{IsJson, BodySays}
+use Rattle.desk.specs.json.Body.{IsJson, BodySays}
 use Rattle.desk.specs.Reads.{IsFoundIn}
 
 -- the body is JSON that says this request

@@ -3,22 +3,22 @@
 -- A target and a method are looked at first, then the clock, and then the body.
 use Rattle.std.specs.Prelude.{◌≡◌, ◌≢◌, ℕ, ℤ, pos, Option, None, Some, Ok, Err, ⊤}
 use Rattle.sts_fields.specs.Moment.{IsMoment}
-use Rattle.vend_core.specs.declared.refusal.Refusal.TheVariants.{ImportRow}
-use Rattle.vend_core.specs.declared.request.Request.{Request}
+use Rattle.vend_core.specs.declared.decision.refusal.Refusal.TheVariants.{ImportRow}
+use Rattle.vend_core.specs.declared.decision.request.Request.{Request}
+use Rattle.conversation.specs.message.Messages.{Message}
 use Rattle.desk.specs.declared.body_fault.BodyFault.TheVariants.{OutsideRule, Row}
 use Rattle.desk.specs.declared.desk_fault.DeskFault.{DeskFault}
 use Rattle.desk.specs.declared.desk_fault.DeskFault.TheVariants as faults
-use Rattle.desk.specs.declared.form.Form.{Form}
-use Rattle.desk.specs.declared.form.Form.TheVariants.{Json, Paper}
+use Rattle.desk.specs.declared.reply.form.Form.{Form}
+use Rattle.desk.specs.declared.reply.form.Form.TheVariants.{Json, Paper}
 use Rattle.desk.specs.declared.meaning.Meaning.{Meaning}
 use Rattle.desk.specs.declared.meaning.Meaning.TheVariants as meanings
-use Rattle.desk.specs.declared.outcome.Outcome.{Outcome}
-use Rattle.desk.specs.declared.outcome.Outcome.TheVariants.{Faulty, Replied}
+use Rattle.desk.specs.declared.reply.outcome.Outcome.{Outcome}
+use Rattle.desk.specs.declared.reply.outcome.Outcome.TheVariants.{Faulty, Replied}
 use Rattle.desk.specs.declared.route.Route.{Route}
 use Rattle.desk.specs.declared.route.Route.TheVariants.{AddTariff, AddSteps, AddMeter, SetTariff, MoveBase, OpenShift, CloseShift, ShiftReport, Sell, Reprint, Receipt, ImportMeters, ImportTariffs}
 use Rattle.desk.specs.Asking.{BodyAsks}
-use Rattle.desk.specs.Messages.{Message}
-use Rattle.desk.specs.Route.{IsRouted}
+use Rattle.desk.specs.route.Route.{IsRouted}
 
 -- the form in which a route tells a sale: a receipt is a paper
 abbrev pub sale_form_of : Route → Form

@@ -1,14 +1,14 @@
 -- What is one: the meaning of a message, and the conversation of an input.
 use Rattle.std.specs.Prelude.{◌≡◌, ℕ, ℤ, List, ◌++◌, map, Option}
-use Rattle.vend_core.specs.declared.request.Request.{Request}
-use Rattle.vend_core.specs.declared.request.Stamped.{Stamped}
-use Rattle.desk.specs.declared.form.Form.{Form}
-use Rattle.desk.specs.declared.outcome.Outcome.{Outcome}
+use Rattle.vend_core.specs.declared.decision.request.Request.{Request}
+use Rattle.vend_core.specs.declared.decision.request.Stamped.{Stamped}
+use Rattle.conversation.specs.Conversation.{last_words, replies_of}
+use Rattle.conversation.specs.Exchanges.{MessageExchange}
+use Rattle.conversation.specs.message.Messages.{AgreeBy, Ending, Message, Stop, ended}
+use Rattle.desk.specs.declared.reply.form.Form.{Form}
+use Rattle.desk.specs.declared.reply.outcome.Outcome.{Outcome}
 use Rattle.desk.specs.Answering.{message_refusal_of}
-use Rattle.desk.specs.Conversation.{last_words, replies_of}
-use Rattle.desk.specs.Exchanges.{MessageExchange}
 use Rattle.desk.specs.Meaning.{IsIdle, MessageAsks}
-use Rattle.desk.specs.Messages.{AgreeBy, Ending, Message, Stop, ended}
 
 -- With what the clock gave for it a message asks one thing of the office, or one thing comes of it
 -- without the office, and never both.

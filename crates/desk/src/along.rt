@@ -1,19 +1,19 @@
 ghost use Rattle.std.specs.Prelude.{◌≡◌, ℕ, ℤ, List, Option, Result};
-ghost use Rattle.vend_core.specs.Life.{Life};
-ghost use Rattle.vend_core.specs.LifeLaws.{extended_along};
-ghost use Rattle.vend_core.specs.declared.answer.Answer.{Answer};
-ghost use Rattle.vend_core.specs.declared.refusal.Refusal.{Refusal};
-ghost use Rattle.vend_core.specs.declared.request.Stamped.{Stamped};
+ghost use Rattle.vend_core.specs.Law.Life.{Life};
+ghost use Rattle.vend_core.specs.Law.LifeLaws.{extended_along};
+ghost use Rattle.vend_core.specs.declared.decision.answer.Answer.{Answer};
+ghost use Rattle.vend_core.specs.declared.decision.refusal.Refusal.{Refusal};
+ghost use Rattle.vend_core.specs.declared.decision.request.Stamped.{Stamped};
+ghost use Rattle.conversation.specs.Conversation.{messages_of};
+ghost use Rattle.conversation.specs.Exchanges.{Exchanged, MessageExchange, Timed, timed};
+ghost use Rattle.conversation.specs.message.Messages.{Ending, Message, Messages, Stop};
 ghost use Rattle.desk.specs.Along.{AreAsked};
 ghost use Rattle.desk.specs.Answering.{answers_by, life_serves};
-ghost use Rattle.desk.specs.Conversation.{messages_of};
-ghost use Rattle.desk.specs.Exchanges.{Exchanged, MessageExchange, Timed, timed};
-ghost use Rattle.desk.specs.Messages.{Ending, Message, Messages, Stop};
 ghost use Rattle.desk.specs.OneConversation.{HasOneMeaning, IsOneConversation, moments_of};
 
 use crate::asking::asking_law;
-use crate::message::message_law;
-use crate::routes::route_law;
+use crate::route::routes::route_law;
+use conversation::message_law;
 
 /// A life goes on along a conversation by the requests that its messages asked and the replies that
 /// they were told, each once and in order, and by nothing beside.

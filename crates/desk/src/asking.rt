@@ -2,12 +2,12 @@ ghost use Rattle.std.specs.Prelude.{◌≡◌, ◌≢◌, ℕ, List, Result, Err
 ghost use Rattle.desk.specs.Asking.{AsksByJson, BodyAsks, import_of};
 ghost use Rattle.desk.specs.declared.body_fault.BodyFault.{BodyFault};
 ghost use Rattle.desk.specs.declared.route.Route.{Route};
-ghost use Rattle.vend_core.specs.declared.request.Request.{Request};
+ghost use Rattle.vend_core.specs.declared.decision.request.Request.{Request};
 
 use crate::body_fault::BodyFault;
-use crate::json_body::read_value;
-use crate::json_kind::JsonKind;
-use crate::json_requests::said;
+use crate::json::kind::JsonKind;
+use crate::json::requests::said;
+use crate::json::value::read_value;
 use crate::route::Route;
 use papers::{RowFault, import_law, read_meters, read_tariffs};
 use std::alloc::Global;

@@ -1,7 +1,7 @@
 ghost use Rattle.std.specs.Prelude.{◌≡◌};
 ghost use Rattle.desk.specs.DeskFault.{desk_fault_status, desk_fault_word};
 
-use crate::method::Method;
+use conversation::Method;
 use thiserror::Error;
 
 /// Why a whole message asks nothing of the office. The conversation goes on after it.

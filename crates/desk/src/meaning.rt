@@ -1,16 +1,16 @@
 //! What a message means, before the office is asked.
 
 ghost use Rattle.std.specs.Prelude.{◌≡◌, Some, Ok, pos};
+ghost use Rattle.conversation.specs.message.Next.{message_of};
 ghost use Rattle.desk.specs.Meaning.{IsFor, IsMeaning, sale_form_of};
-ghost use Rattle.desk.specs.Next.{message_of};
 
 use crate::asking::request_of;
 use crate::body_fault::BodyFault;
 use crate::desk_fault::DeskFault;
-use crate::form::Form;
-use crate::outcome::Outcome;
-use crate::received::Received;
+use crate::reply::form::Form;
+use crate::reply::outcome::Outcome;
 use crate::route::Route;
+use conversation::Received;
 use std::alloc::Global;
 use vend_core::{Moment, Refusal, Request};
 
@@ -59,13 +59,13 @@ pub(crate) fn meaning_at(
     ensures { IsMeaning (message_of message.now) (Some second) result }
 {
     match Moment::of_secs(second) {
-        Some(moment) => meaning_of(alloc, route, moment, message),
+        Some(moment) => meaning_at_moment(alloc, route, moment, message),
         None => Meaning::Told(Outcome::Faulty(DeskFault::Clock)),
     }
 }
 
 // What a message for this route means at this moment.
-fn meaning_of(alloc: Global, route: Route, moment: Moment, message: &Received<'_>) -> Meaning
+fn meaning_at_moment(alloc: Global, route: Route, moment: Moment, message: &Received<'_>) -> Meaning
     requires { IsFor (message_of message.now) route }
     ensures { IsMeaning (message_of message.now) (Some (pos moment)) result }
 {

@@ -1,3 +1,9 @@
+//! The routes of the desk.
+
+pub(crate) mod endpoint;
+mod parameter;
+pub(crate) mod routes;
+
 use vend_core::{MeterNo, TariffName};
 
 /// What a target asks for, with the tariff, the meter or the number that it names.

@@ -5,10 +5,11 @@ use Rattle.std.proofs.Padding.{padded_integral_right, styled_decimal_is}
 use Rattle.std.specs.Fmt.{decimal, format_spec, styled_decimal}
 use Rattle.std.specs.List.{join_with_byte, range_with_len}
 use Rattle.papers.specs.Report.{sale_line}
-use Rattle.papers.specs.Text.{change_of, clock_text, date_text, digits_at_least, groups, kwh_text, line, right, time_text}
+use Rattle.papers.specs.Text.{change_of, clock_text, date_text, groups, kwh_text, line, right, time_text}
 use Rattle.sts_fields.specs.Calendar.{civil_at}
+use Rattle.sts_fields.specs.Day.{iso_date, two_digits}
 use Rattle.sts_fields.specs.declared.calendar.date_time.Civil.{Civil}
-use Rattle.vend_core.specs.declared.sale.Sale.{Sale}
+use Rattle.vend_core.specs.declared.office.sale.Sale.{Sale}
 
 -- a line is its word, a space, its value and a line feed, each behind what was there
 pub line-parts : (old word value : List ℕ) → (((old ++ word) ++ 32 ∷ []) ++ value) ++ 10 ∷ [] ≡ old ++ line word value
@@ -22,22 +23,6 @@ styled-right places n =
     let s = format_spec 32 3 0 places 18446744073709551615 in
     styled_decimal_is s n ∙ padded_integral_right s (decimal n) refl refl (λ e. cc) (λ e. cc) (lit< tt)
 
--- so many zeros
-pub zeros-front : (n : ℕ) → n ≤ 4 → take {A = ℕ} n (48 ∷ 48 ∷ 48 ∷ 48 ∷ []) ≡ replicate n 48
-zeros-front zero few = refl
-zeros-front (suc zero) few = refl
-zeros-front (suc (suc zero)) few = refl
-zeros-front (suc (suc (suc zero))) few = refl
-zeros-front (suc (suc (suc (suc zero)))) few = refl
-zeros-front (suc (suc (suc (suc (suc n))))) few = absurd (omega arith)
-
--- a number behind the zeros that it lacks
-pub digits-parts : (old zeros : List ℕ) (places n count : ℕ) → places ≤ 4 → count ≡ places - length (decimal n) → zeros ≡ take {A = ℕ} count (48 ∷ 48 ∷ 48 ∷ 48 ∷ []) → (old ++ zeros) ++ decimal n ≡ old ++ digits_at_least places n
-unfolding digits_at_least
-digits-parts old zeros places n count few is are =
-    let front : zeros ≡ replicate (places - length (decimal n)) 48 = are ∙ zeros-front count (omega (arith, is)) ∙ ap (λ k. replicate k 48) is in
-    ap (λ z. (old ++ z) ++ decimal n) front ∙ append_assoc old (replicate (places - length (decimal n)) 48) (decimal n)
-
 -- an energy, part behind part
 pub kwh-parts : (tenths : ℕ) → (([] ++ decimal (tenths / 10)) ++ 46 ∷ []) ++ decimal (tenths % 10) ≡ kwh_text tenths
 unfolding kwh_text
@@ -45,8 +30,8 @@ kwh-parts tenths = append_assoc (decimal (tenths / 10)) (46 ∷ []) (decimal (te
 
 -- a date and a time of day, part behind part
 pub time-parts : (moment : ℕ) (c : Civil) → c ≡ civil_at moment
-    → ((((((((((([] ++ digits_at_least 4 c.year) ++ 45 ∷ []) ++ digits_at_least 2 c.month) ++ 45 ∷ []) ++ digits_at_least 2 c.day) ++ 84 ∷ []) ++ digits_at_least 2 c.hour) ++ 58 ∷ []) ++ digits_at_least 2 c.minute) ++ 58 ∷ []) ++ digits_at_least 2 c.second) ++ 90 ∷ [] ≡ time_text moment
-unfolding time_text
+    → ((((((((((((([] ++ two_digits (c.year / 100)) ++ two_digits (c.year % 100)) ++ 45 ∷ []) ++ two_digits c.month) ++ 45 ∷ []) ++ two_digits c.day) ++ 84 ∷ []) ++ two_digits c.hour) ++ 58 ∷ []) ++ two_digits c.minute) ++ 58 ∷ []) ++ two_digits c.second) ++ 90 ∷ []) ≡ time_text moment
+unfolding time_text iso_date
 time-parts moment c shown = rw shown (simp append_assoc)
 
 -- the line of a sale is its number with a space, its meter, and its amounts with a space before each and a line feed

@@ -1,22 +1,22 @@
 -- Files of meters and of tariffs: their records, and what a record says.
-use Rattle.std.specs.Prelude.{◌≡◌, ◌⊎◌, ℕ, zero, suc, ◌-◌, ◌<◌, ◌≤◌, List, [], ◌∷◌, length, slice_index_or, codes}
+use Rattle.std.specs.Prelude.{◌≡◌, ◌⊎◌, ℕ, zero, suc, ◌-◌, ◌<◌, ◌≤◌, List, [], ◌∷◌, length, slice_index_or, codes, decimal}
 use Rattle.csv.specs.Reading.{AreRecords, default_config, strip_bom}
 use Rattle.csv.specs.declared.parser.State.TheVariants.{StartRecord}
 use Rattle.papers.specs.declared.file_form.FileForm.{FileForm}
 use Rattle.papers.specs.declared.file_form.FileForm.TheVariants.{Meters, Tariffs, DatedTariffs}
 use Rattle.papers.specs.declared.file_kind.FileKind.{FileKind}
 use Rattle.papers.specs.declared.file_kind.FileKind.TheVariants as kinds
+use Rattle.sts_fields.specs.Base.{year_of}
 use Rattle.sts_fields.specs.declared.base.Base.{Base}
-use Rattle.sts_fields.specs.declared.base.Base.TheVariants.{Y1993, Y2014, Y2035}
 use Rattle.sts_fields.specs.Day.{IsDayText}
 use Rattle.sts_token.specs.Key.{AreKeyDigits, IsKeyText}
 use Rattle.tariff.specs.Steps.{IsSteps}
 use Rattle.tariff.specs.StepsText.{IsStepsText}
 use Rattle.tariff.specs.declared.step.Step.{Step}
-use Rattle.vend_core.specs.Names.{IsMeterNo, IsName}
-use Rattle.vend_core.specs.declared.meter.Meter as declared
-use Rattle.vend_core.specs.declared.row.Row.{Row}
-use Rattle.vend_core.specs.declared.row.Row.TheVariants.{Tariff, Meter, Steps}
+use Rattle.vend_core.specs.Name.{IsMeterNo, IsName}
+use Rattle.vend_core.specs.declared.office.meter.Meter as declared
+use Rattle.vend_core.specs.declared.office.row.Row.{Row}
+use Rattle.vend_core.specs.declared.office.row.Row.TheVariants.{Tariff, Meter, Steps}
 
 -- a record: its fields in order
 abbrev pub Fields : Type 0
@@ -38,11 +38,9 @@ header_of Meters = codes "meter" ∷ codes "base" ∷ codes "tariff" ∷ codes "
 header_of Tariffs = codes "name" ∷ codes "steps" ∷ []
 header_of DatedTariffs = codes "name" ∷ codes "steps" ∷ codes "from" ∷ []
 
--- the year of a base date, in its four digits
+-- the year of a base date
 abbrev pub base_text : Base → List ℕ
-base_text Y1993 = codes "1993"
-base_text Y2014 = codes "2014"
-base_text Y2035 = codes "2035"
+base_text base = decimal (year_of base)
 
 abbrev pub IsBaseText : List ℕ → Type 0
 IsBaseText text = (base : Base) × (text ≡ base_text base)

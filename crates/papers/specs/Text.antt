@@ -2,8 +2,10 @@
 use Rattle.std.specs.Prelude.{ℕ, ◌-◌, ◌*◌, ◌/◌, ◌%◌, ◌+◌, List, [], ◌∷◌, ◌++◌, length, map, replicate, slice_range, codes, decimal}
 use Rattle.std.specs.List.{join_with_byte, range_with_len}
 use Rattle.sts_fields.specs.Calendar.{civil_at}
+use Rattle.sts_fields.specs.Day.{iso_date, two_digits}
+use Rattle.sts_fields.specs.Text.{colon}
 use Rattle.sts_fields.specs.declared.calendar.date_time.Civil.{Civil}
-use Rattle.vend_core.specs.declared.sale.Sale.{Sale}
+use Rattle.vend_core.specs.declared.office.sale.Sale.{Sale}
 
 abbrev pub line_feed : ℕ
 line_feed = 10
@@ -11,17 +13,8 @@ line_feed = 10
 abbrev pub space : ℕ
 space = 32
 
-abbrev pub hyphen : ℕ
-hyphen = 45
-
 abbrev pub point : ℕ
 point = 46
-
-abbrev pub colon : ℕ
-colon = 58
-
-abbrev pub zero_digit : ℕ
-zero_digit = 48
 
 -- a line: a word, a space, its value and a line feed
 unfoldable pub line : List ℕ → List ℕ → List ℕ
@@ -31,21 +24,13 @@ line word value = word ++ space ∷ value ++ line_feed ∷ []
 unfoldable pub right : ℕ → List ℕ → List ℕ
 right places text = replicate (places - length text) space ++ text
 
--- a number in at least so many digits, which zeros fill
-unfoldable pub digits_at_least : ℕ → ℕ → List ℕ
-digits_at_least places n = replicate (places - length (decimal n)) zero_digit ++ decimal n
-
 -- a date, as 2014-01-01
 abbrev pub date_text : Civil → List ℕ
-date_text c =
-    join_with_byte hyphen
-    (digits_at_least 4 c.year ∷ digits_at_least 2 c.month ∷ digits_at_least 2 c.day ∷ [])
+date_text c = iso_date c.year c.month c.day
 
 -- a time of day, as 00:00:30
 abbrev pub clock_text : Civil → List ℕ
-clock_text c =
-    join_with_byte colon
-    (digits_at_least 2 c.hour ∷ digits_at_least 2 c.minute ∷ digits_at_least 2 c.second ∷ [])
+clock_text c = two_digits c.hour ++ colon ∷ two_digits c.minute ++ colon ∷ two_digits c.second
 
 -- both, in UTC, as 2014-01-01T00:00:30Z
 abbrev pub civil_text : Civil → List ℕ

@@ -13,9 +13,6 @@ use csv::{ByteRecord, ByteRecordsIntoIter, ReaderBuilder};
 use std::alloc::Global;
 use vend_core::{Row, RowCause, Rows};
 
-// The greatest number of a row.
-const LAST_ROW: u32 = 10_000;
-
 /// The meters that a file has, or its first fault (`docs/TEXTS.md`, "Meters").
 pub fn read_meters(alloc: Global, bytes: &[u8]) -> Result<Rows, RowFault>
     ensures { (records : List Fields) × AreFileRecords bytes.now records
@@ -53,9 +50,7 @@ fn read_rows(alloc: Global, kind: FileKind, bytes: &[u8]) -> Result<Rows, RowFau
         let Ok(record) = record else {
             return Err(RowFault::Memory);
         };
-        if let Err(fault) = take_row(alloc, form, number, &record, &mut rows) {
-            return Err(fault);
-        }
+        take_row(alloc, form, number, &record, &mut rows)?;
         number += 1;
     }
     Rows::of(rows).map_err(|_| RowFault::Memory)
@@ -88,11 +83,9 @@ fn take_row(
         → IfErr result (IsFault (kind_of form) (before ++ fields_of raw.now ∷ after)) }
     ensures memory { result ≡ Err RowFault.Memory → TakesRoom form (fields_of raw.now) }
 {
-    if number > LAST_ROW {
+    if number as usize > Rows::MAX {
         return Err(RowFault::At(number, RowCause::TooManyRows));
     }
-    match read_row(alloc, form, number, raw) {
-        Ok(row) => rows.push(row).map_err(|_| RowFault::Memory),
-        Err(fault) => Err(fault),
-    }
+    let row = read_row(alloc, form, number, raw)?;
+    rows.push(row).map_err(|_| RowFault::Memory)
 }

@@ -1,4 +1,4 @@
-ghost use Rattle.std.specs.Prelude.{◌≡◌, ◌≤◌, ◌↔◌, IsSome, IfOk, IfErr, IfSome, drop, length};
+ghost use Rattle.std.specs.Prelude.{◌≡◌, ◌≤◌, ◌↔◌, IsSome, IsTrue, IfOk, IfErr, IfSome, drop, length};
 ghost use Rattle.csv.specs.Records.{fields_of};
 ghost use Rattle.papers.specs.File.{IsBaseText, RecordSays, RecordSaysTariff, base_text, header_of, kind_of};
 ghost use Rattle.papers.specs.Import.{HasCause, IsRowFault};
@@ -9,6 +9,7 @@ use crate::file_form::FileForm;
 use crate::record::field;
 use crate::row_fault::RowFault;
 use csv::ByteRecord;
+use itoa::Buffer;
 use std::alloc::Global;
 use sts_fields::{Base, Day};
 use sts_token::read_key;
@@ -112,13 +113,20 @@ fn read_base(text: &[u8]) -> Option<Base>
     ensures known { IsSome result ↔ IsBaseText text.now }
     ensures year { IfSome result (λ base. text.now ≡ base_text base) }
 {
-    if text == b"1993".as_slice() {
+    if is_base(text, Base::Y1993) {
         Some(Base::Y1993)
-    } else if text == b"2014".as_slice() {
+    } else if is_base(text, Base::Y2014) {
         Some(Base::Y2014)
-    } else if text == b"2035".as_slice() {
+    } else if is_base(text, Base::Y2035) {
         Some(Base::Y2035)
     } else {
         None
     }
+}
+
+// Whether a text is the year of a base date.
+fn is_base(text: &[u8], base: Base) -> bool
+    ensures { IsTrue result ↔ (text.now ≡ base_text base) }
+{
+    text == Buffer::new().format(base.year()).as_bytes()
 }

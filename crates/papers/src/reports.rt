@@ -1,9 +1,9 @@
 ghost use Rattle.std.specs.Prelude.{◌≡◌, ◌+◌, ◌++◌, ◌∷◌, ℕ, List, length, IfOk, OnOk, string_bytes};
-ghost use Rattle.vend_core.specs.declared.sale.Sale.{Sale};
-ghost use Rattle.vend_core.specs.declared.shift.Shift.{Shift};
+ghost use Rattle.vend_core.specs.declared.office.sale.Sale.{Sale};
+ghost use Rattle.vend_core.specs.declared.office.shift.Shift.{Shift};
 ghost use Rattle.papers.specs.Output.{IsWritten};
 ghost use Rattle.papers.specs.Report.{report_of, sale_line, shift_head, tenths_of, totals_text};
-ghost use Rattle.vend_core.specs.Cash.{cash_of};
+ghost use Rattle.vend_core.specs.Law.Cash.{cash_of};
 
 use crate::fault::TextFault;
 use crate::lines::{change, put_line, put_number};

@@ -3,14 +3,15 @@
 ghost use Rattle.std.specs.Prelude.{◌≡◌, ◌+◌, ◌≤◌, ◌++◌, length, decimal};
 ghost use Rattle.arrayvec.specs.ArrayVec.{array_vec_len};
 ghost use Rattle.papers.specs.Report.{closed_text};
-ghost use Rattle.papers.specs.Text.{digits_at_least, grouped, kwh_text, line, time_text};
+ghost use Rattle.papers.specs.Text.{grouped, kwh_text, line, time_text};
+ghost use Rattle.sts_fields.specs.Day.{two_digits};
 
 use arrayvec::ArrayVec;
 use itoa::Buffer;
 use sts_fields::{Moment, civil};
 
-/// A date with a time of day has this room, and needs less.
-pub(crate) const TIME_ROOM: usize = 36;
+/// A date with a time of day fills this room.
+pub(crate) const TIME_ROOM: usize = 20;
 
 /// Adds a piece to a text that has room for it.
 pub(crate) fn put<const ROOM: usize>(text: &mut ArrayVec<u8, ROOM>, piece: &[u8])
@@ -45,18 +46,13 @@ pub(crate) fn put_count<const ROOM: usize>(text: &mut ArrayVec<u8, ROOM>, word: 
     put_entry(text, word, digits.format(number).as_bytes());
 }
 
-// Adds a number in at least so many digits, four at most, which zeros fill.
-fn put_digits<const ROOM: usize>(text: &mut ArrayVec<u8, ROOM>, places: usize, number: u16)
-    requires places { places ≤ 4 }
-    requires room { array_vec_len text.old + 5 ≤ ROOM }
-    ensures items { text.new.items ≡ text.old.items ++ digits_at_least places number }
-    ensures len { array_vec_len text.new ≤ array_vec_len text.old + 5 }
+// Adds a number below a hundred in two digits.
+fn put_two<const ROOM: usize>(text: &mut ArrayVec<u8, ROOM>, number: u8)
+    requires { array_vec_len text.old + 2 ≤ ROOM }
+    ensures items { text.new.items ≡ text.old.items ++ two_digits number }
+    ensures len { array_vec_len text.new ≡ array_vec_len text.old + 2 }
 {
-    let mut digits = Buffer::new();
-    let digits = digits.format(number).as_bytes();
-    let zeros = places.saturating_sub(digits.len());
-    put(text, &b"0000"[..zeros]);
-    put(text, digits);
+    put(text, &[b'0' + number / 10, b'0' + number % 10]);
 }
 
 /// The date and the time of day at a moment, in UTC.
@@ -65,17 +61,18 @@ pub(crate) fn time_text(moment: Moment) -> ArrayVec<u8, TIME_ROOM>
 {
     let shown = civil(moment).unwrap();
     let mut text = ArrayVec::new();
-    put_digits(&mut text, 4, shown.year);
+    put_two(&mut text, (shown.year / 100) as u8);
+    put_two(&mut text, (shown.year % 100) as u8);
     put(&mut text, b"-");
-    put_digits(&mut text, 2, u16::from(shown.month));
+    put_two(&mut text, shown.month);
     put(&mut text, b"-");
-    put_digits(&mut text, 2, u16::from(shown.day));
+    put_two(&mut text, shown.day);
     put(&mut text, b"T");
-    put_digits(&mut text, 2, u16::from(shown.hour));
+    put_two(&mut text, shown.hour);
     put(&mut text, b":");
-    put_digits(&mut text, 2, u16::from(shown.minute));
+    put_two(&mut text, shown.minute);
     put(&mut text, b":");
-    put_digits(&mut text, 2, u16::from(shown.second));
+    put_two(&mut text, shown.second);
     put(&mut text, b"Z");
     text
 }

@@ -3,7 +3,7 @@ use Rattle.std.specs.Prelude.{◌≡◌, ℕ, ◌+◌, ◌/◌, ◌%◌, ◌≤�
 use Rattle.jiff_core.specs.Calendar.{days_from_civil, IsCivilDate}
 use Rattle.sts_fields.specs.Calendar.{civil_at, day_number}
 use Rattle.sts_fields.specs.Moment.{UnixSeconds}
-use Rattle.sts_fields.specs.Text.{Text}
+use Rattle.sts_fields.specs.Text.{Text, hyphen}
 use Rattle.sts_fields.specs.declared.calendar.date_time.Civil.{Civil}
 
 -- 2099-12-31
@@ -27,10 +27,6 @@ days_to c = unsigned_abs (day_number c -ℤ days_from_civil (pos 1993) 1 1)
 -- the day of UTC at these Unix seconds: that of the date that a clock shows
 unfoldable pub day_at : UnixSeconds → ℕ
 day_at secs = days_to (civil_at secs)
-
--- '-', between year, month and day
-abbrev pub hyphen : ℕ
-hyphen = 45
 
 -- a number below a hundred in two digits
 abbrev pub two_digits : ℕ → Text

@@ -13,7 +13,8 @@ use Rattle.std.proofs.lemmas.List.Elements.{All-append, All-cons, All-nil}
 use Rattle.std.proofs.lemmas.List.Sums.{position_or_len_is}
 use Rattle.tariff.specs.declared.step.Step.{Step}
 use Rattle.tariff.specs.Pieces.{HasLead}
-use Rattle.tariff.specs.StepsText.{colon, IsWritable, end_text, step_text}
+use Rattle.sts_fields.specs.Text.{colon}
+use Rattle.tariff.specs.StepsText.{IsWritable, end_text, step_text}
 
 -- each byte of a number is a digit
 digit_in : (n i : ℕ) → n < 2 ^ 64 → i < length (decimal n)

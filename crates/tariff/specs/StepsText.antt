@@ -1,13 +1,9 @@
 -- The text of steps: each as its end, a colon and its price, with semicolons between them.
 use Rattle.std.specs.Prelude.{◌≡◌, ℕ, ◌^◌, ◌<◌, ◌≤◌, List, [], ◌∷◌, ◌++◌, map, length, Option, Some, None, All, decimal}
 use Rattle.std.specs.List.{join_with_byte}
-use Rattle.sts_fields.specs.Text.{Text}
+use Rattle.sts_fields.specs.Text.{Text, colon}
 use Rattle.tariff.specs.declared.step.Step.{Step}
 use Rattle.tariff.specs.Steps.{EndFits}
-
--- ':', between the end of a step and its price
-abbrev pub colon : ℕ
-colon = 58
 
 -- ';', between two steps
 abbrev pub semicolon : ℕ

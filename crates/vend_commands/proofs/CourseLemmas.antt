@@ -5,14 +5,14 @@ use Rattle.sqlite.specs.State.{HasCleanDisk}
 use Rattle.books.specs.Headline.{RepresentTheLast, with_last}
 use Rattle.books.specs.Keeps.{Seen}
 use Rattle.desk.specs.Answering.{answers_by, life_serves, message_refusal_of}
-use Rattle.desk.specs.Exchanges.{Exchanged, GaveUp, MessageExchange, Timed, timed}
-use Rattle.desk.specs.Messages.{BeginsMessage, Message}
-use Rattle.desk.specs.Run.{IsRun}
-use Rattle.desk.specs.declared.end.End as conversation
-use Rattle.desk.specs.declared.end.End.TheVariants.{Closed, BadMessage, ReadFault, WriteFault, Memory}
+use Rattle.conversation.specs.Exchanges.{Exchanged, GaveUp, MessageExchange, Timed, timed}
+use Rattle.conversation.specs.message.Messages.{BeginsMessage, Message}
+use Rattle.conversation.specs.Run.{IsRun}
+use Rattle.conversation.specs.declared.end.End as conversation
+use Rattle.conversation.specs.declared.end.End.TheVariants.{Closed, BadMessage, ReadFault, WriteFault, Memory}
 use Rattle.sts_token.specs.Token.{BlockFunction}
-use Rattle.vend_core.specs.Life.{AreLives, IsLife, Life, MayLeave}
-use Rattle.vend_core.specs.LifeLaws.{opened}
+use Rattle.vend_core.specs.Law.Life.{AreLives, IsLife, Life, MayLeave}
+use Rattle.vend_core.specs.Law.LifeLaws.{opened}
 use Rattle.vend_core.specs.Office.{Office}
 use Rattle.vend_commands.specs.Connections.{AreHeld, AreReady, Service, service}
 use Rattle.vend_commands.specs.Courses.{Course, IsNext, LiveOn, course}

@@ -5,9 +5,9 @@ use Rattle.std.proofs.lemmas.List.{drop_all, take-append-drop}
 use Rattle.sqlite.specs.State.{HasCleanDisk}
 use Rattle.books.specs.Keeps.{Represents, Seen}
 use Rattle.papers.specs.Export.{export_of}
-use Rattle.vend_core.specs.Life.{Life, present}
-use Rattle.vend_core.specs.declared.refusal.Refusal.{Refusal}
-use Rattle.vend_core.specs.declared.sale.Sale.{Sale}
+use Rattle.vend_core.specs.Law.Life.{Life, present}
+use Rattle.vend_core.specs.declared.decision.refusal.Refusal.{Refusal}
+use Rattle.vend_core.specs.declared.office.sale.Sale.{Sale}
 use Rattle.vend_commands.proofs.RefusedLemmas.{stopped_before}
 use Rattle.vend_commands.proofs.TakeLemmas.{takes_last, takes_next, takes_none}
 use Rattle.vend_commands.specs.Exported.{IsExported, IsPage, page_of}

@@ -5,9 +5,9 @@ use Rattle.clap.specs.declared.error.kind.ErrorKind.TheVariants.{DisplayHelp, Di
 use Rattle.sqlite_trees.specs.declared.store.Store.{Ghosts}
 use Rattle.book_tables.specs.declared.totals.Totals.{Totals}
 use Rattle.sts_fields.specs.Text.{Text}
-use Rattle.vend_core.specs.declared.answer.Answer as core
-use Rattle.vend_core.specs.declared.refusal.Refusal.{Refusal}
-use Rattle.vend_core.specs.declared.row.Row.{Row}
+use Rattle.vend_core.specs.declared.decision.answer.Answer as core
+use Rattle.vend_core.specs.declared.decision.refusal.Refusal.{Refusal}
+use Rattle.vend_core.specs.declared.office.row.Row.{Row}
 use Rattle.papers.specs.declared.row_fault.RowFault.{RowFault}
 use Rattle.command_line.specs.declared.address.Address.{Address}
 use Rattle.command_line.specs.declared.asked.Asked.{Asked}

@@ -2,11 +2,11 @@
 use Rattle.std.proofs.Common.{◌≡◌, ◌∙◌, ℕ, Result, Ok, ap}
 use Rattle.books.specs.Asking.{ReplyAt}
 use Rattle.books.specs.Keeps.{Represents, Seen}
-use Rattle.vend_core.specs.Life.{Life}
-use Rattle.vend_core.specs.LifeLaws.{extended_by}
-use Rattle.vend_core.specs.declared.answer.Answer.{Answer}
-use Rattle.vend_core.specs.declared.refusal.Refusal.{Refusal}
-use Rattle.vend_core.specs.declared.request.Request.{Request}
+use Rattle.vend_core.specs.Law.Life.{Life}
+use Rattle.vend_core.specs.Law.LifeLaws.{extended_by}
+use Rattle.vend_core.specs.declared.decision.answer.Answer.{Answer}
+use Rattle.vend_core.specs.declared.decision.refusal.Refusal.{Refusal}
+use Rattle.vend_core.specs.declared.decision.request.Request.{Request}
 use Rattle.vend_commands.specs.Selfchecked.{IsGranted, IsSelfchecked, clock_moment}
 use Rattle.vend_commands.specs.Selfchecked.IsSelfchecked.{agreed, failed}
 use Rattle.vend_commands.specs.Told.{Outputs}

@@ -10,21 +10,21 @@ use Rattle.sts_fields.specs.Tid.{fresh_after, minute_of}
 use Rattle.sts_token.specs.Token.{BlockFunction}
 use Rattle.tariff.specs.Purchase.{purchase_of}
 use Rattle.vend_core.specs.Decision.{MeterAccount, ◌>>=◌, decision_of, next_number, or_refusal, sell, sell_once, unchanged}
-use Rattle.vend_core.specs.Fold.{after, replies_to, reply, reply_of, step}
-use Rattle.vend_core.specs.Handed.{sales_of}
-use Rattle.vend_core.specs.Life.{IsLife, MayLeave}
-use Rattle.vend_core.specs.LifeLaws.{IsRunning, extended_by, opened}
+use Rattle.vend_core.specs.Decision.Fold.{after, replies_to, reply, reply_of, step}
+use Rattle.vend_core.specs.Law.Handed.{sales_of}
+use Rattle.vend_core.specs.Law.Life.{IsLife, MayLeave}
+use Rattle.vend_core.specs.Law.LifeLaws.{IsRunning, extended_by, opened}
 use Rattle.vend_core.specs.Office.{Office}
-use Rattle.vend_core.specs.declared.answer.Answer.{Answer}
-use Rattle.vend_core.specs.declared.answer.Answer.TheVariants.{Sold}
-use Rattle.vend_core.specs.declared.change.Change.{Change}
-use Rattle.vend_core.specs.declared.refusal.Refusal.{Refusal}
-use Rattle.vend_core.specs.declared.refusal.Refusal.TheVariants as refusals
-use Rattle.vend_core.specs.declared.request.Order.{Order}
-use Rattle.vend_core.specs.declared.request.Request.TheVariants.{Sell}
-use Rattle.vend_core.specs.declared.request.Stamped.{Stamped}
-use Rattle.vend_core.specs.declared.sale.Sale.{Sale}
-use Rattle.vend_core.specs.declared.shift.Shift.{Shift}
+use Rattle.vend_core.specs.declared.decision.answer.Answer.{Answer}
+use Rattle.vend_core.specs.declared.decision.answer.Answer.TheVariants.{Sold}
+use Rattle.vend_core.specs.declared.decision.change.Change.{Change}
+use Rattle.vend_core.specs.declared.decision.refusal.Refusal.{Refusal}
+use Rattle.vend_core.specs.declared.decision.refusal.Refusal.TheVariants as refusals
+use Rattle.vend_core.specs.declared.decision.request.Order.{Order}
+use Rattle.vend_core.specs.declared.decision.request.Request.TheVariants.{Sell}
+use Rattle.vend_core.specs.declared.decision.request.Stamped.{Stamped}
+use Rattle.vend_core.specs.declared.office.sale.Sale.{Sale}
+use Rattle.vend_core.specs.declared.office.shift.Shift.{Shift}
 use Rattle.vend_commands.specs.Selling.{EndsSold, TellsSale}
 use Rattle.vend_commands.specs.Served.{TellsReply, answer_text}
 use Rattle.vend_commands.specs.Tasks.{IsAskedAt}

@@ -5,11 +5,11 @@ use Rattle.books.specs.Keeps.{Represents, Seen}
 use Rattle.books.specs.Others.{LeavesOthers}
 use Rattle.book_opening.specs.declared.fault.OpenFault.{OpenFault}
 use Rattle.desk.specs.Answering.{answers_by, books_serve, life_serves, message_refusal_of}
-use Rattle.desk.specs.Run.{IsRun}
-use Rattle.desk.specs.Uses.{IsPaced, Use}
-use Rattle.desk.specs.declared.end.End as conversation
+use Rattle.conversation.specs.Run.{IsRun}
+use Rattle.conversation.specs.Uses.{IsPaced, Use}
+use Rattle.conversation.specs.declared.end.End as conversation
 use Rattle.sts_token.specs.Token.{BlockFunction}
-use Rattle.vend_core.specs.Life.{Life}
+use Rattle.vend_core.specs.Law.Life.{Life}
 use Rattle.vend_commands.specs.Places.{Way}
 use Rattle.vend_commands.specs.Reopened.{IsNextLife}
 

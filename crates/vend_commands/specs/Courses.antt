@@ -3,11 +3,11 @@ use Rattle.std.specs.Prelude.{◌≡◌, ◌⊎◌, ℕ, zero, suc, List}
 use Rattle.books.specs.Headline.{RepresentTheLast, with_last}
 use Rattle.books.specs.Keeps.{Seen}
 use Rattle.desk.specs.Answering.{answers_by, life_serves, message_refusal_of}
-use Rattle.desk.specs.Run.{IsRun}
-use Rattle.desk.specs.declared.end.End as conversation
+use Rattle.conversation.specs.Run.{IsRun}
+use Rattle.conversation.specs.declared.end.End as conversation
 use Rattle.sts_token.specs.Token.{BlockFunction}
-use Rattle.vend_core.specs.Life.{Life, MayLeave}
-use Rattle.vend_core.specs.LifeLaws.{opened}
+use Rattle.vend_core.specs.Law.Life.{Life, MayLeave}
+use Rattle.vend_core.specs.Law.LifeLaws.{opened}
 use Rattle.vend_core.specs.Office.{Office}
 use Rattle.vend_commands.specs.Connections.{Service, service}
 use Rattle.vend_commands.specs.Places.{Way}

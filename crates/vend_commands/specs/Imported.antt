@@ -6,10 +6,10 @@ use Rattle.papers.specs.File.{AreFileRecords, Fields}
 use Rattle.papers.specs.Import.{IsReading}
 use Rattle.papers.specs.declared.row_fault.RowFault.{RowFault}
 use Rattle.papers.specs.declared.row_fault.RowFault.TheVariants.{At, Memory}
-use Rattle.vend_core.specs.declared.refusal.Refusal.{Refusal}
-use Rattle.vend_core.specs.declared.refusal.Refusal.TheVariants as refusal
-use Rattle.vend_core.specs.declared.request.Request.TheVariants.{Import}
-use Rattle.vend_core.specs.declared.row.Row.{Row}
+use Rattle.vend_core.specs.declared.decision.refusal.Refusal.{Refusal}
+use Rattle.vend_core.specs.declared.decision.refusal.Refusal.TheVariants as refusal
+use Rattle.vend_core.specs.declared.decision.request.Request.TheVariants.{Import}
+use Rattle.vend_core.specs.declared.office.row.Row.{Row}
 use Rattle.vend_commands.specs.Places.{Place}
 use Rattle.vend_commands.specs.Printed.{file_line, refusal_line}
 use Rattle.vend_commands.specs.Tasks.{IsAskedAt}

@@ -8,10 +8,10 @@ use Rattle.sim_meter.specs.declared.answer.Answer.TheVariants.{Accepted, Used, O
 use Rattle.sts_fields.specs.Text.{Text}
 use Rattle.sts_token.specs.TokenFault.{token_fault_name, token_fault_number}
 use Rattle.tariff.specs.declared.bought.Buy.{Buy}
-use Rattle.vend_core.specs.Refusal.{refusal_name, refusal_number}
-use Rattle.vend_core.specs.RowCause.{cause_text}
-use Rattle.vend_core.specs.declared.refusal.Refusal.{Refusal}
-use Rattle.vend_core.specs.declared.refusal.Refusal.TheVariants.{ImportRow}
+use Rattle.vend_core.specs.Decision.Refusals.{refusal_name, refusal_number}
+use Rattle.vend_core.specs.Decision.RowCauses.{cause_text}
+use Rattle.vend_core.specs.declared.decision.refusal.Refusal.{Refusal}
+use Rattle.vend_core.specs.declared.decision.refusal.Refusal.TheVariants.{ImportRow}
 use Rattle.command_line.specs.declared.address.Address.{Address}
 
 -- words with a space between them, and the end of the line

@@ -3,7 +3,7 @@ use Rattle.sqlite.specs.State.{HasCleanDisk, IsLive, Opens, State}
 use Rattle.sqlite_trees.specs.Tree.{Trees}
 use Rattle.books.specs.Keeps.{RecoversTo, Represents, Seen}
 use Rattle.sts_token.specs.Token.{BlockFunction}
-use Rattle.vend_core.specs.LifeLaws.{opened}
+use Rattle.vend_core.specs.Law.LifeLaws.{opened}
 use Rattle.vend_core.specs.Office.{Office}
 
 -- a connection was opened with what another one may have left

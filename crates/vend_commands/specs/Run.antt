@@ -5,8 +5,8 @@ use Rattle.clap.specs.declared.error.kind.ErrorKind.{ErrorKind}
 use Rattle.clap.specs.declared.error.kind.ErrorKind.TheVariants.{DisplayHelp, DisplayVersion, OutOfMemory}
 use Rattle.sqlite_trees.specs.declared.store.Store.{Ghosts}
 use Rattle.sts_fields.specs.Text.{Text}
-use Rattle.vend_core.specs.declared.refusal.Refusal.TheVariants.{Memory}
-use Rattle.vend_core.specs.declared.request.Request.TheVariants as request
+use Rattle.vend_core.specs.declared.decision.refusal.Refusal.TheVariants.{Memory}
+use Rattle.vend_core.specs.declared.decision.request.Request.TheVariants as request
 use Rattle.command_line.specs.Asked.{AskFor}
 use Rattle.command_line.specs.Line.{faults_in}
 use Rattle.vend_commands.specs.Imported.{IsFileImported}

@@ -3,22 +3,22 @@
 use Rattle.std.specs.Prelude.{◌≡◌, ℕ, pos, List, [], ◌∷◌, ◌++◌, Some, None, Ok, codes}
 use Rattle.std.specs.Io.KnownBytes.{Appends}
 use Rattle.desk.specs.Answering.{answers_by, life_serves, message_refusal_of}
-use Rattle.desk.specs.Exchanges.{Timed}
-use Rattle.desk.specs.Replies.{line_end}
-use Rattle.desk.specs.Run.{IsAll, IsRun}
-use Rattle.desk.specs.declared.end.End as conversation
-use Rattle.desk.specs.declared.end.End.TheVariants.{Closed, WriteFault}
+use Rattle.conversation.specs.Exchanges.{Timed}
+use Rattle.desk.specs.reply.Text.{line_end}
+use Rattle.conversation.specs.Run.{IsAll, IsRun}
+use Rattle.conversation.specs.declared.end.End as conversation
+use Rattle.conversation.specs.declared.end.End.TheVariants.{Closed, WriteFault}
 use Rattle.sts_fields.specs.Text.{Text}
 use Rattle.sts_fields.specs.declared.base.Base.TheVariants.{Y2014}
 use Rattle.sts_token.specs.Token.{BlockFunction}
-use Rattle.vend_core.specs.Life.{Life}
-use Rattle.vend_core.specs.LifeLaws.{extended_by, opened}
+use Rattle.vend_core.specs.Law.Life.{Life}
+use Rattle.vend_core.specs.Law.LifeLaws.{extended_by, opened}
 use Rattle.vend_core.specs.Office.{empty_office}
-use Rattle.vend_core.specs.declared.answer.Answer.{Answer}
-use Rattle.vend_core.specs.declared.refusal.Refusal.TheVariants as refusals
-use Rattle.vend_core.specs.declared.request.Request.{Request}
-use Rattle.vend_core.specs.declared.request.Request.TheVariants.{AddTariff, AddMeter, OpenShift}
-use Rattle.vend_core.specs.declared.request.Stamped.{Stamped}
+use Rattle.vend_core.specs.declared.decision.answer.Answer.{Answer}
+use Rattle.vend_core.specs.declared.decision.refusal.Refusal.TheVariants as refusals
+use Rattle.vend_core.specs.declared.decision.request.Request.{Request}
+use Rattle.vend_core.specs.declared.decision.request.Request.TheVariants.{AddTariff, AddMeter, OpenShift}
+use Rattle.vend_core.specs.declared.decision.request.Stamped.{Stamped}
 use Rattle.vend_commands.specs.Printed.{net_line, opening_line, refusal_line, selfcheck_line}
 use Rattle.vend_commands.specs.Told.{Held, IsTold, Outputs}
 use Rattle.command_line.specs.Transform.{forward_of}

@@ -7,13 +7,13 @@ use Rattle.sqlite.specs.State.{HasCleanDisk}
 use Rattle.sqlite_trees.specs.Tree.{Trees}
 use Rattle.sqlite_trees.specs.declared.store.Store.{Ghosts}
 use Rattle.sts_token.specs.Token.{BlockFunction}
-use Rattle.vend_core.specs.Fold.{reply, step}
+use Rattle.vend_core.specs.Decision.Fold.{reply, step}
 use Rattle.vend_core.specs.Office.{Office}
-use Rattle.vend_core.specs.declared.answer.Answer.TheVariants.{Sold}
-use Rattle.vend_core.specs.declared.request.Order.{Order}
-use Rattle.vend_core.specs.declared.request.Request.TheVariants.{Sell}
-use Rattle.vend_core.specs.declared.request.Stamped.{Stamped}
-use Rattle.vend_core.specs.declared.sale.Sale.{Sale}
+use Rattle.vend_core.specs.declared.decision.answer.Answer.TheVariants.{Sold}
+use Rattle.vend_core.specs.declared.decision.request.Order.{Order}
+use Rattle.vend_core.specs.declared.decision.request.Request.TheVariants.{Sell}
+use Rattle.vend_core.specs.declared.decision.request.Stamped.{Stamped}
+use Rattle.vend_core.specs.declared.office.sale.Sale.{Sale}
 use Rattle.vend_commands.specs.Told.{IsTold, Outputs, Takes}
 use Rattle.vend_commands.specs.Visited.{seen_in}
 use Rattle.command_line.specs.Transform.{forward_of}

@@ -3,8 +3,8 @@ use Rattle.std.specs.Prelude.{ℕ}
 use Rattle.sqlite_trees.specs.declared.store.Store.{Ghosts}
 use Rattle.sts_fields.specs.Moment.{first_moment}
 use Rattle.sts_fields.specs.Text.{Text}
-use Rattle.vend_core.specs.declared.request.Request.{Request}
-use Rattle.vend_core.specs.declared.request.Request.TheVariants.{MoveBase, OpenShift, CloseShift, Reprint, ShiftReport}
+use Rattle.vend_core.specs.declared.decision.request.Request.{Request}
+use Rattle.vend_core.specs.declared.decision.request.Request.TheVariants.{MoveBase, OpenShift, CloseShift, Reprint, ShiftReport}
 use Rattle.vend_commands.specs.Places.{Place}
 use Rattle.vend_commands.specs.Told.{Outputs}
 use Rattle.vend_commands.specs.Visited.{IsVisited}

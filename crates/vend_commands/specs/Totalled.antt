@@ -5,9 +5,9 @@ use Rattle.book_tables.specs.declared.totals.Totals.{Totals}
 use Rattle.books.specs.Keeps.{Represents, Seen}
 use Rattle.books.specs.Totals.{shift_totals}
 use Rattle.sts_fields.specs.Text.{Text}
-use Rattle.vend_core.specs.Life.{Life, present}
-use Rattle.vend_core.specs.declared.refusal.Refusal.{Refusal}
-use Rattle.vend_core.specs.declared.refusal.Refusal.TheVariants.{NoSuchShift}
+use Rattle.vend_core.specs.Law.Life.{Life, present}
+use Rattle.vend_core.specs.declared.decision.refusal.Refusal.{Refusal}
+use Rattle.vend_core.specs.declared.decision.refusal.Refusal.TheVariants.{NoSuchShift}
 use Rattle.vend_commands.specs.Printed.{line_of, refusal_line}
 use Rattle.vend_commands.specs.Refused.{RefusesToRead}
 use Rattle.vend_commands.specs.Told.{Outputs, IsTold}

@@ -3,7 +3,7 @@ use Rattle.std.specs.Prelude.{ℕ, List, [], Option, Some, None, map}
 use Rattle.std.specs.List.{concat}
 use Rattle.sts_fields.specs.Text.{Text}
 use Rattle.vend_core.specs.Decision.{refusal_of}
-use Rattle.vend_core.specs.declared.refusal.Refusal.TheVariants as refusal
+use Rattle.vend_core.specs.declared.decision.refusal.Refusal.TheVariants as refusal
 use Rattle.vend_commands.specs.Printed.{amount_line, refusal_line, token_line}
 use Rattle.vend_commands.specs.Told.{Outputs, IsTold}
 use Rattle.vend_commands.specs.Trial.{IsTrial}

@@ -8,7 +8,7 @@ use Rattle.books.specs.declared.books.Books.{Books}
 use Rattle.book_opening.specs.declared.fault.OpenFault.{OpenFault}
 use Rattle.command_line.specs.Transform.{forward_of}
 use Rattle.command_line.specs.declared.transform.Shipped.{Shipped}
-use Rattle.vend_core.specs.LifeLaws.{opened}
+use Rattle.vend_core.specs.Law.LifeLaws.{opened}
 use Rattle.vend_core.specs.Office.{Office}
 use Rattle.vend_commands.specs.Exported.{IsExported}
 use Rattle.vend_commands.specs.Places.{Place}

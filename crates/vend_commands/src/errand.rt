@@ -1,6 +1,6 @@
 ghost use Rattle.std.specs.Prelude.{◌≡◌};
 ghost use Rattle.vend_commands.specs.Tasks.{base_request, report_task, shift_request};
-ghost use Rattle.vend_core.specs.declared.request.Request.TheVariants.{Sell};
+ghost use Rattle.vend_core.specs.declared.decision.request.Request.TheVariants.{Sell};
 ghost use Rattle.vend_commands.specs.declared.task.Task.TheVariants.{Ask};
 
 use crate::task::Task;

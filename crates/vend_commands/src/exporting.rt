@@ -5,7 +5,7 @@ ghost use Rattle.sqlite.specs.State.{HasCleanDisk};
 ghost use Rattle.books.specs.Keeps.{Represents, seen};
 ghost use Rattle.vend_commands.specs.Exported.{IsExported, IsPage};
 ghost use Rattle.vend_commands.specs.Told.{outputs, sink};
-ghost use Rattle.vend_core.specs.Life.{Life};
+ghost use Rattle.vend_core.specs.Law.Life.{Life};
 
 use crate::end::End;
 use crate::printed::put_refusal;

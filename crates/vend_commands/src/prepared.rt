@@ -2,7 +2,7 @@
 
 ghost use Rattle.std.specs.Prelude.{◌≡◌, ◌∷◌, [], None, IfOk, OnOk};
 ghost use Rattle.sqlite.specs.Steps.{over_memory};
-ghost use Rattle.vend_core.specs.Life.{Life};
+ghost use Rattle.vend_core.specs.Law.Life.{Life};
 ghost use Rattle.books.specs.Keeps.{Represents, seen};
 ghost use Rattle.vend_commands.specs.Selfchecked.{IsGranted, IsPrepared, add_flat, add_selfcheck_meter};
 ghost use Rattle.vend_commands.specs.Selfchecked.{clock_moment, flat_name, open_selfcheck_shift};

@@ -1,6 +1,6 @@
 //! The lines that the program prints (`specs/Printed.antt`). None takes memory.
 ghost use Rattle.std.specs.Prelude.{◌≡◌, ◌≢◌, ℕ, IfOk, map, string_bytes};
-ghost use Rattle.vend_core.specs.RowCause.{cause_text};
+ghost use Rattle.vend_core.specs.Decision.RowCauses.{cause_text};
 ghost use Rattle.vend_commands.specs.Printed.{added_line, address_text, answer_line, credit_line};
 ghost use Rattle.vend_commands.specs.Printed.{host_text, line_of, opening_line, pair_text};
 ghost use Rattle.vend_commands.specs.Printed.{quote_line, refusal_line, shift_line, token_line};

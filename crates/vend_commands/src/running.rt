@@ -1,7 +1,7 @@
 ghost use Rattle.std.specs.Prelude.{◌≡◌, ◌≢◌, ◌⊎◌, ◌≤◌, ℕ, Bool, false, [], map};
 ghost use Rattle.sqlite_wal.specs.Files.{image_at};
 ghost use Rattle.sts_fields.specs.Text.{Text};
-ghost use Rattle.vend_core.specs.declared.refusal.Refusal.TheVariants.{Memory};
+ghost use Rattle.vend_core.specs.declared.decision.refusal.Refusal.TheVariants.{Memory};
 ghost use Rattle.command_line.specs.Asked.{AskFor};
 ghost use Rattle.vend_commands.specs.Places.{machine, places_of, untold, way};
 ghost use Rattle.vend_commands.specs.Printed.{refusal_line};

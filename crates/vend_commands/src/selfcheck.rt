@@ -3,8 +3,8 @@
 
 ghost use Rattle.std.specs.Prelude.{◌≡◌, ◌↔◌, true, IfErr, IfOk, IfSome, OnOk};
 ghost use Rattle.sqlite.specs.Steps.{over_memory};
-ghost use Rattle.vend_core.specs.Life.{Life};
-ghost use Rattle.vend_core.specs.declared.refusal.Refusal.TheVariants.{Memory};
+ghost use Rattle.vend_core.specs.Law.Life.{Life};
+ghost use Rattle.vend_core.specs.declared.decision.refusal.Refusal.TheVariants.{Memory};
 ghost use Rattle.books.specs.Keeps.{Represents, seen};
 ghost use Rattle.vend_commands.specs.Selfchecked.{AgreesOver, IsAnsweredFrom, AreReplies};
 ghost use Rattle.vend_commands.specs.Selfchecked.{IsAnsweredOver, MessagesAreSent, fault_in_memory};

@@ -1,4 +1,10 @@
 -- Decisions taken apart: what a granted sale found at each of its tests, and which sales each other request answers.
+pub mod EditLemmas
+pub mod ImportLemmas
+pub mod ImportWalkLemmas
+pub mod NewSaleLemmas
+pub mod RefusalLemmas
+pub mod TakenLemmas
 use Rattle.std.proofs.Common.{◌≡◌, ℕ, ◌+◌, ◌<◌, Bool, true, false, Option, Some, None, Result, Ok, Err, refl, sym, ◌∙◌, ap, arith}
 use Rattle.std.specs.Prelude.{if◌then◌else◌, nat_lt}
 use Rattle.std.specs.Option.{ok_or}
@@ -10,14 +16,14 @@ use Rattle.tariff.specs.Purchase.{purchase_of}
 use Rattle.tariff.specs.declared.bought.Buy.{Buy}
 use Rattle.vend_core.specs.Decision.{◌>>=◌, MeterAccount, next_number, or_refusal, sell}
 use Rattle.vend_core.specs.Office.{greatest_count}
-use Rattle.vend_core.specs.declared.answer.Answer.TheVariants as answers
-use Rattle.vend_core.specs.declared.change.Change.{Change}
-use Rattle.vend_core.specs.declared.change.Edit.TheVariants as edits
-use Rattle.vend_core.specs.declared.refusal.Refusal.{Refusal}
-use Rattle.vend_core.specs.declared.refusal.Refusal.TheVariants as refusals
-use Rattle.vend_core.specs.declared.request.Order.{Order}
-use Rattle.vend_core.specs.declared.sale.Sale.{Sale}
-use Rattle.vend_core.specs.declared.shift.Shift.{Shift}
+use Rattle.vend_core.specs.declared.decision.answer.Answer.TheVariants as answers
+use Rattle.vend_core.specs.declared.decision.change.Change.{Change}
+use Rattle.vend_core.specs.declared.decision.change.Edit.TheVariants as edits
+use Rattle.vend_core.specs.declared.decision.refusal.Refusal.{Refusal}
+use Rattle.vend_core.specs.declared.decision.refusal.Refusal.TheVariants as refusals
+use Rattle.vend_core.specs.declared.decision.request.Order.{Order}
+use Rattle.vend_core.specs.declared.office.sale.Sale.{Sale}
+use Rattle.vend_core.specs.declared.office.shift.Shift.{Shift}
 
 -- what holds where a chain of tests is passed
 pub bind_ok : {A B : Type 0} (r : Result A Refusal) (f : A → Result B Refusal) (y : B) → (r >>= f) ≡ Ok y → (x : A) × (r ≡ Ok x) × (f x ≡ Ok y)

@@ -1,4 +1,16 @@
 -- What single requests do: a ref that comes again, a refusal, a reprint, a report, a new sale.
+pub mod AgainLemmas
+pub mod AnswerLemmas
+pub mod BaseLemmas
+pub mod CashLemmas
+pub mod ClearedLemmas
+pub mod DatedLemmas
+pub mod FoldLemmas
+pub mod MeterLemmas
+pub mod PriceLemmas
+pub mod RiseLemmas
+pub mod SaleLemmas
+pub mod StayLemmas
 use Rattle.std.proofs.Common.{◌≡◌, ℕ, inl, inr, Bool, true, false, List, [], ◌∷◌, ◌++◌, length, Option, Some, None, Result, Ok, Err, refl, sym, ◌∙◌, ap, subst}
 use Rattle.std.specs.Prelude.{◌==◌, Contains, if◌then◌else◌}
 use Rattle.std.proofs.lemmas.Bool.{false≢true}
@@ -6,23 +18,23 @@ use Rattle.std.proofs.lemmas.Bool.Decides.{Decides-eqb}
 use Rattle.std.proofs.lemmas.Slice.Eq.{bytes_eq-Decides}
 use Rattle.sts_token.specs.Token.{KeepsRange}
 use Rattle.vend_core.specs.Decision.{decision_of, account_of, report, reprint, sell, sell_again, sell_once, unchanged}
-use Rattle.vend_core.specs.Fold.{office_after, reply, reply_of, step}
-use Rattle.vend_core.specs.Lookup.{open_shift, sale_numbered, sale_of_ref, sales_of_shift, shift_numbered}
-use Rattle.vend_core.specs.NewSale.{IsNewSale}
+use Rattle.vend_core.specs.Decision.Fold.{office_after, reply, reply_of, step}
+use Rattle.vend_core.specs.Office.Lookup.{open_shift, sale_numbered, sale_of_ref, sales_of_shift, shift_numbered}
+use Rattle.vend_core.specs.Law.NewSale.{IsNewSale}
 use Rattle.vend_core.specs.Office.{IsBefore, IsOffice, Office}
-use Rattle.vend_core.specs.OfficeLaws.{IsSameOrder, WasSold}
-use Rattle.vend_core.specs.declared.answer.Answer.{Answer}
-use Rattle.vend_core.specs.declared.answer.Answer.TheVariants as answers
-use Rattle.vend_core.specs.declared.change.Change.{Change}
-use Rattle.vend_core.specs.declared.refusal.Refusal.{Refusal}
-use Rattle.vend_core.specs.declared.refusal.Refusal.TheVariants as refusals
-use Rattle.vend_core.specs.declared.request.Order.{Order}
-use Rattle.vend_core.specs.declared.request.Request.TheVariants as requests
-use Rattle.vend_core.specs.declared.request.Stamped.{Stamped}
-use Rattle.vend_core.specs.declared.sale.Sale.{Sale}
-use Rattle.vend_core.specs.declared.shift.Shift.{Shift}
-use Rattle.vend_core.proofs.NewSaleLemmas.{LowerLaws, granted_sale}
-use Rattle.vend_core.proofs.RowLemmas.{both_true, parts_true, finds, related, same_number}
+use Rattle.vend_core.specs.Law.OfficeLaws.{IsSameOrder, WasSold}
+use Rattle.vend_core.specs.declared.decision.answer.Answer.{Answer}
+use Rattle.vend_core.specs.declared.decision.answer.Answer.TheVariants as answers
+use Rattle.vend_core.specs.declared.decision.change.Change.{Change}
+use Rattle.vend_core.specs.declared.decision.refusal.Refusal.{Refusal}
+use Rattle.vend_core.specs.declared.decision.refusal.Refusal.TheVariants as refusals
+use Rattle.vend_core.specs.declared.decision.request.Order.{Order}
+use Rattle.vend_core.specs.declared.decision.request.Request.TheVariants as requests
+use Rattle.vend_core.specs.declared.decision.request.Stamped.{Stamped}
+use Rattle.vend_core.specs.declared.office.sale.Sale.{Sale}
+use Rattle.vend_core.specs.declared.office.shift.Shift.{Shift}
+use Rattle.vend_core.proofs.DecisionLemmas.NewSaleLemmas.{LowerLaws, granted_sale}
+use Rattle.vend_core.proofs.OfficeLemmas.RowLemmas.{both_true, parts_true, finds, related, same_number}
 
 -- two sales of an office are one where they agree in meter, base and identifier, in number, or in operator and ref
 pub one_of_tid : (o : Office) (a b : Sale) → IsOffice o → Contains o.sales a → Contains o.sales b → a.meter ≡ b.meter → a.base ≡ b.base → a.tid ≡ b.tid → a ≡ b

@@ -1,4 +1,5 @@
 -- A step of an office leads to an office.
+pub mod RowLemmas
 use Rattle.std.proofs.Common.{◌≡◌, ℕ, ◌<◌, Bool, true, false, List, length, Option, Some, None, Result, Ok, Err, refl, sym, ◌∙◌, ap, subst, arith}
 use Rattle.std.specs.Prelude.{◌&&◌, ◌≤◌, All, Contains, IsSome, bytes_eq, filter, is_some, nat_lt, if◌then◌else◌}
 use Rattle.std.proofs.lemmas.Bool.Decides.{nat_tests}
@@ -13,34 +14,34 @@ use Rattle.tariff.specs.Steps.{IsSteps}
 use Rattle.tariff.specs.Tender.{IsTender}
 use Rattle.tariff.specs.declared.step.Step.{Step}
 use Rattle.vend_core.specs.Decision.{add_meter, add_steps, add_tariff, changed, close_shift, decision_of, import, is_earlier, account_of, meter_eq, move_base, next_number, open_a_shift, report, reprint, row_decision, sell, sell_again, sell_once, set_tariff, steps_eq, unchanged}
-use Rattle.vend_core.specs.Fold.{office_after, step}
+use Rattle.vend_core.specs.Decision.Fold.{office_after, step}
 use Rattle.sts_fields.specs.Base.{base_date, base_eq, year_of}
-use Rattle.vend_core.specs.Lookup.{open_shift, sale_numbered, sale_of_ref, sales_of_shift, shift_numbered, used}
-use Rattle.vend_core.specs.Names.{IsName, IsOperator}
-use Rattle.vend_core.specs.NewSale.{IsNewSale}
+use Rattle.vend_core.specs.Office.Lookup.{open_shift, sale_numbered, sale_of_ref, sales_of_shift, shift_numbered, used}
+use Rattle.vend_core.specs.Name.{IsName, IsOperator}
+use Rattle.vend_core.specs.Law.NewSale.{IsNewSale}
 use Rattle.sts_fields.specs.Moment.{IsMoment}
 use Rattle.vend_core.specs.Office.{IsBefore, IsOffice, IsSaleRow, IsShiftRow, Office, Rises, empty_office}
-use Rattle.vend_core.specs.Request.{IsMeter, IsOrder, IsRequest, IsRow, IsStamped}
-use Rattle.vend_core.specs.declared.answer.Answer.{Answer}
-use Rattle.vend_core.specs.declared.answer.Answer.TheVariants as answers
-use Rattle.vend_core.specs.declared.change.Change.{Change}
-use Rattle.vend_core.specs.declared.change.Edit.TheVariants as edits
-use Rattle.vend_core.specs.declared.meter.Meter.{Meter}
-use Rattle.vend_core.specs.declared.refusal.Refusal.{Refusal}
-use Rattle.vend_core.specs.declared.refusal.Refusal.TheVariants as refusals
-use Rattle.vend_core.specs.declared.request.Order.{Order}
-use Rattle.vend_core.specs.declared.request.Request.{Request}
-use Rattle.vend_core.specs.declared.request.Request.TheVariants as requests
-use Rattle.vend_core.specs.declared.request.Stamped.{Stamped}
-use Rattle.vend_core.specs.declared.row.Row.{Row}
-use Rattle.vend_core.specs.declared.row.Row.TheVariants as kinds
-use Rattle.vend_core.specs.declared.sale.Sale.{Sale}
-use Rattle.vend_core.specs.declared.shift.Shift.{Shift}
+use Rattle.vend_core.specs.Decision.Requests.{IsMeter, IsOrder, IsRequest, IsRow, IsStamped}
+use Rattle.vend_core.specs.declared.decision.answer.Answer.{Answer}
+use Rattle.vend_core.specs.declared.decision.answer.Answer.TheVariants as answers
+use Rattle.vend_core.specs.declared.decision.change.Change.{Change}
+use Rattle.vend_core.specs.declared.decision.change.Edit.TheVariants as edits
+use Rattle.vend_core.specs.declared.office.meter.Meter.{Meter}
+use Rattle.vend_core.specs.declared.decision.refusal.Refusal.{Refusal}
+use Rattle.vend_core.specs.declared.decision.refusal.Refusal.TheVariants as refusals
+use Rattle.vend_core.specs.declared.decision.request.Order.{Order}
+use Rattle.vend_core.specs.declared.decision.request.Request.{Request}
+use Rattle.vend_core.specs.declared.decision.request.Request.TheVariants as requests
+use Rattle.vend_core.specs.declared.decision.request.Stamped.{Stamped}
+use Rattle.vend_core.specs.declared.office.row.Row.{Row}
+use Rattle.vend_core.specs.declared.office.row.Row.TheVariants as kinds
+use Rattle.vend_core.specs.declared.office.sale.Sale.{Sale}
+use Rattle.vend_core.specs.declared.office.shift.Shift.{Shift}
 use Rattle.vend_core.proofs.DecisionLemmas.{after_test, next_number_ok}
-use Rattle.vend_core.proofs.EditLemmas.{base_eq-refl, keeps_add_meter, keeps_add_sale, keeps_add_steps, keeps_add_tariff, keeps_close_shift, keeps_move_base, keeps_open_shift, keeps_set_tariff}
-use Rattle.vend_core.proofs.ImportLemmas.{import_keeps}
-use Rattle.vend_core.proofs.NewSaleLemmas.{LowerLaws, granted_sale}
-use Rattle.vend_core.proofs.RowLemmas.{both_true, contains_map, found, found_none, kept, number_within}
+use Rattle.vend_core.proofs.DecisionLemmas.EditLemmas.{base_eq-refl, keeps_add_meter, keeps_add_sale, keeps_add_steps, keeps_add_tariff, keeps_close_shift, keeps_move_base, keeps_open_shift, keeps_set_tariff}
+use Rattle.vend_core.proofs.DecisionLemmas.ImportLemmas.{import_keeps}
+use Rattle.vend_core.proofs.DecisionLemmas.NewSaleLemmas.{LowerLaws, granted_sale}
+use Rattle.vend_core.proofs.OfficeLemmas.RowLemmas.{both_true, contains_map, found, found_none, kept, number_within}
 
 -- where a test decides between no change and a refusal, the office stays
 kept_if : (o : Office) (b : Bool) (answer : Answer) (refusal : Refusal) → IsOffice o → IsOffice (office_after o (if b then unchanged answer else Err refusal))

@@ -1,4 +1,8 @@
 -- What a look-up finds among an office's rows, and how it changes by one sale.
+pub mod MeetsLemmas
+pub mod OrderLemmas
+pub mod RowMeetsLemmas
+pub mod SumLemmas
 use Rattle.std.proofs.Common.{◌≡◌, ◌≢◌, ℕ, ◌-◌, ◌≤◌, ◌↔◌, inl, inr, Bool, true, false, List, [], ◌∷◌, Option, Some, None, refl, sym, ◌∙◌, ap, subst, arith}
 use Rattle.std.specs.Prelude.{◌&&◌, ◌==◌, Contains, IsNone, bytes_eq, filter, find, is_none, slice_get}
 use Rattle.std.proofs.lemmas.Bool.{false≢true}
@@ -10,16 +14,16 @@ use Rattle.sts_fields.specs.Tid.{IsLast}
 use Rattle.sts_fields.specs.declared.base.Base.{Base}
 use Rattle.sts_fields.specs.declared.base.Base.TheVariants.{Y1993, Y2014, Y2035}
 use Rattle.sts_fields.specs.Base.{base_eq}
-use Rattle.vend_core.specs.Lookup.{greatest_of, open_shift, sale_of_ref, used}
+use Rattle.vend_core.specs.Office.Lookup.{greatest_of, open_shift, sale_of_ref, used}
 use Rattle.vend_core.specs.Office.{AreNumbered, IsOffice, NotBothOpen, Office}
-use Rattle.vend_core.specs.Store.{IsLastSale, IsOpenShift, IsUnderRef}
-use Rattle.vend_core.specs.declared.sale.Sale.{Sale}
-use Rattle.vend_core.specs.declared.shift.Shift.{Shift}
+use Rattle.vend_core.specs.Law.Store.{IsLastSale, IsOpenShift, IsUnderRef}
+use Rattle.vend_core.specs.declared.office.sale.Sale.{Sale}
+use Rattle.vend_core.specs.declared.office.shift.Shift.{Shift}
 use Rattle.vend_core.proofs.LawLemmas.{one_of_ref}
-use Rattle.vend_core.proofs.MapLemmas.{all_from_contains}
-use Rattle.vend_core.proofs.NewSaleLemmas.{greatest_is_last}
+use Rattle.vend_core.proofs.ListsLemmas.MapLemmas.{all_from_contains}
+use Rattle.vend_core.proofs.DecisionLemmas.NewSaleLemmas.{greatest_is_last}
 use Rattle.vend_core.proofs.OfficeLemmas.{used_by}
-use Rattle.vend_core.proofs.RowLemmas.{both_true, contains_first, finds, found, found_none, kept_from, map_source, parts_true, related, same_number}
+use Rattle.vend_core.proofs.OfficeLemmas.RowLemmas.{both_true, contains_first, finds, found, found_none, kept_from, map_source, parts_true, related, same_number}
 
 -- the last identifier is one
 last_is_one : (ns : List ℕ) (a b : Option ℕ) → IsLast ns a → IsLast ns b → a ≡ b

@@ -1,4 +1,11 @@
 -- How the office decides a request: the tests in their order, and what a granted request changes.
+pub mod Edits
+pub mod Facts
+pub mod Fold
+pub mod Refusals
+pub mod Requests
+pub mod RowCauses
+pub mod Taken
 use Rattle.std.specs.Prelude.{ℕ, ◌+◌, ◌&&◌, ◌==◌, Bool, true, false, List, [], ◌∷◌, length, nat_lt, if◌then◌else◌, Option, Some, None, Result, Ok, Err, is_some, option_map, bytes_eq}
 use Rattle.std.specs.Option.{ok_or}
 use Rattle.sts_fields.specs.Calendar.{month_at}
@@ -10,28 +17,28 @@ use Rattle.sts_token.specs.Token.{BlockFunction, token_of}
 use Rattle.tariff.specs.Purchase.{purchase_of}
 pub use Rattle.tariff.specs.StepsEq.{step_eq, steps_eq}
 use Rattle.tariff.specs.declared.step.Step.{Step}
-use Rattle.vend_core.specs.Edits.{office_after}
+use Rattle.vend_core.specs.Decision.Edits.{office_after}
 use Rattle.sts_fields.specs.Base.{base_date, base_eq, year_of}
 use Rattle.sts_fields.specs.declared.base.Base.{Base}
-use Rattle.vend_core.specs.Lookup.{greatest_of, open_shift, prior, sale_numbered, sale_of_ref, sales_of_shift, shift_numbered, steps_on, used}
+use Rattle.vend_core.specs.Office.Lookup.{greatest_of, open_shift, prior, sale_numbered, sale_of_ref, sales_of_shift, shift_numbered, steps_on, used}
 use Rattle.vend_core.specs.Office.{Office, greatest_count}
-use Rattle.vend_core.specs.declared.answer.Answer.{Answer}
-use Rattle.vend_core.specs.declared.answer.Answer.TheVariants as answers
-use Rattle.vend_core.specs.declared.change.Change.{Change}
-use Rattle.vend_core.specs.declared.change.Edit.{Edit}
-use Rattle.vend_core.specs.declared.change.Edit.TheVariants as edits
-use Rattle.vend_core.specs.declared.meter.Meter.{Meter}
-use Rattle.vend_core.specs.declared.refusal.Refusal.{Refusal}
-use Rattle.vend_core.specs.declared.refusal.Refusal.TheVariants as refusals
-use Rattle.vend_core.specs.declared.request.Order.{Order}
-use Rattle.vend_core.specs.declared.request.Request.{Request}
-use Rattle.vend_core.specs.declared.request.Request.TheVariants as requests
-use Rattle.vend_core.specs.declared.request.Stamped.{Stamped}
-use Rattle.vend_core.specs.declared.row.Row.{Row}
-use Rattle.vend_core.specs.declared.row.Row.TheVariants as kinds
-use Rattle.vend_core.specs.declared.row_cause.RowCause.TheVariants as causes
-use Rattle.vend_core.specs.declared.sale.Sale.{Sale}
-use Rattle.vend_core.specs.declared.shift.Shift.{Shift}
+use Rattle.vend_core.specs.declared.decision.answer.Answer.{Answer}
+use Rattle.vend_core.specs.declared.decision.answer.Answer.TheVariants as answers
+use Rattle.vend_core.specs.declared.decision.change.Change.{Change}
+use Rattle.vend_core.specs.declared.decision.change.Edit.{Edit}
+use Rattle.vend_core.specs.declared.decision.change.Edit.TheVariants as edits
+use Rattle.vend_core.specs.declared.office.meter.Meter.{Meter}
+use Rattle.vend_core.specs.declared.decision.refusal.Refusal.{Refusal}
+use Rattle.vend_core.specs.declared.decision.refusal.Refusal.TheVariants as refusals
+use Rattle.vend_core.specs.declared.decision.request.Order.{Order}
+use Rattle.vend_core.specs.declared.decision.request.Request.{Request}
+use Rattle.vend_core.specs.declared.decision.request.Request.TheVariants as requests
+use Rattle.vend_core.specs.declared.decision.request.Stamped.{Stamped}
+use Rattle.vend_core.specs.declared.office.row.Row.{Row}
+use Rattle.vend_core.specs.declared.office.row.Row.TheVariants as kinds
+use Rattle.vend_core.specs.declared.decision.row_cause.RowCause.TheVariants as causes
+use Rattle.vend_core.specs.declared.office.sale.Sale.{Sale}
+use Rattle.vend_core.specs.declared.office.shift.Shift.{Shift}
 
 -- the next test, if the one before is passed
 infixl 10 ◌>>=◌

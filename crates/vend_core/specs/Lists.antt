@@ -1,27 +1,28 @@
 -- The office that plain lists keep, and what serving a request does to it.
+pub mod PlainRows
 use Rattle.std.specs.Prelude.{◌≡◌, ◌⊎◌, ◌<◌, ◌≤◌, Bool, true, false, ℕ, List, [], ◌∷◌, Some, Result, Ok, Err, IsNone, IsSome, length}
 use Rattle.sts_fields.specs.Tid.{last_tid}
 use Rattle.sts_token.specs.Token.{BlockFunction}
 use Rattle.vend_core.specs.Decision.{account_of, decision}
-use Rattle.vend_core.specs.Edits.{with_row}
-use Rattle.vend_core.specs.Facts.{report_of}
-use Rattle.vend_core.specs.Fold.{reply, step}
-use Rattle.vend_core.specs.Lookup.{open_shift, sale_of_ref}
+use Rattle.vend_core.specs.Decision.Edits.{with_row}
+use Rattle.vend_core.specs.Decision.Facts.{report_of}
+use Rattle.vend_core.specs.Decision.Fold.{reply, step}
+use Rattle.vend_core.specs.Office.Lookup.{open_shift, sale_of_ref}
 use Rattle.vend_core.specs.Office.{Office, greatest_count}
-use Rattle.vend_core.specs.PlainRows.{office_of_rows}
-use Rattle.vend_core.specs.declared.answer.Answer.{Answer}
-use Rattle.vend_core.specs.declared.change.Change.{Change}
-use Rattle.vend_core.specs.declared.change.Edit.{Edit}
-use Rattle.vend_core.specs.declared.change.Edit.TheVariants.{AddTariff, AddSteps, AddMeter, AddRows, SetTariff, MoveBase, OpenShift, CloseShift, AddSale}
+use Rattle.vend_core.specs.Lists.PlainRows.{office_of_rows}
+use Rattle.vend_core.specs.declared.decision.answer.Answer.{Answer}
+use Rattle.vend_core.specs.declared.decision.change.Change.{Change}
+use Rattle.vend_core.specs.declared.decision.change.Edit.{Edit}
+use Rattle.vend_core.specs.declared.decision.change.Edit.TheVariants.{AddTariff, AddSteps, AddMeter, AddRows, SetTariff, MoveBase, OpenShift, CloseShift, AddSale}
 use Rattle.vend_core.specs.declared.lists.Lists.{Lists}
-use Rattle.vend_core.specs.declared.records.Records.{Records}
-use Rattle.vend_core.specs.declared.refusal.Refusal.{Refusal}
-use Rattle.vend_core.specs.declared.refusal.Refusal.TheVariants.{Memory}
-use Rattle.vend_core.specs.declared.request.Request.{Request}
-use Rattle.vend_core.specs.declared.request.Request.TheVariants as requests
-use Rattle.vend_core.specs.declared.request.Stamped.{Stamped}
-use Rattle.vend_core.specs.declared.row.Row.{Row}
-use Rattle.vend_core.specs.declared.row.Row.TheVariants as kinds
+use Rattle.vend_core.specs.declared.lists.records.Records.{Records}
+use Rattle.vend_core.specs.declared.decision.refusal.Refusal.{Refusal}
+use Rattle.vend_core.specs.declared.decision.refusal.Refusal.TheVariants.{Memory}
+use Rattle.vend_core.specs.declared.decision.request.Request.{Request}
+use Rattle.vend_core.specs.declared.decision.request.Request.TheVariants as requests
+use Rattle.vend_core.specs.declared.decision.request.Stamped.{Stamped}
+use Rattle.vend_core.specs.declared.office.row.Row.{Row}
+use Rattle.vend_core.specs.declared.office.row.Row.TheVariants as kinds
 
 -- the office that records stand for
 abbrev pub recorded : Records → Office

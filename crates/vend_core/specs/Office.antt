@@ -1,4 +1,6 @@
 -- The office: what it holds, and what all that it holds keeps.
+pub mod Lookup
+pub mod Rows
 use Rattle.std.specs.Prelude.{◌≡◌, ◌≢◌, ℕ, ◌+◌, ◌^◌, ◌<◌, ◌≤◌, Bool, true, false, List, [], length, Option, Some, None, IsSome, IsNone, All, AllPairs, slice_get}
 use Rattle.sts_fields.specs.Amount.{IsRepresentable}
 use Rattle.sts_fields.specs.Base.{year_of}
@@ -11,10 +13,10 @@ use Rattle.sts_token.specs.Token.{AreTwentyDigits}
 use Rattle.tariff.specs.Steps.{IsSteps}
 use Rattle.tariff.specs.Tender.{IsTender}
 use Rattle.tariff.specs.declared.step.Step.{Step}
-use Rattle.vend_core.specs.Names.{IsMeterNo, IsName, IsOperator}
-use Rattle.vend_core.specs.declared.meter.Meter.{Meter}
-use Rattle.vend_core.specs.declared.sale.Sale.{Sale}
-use Rattle.vend_core.specs.declared.shift.Shift.{Shift}
+use Rattle.vend_core.specs.Name.{IsMeterNo, IsName, IsOperator}
+use Rattle.vend_core.specs.declared.office.meter.Meter.{Meter}
+use Rattle.vend_core.specs.declared.office.sale.Sale.{Sale}
+use Rattle.vend_core.specs.declared.office.shift.Shift.{Shift}
 
 -- the first steps of tariffs by name, meters by number, whether a meter has or had a base, the
 -- further steps of tariffs by name and first day, shifts and sales in the order that they came; no

@@ -1,15 +1,14 @@
-use crate::answer::Reply;
-use crate::apply::apply;
-use crate::change::Change;
-use crate::decisions::decide;
-use crate::gather::facts;
-use crate::laws::office_law;
-use crate::records::Records;
-use crate::request::Stamped;
-use crate::sale::Sale;
-use crate::shift::Shift;
+use crate::decision::{Change, Reply, Stamped, decide};
+use crate::law::office_law;
+use crate::office::{Sale, Shift};
+use records::Records;
 use std::alloc::Global;
 use sts_token::BlockTransform;
+
+mod apply;
+mod gather;
+mod look_up;
+mod records;
 
 /// The office over plain vectors, which are searched from end to end.
 ///
@@ -71,7 +70,7 @@ impl<T: BlockTransform> Lists<T> {
     ghost use Rattle.std.specs.Prelude.{◌≡◌, Err};
     ghost use Rattle.vend_core.specs.Lists.{IsServed, NeedsRoom, office_of, transform_of};
     ghost use Rattle.vend_core.specs.Office.{IsOffice};
-    ghost use Rattle.vend_core.specs.declared.refusal.Refusal.{Refusal};
+    ghost use Rattle.vend_core.specs.declared.decision.refusal.Refusal.{Refusal};
 
     /// Serves a request: its answer, or why it is refused.
     ///
@@ -99,10 +98,10 @@ impl<T: BlockTransform> Lists<T> {
             → NeedsRoom (T.forwards (transform_of self.old)) (office_of self.old) at.now }
         ensures transform { transform_of self.new ≡ transform_of self.old }
     {
-        let facts = facts(self.alloc, &self.records, at)?;
+        let facts = gather::facts(self.alloc, &self.records, at)?;
         let Change { edit, answer } = decide(self.alloc, &self.transform, &facts, at)?;
         if let Some(edit) = edit {
-            apply(self.alloc, &mut self.records, edit)?;
+            apply::apply(self.alloc, &mut self.records, edit)?;
         }
         Ok(answer)
     }

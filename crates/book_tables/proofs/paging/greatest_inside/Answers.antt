@@ -2,8 +2,8 @@ use Rattle.std.proofs.Common.{◌≡◌, ◌∙◌, List, ap, map, option_map, s
 use Rattle.std.specs.Option.{option_to_list}
 use Rattle.sqlite.specs.Held.{state}
 use Rattle.sqlite.specs.Values.{bound}
-use Rattle.vend_core.specs.Lookup.{greatest_of}
-use Rattle.vend_core.specs.declared.sale.Sale.{Sale}
+use Rattle.vend_core.specs.Office.Lookup.{greatest_of}
+use Rattle.vend_core.specs.declared.office.sale.Sale.{Sale}
 use Rattle.book_tables.specs.Stands.{sales_under}
 use Rattle.book_tables.specs.declared.counted.Tid.{Tid}
 use Rattle.book_tables.proofs.ListingLemmas.{gives, only_asks}

@@ -1,7 +1,7 @@
 use Rattle.std.proofs.Common.{◌≡◌, ◌≢◌, ◌∙◌, ◌*◌, ◌==◌, ◌&&◌, ℕ, Bool, true, not, ap, eq-eqb, inl, inr, length, refl, subst, sym}
 use Rattle.std.proofs.lemmas.Bool.{ne_eqb}
 use Rattle.papers.specs.Export.{export_of}
-use Rattle.vend_core.specs.Life.{present}
+use Rattle.vend_core.specs.Law.Life.{present}
 use Rattle.vend_commands.specs.Told.{Takes, sink}
 use Rattle.books.specs.Keeps.{seen}
 use Rattle.vend_commands.proofs.RefusedLemmas.{stopped_as_before, tells_no_memory, tells_refusal}

@@ -1,6 +1,6 @@
 use Rattle.std.proofs.Common.{[], inl, refl, subst, arith, Ok}
 use Rattle.books.specs.Keeps.{seen}
-use Rattle.vend_core.specs.Life.{present}
+use Rattle.vend_core.specs.Law.Life.{present}
 use Rattle.vend_commands.specs.Exported.{IsPage}
 use Rattle.vend_commands.specs.Printed.{refusal_line}
 use Rattle.vend_commands.specs.Told.{Takes, sink}

@@ -1,5 +1,5 @@
 use Rattle.std.proofs.Common.{refl, subst}
-use Rattle.vend_core.specs.LifeLaws.{opened}
+use Rattle.vend_core.specs.Law.LifeLaws.{opened}
 use Rattle.vend_core.specs.Office.{empty_office}
 use Rattle.vend_commands.specs.Selfchecked.{IsGranted}
 use Rattle.vend_commands.proofs.prepared.prepare.Goals as goal

@@ -2,11 +2,11 @@ use Rattle.std.proofs.Common.{List, Some, subst}
 use Rattle.std.specs.Prelude.{ℤ}
 use Rattle.sqlite.proofs.Callers.{memory_is_clean}
 use Rattle.desk.specs.Answering.{answers_by, life_serves, message_refusal_of}
-use Rattle.desk.specs.Clock.{script_answers}
-use Rattle.desk.specs.Exchanges.{Timed}
-use Rattle.desk.specs.Run.{IsRun}
-use Rattle.desk.specs.declared.end.End.TheVariants.{Closed}
-use Rattle.vend_core.specs.Life.{Life}
+use Rattle.conversation.specs.Clock.{script_answers}
+use Rattle.conversation.specs.Exchanges.{Timed}
+use Rattle.conversation.specs.Run.{IsRun}
+use Rattle.conversation.specs.declared.end.End.TheVariants.{Closed}
+use Rattle.vend_core.specs.Law.Life.{Life}
 use Rattle.vend_commands.proofs.selfcheck.answer.Goals as goal
 
 pub returns-in-Closed : goal.returns-in-Closed

@@ -1,6 +1,6 @@
 use Rattle.books.specs.Keeps.{seen}
+use Rattle.conversation.specs.message.Next.{message_of}
 use Rattle.desk.specs.Answering.{Comes, books_serve}
-use Rattle.desk.specs.Next.{message_of}
 use Rattle.desk.proofs.ServingLemmas.{comes_asked, comes_told, was_answered, was_given_up}
 use Rattle.desk.proofs.desk.DeskServiceBooks.answer.Goals.{in-Asks, in-Told}
 use Rattle.desk.proofs.desk.DeskServiceBooks.answer.Goals as goal

@@ -1,7 +1,7 @@
 use Rattle.std.proofs.Common.{inr}
 use Rattle.std.proofs.lemmas.Bool.{false≢true}
 use Rattle.vend_core.specs.Lists.{recorded}
-use Rattle.vend_core.proofs.FitsLemmas.{adds_if_decided, fits_if_decided}
+use Rattle.vend_core.proofs.ListsLemmas.FitsLemmas.{adds_if_decided, fits_if_decided}
 use Rattle.vend_core.proofs.lists.Lists.served.Goals as goal
 
 pub apply-requires : goal.apply-requires

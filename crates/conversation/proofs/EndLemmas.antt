@@ -1,0 +1,241 @@
+-- How a run ends, from how the last message of it did.
+use Rattle.std.proofs.Common.{◌≡◌, ℕ, ◌<◌, inl, inr, true, List, [], ◌∷◌, ◌++◌, length, take, Option, Some, None, Err, refl, ap, sym, subst, ◌∙◌, append-nil}
+use Rattle.std.specs.Prelude.{MatchBool}
+use Rattle.std.specs.Io.KnownBytes.{Appends, Consumes, IsAtEnd}
+use Rattle.std.proofs.KnownBytes.{Appends-trans}
+use Rattle.conversation.specs.declared.end.End.{End}
+use Rattle.conversation.specs.declared.end.End.TheVariants.{Closed, BadMessage, ReadFault, WriteFault, Memory}
+use Rattle.conversation.specs.declared.message.message_fault.MessageFault.{MessageFault}
+use Rattle.conversation.specs.Conversation.{messages_of, Conversation, Progress, IsCutOff, IsGivenUp}
+use Rattle.conversation.specs.Exchanges.{MessageExchange, Timed, timed, GaveUp}
+use Rattle.conversation.specs.message.Messages.{Stop, ended, Message, BeginsMessage, IsRefused, finished, closing, refused}
+use Rattle.conversation.specs.message.Next.{IsRefusedEver}
+use Rattle.conversation.specs.Parts.{EndsEarly, EndsHere, ReplyIsWritten, RefusalIsWritten}
+use Rattle.conversation.specs.Run.{IsAll, IsRun}
+use Rattle.conversation.specs.Ends.{Output, WritesLast, WritesWhole}
+use Rattle.conversation.proofs.UsesLemmas.{last_after}
+use Rattle.conversation.proofs.ProgressLemmas.{Step, BeginsMessage-append, progress_none, progress-append, conversation_after, cut_off_after, given_up_after}
+
+-- a text that a writer took, and the end of which it is
+abbrev pub Written : End → Output → Output → (List ℕ → Type 0) → Type 0
+Written end held holds Ends = (text : List ℕ) × WritesLast end held holds text × Ends text
+
+-- the same, of the bytes alone
+abbrev pub WrittenBytes : Option (List ℕ) → Option (List ℕ) → (List ℕ → Type 0) → Type 0
+WrittenBytes held holds Ends = (text : List ℕ) × Appends held holds text × Ends text
+
+-- ---- one message
+
+-- a message that closes the conversation
+pub closed_end : {O : Type 0} (step : Step O) (refusal : MessageFault → List ℕ) (old new : Timed O) (rest : List ℕ)
+    (m : Message) (after : List ℕ) (x : MessageExchange) → BeginsMessage rest m after → m.closes ≡ true → x.message ≡ m
+    → timed step old x new → EndsEarly step refusal old x.reply new rest Closed
+closed_end step refusal old new rest m after x begins closes same answered stop more = record {
+  exchanges = x ∷ [];
+  messages =
+      let begun = subst (λ n. BeginsMessage (rest ++ more) n (after ++ more)) (sym same) (BeginsMessage-append rest m after more begins) in
+      let last : x.message.closes ≡ true = ap (λ n. n.closes) same ∙ closes in
+      let A : Type 0 = (messages_of [] ≡ []) × (closing ≡ closing) in
+      (after ++ more, begun, subst (λ b. MatchBool b A ⊥) (sym last) (refl, refl));
+  served = (new, answered, refl);
+  text_is = sym (append-nil (x.reply ++ []) ∙ append-nil x.reply);
+}
+
+-- a message whose reply was not written whole
+pub answered_end : {O : Type 0} (A : Type 0) (step : Step O) (refusal : MessageFault → List ℕ) (old new : Timed O) (held holds : Output)
+    (rest : List ℕ) (m : Message) (after : List ℕ) (end : End) → BeginsMessage rest m after
+    → ReplyIsWritten {A = A} step old new held holds m (Err end)
+    → Written end held holds (λ text. EndsEarly step refusal old text new rest end)
+answered_end A step refusal old new held holds rest m after Closed begins x = absurd x
+answered_end A step refusal old new held holds rest m after BadMessage begins x = absurd x
+answered_end A step refusal old new held holds rest m after ReadFault begins x = absurd x
+answered_end A step refusal old new held holds rest m after WriteFault begins (x, same, answered, (part, short, written)) = (
+  take part x.reply,
+  written,
+  λ more. record {
+    rest = rest ++ more;
+    whole = [];
+    mid = old;
+    before = progress_none (timed step) (rest ++ more) old;
+    last = x.reply;
+    is_last = inl (record {
+      exchange = x;
+      rest = after ++ more;
+      begins = subst (λ n. BeginsMessage (rest ++ more) n (after ++ more)) (sym same) (BeginsMessage-append rest m after more begins);
+      answered = answered;
+      text_is = refl;
+    });
+    part = part;
+    short = short;
+    written_is = refl;
+  },
+)
+answered_end A step refusal old new held holds rest m after Memory begins (gave_up, k) = (
+  [],
+  record { writes = k.writes; ends = k.open_still },
+  λ more. record {
+    rest = rest ++ more;
+    mid = old;
+    before = progress_none (timed step) (rest ++ more) old;
+    after = inr (m, after ++ more, BeginsMessage-append rest m after more begins, gave_up);
+  },
+)
+
+-- memory was short, and nothing was written
+pub memory_end : {O : Type 0} (step : Step O) (old : Timed O) (rest : List ℕ)
+    → IsGivenUp (timed step) (GaveUp step) rest old [] old
+memory_end step old rest = record { rest = rest; mid = old; before = progress_none (timed step) rest old; after = inl refl }
+
+-- the refusal of the front of an input that ends there
+refused_conversation : {O : Type 0} (step : Step O) (refusal : MessageFault → List ℕ) (old : Timed O) (stop : Stop) (rest : List ℕ)
+    (fault : MessageFault) → IsRefused stop rest fault
+    → Conversation (timed step) refusal stop rest old (refusal fault) (refused fault) old
+refused_conversation step refusal old stop rest fault is =
+    record { exchanges = []; messages = is; served = refl; text_is = refl }
+
+refused_cut_off : {O : Type 0} (step : Step O) (refusal : MessageFault → List ℕ) (old : Timed O) (rest : List ℕ)
+    (fault : MessageFault) (part : ℕ) → IsRefused ended rest fault → part < length (refusal fault)
+    → IsCutOff (timed step) refusal rest old (take part (refusal fault)) old
+refused_cut_off step refusal old rest fault part is short = record {
+  rest = rest;
+  whole = [];
+  mid = old;
+  before = progress_none (timed step) rest old;
+  last = refusal fault;
+  is_last = inr (record { fault = fault; is_refused = is; text_is = refl; same = refl });
+  part = part;
+  short = short;
+  written_is = refl;
+}
+
+-- a message that is refused whatever follows
+pub told_end : {O : Type 0} (step : Step O) (refusal : MessageFault → List ℕ) (old : Timed O) (held holds : Output)
+    (rest : List ℕ) (fault : MessageFault) (end : End) → IsRefusedEver rest fault → RefusalIsWritten held holds (refusal fault) end
+    → Written end held holds (λ text. EndsEarly step refusal old text old rest end)
+told_end step refusal old held holds rest fault Closed ever x = absurd x
+told_end step refusal old held holds rest fault ReadFault ever x = absurd x
+told_end step refusal old held holds rest fault BadMessage ever x =
+    (refusal fault, record { writes = x.writes; ends = x.open_still }, (fault, λ stop more. refused_conversation step refusal old stop (rest ++ more) fault (ever stop more)))
+told_end step refusal old held holds rest fault WriteFault ever (part, short, written) = (
+  take part (refusal fault),
+  written,
+  λ more. refused_cut_off step refusal old (rest ++ more) fault part (ever ended more) short,
+)
+told_end step refusal old held holds rest fault Memory ever k =
+    ([], record { writes = k.writes; ends = k.open_still }, λ more. memory_end step old (rest ++ more))
+
+-- a message that is refused where the input ended
+pub told_here : {O : Type 0} (step : Step O) (refusal : MessageFault → List ℕ) (old : Timed O) (held holds : Output)
+    (rest : List ℕ) (fault : MessageFault) (end : End) → IsRefused ended rest fault → RefusalIsWritten held holds (refusal fault) end
+    → Written end held holds (λ text. EndsHere step refusal old text old rest end)
+told_here step refusal old held holds rest fault Closed is x = absurd x
+told_here step refusal old held holds rest fault ReadFault is x = absurd x
+told_here step refusal old held holds rest fault BadMessage is x =
+    (refusal fault, record { writes = x.writes; ends = x.open_still }, (fault, refused_conversation step refusal old ended rest fault is))
+told_here step refusal old held holds rest fault WriteFault is (part, short, written) =
+    (take part (refusal fault), written, refused_cut_off step refusal old rest fault part is short)
+told_here step refusal old held holds rest fault Memory is k =
+    ([], record { writes = k.writes; ends = k.open_still }, memory_end step old rest)
+
+-- ---- after other messages
+
+early_after : {O : Type 0} (step : Step O) (refusal : MessageFault → List ℕ) (old mid new : Timed O) (input rest : List ℕ)
+    (first second : List ℕ) (end : End) → Progress (timed step) input rest old first mid
+    → EndsEarly step refusal mid second new rest end → EndsEarly step refusal old (first ++ second) new input end
+early_after step refusal old mid new input rest first second Closed p x =
+    λ stop more. conversation_after (timed step) refusal stop (input ++ more) (rest ++ more) old mid new first second closing
+    (progress-append (timed step) input rest more old mid first p) (x stop more)
+early_after step refusal old mid new input rest first second BadMessage p x = (
+  x.0,
+  λ stop more.
+      conversation_after (timed step) refusal stop (input ++ more) (rest ++ more) old mid new first second (refused x.0)
+      (progress-append (timed step) input rest more old mid first p) (x.1 stop more),
+)
+early_after step refusal old mid new input rest first second ReadFault p x = x
+early_after step refusal old mid new input rest first second WriteFault p x =
+    λ more. cut_off_after (timed step) refusal (input ++ more) (rest ++ more) old mid new first second
+    (progress-append (timed step) input rest more old mid first p) (x more)
+early_after step refusal old mid new input rest first second Memory p x =
+    λ more. given_up_after (timed step) (GaveUp step) (input ++ more) (rest ++ more) old mid new first second
+    (progress-append (timed step) input rest more old mid first p) (x more)
+
+here_after : {O : Type 0} (step : Step O) (refusal : MessageFault → List ℕ) (old mid new : Timed O) (input rest : List ℕ)
+    (first second : List ℕ) (end : End) → Progress (timed step) input rest old first mid
+    → EndsHere step refusal mid second new rest end → EndsHere step refusal old (first ++ second) new input end
+here_after step refusal old mid new input rest first second Closed p x =
+    conversation_after (timed step) refusal ended input rest old mid new first second finished p x
+here_after step refusal old mid new input rest first second BadMessage p x =
+    (x.0, conversation_after (timed step) refusal ended input rest old mid new first second (refused x.0) p x.1)
+here_after step refusal old mid new input rest first second ReadFault p x = x
+here_after step refusal old mid new input rest first second WriteFault p x =
+    cut_off_after (timed step) refusal input rest old mid new first second p x
+here_after step refusal old mid new input rest first second Memory p x =
+    given_up_after (timed step) (GaveUp step) input rest old mid new first second p x
+
+-- an end after messages that were answered
+pub end_after : {O : Type 0} (step : Step O) (refusal : MessageFault → List ℕ) (old mid new : Timed O) (a b c : Output)
+    (input rest : List ℕ) (first : List ℕ) (end : End) → WritesWhole a b first → Progress (timed step) input rest old first mid
+    → Written end b c (λ text. EndsEarly step refusal mid text new rest end)
+    → Written end a c (λ text. EndsEarly step refusal old text new input end)
+end_after step refusal old mid new a b c input rest first end before p (second, written, ends) =
+    (first ++ second, last_after end a b c first second before written, early_after step refusal old mid new input rest first second end p ends)
+
+-- the same, of the bytes alone
+pub bytes_after : {O : Type 0} (step : Step O) (refusal : MessageFault → List ℕ) (old mid new : Timed O) (a b c : Option (List ℕ))
+    (input rest : List ℕ) (first : List ℕ) (end : End) → Appends a b first → Progress (timed step) input rest old first mid
+    → WrittenBytes b c (λ text. EndsEarly step refusal mid text new rest end)
+    → WrittenBytes a c (λ text. EndsEarly step refusal old text new input end)
+bytes_after step refusal old mid new a b c input rest first end before p (second, written, ends) =
+    (first ++ second, Appends-trans a b c first second before written, early_after step refusal old mid new input rest first second end p ends)
+
+pub bytes_here_after : {O : Type 0} (step : Step O) (refusal : MessageFault → List ℕ) (old mid new : Timed O) (a b c : Option (List ℕ))
+    (input rest : List ℕ) (first : List ℕ) (end : End) → Appends a b first → Progress (timed step) input rest old first mid
+    → WrittenBytes b c (λ text. EndsHere step refusal mid text new rest end)
+    → WrittenBytes a c (λ text. EndsHere step refusal old text new input end)
+bytes_here_after step refusal old mid new a b c input rest first end before p (second, written, ends) =
+    (first ++ second, Appends-trans a b c first second before written, here_after step refusal old mid new input rest first second end p ends)
+
+-- ---- the whole run
+
+-- what is left to read, where that is known
+abbrev pub left_of : Option (List ℕ) → List ℕ
+left_of None = []
+left_of (Some bytes) = bytes
+
+pub all_left : (unread left : Option (List ℕ)) (taken : List ℕ) → Consumes unread left taken → IsAll unread (taken ++ left_of left)
+all_left None left taken c = tt
+all_left (Some xs) None taken c = absurd c
+all_left (Some xs) (Some ys) taken c = c
+
+all_taken : (unread left : Option (List ℕ)) (taken : List ℕ) → Consumes unread left taken → IsAtEnd left → IsAll unread taken
+all_taken None left taken c none = tt
+all_taken (Some xs) None taken c none = absurd c
+all_taken (Some xs) (Some ys) taken c none = c ∙ ap (λ bytes. taken ++ bytes) none ∙ append-nil taken
+
+-- an end that came early
+pub run_early : {O : Type 0} (step : Step O) (refusal : MessageFault → List ℕ) (old new : Timed O) (unread left held holds : Option (List ℕ))
+    (taken : List ℕ) (end : End) → Consumes unread left taken
+    → WrittenBytes held holds (λ text. EndsEarly step refusal old text new taken end) → IsRun step refusal old new unread left held holds end
+run_early step refusal old new unread left held holds taken Closed c (text, written, ends) =
+    (_, all_left unread left taken c, inr (record { text = text; written = written; conversation = ends ended (left_of left) }))
+run_early step refusal old new unread left held holds taken BadMessage c (text, written, ends) =
+    (_, all_left unread left taken c, ends.0, record { text = text; written = written; conversation = ends.1 ended (left_of left) })
+run_early step refusal old new unread left held holds taken ReadFault c (text, written, ends) = absurd ends
+run_early step refusal old new unread left held holds taken WriteFault c (text, written, ends) =
+    (_, all_left unread left taken c, text, written, ends (left_of left))
+run_early step refusal old new unread left held holds taken Memory c (text, written, ends) =
+    (_, all_left unread left taken c, text, written, ends (left_of left))
+
+-- an end where the input ended
+pub run_here : {O : Type 0} (step : Step O) (refusal : MessageFault → List ℕ) (old new : Timed O) (unread left held holds : Option (List ℕ))
+    (taken : List ℕ) (end : End) → Consumes unread left taken → IsAtEnd left
+    → WrittenBytes held holds (λ text. EndsHere step refusal old text new taken end) → IsRun step refusal old new unread left held holds end
+run_here step refusal old new unread left held holds taken Closed c none (text, written, ends) =
+    (taken, all_taken unread left taken c none, inl (record { text = text; written = written; conversation = ends }))
+run_here step refusal old new unread left held holds taken BadMessage c none (text, written, ends) =
+    (taken, all_taken unread left taken c none, ends.0, record { text = text; written = written; conversation = ends.1 })
+run_here step refusal old new unread left held holds taken ReadFault c none (text, written, ends) = absurd ends
+run_here step refusal old new unread left held holds taken WriteFault c none (text, written, ends) =
+    (taken, all_taken unread left taken c none, text, written, ends)
+run_here step refusal old new unread left held holds taken Memory c none (text, written, ends) =
+    (taken, all_taken unread left taken c none, text, written, ends)

@@ -1,0 +1,10 @@
+pub mod EndLemmas
+pub mod FieldLemmas
+pub mod FollowLemmas
+pub mod FramingLemmas
+pub mod HeadLemmas
+pub mod MessageLemmas
+pub mod ProgressLemmas
+pub mod ReadingLemmas
+pub mod RunLemmas
+pub mod UsesLemmas

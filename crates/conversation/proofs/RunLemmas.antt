@@ -1,0 +1,235 @@
+-- A run, read by read.
+use Rattle.std.proofs.Common.{◌≡◌, ℕ, ◌+◌, ◌<◌, ◌≤◌, inl, inr, suc, List, [], ◌∷◌, ◌++◌, length, Option, None, Some, Ok, Err, refl, ap, sym, subst, subst₂, ◌∙◌, arith, append-nil, lit<}
+use Rattle.std.proofs.lemmas.List.{length-append}
+use Rattle.std.specs.Io.KnownBytes.{Appends, Consumes}
+use Rattle.std.proofs.KnownBytes.{Appends-nil, Appends-trans, Consumes-kept, Consumes-nil, Consumes-trans}
+use Rattle.httparse.specs.Grammar.{print_request}
+use Rattle.conversation.specs.declared.end.End.{End}
+use Rattle.conversation.specs.declared.end.End.TheVariants.{Closed, BadMessage, ReadFault, WriteFault, Memory}
+use Rattle.conversation.specs.declared.message.message_fault.MessageFault.{MessageFault}
+use Rattle.conversation.specs.declared.message.message_fault.MessageFault.TheVariants as faults
+use Rattle.conversation.specs.declared.wants.Wants.{Wants}
+use Rattle.conversation.specs.declared.wants.Wants.TheVariants.{Head, Body}
+use Rattle.conversation.specs.Conversation.{Conversation, Progress}
+use Rattle.conversation.specs.Ends.{AsksOnce, IsRead, Output, Writes, WritesLast, WritesWhole}
+use Rattle.conversation.specs.Exchanges.{Timed, timed}
+use Rattle.conversation.specs.message.Heads.{longest_head}
+use Rattle.conversation.specs.message.Messages.{failed, EndsAs, broken}
+use Rattle.conversation.specs.Parts.{EndsHere, IsOver}
+use Rattle.conversation.specs.Run.{IsRun}
+use Rattle.conversation.specs.Uses.{AreOpen, AreSound, EndsBy, Grows, IsOpen, IsPaced, MayAsk, Use, asked, came_by, longest_message, reads_in, received, written}
+use Rattle.conversation.specs.Wants.{count_of, IsAwaited}
+use Rattle.conversation.proofs.EndLemmas.{Written, WrittenBytes, all_left, left_of, told_here}
+use Rattle.conversation.proofs.MessageLemmas.{framed_fits, some_head, some_head_is}
+use Rattle.conversation.proofs.UsesLemmas.{AreInTurn-append, AreOpen-append, AreSound-append, are_sound, ends_by, Grows-nil, Grows-trans, reads_in-append, received-append, sends_in_turn, sends_read_none, sends_receive, written-append}
+use Rattle.conversation.proofs.ProgressLemmas.{Step, progress-append, progress_trans, conversation_after}
+use Rattle.conversation.proofs.ReadingLemmas.{no_empty_head}
+
+-- at first a head is awaited, of which nothing is there
+pub awaits_nothing : IsAwaited [] (Head longest_head)
+awaits_nothing = (
+  record {
+    none = no_empty_head;
+    short = lit< tt;
+    begun = inl (print_request some_head, some_head, (some_head_is, sym (append-nil (print_request some_head))));
+  },
+  refl,
+)
+
+-- something is awaited
+pub awaited_some : (rest : List ℕ) (w : Wants) → IsAwaited rest w → 0 < count_of w
+awaited_some rest (Head count) (head, all) = omega (arith, head.short)
+awaited_some rest (Body count) body = body.some
+
+-- what is left and what is awaited of it is at most the longest message
+pub awaited_fits : (rest : List ℕ) (w : Wants) → IsAwaited rest w → length rest + count_of w ≤ longest_message
+awaited_fits rest (Head count) (head, all) = omega (arith, all)
+awaited_fits rest (Body count) body =
+    let whole = ap length body.begins.reads.1 in
+    omega (arith, whole, length-append (print_request body.head) body.body, body.begins.bytes, body.lacks, framed_fits body.head body.framing body.framed)
+
+awaited_broken : (rest : List ℕ) (w : Wants) → IsAwaited rest w → EndsAs failed rest broken
+awaited_broken rest (Head count) (head, all) = inl (head.none, head.short)
+awaited_broken rest (Body count) body = inr (count, body)
+
+-- a reader that failed where this was left and awaited
+pub failed_run : {O : Type 0} (step : Step O) (refusal : MessageFault → List ℕ) (old new : Timed O) (unread left held holds : Option (List ℕ))
+    (taken rest text : List ℕ) (w : Wants) → Consumes unread left taken → Appends held holds text
+    → Progress (timed step) taken rest old text new → IsAwaited rest w → IsRun step refusal old new unread left held holds ReadFault
+failed_run step refusal old new unread left held holds taken rest text w c written p awaited =
+    let nothing : Conversation (timed step) refusal failed rest new [] broken new =
+    record { exchanges = []; messages = awaited_broken rest w awaited; served = refl; text_is = refl } in
+    let all = conversation_after (timed step) refusal failed taken rest old new new text [] broken p nothing in
+    (taken, c, record { text = text; written = written; conversation = rw append-nil at all })
+
+-- a read that failed, or had no room
+pub read_run : {O : Type 0} (step : Step O) (refusal : MessageFault → List ℕ) (old new : Timed O) (told tells : Option (List Use)) (a b c held holds : Option (List ℕ))
+    (wanted : ℕ) (taken rest after text : List ℕ) (w : Wants) (end : End) → Consumes a b taken → IsRead told tells b c wanted rest after (Err end)
+    → Appends held holds text → Progress (timed step) taken rest old text new → IsAwaited rest w
+    → IsRun step refusal old new a c held holds end
+read_run step refusal old new told tells a b c held holds wanted taken rest after text w Closed before is written p awaited = absurd is
+read_run step refusal old new told tells a b c held holds wanted taken rest after text w BadMessage before is written p awaited = absurd is
+read_run step refusal old new told tells a b c held holds wanted taken rest after text w WriteFault before is written p awaited = absurd is
+read_run step refusal old new told tells a b c held holds wanted taken rest after text w ReadFault before (k, same, asks) written p awaited =
+    failed_run step refusal old new a c held holds taken rest text w (Consumes-kept a b c taken before k) written p awaited
+read_run step refusal old new told tells a b c held holds wanted taken rest after text w Memory before (k, same, none) written p awaited =
+    let all = all_left a c taken (Consumes-kept a b c taken before k) in
+    let gone_on = progress-append (timed step) taken rest (left_of c) old new text p in
+    (_, all, text, written, record { rest = _; mid = new; before = gone_on; after = inl refl })
+
+-- the end of the input, where this was left of it
+pub over_end : {O : Type 0} (step : Step O) (refusal : MessageFault → List ℕ) (old : Timed O) (held holds : Output)
+    (rest : List ℕ) (end : End) → IsOver refusal rest held holds end → Written end held holds (λ text. EndsHere step refusal old text old rest end)
+over_end step refusal old held holds rest Closed (is, none) =
+    ([], record { writes = none.writes; ends = none.open_still }, record { exchanges = []; messages = is; served = refl; text_is = refl })
+over_end step refusal old held holds rest BadMessage (is, told) = told_here step refusal old held holds rest faults.Head BadMessage is told
+over_end step refusal old held holds rest WriteFault (is, told) = told_here step refusal old held holds rest faults.Head WriteFault is told
+over_end step refusal old held holds rest Memory (is, told) = told_here step refusal old held holds rest faults.Head Memory is told
+over_end step refusal old held holds rest ReadFault (is, told) = absurd told
+
+-- a text that was written, by its bytes alone
+pub bytes_of : (end : End) (a b : Output) (Ends : List ℕ → Type 0) → Written end a b Ends → WrittenBytes a.0 b.0 Ends
+bytes_of end a b Ends (text, last, ends) = (text, last.writes.holds, ends)
+
+-- what was answered before a read is answered of all that was read after it
+pub after_read : {O : Type 0} (step : Step O) (old new : Timed O) (a b c : Option (List ℕ)) (taken rest after bytes text : List ℕ)
+    → Consumes a b taken → Progress (timed step) taken rest old text new → Consumes b c bytes → after ≡ rest ++ bytes
+    → Consumes a c (taken ++ bytes) × Progress (timed step) (taken ++ bytes) after old text new
+after_read step old new a b c taken rest after bytes text before p read is = (
+  Consumes-trans a b c taken bytes before read,
+  subst (λ left. Progress (timed step) (taken ++ bytes) left old text new) (sym is) (progress-append (timed step) taken rest bytes old new text p),
+)
+
+-- ---- the uses of a run
+
+-- By these uses all was read and written so far, each in turn.
+pub record Used
+    {O : Type 0} (step : Step O) (old : Timed O) (told tells : Option (List Use)) (unread left held holds : Option (List ℕ)) (uses : List Use) : Type 0 where
+  pub told_are : Grows told tells uses
+  pub paced : IsPaced step old unread left held holds uses
+
+pub used_none : {O : Type 0} (step : Step O) (old : Timed O) (told : Option (List Use)) (unread held : Option (List ℕ))
+    → Used step old told told unread unread held held []
+used_none step old told unread held =
+    record { told_are = Grows-nil told; paced = record { in_turn = tt; reads = Consumes-nil unread; writes = Appends-nil held } }
+
+-- a read that was made where this was left and awaited
+pub used_read : {O : Type 0} (step : Step O) (old new : Timed O) (told mid tells : Option (List Use)) (unread left now held holds : Option (List ℕ)) (uses : List Use)
+    (rest : List ℕ) (w : Wants) (wanted : ℕ) (came : Option (List ℕ)) → wanted ≡ count_of w → Used step old told mid unread left held holds uses → AreOpen uses
+    → Progress (timed step) (received uses) rest old (written uses) new → IsAwaited rest w → (asks : AsksOnce mid tells wanted came)
+    → Consumes left now (came_by (asked asks.0 came)) → Used step old told tells unread now held holds (uses ++ asked asks.0 came ∷ [])
+used_read step old new told mid tells unread left now held holds uses rest w wanted came all used opened answered awaited (count, least, fits_in, grows) reads =
+    let within : count ≤ count_of w = omega (arith, least, all) in
+    let more : List Use = asked count came ∷ [] in
+    let fits = awaited_fits rest w awaited in
+    let one : received more ≡ came_by (asked count came) = append-nil (came_by (asked count came)) in
+    let may : MayAsk step old (received uses) (written uses) count =
+    record { rest = rest; mid = new; answered = answered; wants = w; awaited = awaited; within = within; held = omega (arith, fits, within) } in
+    record {
+      told_are = Grows-trans told mid tells uses more used.told_are grows;
+      paced = record {
+        in_turn = AreInTurn-append step old [] uses more used.paced.in_turn ((opened, may, fits_in), tt);
+        reads = subst (λ bytes. Consumes unread now bytes) (ap (λ bytes. received uses ++ bytes) (sym one) ∙ sym (received-append uses more))
+            (Consumes-trans unread left now (received uses) (came_by (asked count came)) used.paced.reads reads);
+        writes = subst (λ bytes. Appends held holds bytes) (sym (append-nil (written uses)) ∙ sym (written-append uses more)) used.paced.writes;
+      };
+    }
+
+-- texts that were handed over where nothing had failed
+pub used_sends : {O : Type 0} (step : Step O) (old : Timed O) (told mid tells : Option (List Use)) (unread left held holds now : Option (List ℕ)) (uses : List Use)
+    (text : List ℕ) → Used step old told mid unread left held holds uses → AreSound uses → (w : Writes (holds, mid) (now, tells) text)
+    → Used step old told tells unread left held now (uses ++ w.uses)
+used_sends step old told mid tells unread left held holds now uses text used sound w = record {
+  told_are = Grows-trans told mid tells uses w.uses used.told_are w.told;
+  paced = record {
+    in_turn = AreInTurn-append step old [] uses w.uses used.paced.in_turn (sends_in_turn step old uses w.uses sound w.sends);
+    reads = subst (λ bytes. Consumes unread left bytes)
+        (sym (append-nil (received uses)) ∙ ap (λ bytes. received uses ++ bytes) (sym (sends_receive w.uses w.sends)) ∙ sym (received-append uses w.uses))
+        used.paced.reads;
+    writes = subst (λ bytes. Appends held now bytes)
+        (ap (λ bytes. written uses ++ bytes) w.text_is ∙ sym (written-append uses w.uses))
+        (Appends-trans held holds now (written uses) text used.paced.writes w.holds);
+  };
+}
+
+-- a read by which bytes came
+came_open : (asks count : ℕ) (bytes : List ℕ) → length bytes ≡ count → ¬ (count ≡ 0) → IsOpen (asked asks (Some bytes))
+came_open asks count [] long some = absurd (some (sym long))
+came_open asks count (byte ∷ bytes) long some = tt
+
+-- what `run` says of its uses
+abbrev pub Paced : {O : Type 0} → Step O → Timed O → (told tells : Option (List Use)) → (unread left held holds : Option (List ℕ)) → End → Type 0
+Paced step old told tells unread left held holds end =
+    (uses : List Use) × Grows told tells uses × IsPaced step old unread left held holds uses × EndsBy end uses
+
+pub paced : {O : Type 0} (step : Step O) (old : Timed O) (told tells : Option (List Use)) (unread left held holds : Option (List ℕ)) (end : End) (uses : List Use)
+    → Used step old told tells unread left held holds uses → EndsBy end uses → Paced step old told tells unread left held holds end
+paced step old told tells unread left held holds end uses used ends = (uses, used.told_are, used.paced, ends)
+
+module _ {O : Type 0} (step : Step O) (old new : Timed O) (told mid tells : Option (List Use)) (unread left now held holds : Option (List ℕ)) (uses : List Use) (rest : List ℕ) where
+  -- a read that failed, or had no room
+  pub paced_read : (after : List ℕ) (w : Wants) (wanted : ℕ) (end : End) → wanted ≡ count_of w → Used step old told mid unread left held holds uses → AreOpen uses
+      → Progress (timed step) (received uses) rest old (written uses) new → IsAwaited rest w → IsRead mid tells left now wanted rest after (Err end)
+      → Paced step old told tells unread now held holds end
+  paced_read after w wanted ReadFault all used opened answered awaited (kept, same, asks) =
+      let read = used_read step old new told mid tells unread left now held holds uses rest w wanted None all used opened answered awaited asks
+      (Consumes-kept left left now [] (Consumes-nil left) kept) in
+      paced step old told tells unread now held holds ReadFault _ read (inl (asks.0, (uses, refl)))
+  paced_read after w wanted Memory all used opened answered awaited (kept, same, none) = (
+    uses,
+    subst (λ l. Grows told tells l) (append-nil uses) (Grows-trans told mid tells uses [] used.told_are none),
+    record {
+      in_turn = used.paced.in_turn;
+      reads = Consumes-kept unread left now (received uses) used.paced.reads kept;
+      writes = used.paced.writes;
+    },
+    are_sound uses opened,
+  )
+  paced_read after w wanted Closed all used opened answered awaited is = absurd is
+  paced_read after w wanted BadMessage all used opened answered awaited is = absurd is
+  paced_read after w wanted WriteFault all used opened answered awaited is = absurd is
+
+  -- a read that was made
+  module _ (after : List ℕ) (w : Wants) (wanted count : ℕ) (all_wanted : wanted ≡ count_of w) (used : Used step old told mid unread left held holds uses) (opened : AreOpen uses)
+      (answered : Progress (timed step) (received uses) rest old (written uses) new) (awaited : IsAwaited rest w)
+      (read : IsRead mid tells left now wanted rest after (Ok count)) where
+    abbrev made : List Use
+    made = uses ++ asked read.5.0 (Some read.0) ∷ []
+
+    was_read : Used step old told tells unread now held holds made
+    was_read = used_read step old new told mid tells unread left now held holds uses rest w wanted (Some read.0) all_wanted used opened answered awaited read.5 read.3
+
+    sound : AreSound made
+    sound = AreSound-append uses (asked read.5.0 (Some read.0) ∷ []) (are_sound uses opened) (tt, tt)
+
+    -- then texts were handed over
+    pub paced_after : (end : End) (last : Option (List Use)) (wrote : Option (List ℕ)) (text : List ℕ) → WritesLast end (holds, tells) (wrote, last) text
+        → Paced step old told last unread now held wrote end
+    paced_after end last wrote text sends =
+        let used = used_sends step old told tells last unread now held holds wrote made text was_read sound sends.writes in
+        paced step old told last unread now held wrote end _ used (ends_by end made sends.writes.uses sound sends.ends)
+
+    -- and all were taken, where bytes had come
+    pub went_on : (last : Option (List Use)) (wrote : Option (List ℕ)) (text : List ℕ) (later : Timed O) (left_over : List ℕ) → ¬ (count ≡ 0)
+        → WritesWhole (holds, tells) (wrote, last) text → Progress (timed step) after left_over new text later
+        → (all : List Use) × Used step old told last unread now held wrote all × AreOpen all
+        × Progress (timed step) (received all) left_over old (written all) later × (reads_in all ≡ suc (reads_in uses))
+    went_on last wrote text later left_over some whole progress =
+        let w = whole.writes in
+        let more : List Use = asked read.5.0 (Some read.0) ∷ [] in
+        let all = made ++ w.uses in
+        let one : Progress (timed step) (received uses ++ read.0) after old (written uses) new =
+        subst (λ l. Progress (timed step) (received uses ++ read.0) l old (written uses) new) (sym read.2) (progress-append (timed step) (received uses) rest read.0 old new (written uses) answered) in
+        let both = progress_trans (timed step) (received uses ++ read.0) after left_over old new later (written uses) text one progress in
+        let came : received uses ++ read.0 ≡ received all =
+        sym (received-append made w.uses ∙ ap (λ l. received made ++ l) (sends_receive w.uses w.sends) ∙ append-nil (received made)
+        ∙ received-append uses more ∙ ap (λ l. received uses ++ l) (append-nil read.0)) in
+        let took : written uses ++ text ≡ written all =
+        sym (written-append made w.uses ∙ ap (λ l. l ++ written w.uses) (written-append uses more ∙ append-nil (written uses))
+        ∙ ap (λ l. written uses ++ l) (sym w.text_is)) in (
+          all,
+          used_sends step old told tells last unread now held holds wrote made text was_read sound w,
+          AreOpen-append made w.uses (AreOpen-append uses more opened (came_open read.5.0 count read.0 read.1 some, tt)) whole.open_still,
+          subst₂ (λ (a b : List ℕ). Progress (timed step) a left_over old b later) came took both,
+          omega (arith, reads_in-append made w.uses, reads_in-append uses more, sends_read_none w.uses w.sends),
+        )

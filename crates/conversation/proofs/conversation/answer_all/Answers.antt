@@ -1,0 +1,80 @@
+use Rattle.std.proofs.Common.{[], ◌+◌, ◌++◌, drop, subst, arith}
+use Rattle.std.proofs.lemmas.List.{drop-drop, length-drop, take_rest}
+use Rattle.conversation.specs.declared.end.End.TheVariants.{Closed}
+use Rattle.conversation.specs.Exchanges.{timed}
+use Rattle.conversation.specs.message.Messages.{BeginsMessage}
+use Rattle.conversation.specs.message.Next.{message_of}
+use Rattle.conversation.proofs.EndLemmas.{answered_end, closed_end, told_end, end_after}
+use Rattle.conversation.proofs.ProgressLemmas.{progress_none, progress_one, progress_trans}
+use Rattle.conversation.proofs.ReadingLemmas.{message_takes}
+use Rattle.conversation.proofs.UsesLemmas.{whole_after, whole_none}
+use Rattle.conversation.proofs.conversation.answer_all.Goals as goal
+
+pub messages-init : goal.messages-init
+messages-init g c = record {
+  within = omega arith;
+  text = [];
+  wrote = whole_none _;
+  progress = progress_none (timed g.S.Service.step) c.args.input.now _;
+}
+
+pub returns-in-Err : goal.returns-in-Err
+returns-in-Err g c =
+    let step = g.S.Service.step in
+    let refusal = g.S.Service.refusal in
+    let input = c.args.input.now in
+    let len = c.messages.len in
+    let inv = c.messages.invariant in
+    let whole = rw (take_rest input len) at c.in-Whole.ensures.next in
+    end_after step refusal _ _ _ _ _ _ input (drop len input) inv.text c.in-Err.end inv.wrote inv.progress
+    (answered_end (Unit {0}) step refusal _ _ _ _ (drop len input) (message_of c.in-Whole.message) _ c.in-Err.end whole.begins c.in-Err.ensures)
+
+pub returns-then-message : goal.returns-then-message
+returns-then-message g c =
+    let step = g.S.Service.step in
+    let refusal = g.S.Service.refusal in
+    let input = c.args.input.now in
+    let len = c.messages.len in
+    let inv = c.messages.invariant in
+    let whole = rw (take_rest input len) at c.in-Whole.ensures.next in
+    let x = c.in_default.ensures in
+    end_after step refusal _ _ _ _ _ _ input (drop len input) inv.text Closed inv.wrote inv.progress
+    (x.0.reply, record { writes = x.3.writes; ends = x.3.open_still }, closed_end step refusal _ _ (drop len input) (message_of c.in-Whole.message) _ x.0 whole.begins c.if-message.true x.1 x.2)
+
+pub messages-smaller : goal.messages-smaller
+messages-smaller g c =
+    let input = c.args.input.now in
+    let len = c.messages.len in
+    let whole = rw (take_rest input len) at c.in-Whole.ensures.next in
+    let some = message_takes (drop len input) (message_of c.in-Whole.message) c.in-Whole.message.len whole.begins whole.len in
+    omega (arith, some, whole.len, length-drop len input, c.messages.invariant.within)
+
+pub messages-preserved : goal.messages-preserved
+messages-preserved g c =
+    let step = g.S.Service.step in
+    let input = c.args.input.now in
+    let len = c.messages.len in
+    let inv = c.messages.invariant in
+    let m = c.in-Whole.message in
+    let whole = rw (take_rest input len) at c.in-Whole.ensures.next in
+    let x = c.in_default.ensures in
+    let begins : BeginsMessage (drop len input) (message_of m) (drop (len + m.len) input) =
+    subst (BeginsMessage (drop len input) (message_of m)) (drop-drop m.len len input) whole.begins in
+    record {
+      within = omega (arith, whole.len, length-drop len input, inv.within);
+      text = inv.text ++ x.0.reply;
+      wrote = whole_after _ _ _ inv.text x.0.reply inv.wrote x.3;
+      progress = progress_trans (timed step) input (drop len input) _ _ _ _ inv.text x.0.reply inv.progress
+          (progress_one (timed step) (drop len input) (message_of m) _ x.0 _ _ begins c.if-message.false x.1 x.2);
+    }
+
+pub returns-in-Refused : goal.returns-in-Refused
+returns-in-Refused g c =
+    let step = g.S.Service.step in
+    let refusal = g.S.Service.refusal in
+    let input = c.args.input.now in
+    let len = c.messages.len in
+    let inv = c.messages.invariant in
+    let ever = rw (take_rest input len) at c.in-Refused.ensures.next in
+    end_after step refusal _ _ _ _ _ _ input (drop len input) inv.text c.refuse.result inv.wrote inv.progress
+    (told_end step refusal _ _ _ (drop len input) c.in-Refused.fault c.refuse.result ever c.refuse.ensures)

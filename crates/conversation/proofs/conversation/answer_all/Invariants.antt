@@ -1,0 +1,19 @@
+use Rattle.std.proofs.Common.{ℕ, List, ◌≤◌, ◌-◌, length, drop}
+use Rattle.conversation.specs.Conversation.{Progress}
+use Rattle.conversation.specs.Ends.{WritesWhole}
+use Rattle.conversation.specs.Exchanges.{timed}
+use Rattle.conversation.proofs.conversation.answer_all.Given as goal
+
+-- the messages before the place were answered
+abbrev pub invariant-messages : goal.invariant-messages
+invariant-messages g l = record {
+  within : l.len ≤ length l.input;
+  text : List ℕ;
+  wrote : WritesWhole (g.W.Write.contents l.fn.writer, g.L.Line.uses l.fn.line)
+      (g.W.Write.contents l.writer, g.L.Line.uses l.line) text;
+  progress : Progress (timed g.S.Service.step) l.input (drop l.len l.input)
+      (l.fn.office, g.C.Clock.answers l.fn.clock) text (l.office, g.C.Clock.answers l.clock);
+}
+
+abbrev pub decreases-messages : goal.decreases-messages
+decreases-messages g l = length l.input - l.len

@@ -1,0 +1,82 @@
+-- The conversation that an input has: its messages, answered one after another, and what is written.
+use Rattle.std.specs.Prelude.{◌≡◌, ℕ, ◌<◌, ◌⊎◌, List, [], ◌++◌, length, map, take}
+use Rattle.std.specs.List.{flat_map}
+use Rattle.conversation.specs.declared.message.message_fault.MessageFault.{MessageFault}
+use Rattle.conversation.specs.Exchanges.{MessageExchange, Exchanged, BeginsMessages}
+use Rattle.conversation.specs.message.Messages.{Stop, ended, Message, BeginsMessage, IsRefused, Ending, finished, closing, broken, refused, Messages}
+
+abbrev pub messages_of : List MessageExchange → List Message
+messages_of xs = map (λ x. x.message) xs
+
+-- the replies, one after another
+abbrev pub replies_of : List MessageExchange → List ℕ
+replies_of xs = flat_map (λ x. x.reply) xs
+
+-- what an ending adds to the replies
+abbrev pub last_words : (MessageFault → List ℕ) → Ending → List ℕ
+last_words refusal (refused fault) = refusal fault
+last_words refusal finished = []
+last_words refusal closing = []
+last_words refusal broken = []
+
+-- the messages of the input were exchanged for the text, from the old office to the new one
+pub record Conversation
+    {O : Type 0} (step : O → MessageExchange → O → Type 0) (refusal : MessageFault → List ℕ)
+    (stop : Stop) (input : List ℕ) (old : O) (text : List ℕ) (ending : Ending) (new : O)
+    : Type 0 where
+  pub exchanges : List MessageExchange
+  pub messages : Messages stop input (messages_of exchanges) ending
+  pub served : Exchanged step old exchanges new
+  pub text_is : text ≡ replies_of exchanges ++ last_words refusal ending
+
+-- the messages at the front of the input were exchanged for the text, and the rest is left
+pub record Progress
+    {O : Type 0} (step : O → MessageExchange → O → Type 0)
+    (input rest : List ℕ) (old : O) (text : List ℕ) (new : O) : Type 0 where
+  pub exchanges : List MessageExchange
+  pub begins : BeginsMessages input (messages_of exchanges) rest
+  pub served : Exchanged step old exchanges new
+  pub text_is : text ≡ replies_of exchanges
+
+-- the text is the reply to the message at the front of the input
+pub record IsReply
+    {O : Type 0} (step : O → MessageExchange → O → Type 0)
+    (input : List ℕ) (old : O) (text : List ℕ) (new : O) : Type 0 where
+  pub exchange : MessageExchange
+  pub rest : List ℕ
+  pub begins : BeginsMessage input exchange.message rest
+  pub answered : step old exchange new
+  pub text_is : text ≡ exchange.reply
+
+-- the text refuses the front of the input, which ends there
+pub record IsRefusal
+    {O : Type 0} (refusal : MessageFault → List ℕ)
+    (input : List ℕ) (old : O) (text : List ℕ) (new : O) : Type 0 where
+  pub fault : MessageFault
+  pub is_refused : IsRefused ended input fault
+  pub text_is : text ≡ refusal fault
+  pub same : new ≡ old
+
+-- a writer failed: it took the texts for some messages whole, and then a beginning of the next one
+pub record IsCutOff
+    {O : Type 0} (step : O → MessageExchange → O → Type 0) (refusal : MessageFault → List ℕ)
+    (input : List ℕ) (old : O) (written : List ℕ) (new : O) : Type 0 where
+  pub rest : List ℕ
+  pub whole : List ℕ
+  pub mid : O
+  pub before : Progress step input rest old whole mid
+  pub last : List ℕ
+  pub is_last : IsReply step rest mid last new ⊎ IsRefusal refusal rest mid last new
+  pub part : ℕ
+  pub short : part < length last
+  pub written_is : written ≡ whole ++ take part last
+
+-- memory was short: the replies to some messages were written, and the next one may have been answered
+pub record IsGivenUp
+    {O : Type 0} (step : O → MessageExchange → O → Type 0) (gave_up : O → Message → O → Type 0)
+    (input : List ℕ) (old : O) (text : List ℕ) (new : O) : Type 0 where
+  pub rest : List ℕ
+  pub mid : O
+  pub before : Progress step input rest old text mid
+  pub after : (new ≡ mid)
+      ⊎ ((m : Message) × (after : List ℕ) × BeginsMessage rest m after × gave_up mid m new)

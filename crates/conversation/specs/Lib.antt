@@ -1,0 +1,9 @@
+pub mod Clock
+pub mod Conversation
+pub mod Ends
+pub mod Exchanges
+pub mod Parts
+pub mod Run
+pub mod Uses
+pub mod Wants
+pub mod message

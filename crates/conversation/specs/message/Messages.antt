@@ -1,0 +1,92 @@
+-- The messages of an input, by its whole bytes and by how it stops.
+use Rattle.std.specs.Prelude.{◌≡◌, ℕ, ◌+◌, ◌<◌, ◌⊎◌, Bool, List, [], ◌∷◌, ◌++◌, length, Ok, Err, MatchBool, ⊤}
+use Rattle.httparse.specs.Grammar.{RequestHead}
+use Rattle.conversation.specs.declared.message.framing.Framing.{Framing}
+use Rattle.conversation.specs.declared.message.message_fault.MessageFault.{MessageFault}
+use Rattle.conversation.specs.declared.message.message_fault.MessageFault.TheVariants.{Head}
+use Rattle.conversation.specs.declared.message.method.Method.{Method}
+use Rattle.conversation.specs.message.Framing.{framing_of}
+use Rattle.conversation.specs.message.Heads.{BeginsWithHead, HasNoHead, NeverHasHead, longest_head}
+
+-- how an input stops: it ends, or its reader fails
+pub data Stop : Type 0 where
+  ended failed : Stop
+
+-- what the desk looks at in a message
+pub record Message : Type 0 where
+  pub method : Method
+  pub target : List ℕ
+  pub body : List ℕ
+  pub closes : Bool
+
+-- the input begins with the message, and the rest follows it
+pub record BeginsMessage (input : List ℕ) (m : Message) (rest : List ℕ) : Type 0 where
+  pub head : RequestHead
+  pub begins : BeginsWithHead input head (m.body ++ rest)
+  pub target : head.target ≡ m.target
+  pub framed : framing_of head
+      ≡ Ok (record { method = m.method; body = length m.body; closes = m.closes })
+
+-- the input begins with a head that has this fault
+pub record BeginsFaulty (input : List ℕ) (fault : MessageFault) : Type 0 where
+  pub head : RequestHead
+  pub rest : List ℕ
+  pub begins : BeginsWithHead input head rest
+  pub faulty : framing_of head ≡ Err fault
+
+-- the input ends within a message, so many bytes before the end of its body
+pub record LacksBody (input : List ℕ) (missing : ℕ) : Type 0 where
+  pub head : RequestHead
+  pub framing : Framing
+  pub body : List ℕ
+  pub begins : BeginsWithHead input head body
+  pub framed : framing_of head ≡ Ok framing
+  pub lacks : length body + missing ≡ framing.body
+  pub some : 0 < missing
+
+abbrev pub IsCutMessage : List ℕ → Type 0
+IsCutMessage input = (missing : ℕ) × LacksBody input missing
+
+-- the input has bytes and begins with no head; where its reader failed, whatever might have followed
+abbrev pub BeginsNoHead : Stop → List ℕ → Type 0
+BeginsNoHead ended input = (0 < length input) × HasNoHead input
+BeginsNoHead failed input = NeverHasHead input
+
+-- the front of an input that stops so is refused for this fault
+abbrev pub IsRefused : Stop → List ℕ → MessageFault → Type 0
+IsRefused stop input Head = BeginsNoHead stop input
+IsRefused stop input fault = BeginsFaulty input fault
+
+-- how the messages of an input end: nothing follows but a message that is cut; what follows is
+-- refused; the last one closes the conversation; or the reader failed before one was whole
+pub data Ending : Type 0 where
+  finished closing broken : Ending
+  refused : MessageFault → Ending
+
+-- what is left of an input that stops so, if no message does follow, ends it like this
+abbrev pub EndsAs : Stop → List ℕ → Ending → Type 0
+EndsAs ended input finished = (input ≡ []) ⊎ IsCutMessage input
+EndsAs failed input finished = ⊥
+EndsAs ended input broken = ⊥
+EndsAs failed input broken = (HasNoHead input × (length input < longest_head)) ⊎ IsCutMessage input
+EndsAs stop input (refused fault) = IsRefused stop input fault
+EndsAs stop input closing = ⊥
+
+-- the input is these messages, one after another, and then ends like this
+abbrev pub Messages : Stop → List ℕ → List Message → Ending → Type 0
+Messages stop input [] ending = EndsAs stop input ending
+Messages stop input (m ∷ ms) ending =
+    (rest : List ℕ) × BeginsMessage input m rest
+    × MatchBool m.closes ((ms ≡ []) × (ending ≡ closing)) (Messages stop rest ms ending)
+
+-- the endings that an input may have whose reader failed before it began with a head, where none
+-- could have followed
+abbrev pub IsEither : Ending → Type 0
+IsEither broken = ⊤
+IsEither (refused Head) = ⊤
+IsEither ending = ⊥
+
+-- two endings of one input are one, but for those two
+abbrev pub AgreeBy : Stop → Ending → Ending → Type 0
+AgreeBy ended e f = e ≡ f
+AgreeBy failed e f = (e ≡ f) ⊎ (IsEither e × IsEither f)

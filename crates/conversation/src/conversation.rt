@@ -1,0 +1,184 @@
+ghost use Rattle.conversation.specs.message.Next.{message_of};
+ghost use Rattle.conversation.specs.Parts.{RepliesAreWritten, ReplyIsWritten, IsOver, RefusalIsWritten};
+ghost use Rattle.conversation.specs.Run.{IsRun};
+ghost use Rattle.conversation.specs.Uses.{EndsBy, Grows, IsPaced, Use};
+ghost use Rattle.conversation.specs.Wants.{IsAwaited};
+ghost use Rattle.std.specs.Prelude.{List};
+
+use crate::clock::Clock;
+use crate::end::End;
+use crate::line::Line;
+use crate::message::head::MAX_HEAD;
+use crate::message::message_fault::MessageFault;
+use crate::message::next::{Next, next_of};
+use crate::message::received::Received;
+use crate::service::Service;
+use crate::unanswered::Unanswered;
+use crate::wants::Wants;
+use std::alloc::Global;
+use std::io::{Read, Write};
+
+/// Holds the conversation of a reader and a writer: answers each message that is read, in order, by
+/// a reply that is written before more is asked for, until one of them ends it. While it awaits a head
+/// it asks for at most `MAX_HEAD` bytes of it in all, and while it awaits a body for what that lacks;
+/// it holds no more than one longest message, and reads nothing after an end (`specs/Uses.antt`). A
+/// head is parsed when it is whole and once more when its body is, however small the pieces are in
+/// which that comes. No bytes are kept for another run.
+pub fn run<O, S: Service<O>, L: Line<R, W>, R: Read, W: Write, C: Clock>(
+    service: &S,
+    alloc: Global,
+    line: &mut L,
+    reader: &mut R,
+    writer: &mut W,
+    office: &mut O,
+    clock: &mut C,
+) -> End
+    ensures run { IsRun S.step S.refusal (office.old, C.answers clock.old)
+        (office.new, C.answers clock.new) (R.remaining reader.old) (R.remaining reader.new)
+        (W.contents writer.old) (W.contents writer.new) result }
+    ensures paced { (uses : List Use) × Grows (L.uses line.old) (L.uses line.new) uses
+        × IsPaced S.step (office.old, C.answers clock.old) (R.remaining reader.old)
+        (R.remaining reader.new) (W.contents writer.old) (W.contents writer.new) uses
+        × EndsBy result uses }
+{
+    let mut unanswered = Unanswered::new(alloc);
+    let mut wants = Wants::Head(MAX_HEAD);
+    'reads: for made in 0..u64::MAX {
+        match unanswered.read_more(line, reader, wants.count()) {
+            Ok(0) => return finish(service, alloc, line, writer, unanswered.as_slice(), wants),
+            Ok(count) => {
+                if let Some(left) = wants.after(count) {
+                    wants = left;
+                    continue 'reads;
+                }
+            }
+            Err(end) => return end,
+        }
+        match answer_all(
+            service,
+            alloc,
+            office,
+            clock,
+            line,
+            writer,
+            unanswered.as_slice(),
+        ) {
+            Ok(awaiting) => {
+                wants = awaiting.wants;
+                unanswered.drop_front(awaiting.len);
+            }
+            Err(end) => return end,
+        }
+    }
+    End::ReadFault
+}
+
+// How much of an input was answered, and what is awaited of the rest.
+#[derive(Clone, Copy)]
+pub(crate) struct Awaiting {
+    pub(crate) len: usize,
+    pub(crate) wants: Wants,
+}
+
+// Answers all whole messages at the front of an input, in order, each by a reply that is written
+// before the next one is looked at.
+fn answer_all<O, S: Service<O>, L: Line<R, W>, R: Read, W: Write, C: Clock>(
+    service: &S,
+    alloc: Global,
+    office: &mut O,
+    clock: &mut C,
+    line: &mut L,
+    writer: &mut W,
+    input: &[u8],
+) -> Result<Awaiting, End>
+    ensures { RepliesAreWritten S.step S.refusal (office.old, C.answers clock.old)
+        (office.new, C.answers clock.new) (W.contents writer.old, L.uses line.old)
+        (W.contents writer.new, L.uses line.new) input.now result }
+{
+    let mut len = 0;
+    'messages: loop {
+        let wants = match next_of(&input[len..]) {
+            Next::Whole(message) => {
+                if let Err(end) = answer_one(
+                    service, alloc, office, clock, line, writer, &message,
+                ) {
+                    return Err(end);
+                }
+                if message.closes {
+                    return Err(End::Closed);
+                }
+                len += message.len;
+                continue;
+            }
+            Next::Refused(fault) => return Err(refuse(service, alloc, line, writer, fault)),
+            Next::NeedHead => Wants::Head(MAX_HEAD - (input.len() - len)),
+            Next::NeedBody(missing) => Wants::Body(missing),
+        };
+        return Ok(Awaiting { len, wants });
+    }
+}
+
+// Answers one message, and writes the reply.
+fn answer_one<O, S: Service<O>, L: Line<R, W>, R: Read, W: Write, C: Clock>(
+    service: &S,
+    alloc: Global,
+    office: &mut O,
+    clock: &mut C,
+    line: &mut L,
+    writer: &mut W,
+    message: &Received<'_>,
+) -> Result<(), End>
+    ensures { ReplyIsWritten S.step (office.old, C.answers clock.old) (office.new, C.answers clock.new)
+        (W.contents writer.old, L.uses line.old) (W.contents writer.new, L.uses line.new)
+        (message_of message.now) result }
+{
+    match service.answer(alloc, office, clock, message) {
+        Ok(reply) => line.send(writer, &reply),
+        Err(_) => Err(End::Memory),
+    }
+}
+
+// Writes the reply to a message that is refused.
+fn refuse<O, S: Service<O>, L: Line<R, W>, R: Read, W: Write>(
+    service: &S,
+    alloc: Global,
+    line: &mut L,
+    writer: &mut W,
+    fault: MessageFault,
+) -> End
+    ensures { RefusalIsWritten (W.contents writer.old, L.uses line.old)
+        (W.contents writer.new, L.uses line.new) (S.refusal fault) result }
+{
+    match service.refuse(alloc, fault) {
+        Ok(text) => match line.send(writer, &text) {
+            Ok(()) => End::BadMessage,
+            Err(end) => end,
+        },
+        Err(_) => End::Memory,
+    }
+}
+
+// How the conversation ends where the input ended, and this is left and awaited of it.
+fn finish<O, S: Service<O>, L: Line<R, W>, R: Read, W: Write>(
+    service: &S,
+    alloc: Global,
+    line: &mut L,
+    writer: &mut W,
+    rest: &[u8],
+    wants: Wants,
+) -> End
+    requires { IsAwaited rest.now wants }
+    ensures { IsOver S.refusal rest.now (W.contents writer.old, L.uses line.old)
+        (W.contents writer.new, L.uses line.new) result }
+{
+    match wants {
+        Wants::Head(_) if !rest.is_empty() => refuse(
+            service,
+            alloc,
+            line,
+            writer,
+            MessageFault::Head,
+        ),
+        _ => End::Closed,
+    }
+}

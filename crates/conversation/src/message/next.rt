@@ -1,0 +1,67 @@
+ghost use Rattle.std.specs.Prelude.{◌≡◌, ℕ, List};
+ghost use Rattle.conversation.specs.message.Front.{IsHeadAt};
+ghost use Rattle.conversation.specs.message.Messages.{AgreeBy, Ending, Message, Messages, Stop};
+ghost use Rattle.conversation.specs.message.Next.{FindsNext, BeginsAs};
+
+use crate::message::framing::framing_of;
+use crate::message::head::{Front, MAX_FIELDS, front_of};
+use crate::message::message_fault::MessageFault;
+use crate::message::received::Received;
+use httparse::spans::{EMPTY_HEADER_SPAN, HeaderSpan, RequestSpans};
+
+/// What stands at the front of an input of which more may come.
+#[derive(Clone, Copy, Debug, PartialEq, Eq)]
+pub enum Next<'b> {
+    /// A whole message.
+    Whole(Received<'b>),
+    /// A message that is refused, whatever follows.
+    Refused(MessageFault),
+    /// Fewer than `MAX_HEAD` bytes that aren't a head yet, and may become one.
+    NeedHead,
+    /// A head, and a body that lacks so many bytes: at least one.
+    NeedBody(usize),
+}
+
+/// What stands at the front of an input, of which more may come.
+pub fn next_of(input: &[u8]) -> Next<'_>
+    ensures next { BeginsAs input.now result }
+    ensures finds { FindsNext input.now result }
+{
+    let mut fields = [EMPTY_HEADER_SPAN; MAX_FIELDS];
+    match front_of(input, &mut fields) {
+        Front::Head(spans) => next_after(input, spans, &fields),
+        Front::Partial => Next::NeedHead,
+        Front::Never => Next::Refused(MessageFault::Head),
+    }
+}
+
+/// Two readings of one input are one: it has the same messages however it is read, and they end
+/// alike. Where its reader failed before a head, and none could have followed, either may be told.
+pub fn message_law()
+    ensures { (stop : Stop) (input : List ℕ) (ms ns : List Message) (e f : Ending)
+        → Messages stop input ms e → Messages stop input ns f → (ms ≡ ns) × AgreeBy stop e f }
+{}
+
+// The same of an input that begins with a head.
+fn next_after<'b>(input: &'b [u8], spans: RequestSpans, fields: &[HeaderSpan]) -> Next<'b>
+    requires { IsHeadAt input.now fields.now spans }
+    ensures { BeginsAs input.now result }
+{
+    let fields = &fields[..spans.headers];
+    let framing = match framing_of(spans.method.of(input), spans.version, input, fields) {
+        Ok(framing) => framing,
+        Err(fault) => return Next::Refused(fault),
+    };
+    let target = spans.path.of(input);
+    let after = &input[spans.len..];
+    if after.len() < framing.body {
+        return Next::NeedBody(framing.body - after.len());
+    }
+    Next::Whole(Received {
+        method: framing.method,
+        target,
+        body: &after[..framing.body],
+        closes: framing.closes,
+        len: spans.len + framing.body,
+    })
+}

@@ -1,0 +1,14 @@
+use crate::message::method::Method;
+
+/// A whole message, as parts of the input that it came with.
+#[derive(Clone, Copy, Debug, PartialEq, Eq)]
+pub struct Received<'b> {
+    pub method: Method,
+    /// The target as it was written: UTF-8, not decoded.
+    pub target: &'b [u8],
+    pub body: &'b [u8],
+    /// Whether the conversation ends after the reply to this message.
+    pub closes: bool,
+    /// How many bytes of the input the message takes, its head included.
+    pub len: usize,
+}

@@ -1,7 +1,0 @@
-use Rattle.std.proofs.Common.{arith, append_assoc}
-use Rattle.desk.specs.Replies.{status_line}
-use Rattle.desk.proofs.replies.put_status.Goals as goal
-
-pub returns : goal.returns
-unfolding status_line
-returns c = grind (arith, append_assoc)

@@ -1,0 +1,5 @@
+pub mod Body
+pub mod Head
+pub mod Members
+pub mod SaleText
+pub mod Text

@@ -1,0 +1,48 @@
+-- What the heads of replies say.
+use Rattle.std.specs.Prelude.{ℕ, Bool, true, Option, None, Some, Ok, Err}
+use Rattle.conversation.specs.declared.message.method.Method.{Method}
+use Rattle.conversation.specs.message.MessageFault.{message_fault_status}
+use Rattle.desk.specs.declared.desk_fault.DeskFault.{DeskFault}
+use Rattle.desk.specs.declared.desk_fault.DeskFault.TheVariants as faults
+use Rattle.desk.specs.declared.reply.form.Form.{Form}
+use Rattle.desk.specs.declared.reply.form.Form.TheVariants.{Json, Paper}
+use Rattle.desk.specs.declared.reply.outcome.Outcome.{Outcome}
+use Rattle.desk.specs.declared.reply.outcome.Outcome.TheVariants.{Refused, Faulty, Replied}
+use Rattle.desk.specs.declared.reply.head.ReplyHead.{ReplyHead}
+use Rattle.desk.specs.DeskFault.{desk_fault_status}
+use Rattle.vend_core.specs.declared.decision.answer.Answer.{Answer}
+use Rattle.vend_core.specs.declared.decision.answer.Answer.TheVariants.{Done, Imported, Opened, Closed, Sold, Reprinted, Report}
+use Rattle.vend_core.specs.declared.decision.refusal.Refusal.{Refusal}
+use Rattle.vend_core.specs.declared.decision.refusal.Refusal.TheVariants.{RefReused, NoShift, ShiftOpen, NoMeter, NoTariff, Differs, BeforeBase, IdentifiersSpent, IdentifierAhead, TooLittle, OfficeFull, NoSale, NoSuchShift, ImportRow, Memory, Store, Stopped, NotLater, DayPast}
+
+abbrev pub refusal_status : Refusal → ℕ
+refusal_status refusal = category_status (refusal_category refusal)
+
+-- the method that is allowed, where another one than the route's was used
+abbrev pub allowed_by : DeskFault → Option Method
+allowed_by faults.NoRoute = None
+allowed_by (faults.Method allowed) = Some allowed
+allowed_by faults.Clock = None
+allowed_by faults.Body = None
+
+-- the form of an answer, where a sale is to have this one: a report is a paper, and all else JSON
+abbrev pub answer_form : Form → Answer → Form
+answer_form form Done = Json
+answer_form form (Imported count) = Json
+answer_form form (Opened shift) = Json
+answer_form form (Closed shift) = Json
+answer_form form (Sold sale) = form
+answer_form form (Reprinted sale) = form
+answer_form form (Report shift sales) = Paper
+
+-- the head for what came of a message, after which the conversation ends or not; a message that is
+-- refused always ends it
+abbrev pub head_of : Outcome → Bool → ReplyHead
+head_of (Refused fault) closes =
+    record { status = message_fault_status fault; form = Json; allowed = None; closes = true }
+head_of (Faulty fault) closes =
+    record { status = desk_fault_status fault; form = Json; allowed = allowed_by fault; closes = closes }
+head_of (Replied form (Ok answer)) closes =
+    record { status = 200; form = answer_form form answer; allowed = None; closes = closes }
+head_of (Replied form (Err refusal)) closes =
+    record { status = refusal_status refusal; form = Json; allowed = None; closes = closes }

@@ -1,0 +1,36 @@
+-- Objects of JSON, by their members.
+use Rattle.std.specs.Prelude.{ℕ, List}
+use Rattle.std.specs.Borrow.{Bor}
+use Rattle.std.specs.List.{fold}
+use Rattle.std.specs.Str.Lossy.{utf8_lossy}
+use Rattle.serde_json.specs.Data.{Data, boolean, number, unsigned, string, object, Members, no_members, put}
+use Rattle.serde_json.specs.Written.{compact_text}
+use Rattle.desk.specs.declared.reply.members.Member.{Member}
+use Rattle.desk.specs.declared.reply.members.Member.TheVariants.{Truth, Number, Word, Text}
+
+-- a name and its value
+abbrev pub Pair : Type 0
+Pair = List ℕ × Data
+
+-- a whole number
+abbrev pub whole_number : ℕ → Data
+whole_number n = number (unsigned n)
+
+-- the members of an object that has each of these, in the order of their names
+abbrev pub put_all : List Pair → Members
+put_all pairs = fold (λ held pair. put pair.0 pair.1 held) no_members pairs
+
+-- the text of that object, without spaces
+unfoldable pub json_text : List Pair → List ℕ
+json_text pairs = compact_text (object (put_all pairs))
+
+-- the value that a member has
+abbrev pub data_of : Member → Data
+data_of (Truth holds) = boolean holds
+data_of (Number n) = whole_number n
+data_of (Word word) = string word.now
+data_of (Text text) = string (utf8_lossy text.now)
+
+-- a name and a member, as they stand in the code
+abbrev pub pair_of : Bor (List ℕ) × Member → Pair
+pair_of named = (named.0.now, data_of named.1)

@@ -1,0 +1,68 @@
+-- The endpoints of the desk: the method and the pattern of each, and the table that targets are
+-- matched with.
+use Rattle.std.specs.Prelude.{ℕ, List, [], ◌∷◌, Result, Ok, Err, codes}
+use Rattle.std.specs.List.{fold}
+use Rattle.matchit.specs.Order.{placed}
+use Rattle.matchit.specs.Route.{Scan, parse_route}
+use Rattle.matchit.specs.Router.{RouteOf, route_from}
+use Rattle.matchit.specs.Rows.{RowsOf}
+use Rattle.matchit.specs.declared.error.InsertError.{InsertError}
+use Rattle.conversation.specs.declared.message.method.Method.{Method}
+use Rattle.conversation.specs.declared.message.method.Method.TheVariants.{Get, Post}
+use Rattle.desk.specs.declared.route.endpoint.Endpoint.{Endpoint}
+use Rattle.desk.specs.declared.route.endpoint.Endpoint.TheVariants.{Tariffs, TariffSteps, Meters, MeterTariff, MeterBase, Shifts, ShiftClosing, Shift, Sales, Sale, SaleReceipt, MeterImports, TariffImports}
+
+-- the method that an endpoint is asked by
+abbrev pub endpoint_method : Endpoint → Method
+endpoint_method Tariffs = Post
+endpoint_method TariffSteps = Post
+endpoint_method Meters = Post
+endpoint_method MeterTariff = Post
+endpoint_method MeterBase = Post
+endpoint_method Shifts = Post
+endpoint_method ShiftClosing = Post
+endpoint_method Shift = Get
+endpoint_method Sales = Post
+endpoint_method Sale = Get
+endpoint_method SaleReceipt = Get
+endpoint_method MeterImports = Post
+endpoint_method TariffImports = Post
+
+-- the pattern of its targets
+abbrev pub pattern_of : Endpoint → List ℕ
+pattern_of Tariffs = codes "/tariffs"
+pattern_of TariffSteps = codes "/tariffs/{tariff}/steps"
+pattern_of Meters = codes "/meters"
+pattern_of MeterTariff = codes "/meters/{meter}/tariff"
+pattern_of MeterBase = codes "/meters/{meter}/base"
+pattern_of Shifts = codes "/shifts"
+pattern_of ShiftClosing = codes "/shifts/close"
+pattern_of Shift = codes "/shifts/{number}"
+pattern_of Sales = codes "/sales"
+pattern_of Sale = codes "/sales/{number}"
+pattern_of SaleReceipt = codes "/sales/{number}/receipt"
+pattern_of MeterImports = codes "/imports/meters"
+pattern_of TariffImports = codes "/imports/tariffs"
+
+-- all endpoints, in the order in which their patterns are inserted
+abbrev pub endpoints : List Endpoint
+endpoints =
+    Tariffs ∷ TariffSteps ∷ Meters ∷ MeterTariff ∷ MeterBase ∷ Shifts ∷ ShiftClosing ∷ Shift ∷ Sales
+    ∷ Sale ∷ SaleReceipt ∷ MeterImports ∷ TariffImports ∷ []
+
+-- the rows of a router, as `matchit` keeps them
+abbrev pub Table : Type 0
+Table = RowsOf (RouteOf Endpoint)
+
+-- a table with a pattern that was read
+abbrev pub with_pattern : Table → Result Scan InsertError → Endpoint → Table
+with_pattern rows (Ok scan) endpoint = placed (scan.pattern, route_from scan endpoint) rows
+with_pattern rows (Err error) endpoint = rows
+
+-- a table with the pattern of an endpoint
+abbrev pub with_endpoint : Table → Endpoint → Table
+with_endpoint rows endpoint = with_pattern rows (parse_route (pattern_of endpoint)) endpoint
+
+-- the table of all endpoints
+unfoldable pub table : Table
+table = fold with_endpoint [] endpoints

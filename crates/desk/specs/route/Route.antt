@@ -1,0 +1,75 @@
+-- The routes that targets lead to.
+use Rattle.std.specs.Prelude.{◌≡◌, ◌≢◌, ℕ, ◌≤◌, List, ◌++◌, Some, option_map, Result, Ok, Err, IsUtf8, codes, decimal, ⊤}
+use Rattle.matchit.specs.Router.{RouteOf}
+use Rattle.matchit.specs.Seek.{first}
+use Rattle.vend_core.specs.Name.{IsMeterNo, IsName}
+use Rattle.conversation.specs.declared.message.method.Method.{Method}
+use Rattle.desk.specs.declared.desk_fault.DeskFault.{DeskFault}
+use Rattle.desk.specs.declared.desk_fault.DeskFault.TheVariants as faults
+use Rattle.desk.specs.declared.route.endpoint.Endpoint.{Endpoint}
+use Rattle.desk.specs.declared.route.endpoint.Endpoint.TheVariants.{Tariffs, TariffSteps, Meters, MeterTariff, MeterBase, Shifts, ShiftClosing, Shift, Sales, Sale, SaleReceipt, MeterImports, TariffImports}
+use Rattle.desk.specs.declared.route.Route.{Route}
+use Rattle.desk.specs.declared.route.Route.TheVariants.{AddTariff, AddSteps, AddMeter, SetTariff, MoveBase, OpenShift, CloseShift, ShiftReport, Sell, Reprint, Receipt, ImportMeters, ImportTariffs}
+use Rattle.desk.specs.route.Endpoint.{endpoint_method, table}
+
+-- the endpoint that a route is asked at
+abbrev pub endpoint_of : Route → Endpoint
+endpoint_of AddTariff = Tariffs
+endpoint_of (AddSteps tariff) = TariffSteps
+endpoint_of AddMeter = Meters
+endpoint_of (SetTariff meter) = MeterTariff
+endpoint_of (MoveBase meter) = MeterBase
+endpoint_of OpenShift = Shifts
+endpoint_of CloseShift = ShiftClosing
+endpoint_of (ShiftReport number) = Shift
+endpoint_of Sell = Sales
+endpoint_of (Reprint number) = Sale
+endpoint_of (Receipt number) = SaleReceipt
+endpoint_of ImportMeters = MeterImports
+endpoint_of ImportTariffs = TariffImports
+
+-- a number that a target may name
+pub record IsTargetNumber (number : ℕ) : Type 0 where
+  pub from_one : 1 ≤ number
+  pub most : number ≤ 1000000000
+
+-- the target is text, and `matchit` finds the endpoint for it
+pub record Finds (target : List ℕ) (endpoint : Endpoint) : Type 0 where
+  pub text : IsUtf8 target
+  pub found : option_map (λ (row : RouteOf Endpoint). row.value) (first table target) ≡ Some endpoint
+
+-- The target names what the route is for, where the pattern has its parameter: a tariff's name, a
+-- meter's number, or a number without leading zeros. A route whose pattern has none names nothing.
+abbrev pub Names : List ℕ → Route → Type 0
+Names target AddTariff = ⊤
+Names target (AddSteps tariff) =
+    (target ≡ (codes "/tariffs/" ++ tariff) ++ codes "/steps") × IsName tariff
+Names target AddMeter = ⊤
+Names target (SetTariff meter) =
+    (target ≡ (codes "/meters/" ++ meter) ++ codes "/tariff") × IsMeterNo meter
+Names target (MoveBase meter) =
+    (target ≡ (codes "/meters/" ++ meter) ++ codes "/base") × IsMeterNo meter
+Names target OpenShift = ⊤
+Names target CloseShift = ⊤
+Names target (ShiftReport number) = (target ≡ codes "/shifts/" ++ decimal number) × IsTargetNumber number
+Names target Sell = ⊤
+Names target (Reprint number) = (target ≡ codes "/sales/" ++ decimal number) × IsTargetNumber number
+Names target (Receipt number) =
+    (target ≡ (codes "/sales/" ++ decimal number) ++ codes "/receipt") × IsTargetNumber number
+Names target ImportMeters = ⊤
+Names target ImportTariffs = ⊤
+
+-- the target leads to the route, by whatever method
+pub record LeadsTo (target : List ℕ) (route : Route) : Type 0 where
+  pub finds : Finds target (endpoint_of route)
+  pub names : Names target route
+
+-- what a target and a method ask for: a route by its own method, or why there is none
+abbrev pub IsRouted : List ℕ → Method → Result Route DeskFault → Type 0
+IsRouted target method (Ok route) =
+    LeadsTo target route × (endpoint_method (endpoint_of route) ≡ method)
+IsRouted target method (Err faults.NoRoute) = (route : Route) → ¬ LeadsTo target route
+IsRouted target method (Err (faults.Method allowed)) =
+    (route : Route) × LeadsTo target route × (endpoint_method (endpoint_of route) ≡ allowed)
+    × (allowed ≢ method)
+IsRouted target method (Err fault) = ⊥

@@ -1,0 +1,9 @@
+//! What is replied to a message.
+
+mod body;
+pub(crate) mod form;
+mod head;
+pub(crate) mod law;
+mod members;
+pub(crate) mod outcome;
+pub(crate) mod text;

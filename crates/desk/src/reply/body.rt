@@ -1,0 +1,139 @@
+ghost use Rattle.std.specs.Prelude.{◌≡◌, IfOk};
+ghost use Rattle.papers.specs.Text.{change_of};
+ghost use Rattle.desk.specs.reply.Members.{json_text};
+ghost use Rattle.desk.specs.reply.Body.{answer_body, body_of, fault_members, name_members, refusal_members, row_members, sale_body, sale_members};
+
+use crate::reply::form::Form;
+use crate::reply::members::{Member, object_text};
+use crate::reply::outcome::Outcome;
+use papers::{receipt, shift_report};
+use std::alloc::{AllocError, Global};
+use vend_core::{Answer, Category, Moment, Refusal, Sale};
+
+// The body for what came of a message.
+pub(crate) fn body_of(alloc: Global, outcome: &Outcome) -> Result<Vec<u8>, AllocError>
+    ensures { IfOk result (λ body. body.items ≡ body_of outcome.now) }
+{
+    match outcome {
+        Outcome::Refused(fault) => fault_body(alloc, fault.word()),
+        Outcome::Faulty(fault) => fault_body(alloc, fault.word()),
+        Outcome::Replied(form, Ok(answer)) => answer_body(alloc, *form, answer),
+        Outcome::Replied(_, Err(refusal)) => refusal_body(alloc, *refusal),
+    }
+}
+
+// A fault of the desk, told by its word.
+fn fault_body(alloc: Global, word: &str) -> Result<Vec<u8>, AllocError>
+    ensures { IfOk result (λ body. body.items ≡ json_text (fault_members word.now)) }
+{
+    object_text(alloc, &[("error", Member::Word(word))])
+}
+
+// A refusal of the office, told by its name and number.
+fn refusal_body(alloc: Global, refusal: Refusal) -> Result<Vec<u8>, AllocError>
+    ensures { IfOk result (λ body. body.items ≡ json_text (refusal_members refusal)) }
+{
+    match refusal.category() {
+        Category::UnfitRow(row, cause) => {
+            let cause = format!(in alloc; "{cause}")?;
+            row_body(alloc, refusal.name(), refusal.number(), row, &cause)
+        }
+        Category::Missing | Category::Forbidden | Category::Unfit | Category::Unable => {
+            name_body(alloc, refusal)
+        }
+    }
+}
+
+// The refusal of no row, told by its name and number alone.
+fn name_body(alloc: Global, refusal: Refusal) -> Result<Vec<u8>, AllocError>
+    ensures { IfOk result (λ body. body.items ≡ json_text (name_members refusal)) }
+{
+    let members = [
+        ("error", Member::Word(refusal.name())),
+        ("refusal", Member::Number(u64::from(refusal.number()))),
+    ];
+    object_text(alloc, &members)
+}
+
+// The refusal of a row, told by the row and the cause too.
+fn row_body<'a>(
+    alloc: Global,
+    name: &'a str,
+    number: u8,
+    row: u32,
+    cause: &'a str,
+) -> Result<Vec<u8>, AllocError>
+    ensures { IfOk result (λ body. body.items
+        ≡ json_text (row_members name.now number row cause.now)) }
+{
+    let members = [
+        ("cause", Member::Word(cause)),
+        ("error", Member::Word(name)),
+        ("refusal", Member::Number(u64::from(number))),
+        ("row", Member::Number(u64::from(row))),
+    ];
+    object_text(alloc, &members)
+}
+
+// An answer of the office, where a sale is to have this form.
+fn answer_body(alloc: Global, form: Form, answer: &Answer) -> Result<Vec<u8>, AllocError>
+    ensures { IfOk result (λ body. body.items ≡ answer_body form answer.now) }
+{
+    match answer {
+        Answer::Done => object_text(alloc, &[("done", Member::Truth(true))]),
+        Answer::Imported(count) => {
+            object_text(alloc, &[("added", Member::Number(u64::from(*count)))])
+        }
+        Answer::Opened(shift) | Answer::Closed(shift) => {
+            object_text(alloc, &[("shift", Member::Number(u64::from(*shift)))])
+        }
+        Answer::Sold(sale) | Answer::Reprinted(sale) => sale_body(alloc, form, sale),
+        Answer::Report(shift, sales) => shift_report(alloc, shift, sales.as_slice()),
+    }
+}
+
+// A sale in a form: itself, or its receipt.
+fn sale_body(alloc: Global, form: Form, sale: &Sale) -> Result<Vec<u8>, AllocError>
+    ensures { IfOk result (λ body. body.items ≡ sale_body form sale.now) }
+{
+    match form {
+        Form::Json => sale_text(alloc, sale),
+        Form::Paper => receipt(alloc, sale),
+    }
+}
+
+// A sale as JSON.
+fn sale_text(alloc: Global, sale: &Sale) -> Result<Vec<u8>, AllocError>
+    ensures { IfOk result (λ body. body.items ≡ json_text (sale_members sale.now)) }
+{
+    let members = [
+        ("base", Member::Number(u64::from(sale.base.year()))),
+        ("change", Member::Number(u64::from(change(sale)))),
+        ("meter", Member::Text(sale.meter.as_bytes())),
+        ("moment", Member::Number(seconds(sale.moment))),
+        ("number", Member::Number(u64::from(sale.number))),
+        ("operator", Member::Text(sale.operator.as_bytes())),
+        ("price", Member::Number(u64::from(sale.price))),
+        ("ref", Member::Text(sale.order_ref.as_bytes())),
+        ("shift", Member::Number(u64::from(sale.shift))),
+        ("tender", Member::Number(u64::from(sale.tender.cents()))),
+        ("tenths", Member::Number(u64::from(sale.tenths.tenths()))),
+        ("tid", Member::Number(u64::from(sale.tid))),
+        ("token", Member::Text(sale.digits.as_slice())),
+    ];
+    object_text(alloc, &members)
+}
+
+// What a customer gets back of the tender; a price is at most its tender, so nothing is cut off.
+fn change(sale: &Sale) -> u32
+    ensures { result ≡ change_of sale.now }
+{
+    sale.tender.cents().saturating_sub(sale.price)
+}
+
+// The Unix seconds of a moment, none of which lies before 1970.
+fn seconds(moment: Moment) -> u64
+    ensures { result ≡ moment }
+{
+    moment.secs() as u64
+}

@@ -1,0 +1,64 @@
+ghost use Rattle.std.specs.Prelude.{◌≡◌};
+ghost use Rattle.desk.specs.route.Endpoint.{endpoint_method, pattern_of};
+
+use conversation::Method;
+
+/// A kind of target that the desk serves, with one method (`docs/DESK.md`).
+#[derive(Clone, Copy, Debug, PartialEq, Eq, Hash)]
+pub enum Endpoint {
+    Tariffs,
+    TariffSteps,
+    Meters,
+    MeterTariff,
+    MeterBase,
+    Shifts,
+    ShiftClosing,
+    Shift,
+    Sales,
+    Sale,
+    SaleReceipt,
+    MeterImports,
+    TariffImports,
+}
+
+impl Endpoint {
+    /// The method that it is asked by.
+    pub fn method(self) -> Method
+        ensures { result ≡ endpoint_method self }
+    {
+        match self {
+            Endpoint::Shift | Endpoint::Sale | Endpoint::SaleReceipt => Method::Get,
+            Endpoint::Tariffs
+            | Endpoint::TariffSteps
+            | Endpoint::Meters
+            | Endpoint::MeterTariff
+            | Endpoint::MeterBase
+            | Endpoint::Shifts
+            | Endpoint::ShiftClosing
+            | Endpoint::Sales
+            | Endpoint::MeterImports
+            | Endpoint::TariffImports => Method::Post,
+        }
+    }
+
+    /// The pattern of its targets, in the syntax of `matchit`.
+    pub fn pattern(self) -> &'static str
+        ensures { result.now ≡ pattern_of self }
+    {
+        match self {
+            Endpoint::Tariffs => "/tariffs",
+            Endpoint::TariffSteps => "/tariffs/{tariff}/steps",
+            Endpoint::Meters => "/meters",
+            Endpoint::MeterTariff => "/meters/{meter}/tariff",
+            Endpoint::MeterBase => "/meters/{meter}/base",
+            Endpoint::Shifts => "/shifts",
+            Endpoint::ShiftClosing => "/shifts/close",
+            Endpoint::Shift => "/shifts/{number}",
+            Endpoint::Sales => "/sales",
+            Endpoint::Sale => "/sales/{number}",
+            Endpoint::SaleReceipt => "/sales/{number}/receipt",
+            Endpoint::MeterImports => "/imports/meters",
+            Endpoint::TariffImports => "/imports/tariffs",
+        }
+    }
+}

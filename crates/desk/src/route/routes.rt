@@ -1,0 +1,125 @@
+ghost use Rattle.std.specs.Prelude.{◌≡◌, ℕ, List, Result};
+ghost use Rattle.conversation.specs.declared.message.method.Method.{Method};
+ghost use Rattle.desk.specs.route.Endpoint.{table};
+ghost use Rattle.desk.specs.Reads.{IsFound};
+ghost use Rattle.desk.specs.route.Route.{Finds, IsRouted, Names, endpoint_of};
+ghost use Rattle.desk.specs.declared.desk_fault.DeskFault.{DeskFault};
+ghost use Rattle.desk.specs.declared.route.endpoint.Endpoint.{Endpoint};
+ghost use Rattle.desk.specs.declared.route.Route.{Route};
+
+use crate::desk_fault::DeskFault;
+use crate::route::Route;
+use crate::route::endpoint::Endpoint;
+use crate::route::parameter::{meter_between, number_after, number_between, tariff_between};
+use conversation::Method;
+use matchit::Router;
+use std::alloc::{AllocError, Global};
+use std::str;
+
+// The endpoints, in the order in which their patterns are inserted.
+const ENDPOINTS: [Endpoint; 13] = [
+    Endpoint::Tariffs,
+    Endpoint::TariffSteps,
+    Endpoint::Meters,
+    Endpoint::MeterTariff,
+    Endpoint::MeterBase,
+    Endpoint::Shifts,
+    Endpoint::ShiftClosing,
+    Endpoint::Shift,
+    Endpoint::Sales,
+    Endpoint::Sale,
+    Endpoint::SaleReceipt,
+    Endpoint::MeterImports,
+    Endpoint::TariffImports,
+];
+
+/// The routes of the desk. Memory is taken once, where they are made.
+#[derive(Drop)]
+pub struct Routes {
+    router: Router<Endpoint>,
+    ghost is_table: { router ≡ table },
+}
+
+impl Routes {
+    /// The routes, or none for want of memory.
+    pub fn new(alloc: Global) -> Result<Routes, AllocError> {
+        let mut router = Router::new(alloc);
+        for endpoint in &ENDPOINTS {
+            if router.insert(endpoint.pattern(), *endpoint).is_err() {
+                return Err(AllocError);
+            }
+        }
+        Ok(Routes { router })
+    }
+
+    /// The route of a target, which the method has to be that of, or why there is none: `NoRoute`
+    /// or `Method`.
+    pub fn route_of(&self, target: &[u8], method: Method) -> Result<Route, DeskFault>
+        ensures { IsRouted target.now method result }
+    {
+        match self.endpoint_at(target) {
+            Some(endpoint) => route_at(endpoint, target, method),
+            None => Err(DeskFault::NoRoute),
+        }
+    }
+
+    // The endpoint of a target.
+    fn endpoint_at(&self, target: &[u8]) -> Option<Endpoint>
+        ensures { IsFound (Finds target.now) result }
+    {
+        let Ok(text) = str::from_utf8(target) else {
+            return None;
+        };
+        match self.router.at(text) {
+            Ok(found) => Some(*found.value),
+            Err(_) => None,
+        }
+    }
+}
+
+/// What a target and a method ask for is one: one route, or one fault. No endpoint is without a
+/// target.
+pub fn route_law()
+    ensures one { (target : List ℕ) (method : Method) (a b : Result Route DeskFault)
+        → IsRouted target method a → IsRouted target method b → a ≡ b }
+    ensures each { (endpoint : Endpoint) → (target : List ℕ) × Finds target endpoint }
+{}
+
+// The route of a target, whose endpoint was found, or why there is none.
+fn route_at(endpoint: Endpoint, target: &[u8], method: Method) -> Result<Route, DeskFault>
+    requires { Finds target.now endpoint }
+    ensures { IsRouted target.now method result }
+{
+    match read_route(endpoint, target) {
+        Some(route) if endpoint.method() == method => Ok(route),
+        Some(_) => Err(DeskFault::Method(endpoint.method())),
+        None => Err(DeskFault::NoRoute),
+    }
+}
+
+// The route at an endpoint whose parameter the target names.
+fn read_route(endpoint: Endpoint, target: &[u8]) -> Option<Route>
+    ensures { IsFound (λ route. (endpoint_of route ≡ endpoint) × Names target.now route) result }
+{
+    match endpoint {
+        Endpoint::Tariffs => Some(Route::AddTariff),
+        Endpoint::TariffSteps => {
+            tariff_between(target, b"/tariffs/", b"/steps").map(Route::AddSteps)
+        }
+        Endpoint::Meters => Some(Route::AddMeter),
+        Endpoint::MeterTariff => {
+            meter_between(target, b"/meters/", b"/tariff").map(Route::SetTariff)
+        }
+        Endpoint::MeterBase => meter_between(target, b"/meters/", b"/base").map(Route::MoveBase),
+        Endpoint::Shifts => Some(Route::OpenShift),
+        Endpoint::ShiftClosing => Some(Route::CloseShift),
+        Endpoint::Shift => number_after(target, b"/shifts/").map(Route::ShiftReport),
+        Endpoint::Sales => Some(Route::Sell),
+        Endpoint::Sale => number_after(target, b"/sales/").map(Route::Reprint),
+        Endpoint::SaleReceipt => {
+            number_between(target, b"/sales/", b"/receipt").map(Route::Receipt)
+        }
+        Endpoint::MeterImports => Some(Route::ImportMeters),
+        Endpoint::TariffImports => Some(Route::ImportTariffs),
+    }
+}

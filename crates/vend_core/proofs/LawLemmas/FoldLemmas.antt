@@ -1,0 +1,285 @@
+-- What holds along steps and along whole folds: an office stays one, and its rows only grow.
+use Rattle.std.proofs.Common.{◌≡◌, ℕ, Bool, true, false, List, [], ◌∷◌, ◌++◌, length, Option, Some, None, Result, Ok, Err, refl, sym, ◌∙◌, ap, subst, arith}
+use Rattle.std.specs.Prelude.{◌≤◌, ◌&&◌, ◌==◌, All, Contains, IsNone, bytes_eq, is_none, is_some, nat_lt, if◌then◌else◌, option_map, slice_get}
+use Rattle.std.proofs.lemmas.Bool.{false≢true}
+use Rattle.std.proofs.lemmas.Bool.Decides.{nat_tests}
+use Rattle.std.proofs.lemmas.List.{append-nil, append_assoc, length-append, get_or_append_left}
+use Rattle.std.proofs.lemmas.List.Elements.{All-head, All-tail, Contains-append_left}
+use Rattle.std.proofs.lemmas.Option.{get_or_from_slice_get, slice_get-get_or, slice_get-map, slice_get_within}
+use Rattle.sts_fields.specs.Base.{base_date, base_eq, year_of}
+use Rattle.sts_fields.specs.Day.{day_at}
+use Rattle.sts_fields.specs.declared.base.Base.{Base}
+use Rattle.sts_token.specs.Token.{KeepsRange}
+use Rattle.tariff.specs.declared.step.Step.{Step}
+use Rattle.vend_core.specs.Decision.{MeterAccount, add_meter, add_steps, add_tariff, changed, close_shift, decision_of, import, is_earlier, meter_eq, move_base, account_of, next_number, open_a_shift, report, reprint, row_decision, sell, sell_once, set_tariff, steps_eq, unchanged}
+use Rattle.vend_core.specs.Decision.Fold.{after, applied, closed_at, office_after, step, with_base, with_tariff}
+use Rattle.vend_core.specs.Law.Growth.{HasGrown, HaveStayed, IsSameShift, TariffsStay}
+use Rattle.vend_core.specs.Office.Lookup.{open_shift, sale_numbered, sale_of_ref, sales_of_shift, shift_numbered}
+use Rattle.vend_core.specs.Office.{IsOffice, Office}
+use Rattle.vend_core.specs.Decision.Requests.{IsStamped}
+use Rattle.vend_core.specs.declared.decision.answer.Answer.{Answer}
+use Rattle.vend_core.specs.declared.decision.answer.Answer.TheVariants as answers
+use Rattle.vend_core.specs.declared.decision.change.Change.{Change}
+use Rattle.vend_core.specs.declared.decision.change.Edit.TheVariants as edits
+use Rattle.vend_core.specs.declared.decision.refusal.Refusal.{Refusal}
+use Rattle.vend_core.specs.declared.decision.refusal.Refusal.TheVariants as refusals
+use Rattle.vend_core.specs.declared.office.meter.Meter.{Meter}
+use Rattle.vend_core.specs.declared.decision.request.Order.{Order}
+use Rattle.vend_core.specs.declared.decision.request.Request.{Request}
+use Rattle.vend_core.specs.declared.decision.request.Request.TheVariants as requests
+use Rattle.vend_core.specs.declared.decision.request.Stamped.{Stamped}
+use Rattle.vend_core.specs.declared.office.row.Row.{Row}
+use Rattle.vend_core.specs.declared.office.row.Row.TheVariants as kinds
+use Rattle.vend_core.specs.declared.office.sale.Sale.{Sale}
+use Rattle.vend_core.specs.declared.office.shift.Shift.{Shift}
+use Rattle.vend_core.proofs.DecisionLemmas.{after_test, sell_ok}
+use Rattle.vend_core.proofs.DecisionLemmas.EditLemmas.{closing, more_kept, moved_base, set_kept}
+use Rattle.vend_core.proofs.DecisionLemmas.ImportLemmas.{import_keeps}
+use Rattle.vend_core.proofs.DecisionLemmas.NewSaleLemmas.{LowerLaws}
+use Rattle.vend_core.proofs.OfficeLemmas.{step_keeps_office}
+use Rattle.vend_core.proofs.OfficeLemmas.RowLemmas.{found, same_number}
+use Rattle.vend_core.proofs.LawLemmas.StayLemmas.{stayed_by_meter, stayed_by_steps, stayed_by_tariff, tariffs_stay_twice}
+
+-- an office has grown out of itself, and out of what it had grown out of
+same_shift : (s : Shift) → IsSameShift s s
+same_shift s = record { number = refl; operator = refl; opened = refl; closed = λ some. refl }
+
+-- what an office that has grown keeps of its names: tariffs, meters that are not moved back, bases
+record NamesGrow (o p : Office) : Type 0 where
+  tariffs : TariffsStay o p
+  meters : (number : List ℕ) (m : Meter) → o.meters number ≡ Some m → (n : Meter) × (p.meters number ≡ Some n) × (year_of m.base ≤ year_of n.base)
+  bases : (number : List ℕ) (base : Base) → o.bases number base ≡ true → p.bases number base ≡ true
+
+names_same : (o p : Office) → p.tariffs ≡ o.tariffs → p.dated_steps ≡ o.dated_steps → p.meters ≡ o.meters → p.bases ≡ o.bases → NamesGrow o p
+names_same o p tariffs dated meters bases = record {
+  tariffs = record {
+    first = λ name steps at. ap (λ (f : List ℕ → Option (List Step)). f name) tariffs ∙ at;
+    dated = λ name day steps at. ap (λ (f : List ℕ → ℕ → Option (List Step)). f name day) dated ∙ at;
+  };
+  meters = λ number m at. (m, ap (λ (f : List ℕ → Option Meter). f number) meters ∙ at, omega arith);
+  bases = λ number base had. ap (λ (f : List ℕ → Base → Bool). f number base) bases ∙ had;
+}
+
+-- where names, sales and shifts have grown
+grown : (o p : Office) → NamesGrow o p → (rest : List Sale) → p.sales ≡ o.sales ++ rest
+    → ((i : ℕ) (s : Shift) → slice_get o.shifts i ≡ Some s → (t : Shift) × (slice_get p.shifts i ≡ Some t) × IsSameShift s t) → HasGrown o p
+grown o p names rest sales shifts = record {
+  sales = (rest, sales);
+  shifts = shifts;
+  tariffs = names.tariffs;
+  meters = names.meters;
+  bases = names.bases;
+}
+
+pub grown_none : (o : Office) → HasGrown o o
+grown_none o = grown o o (names_same o o refl refl refl refl) [] (sym (append-nil o.sales)) (λ i s at. (s, at, same_shift s))
+
+same_shift_twice : (a b c : Shift) → IsSameShift a b → IsSameShift b c → IsSameShift a c
+same_shift_twice a b c x y = record {
+  number = y.number ∙ x.number;
+  operator = y.operator ∙ x.operator;
+  opened = y.opened ∙ x.opened;
+  closed = λ some. y.closed (ap is_some (x.closed some) ∙ some) ∙ x.closed some;
+}
+
+pub grown_twice : (o p q : Office) → HasGrown o p → HasGrown p q → HasGrown o q
+grown_twice o p q a b = record {
+  sales = (a.sales.0 ++ b.sales.0, b.sales.1 ∙ ap (λ xs. xs ++ b.sales.0) a.sales.1 ∙ append_assoc o.sales a.sales.0 b.sales.0);
+  shifts = λ i s at.
+      let t = a.shifts i s at in
+      let u = b.shifts i t.0 t.1 in
+      (u.0, u.1, same_shift_twice s t.0 u.0 t.2 u.2);
+  tariffs = tariffs_stay_twice o p q a.tariffs b.tariffs;
+  meters = λ number m at.
+      let n = a.meters number m at in
+      let k = b.meters number n.0 n.1 in
+      (k.0, k.1, omega (arith, n.2, k.2));
+  bases = λ number base had. b.bases number base (a.bases number base had);
+}
+
+-- the rows of a grown office, where only sales came, a shift came, or one was closed
+pub grown_sale : (o : Office) (s : Sale) → HasGrown o (applied (edits.AddSale s) o)
+grown_sale o s = grown o (applied (edits.AddSale s) o) (names_same o _ refl refl refl refl) (s ∷ []) refl (λ i t at. (t, at, same_shift t))
+
+grown_shift : (o : Office) (s : Shift) → HasGrown o (applied (edits.OpenShift s) o)
+grown_shift o s =
+    grown o (applied (edits.OpenShift s) o) (names_same o _ refl refl refl refl) [] (sym (append-nil o.sales)) (λ i t at.
+    let within = slice_get_within o.shifts i t at in (
+      t,
+      slice_get-get_or (o.shifts ++ s ∷ []) i t (omega (arith, within, length-append o.shifts (s ∷ [])))
+          ∙ ap Some (get_or_append_left o.shifts (s ∷ []) t i within ∙ get_or_from_slice_get o.shifts i t t at),
+      same_shift t,
+    ))
+
+closed_same : (number moment : ℕ) (s : Shift) (b : Bool) → (s.number == number) ≡ b → (b ≡ true → IsNone s.closed) → IsSameShift s (if b then closed_at moment s else s)
+closed_same number moment s true is opened = record { number = refl; operator = refl; opened = refl; closed = λ some. absurd (false≢true (sym (opened refl) ∙ some)) }
+closed_same number moment s false is opened = same_shift s
+
+grown_close : (o : Office) (c : Shift) (moment : ℕ) → IsOffice o → Contains o.shifts c → IsNone c.closed → HasGrown o (applied (edits.CloseShift c.number moment) o)
+grown_close o c moment office there none =
+    grown o (applied (edits.CloseShift c.number moment) o) (names_same o _ refl refl refl refl) [] (sym (append-nil o.sales)) (λ i t at.
+    let within = slice_get_within o.shifts i t at in
+    let t_there : Contains o.shifts t = (i, within, get_or_from_slice_get o.shifts i t t at) in (
+      closing c.number moment t,
+      slice_get-map (closing c.number moment) o.shifts i ∙ ap (option_map (closing c.number moment)) at,
+      closed_same c.number moment t (t.number == c.number) refl (λ e.
+          let same : t ≡ c = same_number (λ s. s.number) o.shifts t c office.shift_numbers t_there there (grind (arith, nat_tests)) in
+          ap (λ (s : Shift). is_some s.closed) same ∙ none),
+    ))
+
+open_is_open : (x : Bool) (closed : Option ℕ) → (x && is_none closed) ≡ true → IsNone closed
+open_is_open true None e = refl
+open_is_open true (Some moment) e = cc
+open_is_open false None e = refl
+open_is_open false (Some moment) e = cc
+
+module _ (o : Office) where
+  grown_if : (b : Bool) (answer : Answer) (refusal : Refusal) → HasGrown o (office_after o (if b then unchanged answer else Err refusal))
+  grown_if true answer refusal = grown_none o
+  grown_if false answer refusal = grown_none o
+
+  -- names alone have grown
+  new_names : (p : Office) → NamesGrow o p → p.sales ≡ o.sales → p.shifts ≡ o.shifts → HasGrown o p
+  new_names p names sales shifts =
+      grown o p names [] (sales ∙ sym (append-nil o.sales)) (λ i s at. (s, ap (λ rows. slice_get rows i) shifts ∙ at, same_shift s))
+
+  stayed_names : (p : Office) → HaveStayed o p → ((number : List ℕ) (base : Base) → o.bases number base ≡ true → p.bases number base ≡ true) → NamesGrow o p
+  stayed_names p stayed bases = record { tariffs = stayed.tariffs; meters = λ number m at. (m, stayed.meters number m at, omega arith); bases = bases }
+
+  grown_by_tariff : (name : List ℕ) (steps : List Step) (there : Option (List Step)) → o.tariffs name ≡ there → HasGrown o (office_after o (add_tariff name steps there))
+  grown_by_tariff name steps None at = new_names _ (stayed_names _ (stayed_by_tariff o name steps None at) (λ q b had. had)) refl refl
+  grown_by_tariff name steps (Some there) at = grown_if (steps_eq there steps) _ _
+
+  grown_by_day : (name : List ℕ) (day : ℕ) (steps : List Step) (b : Bool) → HaveStayed o (office_after o (if b then changed (edits.AddSteps name day steps) answers.Done else Err refusals.DayPast))
+      → HasGrown o (office_after o (if b then changed (edits.AddSteps name day steps) answers.Done else Err refusals.DayPast))
+  grown_by_day name day steps true stayed = new_names _ (stayed_names _ stayed (λ q b had. had)) refl refl
+  grown_by_day name day steps false stayed = grown_none o
+
+  grown_by_steps : (name : List ℕ) (day today : ℕ) (steps : List Step) (has : Bool) (there : Option (List Step)) → o.dated_steps name day ≡ there → HasGrown o (office_after o (add_steps name day steps today has there))
+  grown_by_steps name day today steps false there at = grown_none o
+  grown_by_steps name day today steps true (Some there) at = grown_if (steps_eq there steps) _ _
+  grown_by_steps name day today steps true None at = grown_by_day name day steps (nat_lt today day) (stayed_by_steps o name day today steps true None at)
+
+  grown_by_meter : (number : List ℕ) (m : Meter) (there : Option Meter) (has : Bool) → o.meters number ≡ there → HasGrown o (office_after o (add_meter number m there has))
+  grown_by_meter number m (Some there) has at = grown_if (meter_eq there m) _ _
+  grown_by_meter number m None true at =
+      new_names _ (stayed_names _ (stayed_by_meter o number m None true at) (λ q b had. more_kept (bytes_eq q number && base_eq b m.base) (o.bases q b) had)) refl refl
+  grown_by_meter number m None false at = grown_none o
+
+  -- a meter that is given a tariff has its base
+  same_base : (b : Bool) (name : List ℕ) (m : Meter) → year_of m.base ≤ year_of (if b then with_tariff name m else m).base
+  same_base true name m = omega arith
+  same_base false name m = omega arith
+
+  grown_by_setting : (number name : List ℕ) (b : Bool) → HasGrown o (office_after o (if b then unchanged answers.Done else changed (edits.SetTariff number name) answers.Done))
+  grown_by_setting number name true = grown_none o
+  grown_by_setting number name false = new_names (applied (edits.SetTariff number name) o) (record {
+    tariffs = record { first = λ q steps at. at; dated = λ q day steps at. at };
+    meters =
+        λ q m at. ((if bytes_eq q number then with_tariff name m else m), set_kept (bytes_eq q number) (with_tariff name) m (o.meters q) at, same_base (bytes_eq q number) name m);
+    bases = λ q b had. had;
+  }) refl refl
+
+  grown_by_set : (number name : List ℕ) (there : Option Meter) (has : Bool) → HasGrown o (office_after o (set_tariff number name there has))
+  grown_by_set number name None has = grown_none o
+  grown_by_set number name (Some m) false = grown_none o
+  grown_by_set number name (Some m) true = grown_by_setting number name (bytes_eq m.tariff name)
+
+  -- a meter that is moved to a base that is not earlier
+  grown_by_move : (number : List ℕ) (base : Base) (m : Meter) (b : Bool) → o.meters number ≡ Some m → year_of m.base ≤ year_of base → HasGrown o (office_after o (if b then Err refusals.BeforeBase else changed (edits.MoveBase number base) answers.Done))
+  grown_by_move number base m true there later = grown_none o
+  grown_by_move number base m false there later = new_names (applied (edits.MoveBase number base) o) (record {
+    tariffs = record { first = λ q steps at. at; dated = λ q day steps at. at };
+    meters = λ q k at. (
+      (if bytes_eq q number then with_base base k else k),
+      set_kept (bytes_eq q number) (with_base base) k (o.meters q) at,
+      moved_base (bytes_eq q number) q number base m k o.meters refl there later at,
+    );
+    bases = λ q b had. more_kept (bytes_eq q number && base_eq b base) (o.bases q b) had;
+  }) refl refl
+
+  grown_by_later : (number : List ℕ) (base : Base) (moment : ℕ) (m : Meter) (same earlier : Bool) → o.meters number ≡ Some m → is_earlier base m.base ≡ earlier
+      → HasGrown o (office_after o (if same then unchanged answers.Done else (if earlier then Err refusals.NotLater else (if nat_lt moment (base_date base) then Err refusals.BeforeBase else changed (edits.MoveBase number base) answers.Done))))
+  grown_by_later number base moment m true earlier there e = grown_none o
+  grown_by_later number base moment m false true there e = grown_none o
+  grown_by_later number base moment m false false there e =
+      let later : year_of m.base ≤ year_of base = grind (arith, nat_tests) in
+      grown_by_move number base m (nat_lt moment (base_date base)) there later
+
+  grown_by_move_base : (number : List ℕ) (base : Base) (moment : ℕ) (there : Option Meter) → o.meters number ≡ there → HasGrown o (office_after o (move_base number base moment there))
+  grown_by_move_base number base moment None at = grown_none o
+  grown_by_move_base number base moment (Some m) at = grown_by_later number base moment m (base_eq m.base base) (is_earlier base m.base) at refl
+
+  grown_by_row : (today : ℕ) (row : Row) → HasGrown o (office_after o (row_decision o today row))
+  grown_by_row today (kinds.Tariff name steps) = grown_by_tariff name steps (o.tariffs name) refl
+  grown_by_row today (kinds.Steps name day steps) = grown_by_steps name day today steps (is_some (o.tariffs name)) (o.dated_steps name day) refl
+  grown_by_row today (kinds.Meter number m) = grown_by_meter number m (o.meters number) (is_some (o.tariffs m.tariff)) refl
+
+grown_by_import : (o : Office) (today : ℕ) (rows : List Row) → HasGrown o (office_after o (import o today rows))
+grown_by_import o today rows =
+    import_keeps (HasGrown o) (λ row. Unit {0}) today (λ p row any grown. grown_twice o p (office_after p (row_decision p today row)) grown (grown_by_row p today row)) o rows (λ i d within. tt) (grown_none o)
+
+module _ (o : Office) (office : IsOffice o) where
+  grown_by_open : (moment : ℕ) (operator : List ℕ) (there : Option Shift) (count : ℕ) → HasGrown o (office_after o (open_a_shift moment operator there count))
+  grown_by_open moment operator (Some there) count = grown_none o
+  grown_by_open moment operator None count = after_test (λ r. HasGrown o (office_after o r)) (next_number count) _ (λ refusal. grown_none o) (λ number next. grown_shift o _)
+
+  grown_by_close : (moment : ℕ) (operator : List ℕ) (there : Option Shift) → open_shift o operator ≡ there → HasGrown o (office_after o (close_shift moment there))
+  grown_by_close moment operator None e = grown_none o
+  grown_by_close moment operator (Some s) e =
+      let is = found _ o.shifts s e in
+      grown_close o s moment office is.0 (open_is_open _ s.closed is.1)
+
+  grown_by_new : (forward : ℕ → ℕ → ℕ) (moment nibble : ℕ) (order : Order) (shift : Option Shift) (meter : Option MeterAccount) (count : ℕ) (r : Result Change Refusal) → sell forward moment nibble order shift meter count ≡ r → HasGrown o (office_after o r)
+  grown_by_new forward moment nibble order shift meter count (Err refusal) e = grown_none o
+  grown_by_new forward moment nibble order shift meter count (Ok change) e =
+      let is = (sell_ok forward moment nibble order shift meter count change e).change_is in
+      subst (λ (c : Change). HasGrown o (office_after o (Ok c))) (sym is) (grown_sale o _)
+
+  grown_by_sell : (forward : ℕ → ℕ → ℕ) (moment nibble : ℕ) (order : Order) (first : Option Sale) (shift : Option Shift) (meter : Option MeterAccount) (count : ℕ) → HasGrown o (office_after o (sell_once forward moment nibble order first shift meter count))
+  grown_by_sell forward moment nibble order None shift meter count = grown_by_new forward moment nibble order shift meter count _ refl
+  grown_by_sell forward moment nibble order (Some first) shift meter count = grown_if o _ _ _
+
+  grown_by_reprint : (sale : Option Sale) → HasGrown o (office_after o (reprint sale))
+  grown_by_reprint None = grown_none o
+  grown_by_reprint (Some s) = grown_none o
+
+  grown_by_report : (shift : Option Shift) (sales : List Sale) → HasGrown o (office_after o (report shift sales))
+  grown_by_report None sales = grown_none o
+  grown_by_report (Some s) sales = grown_none o
+
+  grown_by : (forward : ℕ → ℕ → ℕ) (moment nibble : ℕ) (request : Request) → HasGrown o (office_after o (decision_of forward o moment nibble request))
+  grown_by forward moment nibble (requests.AddTariff name steps) = grown_by_tariff o name steps (o.tariffs name) refl
+  grown_by forward moment nibble (requests.AddSteps name day steps) = grown_by_steps o name day (day_at moment) steps (is_some (o.tariffs name)) (o.dated_steps name day) refl
+  grown_by forward moment nibble (requests.AddMeter number m) = grown_by_meter o number m (o.meters number) (is_some (o.tariffs m.tariff)) refl
+  grown_by forward moment nibble (requests.Import rows) = grown_by_import o (day_at moment) rows
+  grown_by forward moment nibble (requests.SetTariff number name) = grown_by_set o number name (o.meters number) (is_some (o.tariffs name))
+  grown_by forward moment nibble (requests.MoveBase number base) = grown_by_move_base o number base moment (o.meters number) refl
+  grown_by forward moment nibble (requests.OpenShift operator) = grown_by_open moment operator (open_shift o operator) (length o.shifts)
+  grown_by forward moment nibble (requests.CloseShift operator) = grown_by_close moment operator (open_shift o operator) refl
+  grown_by forward moment nibble (requests.Sell order) =
+      grown_by_sell forward moment nibble order (sale_of_ref o order.operator order.order_ref) (open_shift o order.operator) (account_of o order.meter moment) (length o.sales)
+  grown_by forward moment nibble (requests.Reprint number) = grown_by_reprint (sale_numbered o number)
+  grown_by forward moment nibble (requests.ShiftReport number) = grown_by_report (shift_numbered o number) (sales_of_shift o number)
+
+pub step_grows : (forward : ℕ → ℕ → ℕ) (o : Office) (at : Stamped) → IsOffice o → HasGrown o (step forward o at)
+step_grows forward o at office = grown_by o office forward at.moment at.nibble at.request
+
+-- along a fold
+pub after_keeps_office : LowerLaws → (forward : ℕ → ℕ → ℕ) (o : Office) (ats : List Stamped) → IsOffice o → All IsStamped ats → KeepsRange forward → IsOffice (after forward o ats)
+unfolding after
+after_keeps_office laws forward o [] office are range = office
+after_keeps_office laws forward o (at ∷ ats) office are range =
+    after_keeps_office laws forward (step forward o at) ats (step_keeps_office laws forward o at office (All-head IsStamped at ats are) range) (All-tail IsStamped at ats are) range
+
+pub after_grows : LowerLaws → (forward : ℕ → ℕ → ℕ) (o : Office) (ats : List Stamped) → IsOffice o → All IsStamped ats → KeepsRange forward → HasGrown o (after forward o ats)
+unfolding after
+after_grows laws forward o [] office are range = grown_none o
+after_grows laws forward o (at ∷ ats) office are range =
+    let next = step_keeps_office laws forward o at office (All-head IsStamped at ats are) range in
+    grown_twice o (step forward o at) (after forward (step forward o at) ats) (step_grows forward o at office)
+    (after_grows laws forward (step forward o at) ats next (All-tail IsStamped at ats are) range)
+
+-- a sale that stands in an office stands in what it has grown to
+pub stands_on : (o p : Office) (s : Sale) → HasGrown o p → Contains o.sales s → Contains p.sales s
+stands_on o p s grown there = subst (λ (sales : List Sale). Contains sales s) (sym grown.sales.1) (Contains-append_left o.sales grown.sales.0 s there)

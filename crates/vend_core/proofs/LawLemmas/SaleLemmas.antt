@@ -1,0 +1,70 @@
+-- What holds of each new sale holds of each sale that lives hand out.
+use Rattle.std.proofs.Common.{ℕ, ◌≤◌, inl, inr, List, [], ◌∷◌, sym, subst}
+use Rattle.std.specs.Prelude.{All, Contains}
+use Rattle.std.proofs.lemmas.List.Elements.{All-contains, All-head, All-nil, All-push, All-tail}
+use Rattle.sts_fields.specs.Tid.{IsReserved}
+use Rattle.sts_token.specs.Token.{KeepsRange}
+use Rattle.vend_core.specs.Decision.Fold.{after, step}
+use Rattle.vend_core.specs.Law.Life.{AreLives, IsHanded, IsLife, LeadTo, Life, MayLeave, acknowledged, present}
+use Rattle.vend_core.specs.Law.NewSale.{IsNewSale}
+use Rattle.vend_core.specs.Office.{IsOffice, Office, empty_office}
+use Rattle.vend_core.specs.Decision.Requests.{IsStamped}
+use Rattle.vend_core.specs.Law.SoldTokens.{WasWritten}
+use Rattle.vend_core.specs.declared.decision.request.Order.{Order}
+use Rattle.vend_core.specs.declared.decision.request.Stamped.{Stamped}
+use Rattle.vend_core.specs.declared.office.sale.Sale.{Sale}
+use Rattle.vend_core.proofs.LawLemmas.AnswerLemmas.{sells_one}
+use Rattle.vend_core.proofs.LifeLemmas.{acknowledged_stamped, handed_stands, left_office, present_office}
+use Rattle.vend_core.proofs.DecisionLemmas.NewSaleLemmas.{LowerLaws}
+use Rattle.vend_core.proofs.OfficeLemmas.{empty_is_office, step_keeps_office}
+use Rattle.vend_core.proofs.OfficeLemmas.RowLemmas.{contains_first, contains_further}
+
+module _ (laws : LowerLaws) (P : Sale → Type 0) where
+  -- what a transform's new sales keep
+  abbrev pub KeepsNew : (ℕ → ℕ → ℕ) → Type 0
+  KeepsNew forward = (o : Office) (at : Stamped) (order : Order) (s : Sale) → IsOffice o → IsNewSale forward o at order s → P s
+
+  step_all : (forward : ℕ → ℕ → ℕ) (o : Office) (at : Stamped) → IsOffice o → KeepsRange forward → KeepsNew forward → All P o.sales → All P (step forward o at).sales
+  step_all forward o at office range keeps all =
+      elim (sells_one laws forward o at office range) [
+        | inl same ↦ subst (λ sales. All P sales) (sym same) all
+        | inr (s, (order, asks, new), pushed, answered) ↦ subst (λ sales. All P sales) (sym pushed) (All-push P o.sales s all (keeps o at order s office new))
+      ]
+
+  after_all : (forward : ℕ → ℕ → ℕ) (o : Office) (ats : List Stamped) → IsOffice o → All IsStamped ats → KeepsRange forward → KeepsNew forward → All P o.sales → All P (after forward o ats).sales
+  unfolding after
+  after_all forward o [] office are range keeps all = all
+  after_all forward o (at ∷ ats) office are range keeps all =
+      after_all forward (step forward o at) ats (step_keeps_office laws forward o at office (All-head IsStamped at ats are) range) (All-tail IsStamped at ats are) range keeps
+      (step_all forward o at office range keeps all)
+
+  left_all : (life : Life) → IsLife life → IsOffice life.opening → KeepsNew life.forward → All P life.opening.sales → (o : Office) → MayLeave life o → All P o.sales
+  left_all life is office keeps all o (inl e) =
+      subst (λ (p : Office). All P p.sales) (sym e) (after_all life.forward life.opening (acknowledged life) office (acknowledged_stamped laws life is) is.range keeps all)
+  left_all life is office keeps all o (inr (at, there, e)) =
+      subst (λ (p : Office). All P p.sales) (sym e) (step_all life.forward (present life) at (present_office laws life is office) is.range keeps
+      (after_all life.forward life.opening (acknowledged life) office (acknowledged_stamped laws life is) is.range keeps all))
+
+  led_all : (start : Office) (lives : List Life) (o : Office) → IsOffice start → LeadTo start lives o → ((life : Life) → Contains lives life → KeepsNew life.forward) → All P start.sales → All P o.sales
+  led_all start [] o office e keeps all = subst (λ (p : Office). All P p.sales) (sym e) all
+  led_all start (life ∷ lives) o office (is, opens, (left, may, leads)) keeps all =
+      let opening = subst IsOffice (sym opens) office in
+      led_all left lives o (left_office laws life is opening left may) leads (λ later there. keeps later (contains_further life later lives there))
+      (left_all life is opening (keeps life (contains_first life lives)) (subst (λ (p : Office). All P p.sales) (sym opens) all) left may)
+
+  pub handed_keeps : (lives : List Life) (o : Office) (s : Sale) → AreLives lives o → ((life : Life) → Contains lives life → KeepsNew life.forward) → IsHanded lives s → P s
+  handed_keeps lives o s are keeps handed =
+      All-contains P o.sales s (led_all empty_office lives o empty_is_office are keeps (All-nil P)) (handed_stands laws lives o s are handed)
+
+-- an identifier that is sold is at least 2, and not reserved
+pub handed_tid : LowerLaws → (lives : List Life) (o : Office) (s : Sale) → AreLives lives o → IsHanded lives s → (2 ≤ s.tid) × ¬ IsReserved s.tid
+handed_tid laws lives o s are handed =
+    handed_keeps laws (λ (s : Sale). (2 ≤ s.tid) × ¬ IsReserved s.tid) lives o s are
+    (λ life there o at order s office new. (new.tid.0.may_sell.from_two, new.tid.0.may_sell.not_reserved)) handed
+
+-- a sale was written under the transform of one of the lives, and a key
+pub handed_token : LowerLaws → (lives : List Life) (o : Office) (s : Sale) → AreLives lives o → IsHanded lives s → WasWritten lives s
+handed_token laws lives o s are handed =
+    handed_keeps laws (WasWritten lives) lives o s are
+    (λ life there o at order s office new.
+    record { life = life; key = new.to_meter.key; one_of = there; key_bits = (office.meters order.meter new.to_meter new.meter_is).key; token = new.digits }) handed

@@ -1,0 +1,5 @@
+-- The office over plain lists.
+pub mod FitsLemmas
+pub mod LookUpLemmas
+pub mod MapLemmas
+pub mod PlainRowLemmas

@@ -1,0 +1,3 @@
+-- The names that requests carry.
+pub mod LuhnLemmas
+pub mod ShortTextLemmas

@@ -1,0 +1,11 @@
+//! What holds of an office over requests, stops and lives.
+
+mod history;
+mod life;
+mod office;
+mod store;
+
+pub use history::history_law;
+pub use life::life_law;
+pub use office::office_law;
+pub use store::store_law;
