@@ -230,10 +230,10 @@ made_by (Err e) found edit prior old new is did makes = tt
 
 -- ---- why an edit is not made
 
--- where something else is known
-pub told_where : {A E H : Type 0} {P : E → Type 0} (r : Result A E) → (H → IfErr r P) → IfErr r (λ e. H → P e)
-told_where (Ok x) told = tt
-told_where (Err e) told = told
+-- where its tables are there
+pub told_where : {A : Type 0} (edit : Edit) (prior : ℕ) (old new : State) (r : Result A TableError) → (HasTables old → IfErr r (FailsToMake edit prior old new)) → IfErr r (λ e. HasTables old → FailsToMake edit prior old new e)
+told_where edit prior old new (Ok x) told = tt
+told_where edit prior old new (Err e) told = told
 
 -- where it is this one
 pub refused_by : {A : Type 0} (r : Result A TableError) (found edit : Edit) (prior : ℕ) (old new : State) → found ≡ edit → IfErr r (FailsToMake edit prior old new) → IfErr r (FailsToMake found prior old new)

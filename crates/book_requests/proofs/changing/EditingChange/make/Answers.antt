@@ -88,47 +88,47 @@ returns-in-AddSale-clause-made g c clean way =
     (λ adds. (makes_sale c.members_law.ensures.edited old new sale adds.tells.adds, (adds.shown, adds.tells.tells, adds.month)))
 
 pub returns-in-AddTariff-clause-refused : goal.returns-in-AddTariff-clause-refused
-returns-in-AddTariff-clause-refused g c clean way = told_where c.add_tariff.result (λ has. if_err c.add_tariff.result (λ e why. inl why) (c.add_tariff.ensures.refused clean way has))
+returns-in-AddTariff-clause-refused g c clean way = told_where c.args.self.now.edit.now c.args.self.now.prior (state g.S.Store c.args.tx.now.conn.now) (state g.S.Store c.add_tariff.new.tx.conn.now) c.add_tariff.result (λ has. if_err c.add_tariff.result (λ e why. inl why) (c.add_tariff.ensures.refused clean way has))
 
 pub returns-in-AddMeter-clause-refused : goal.returns-in-AddMeter-clause-refused
-returns-in-AddMeter-clause-refused g c clean way = told_where c.add_meter.result (λ has. if_err c.add_meter.result (λ e why. inl why) (c.add_meter.ensures.refused clean way has))
+returns-in-AddMeter-clause-refused g c clean way = told_where c.args.self.now.edit.now c.args.self.now.prior (state g.S.Store c.args.tx.now.conn.now) (state g.S.Store c.add_meter.new.tx.conn.now) c.add_meter.result (λ has. if_err c.add_meter.result (λ e why. inl why) (c.add_meter.ensures.refused clean way has))
 
 pub returns-in-MoveBase-clause-refused : goal.returns-in-MoveBase-clause-refused
-returns-in-MoveBase-clause-refused g c clean way = told_where c.move_base.result (λ has. if_err c.move_base.result (λ e why. inl why) (c.move_base.ensures.refused clean way has))
+returns-in-MoveBase-clause-refused g c clean way = told_where c.args.self.now.edit.now c.args.self.now.prior (state g.S.Store c.args.tx.now.conn.now) (state g.S.Store c.move_base.new.tx.conn.now) c.move_base.result (λ has. if_err c.move_base.result (λ e why. inl why) (c.move_base.ensures.refused clean way has))
 
 pub returns-in-AddSteps-clause-refused : goal.returns-in-AddSteps-clause-refused
 returns-in-AddSteps-clause-refused g c clean way =
     let steps = c.as_slice-in-AddSteps.ensures in
-    told_where c.add_steps.result (λ has. if_err c.add_steps.result (λ e why. inl why) (c.add_steps.ensures.refused clean way has (omega (arith, steps.steps.count.0, ap length steps.view))))
+    told_where c.args.self.now.edit.now c.args.self.now.prior (state g.S.Store c.args.tx.now.conn.now) (state g.S.Store c.add_steps.new.tx.conn.now) c.add_steps.result (λ has. if_err c.add_steps.result (λ e why. inl why) (c.add_steps.ensures.refused clean way has (omega (arith, steps.steps.count.0, ap length steps.view))))
 
 pub returns-in-SetTariff-clause-refused : goal.returns-in-SetTariff-clause-refused
 returns-in-SetTariff-clause-refused g c clean way =
     let old = state g.S.Store c.args.tx.now.conn.now in
     let new = state g.S.Store c.set_tariff.new.tx.conn.now in
-    told_where c.set_tariff.result (λ has. if_err c.set_tariff.result (λ e why. inl (of_store old old new (came_here old way) e why)) (c.set_tariff.ensures.writes.refused clean has))
+    told_where c.args.self.now.edit.now c.args.self.now.prior (state g.S.Store c.args.tx.now.conn.now) (state g.S.Store c.set_tariff.new.tx.conn.now) c.set_tariff.result (λ has. if_err c.set_tariff.result (λ e why. inl (of_store old old new (came_here old way) e why)) (c.set_tariff.ensures.writes.refused clean has))
 
 pub returns-in-OpenShift-clause-refused : goal.returns-in-OpenShift-clause-refused
 returns-in-OpenShift-clause-refused g c clean way =
     let old = state g.S.Store c.args.tx.now.conn.now in
     let new = state g.S.Store c.add_shift.new.tx.conn.now in
-    told_where c.add_shift.result (λ has. if_err c.add_shift.result (λ e why. inl (of_store old old new (came_here old way) e why)) (c.add_shift.ensures.writes.refused clean has))
+    told_where c.args.self.now.edit.now c.args.self.now.prior (state g.S.Store c.args.tx.now.conn.now) (state g.S.Store c.add_shift.new.tx.conn.now) c.add_shift.result (λ has. if_err c.add_shift.result (λ e why. inl (of_store old old new (came_here old way) e why)) (c.add_shift.ensures.writes.refused clean has))
 
 pub returns-in-CloseShift-clause-refused : goal.returns-in-CloseShift-clause-refused
 returns-in-CloseShift-clause-refused g c clean way =
     let old = state g.S.Store c.args.tx.now.conn.now in
     let new = state g.S.Store c.close_shift.new.tx.conn.now in
-    told_where c.close_shift.result (λ has. if_err c.close_shift.result (λ e why. inl (of_store old old new (came_here old way) e why)) (c.close_shift.ensures.writes.refused clean has))
+    told_where c.args.self.now.edit.now c.args.self.now.prior (state g.S.Store c.args.tx.now.conn.now) (state g.S.Store c.close_shift.new.tx.conn.now) c.close_shift.result (λ has. if_err c.close_shift.result (λ e why. inl (of_store old old new (came_here old way) e why)) (c.close_shift.ensures.writes.refused clean has))
 
 pub returns-in-AddRows-clause-refused : goal.returns-in-AddRows-clause-refused
 returns-in-AddRows-clause-refused g c clean way =
     let old = state g.S.Store c.args.tx.now.conn.now in
     let new = state g.S.Store c.add_rows.new.tx.conn.now in
     let rows = c.in-AddRows.rows in
-    told_where c.add_rows.result (λ has. refused_by c.add_rows.result c.args.self.now.edit.now (edits.AddRows rows) c.args.self.now.prior old new c.in-AddRows.is
+    told_where c.args.self.now.edit.now c.args.self.now.prior (state g.S.Store c.args.tx.now.conn.now) (state g.S.Store c.add_rows.new.tx.conn.now) c.add_rows.result (λ has. refused_by c.add_rows.result c.args.self.now.edit.now (edits.AddRows rows) c.args.self.now.prior old new c.in-AddRows.is
     (rows_refused c.add_rows.result rows c.as_slice-in-AddRows.result.now c.args.self.now.prior old new c.as_slice-in-AddRows.ensures.view (c.add_rows.ensures.refused clean way has)))
 
 pub returns-in-AddSale-clause-refused : goal.returns-in-AddSale-clause-refused
 returns-in-AddSale-clause-refused g c clean way =
     let old = state g.S.Store c.args.tx.now.conn.now in
     let new = state g.S.Store c.add_counted.new.tx.conn.now in
-    told_where c.add_counted.result (λ has. refused_by c.add_counted.result c.args.self.now.edit.now (edits.AddSale c.in-AddSale.sale) c.args.self.now.prior old new c.in-AddSale.is (c.add_counted.ensures.refused clean way has))
+    told_where c.args.self.now.edit.now c.args.self.now.prior (state g.S.Store c.args.tx.now.conn.now) (state g.S.Store c.add_counted.new.tx.conn.now) c.add_counted.result (λ has. refused_by c.add_counted.result c.args.self.now.edit.now (edits.AddSale c.in-AddSale.sale) c.args.self.now.prior old new c.in-AddSale.is (c.add_counted.ensures.refused clean way has))
