@@ -1,6 +1,6 @@
 //! The bringing of a database to the present format, from none or from an older one.
 
-ghost use Rattle.std.specs.Prelude.{◌≡◌, ◌<◌, false, IsTrue, IfErr, OnErr, OnOk};
+ghost use Rattle.std.specs.Prelude.{⊤, ◌≡◌, ◌<◌, false, IsTrue, IfErr, OnErr, OnOk};
 ghost use Rattle.sqlite.specs.State.{HasCleanDisk, Survives};
 ghost use Rattle.sqlite.specs.Held.{state};
 ghost use Rattle.book_tables.specs.Making.{HasFormatTables, TellsOf};
@@ -30,6 +30,8 @@ impl<S: Alter> Change<S> for Bringing {
     ghost makes = { λ change. BringsSound change.from };
 
     ghost tells = { λ change. TellsOf change.from };
+
+    ghost fails = { λ _ _ _ _. ⊤ };
 
     fn make(&self, tx: &mut Transaction<'_, S>) -> Result<(), TableError> {
         bring(self.alloc, tx, self.from)

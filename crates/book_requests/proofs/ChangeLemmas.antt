@@ -1,13 +1,16 @@
 -- What a write of the tables makes of the members of an office, and what it leaves of other tables.
-use Rattle.std.proofs.Common.{◌≡◌, ℕ, ◌+◌, true, false, List, [], ◌∷◌, ◌++◌, length, codes, Result, Ok, Err, OnOk, refl, sym, ap, subst, ◌∙◌}
+use Rattle.std.proofs.Common.{◌≡◌, ◌≤◌, ℕ, ◌+◌, true, false, List, [], ◌∷◌, ◌++◌, length, codes, IfErr, Result, Ok, Err, OnOk, refl, sym, ap, subst, ◌∙◌, inl, inr, arith}
+use Rattle.std.proofs.lemmas.Bool.{cases_order}
 use Rattle.std.specs.List.{AllByRecursion}
 use Rattle.sqlite.specs.Effect.{Database}
-use Rattle.sqlite.specs.State.{Shows, State}
+use Rattle.sqlite.specs.State.{HasCleanDisk, Shows, State}
 use Rattle.sqlite_schema.specs.declared.schema.Schema.{Schema}
 use Rattle.sqlite_schema.specs.declared.schema.Table.{Table}
 use Rattle.sqlite_trees.specs.Tree.{Trees}
 use Rattle.sts_fields.specs.declared.base.Base.{Base}
 use Rattle.tariff.specs.declared.step.Step.{Step}
+use Rattle.one_table.specs.InTransaction.{IsUnderWay}
+use Rattle.one_table.proofs.ChangeLemmas.{if_err}
 use Rattle.vend_core.specs.Decision.Edits.{applied, with_row, with_rows}
 use Rattle.vend_core.specs.Office.{AreNumbered, IsOffice, Office}
 use Rattle.vend_core.specs.Law.Store.{MeetRows, Meets, MeetsRow}
@@ -19,12 +22,16 @@ use Rattle.vend_core.specs.declared.office.row.Row.TheVariants as kinds
 use Rattle.vend_core.specs.declared.office.sale.Sale.{Sale}
 use Rattle.vend_core.specs.declared.office.shift.Shift.{Shift}
 use Rattle.book_tables.specs.Edited.{edited, is_sale}
+use Rattle.book_tables.specs.Failing.{FailsToMergeAll, FailsToWriteAll}
 use Rattle.book_tables.specs.Holds.{HasOffice, HoldsMembers, table_names}
 use Rattle.book_tables.specs.Reading.{HasTables}
-use Rattle.book_tables.specs.Rows.{Rows}
+use Rattle.book_tables.specs.Rows.{Rows, present_format}
 use Rattle.book_tables.specs.Stands.{AreMembersOf}
-use Rattle.book_tables.specs.Writing.{AddsMeter, AddsShift, AddsSold, AddsSteps, AddsTariff, ClosesShift, IsNextNumber, IsOfNone, MovesBase, SetsTariff, WritesOnly, totals_names}
-use Rattle.book_requests.specs.Changing.{Makes, MakesEdit, MakesRows}
+use Rattle.book_tables.specs.Writing.{AddsMeter, AddsShift, AddsSold, AddsSteps, AddsTariff, ClosesShift, FindsNoFalseRow, IsNextNumber, IsOfNone, MayAddSold, MovesBase, SetsTariff, WritesOnly, totals_names}
+use Rattle.book_tables.specs.declared.error.TableError.{TableError}
+use Rattle.book_tables.specs.declared.totals.SaleTotals.{SaleTotals}
+use Rattle.book_requests.specs.Changing.{IsCounted, MakesAsComputed, MakesEdit, MakesRows}
+use Rattle.book_requests.specs.Failing.{FailsToMake}
 use Rattle.book_requests.specs.Others.{SameOthers}
 
 -- the rows after an edit that its office decided are the members of the office after it
@@ -215,7 +222,37 @@ still_has rows old mid makes inside has = λ _. subst HasOffice (sym makes.schem
 
 -- ---- an edit
 
--- what the statement of an edit did is what the edit makes
-pub made_by : {A E P : Type 0} (r : Result A E) (found edit : Edit) (old new : State) → found ≡ edit → (HasTables old → OnOk r P) → (P → MakesEdit edit old.now new.now) → OnOk r (Makes found old.now new.now)
-made_by (Ok x) found edit old new is did makes = λ has. subst (λ (e : Edit). MakesEdit e old.now new.now) (sym is) (makes (did (λ _. has)))
-made_by (Err e) found edit old new is did makes = tt
+-- what the statement of an edit did is what the edit makes, and what is told of it is as computed
+pub made_by : {A E P : Type 0} (r : Result A E) (found edit : Edit) (prior : ℕ) (old new : State) → found ≡ edit → (HasTables old → OnOk r P) → (P → MakesEdit edit old.now new.now × IsCounted edit prior old.now)
+    → OnOk r (MakesAsComputed found prior old.now new.now)
+made_by (Ok x) found edit prior old new is did makes = λ has. subst (λ (e : Edit). MakesEdit e old.now new.now × IsCounted e prior old.now) (sym is) (makes (did (λ _. has)))
+made_by (Err e) found edit prior old new is did makes = tt
+
+-- ---- why an edit is not made
+
+-- where its tables are there
+pub told_where : {A : Type 0} (edit : Edit) (prior : ℕ) (old new : State) (r : Result A TableError) → (HasTables old → IfErr r (FailsToMake edit prior old new)) → IfErr r (λ e. HasTables old → FailsToMake edit prior old new e)
+told_where edit prior old new (Ok x) told = tt
+told_where edit prior old new (Err e) told = told
+
+-- where it is this one
+pub refused_by : {A : Type 0} (r : Result A TableError) (found edit : Edit) (prior : ℕ) (old new : State) → found ≡ edit → IfErr r (FailsToMake edit prior old new) → IfErr r (FailsToMake found prior old new)
+refused_by r found edit prior old new is why = subst (λ (e : Edit). IfErr r (FailsToMake e prior old new)) (sym is) why
+
+all_err : {A E : Type 0} {P : E → Type 0} (r : Result A E) → ((e : E) → P e) → IfErr r P
+all_err (Ok x) f = tt
+all_err (Err e) f = f e
+
+-- no office has an import of no rows to add
+pub rows_refused : {A : Type 0} (r : Result A TableError) (rows listed : List Row) (prior : ℕ) (old new : State) → listed ≡ rows → (1 ≤ length listed → IfErr r (FailsToWriteAll old new)) → IfErr r (FailsToMake (edits.AddRows rows) prior old new)
+rows_refused r rows listed prior old new same why = elim (cases_order 0 (length listed)) [
+  | inl none ↦ all_err r (λ e. inr (inl (λ is_open o office meets held. omega (arith, meets.0, none, ap length same))))
+  | inr (inl some) ↦ if_err r (λ e fails. inl fails) (why (omega arith))
+  | inr (inr below) ↦ absurd (omega (arith, below))
+]
+
+-- totals that are told to be no office's show that there is none that the sale meets
+pub sold_refused : (s : Sale) (prior : ℕ) (old new : State) (e : TableError) → IsUnderWay old → HasCleanDisk new → FailsToMergeAll old new e → FindsNoFalseRow {T = SaleTotals} (MayAddSold s) old new (Err e) → FailsToMake (edits.AddSale s) prior old new e
+sold_refused s prior old new e way clean (inl fails) never = inl fails
+sold_refused s prior old new e way clean (inr is) never =
+    inr (inl (λ is_open o office meets held. never clean way present_format held.0 (λ _. held.1) (refl, (o, office, meets, held.2)) (ap (λ e. Err e) is)))

@@ -1,7 +1,11 @@
 -- One edit that was made in a transaction, and how the commit ends.
-use Rattle.std.proofs.Common.{◌≡◌, IsTrue, Ok, Err, Result, sym, ap, subst, ◌∙◌, inl, inr}
+use Rattle.std.proofs.Common.{◌≡◌, ◌⊎◌, ◌≤◌, ℕ, false, [], IsTrue, Option, None, Some, Ok, Err, Result, sym, ap, subst, ◌∙◌, inl, inr, arith}
+use Rattle.std.proofs.lemmas.Bool.{cases_Bool, false≢true}
+use Rattle.sqlite_disk.specs.Disk.{MoreFaults}
+use Rattle.sqlite.specs.Does.{Does}
+use Rattle.sqlite.specs.declared.error.Error.{Error}
 use Rattle.sqlite.specs.Effect.{Database}
-use Rattle.sqlite.specs.State.{HasCleanDisk, State, Survives}
+use Rattle.sqlite.specs.State.{HasCleanDisk, State, Survives, mode_of}
 use Rattle.sqlite.proofs.StateLemmas.{survives_then}
 use Rattle.sqlite_trees.specs.Tree.{Trees}
 use Rattle.one_table.specs.Committing.{HasCommitted, IsUndone, LeavesMade}
@@ -11,21 +15,26 @@ use Rattle.vend_core.specs.Law.Store.{Meets}
 use Rattle.vend_core.specs.declared.decision.change.Edit.{Edit}
 use Rattle.vend_core.specs.declared.decision.refusal.Refusal.{Refusal}
 use Rattle.book_tables.proofs.HoldsLemmas.{stands_present}
+use Rattle.book_tables.specs.Failing.{IsRefused}
+use Rattle.book_tables.specs.Holds.{HoldsMembers}
+use Rattle.book_tables.specs.declared.error.TableError.{TableError}
+use Rattle.book_tables.specs.declared.error.TableError.TheVariants as table
 use Rattle.book_tables.specs.Reading.{HasTables}
-use Rattle.book_requests.specs.Changing.{Makes, MakesEdit}
+use Rattle.book_requests.specs.Changing.{IsCounted, IsMiscounted, MakesAsComputed, MakesEdit}
+use Rattle.book_requests.specs.Failing.{EditHasFailed}
 use Rattle.book_states.specs.Stores.{Stores, RecoversTo}
 use Rattle.book_requests.specs.Others.{LeavesOthers, SameOthers}
 use Rattle.book_states.specs.Same.{ChangesNothing, IsSame}
 use Rattle.book_requests.specs.Transaction.{Commits, DoubtsEdit, FailsToEdit, HasEdit, MayBeLeft}
 use Rattle.book_requests.proofs.OthersLemmas.{nothing_others, same_trees}
 
-module _ (edit : Edit) (old new : State) (tables : HasTables old) (settled : IsTrue old.is_open → old.now ≡ old.committed) where
+module _ (edit : Edit) (prior : ℕ) (old new : State) (tables : HasTables old) (settled : IsTrue old.is_open → old.now ≡ old.committed) where
   -- an open connection has the database, which is committed, and so a crash leaves no other
-  pub has_edit : (db : Database) → Makes edit old.now db → HasCommitted db old new
+  pub has_edit : (db : Database) → MakesAsComputed edit prior old.now db → HasCommitted db old new
       → (IsTrue new.is_open → (trees : Trees) → new.may_leave trees → trees ≡ new.committed.trees) → new.step_limit ≡ old.step_limit → HasEdit edit old new
   has_edit db makes committed exact limit = record {
     was_open = committed.was_open;
-    makes = subst (MakesEdit edit old.now) (sym committed.now_is) (makes (tables committed.was_open));
+    makes = subst (MakesEdit edit old.now) (sym committed.now_is) (makes (tables committed.was_open)).0;
     exact = λ trees may. exact committed.is_open trees may ∙ ap (λ (d : Database). d.trees) (committed.committed_is ∙ sym committed.now_is);
     limit = limit;
   }
@@ -41,7 +50,7 @@ module _ (edit : Edit) (old new : State) (tables : HasTables old) (settled : IsT
   nothing_undone undone survives = record { same = same_undone undone; survives = survives }
 
   -- the commit failed, and what an open connection has is what it had
-  pub doubts_edit : IsTrue old.is_open → IsUndone old new → Survives old new (LeavesMade (Makes edit) old.now) → DoubtsEdit edit old new
+  pub doubts_edit : IsTrue old.is_open → IsUndone old new → Survives old new (LeavesMade (MakesAsComputed edit prior) old.now) → DoubtsEdit edit old new
   doubts_edit was_open undone survives = record {
     was_open = was_open;
     same = same_undone undone;
@@ -51,7 +60,7 @@ module _ (edit : Edit) (old new : State) (tables : HasTables old) (settled : IsT
       counts = survives.counts;
       limit = survives.limit;
       closes = survives.closes;
-      crash = λ clean trees may. elim (survives.crash clean trees may) [ inl was ↦ inl was | inr made ↦ inr (made.0, made.1 (tables was_open), made.2) ];
+      crash = λ clean trees may. elim (survives.crash clean trees may) [ inl was ↦ inl was | inr made ↦ inr (made.0, (made.1 (tables was_open)).0, made.2) ];
     };
   }
 
@@ -79,9 +88,9 @@ doubt_others edit old new clean h = record {
 }
 
 -- however the commit of an edit ends, it leaves the tables of other names as they were
-pub commits_others : (edit : Edit) (r : Result (Unit {0}) Refusal) (old new : State) → HasCleanDisk new → Commits edit r old new → LeavesOthers old new
-commits_others edit (Ok x) old new clean h = edit_others edit old new h.done
-commits_others edit (Err refusal) old new clean h = elim h.failed [
+pub commits_others : (edit : Edit) (prior : ℕ) (r : Result (Unit {0}) Refusal) (old new : State) → HasCleanDisk new → Commits edit prior r old new → LeavesOthers old new
+commits_others edit prior (Ok x) old new clean h = edit_others edit old new h.done
+commits_others edit prior (Err refusal) old new clean h = elim h.failed [
   | inl unmade ↦ nothing_others old new clean unmade.nothing
   | inr doubted ↦ doubt_others edit old new clean doubted.1
 ]
@@ -109,6 +118,9 @@ module _ (edit : Edit) (old mid new : State) (clean : HasCleanDisk new) (before 
     limit = h.limit ∙ before.survives.limit;
   }
 
+  pub counted_after : (prior : ℕ) → IsTrue mid.is_open → IsCounted edit prior mid.now → IsCounted edit prior old.now
+  counted_after prior is_open told = subst (IsCounted edit prior) (before.same.now_is is_open) told
+
   doubts_after : DoubtsEdit edit mid new → DoubtsEdit edit old new
   doubts_after h = record {
     was_open = before.same.was_open h.was_open;
@@ -119,9 +131,62 @@ module _ (edit : Edit) (old mid new : State) (clean : HasCleanDisk new) (before 
     survives = survives_then old mid new _ _ (LeavesMade (MakesEdit edit) old.now) (λ _ _ none. absurd none) (λ _ trees made. leaves_after h.was_open trees made) before.survives h.survives;
   }
 
-  pub fails_after : (refusal : Refusal) → FailsToEdit edit mid new refusal → FailsToEdit edit old new refusal
-  fails_after refusal (inl unmade) = inl (record { error = unmade.error; answered = unmade.answered; either = unmade.either; nothing = nothing_after unmade.nothing })
-  fails_after refusal (inr doubted) = inr (doubted.0, doubts_after doubted.1)
+  module _ (prior : ℕ) (early : HasCleanDisk mid) (later : mid.faults ≤ new.faults) where
+    -- what was the matter with the connection after the reads, or before them
+    abbrev Shut : Type 0
+    Shut = MoreFaults old.faults new.faults ⊎ (old.is_open ≡ false)
+
+    was_shut : mid.is_open ≡ false → Shut
+    was_shut shut = elim (cases_Bool old.is_open) [
+      | inl runs ↦ elim (before.survives.closes early runs) [
+        | inl is_open ↦ absurd (false≢true (sym shut ∙ is_open))
+        | inr more ↦ inl (omega (arith, more, later))
+      ]
+      | inr was ↦ inr was
+    ]
+
+    shut_told : (error : TableError) → Shut → EditHasFailed edit prior error old new
+    shut_told error (inl more) = inl more
+    shut_told error (inr shut) = inr (inl shut)
+
+    by_state : (error : TableError) → (IsTrue mid.is_open → EditHasFailed edit prior error old new) → EditHasFailed edit prior error old new
+    by_state error if_open = elim (cases_Bool mid.is_open) [ inl runs ↦ if_open runs | inr shut ↦ shut_told error (was_shut shut) ]
+
+    refused_before : (error : TableError) (e : Error) → error ≡ table.Database e → IsRefused mid e → IsTrue mid.is_open → EditHasFailed edit prior error old new
+    refused_before error e is it runs = inr (inr (inl (
+      e,
+      is,
+      record {
+        db = it.db;
+        schema = it.schema ∙ ap (λ (d : Database). d.schema) (before.same.now_is runs);
+        shows = it.shows;
+        command = it.command;
+        params = it.params;
+        refused = elim it.refused [
+          | inl does ↦ inl (subst (λ l. Does l (mode_of old) it.params it.db [] it.shows it.command (Err (Some e))) before.survives.limit does)
+          | inr (big, does) ↦ inr (big, subst (λ l. Does l (mode_of old) it.params it.db [] it.shows it.command (Err None)) before.survives.limit does)
+        ];
+      },
+    )))
+
+    cause_after : (error : TableError) → EditHasFailed edit prior error mid new → EditHasFailed edit prior error old new
+    cause_after error (inl more) = inl (omega (arith, more, before.survives.counts))
+    cause_after error (inr (inl shut)) = shut_told error (was_shut shut)
+    cause_after error (inr (inr (inl (e, is, refused)))) = by_state error (refused_before error e is refused)
+    cause_after error (inr (inr (inr (inl none)))) =
+        by_state error (λ runs. inr (inr (inr (inl (λ _. subst (λ (db : Database). (o : Office) → IsOffice o → Meets edit o → ¬ HoldsMembers db o) (before.same.now_is runs) (none runs))))))
+    cause_after error (inr (inr (inr (inr told)))) = by_state error (λ runs. inr (inr (inr (inr (subst (IsMiscounted edit prior) (before.same.now_is runs) told)))))
+
+  pub fails_after : (prior : ℕ) (refusal : Refusal) → FailsToEdit edit prior mid new refusal → FailsToEdit edit prior old new refusal
+  fails_after prior refusal (inl unmade) =
+      let early : HasCleanDisk mid = omega (arith, unmade.nothing.survives.clean) in inl (record {
+        error = unmade.error;
+        answered = unmade.answered;
+        either = unmade.either;
+        nothing = nothing_after unmade.nothing;
+        failed = λ is. cause_after prior early unmade.nothing.survives.counts unmade.error (unmade.failed is);
+      })
+  fails_after prior refusal (inr doubted) = inr (doubted.0, doubts_after doubted.1)
 
 -- ---- an office
 

@@ -1,5 +1,5 @@
 -- How the transaction of an edit ends.
-use Rattle.std.specs.Prelude.{◌≡◌, ◌⊎◌, Result, IfErr, OnOk, IsTrue}
+use Rattle.std.specs.Prelude.{◌≡◌, ◌⊎◌, ℕ, Result, IfErr, OnOk, IsTrue}
 use Rattle.sqlite.specs.State.{State, Survives}
 use Rattle.sqlite_trees.specs.Tree.{Trees}
 use Rattle.one_table.specs.Committing.{LeavesMade}
@@ -8,8 +8,8 @@ use Rattle.vend_core.specs.declared.decision.change.Edit.{Edit}
 use Rattle.vend_core.specs.declared.decision.refusal.Refusal.{Refusal}
 use Rattle.vend_core.specs.declared.decision.refusal.Refusal.TheVariants.{Memory, Store}
 use Rattle.book_tables.specs.declared.error.TableError.{TableError}
-use Rattle.book_requests.specs.Changing.{MakesEdit}
-use Rattle.book_requests.specs.Failing.{refusal_for}
+use Rattle.book_requests.specs.Changing.{IsCounted, MakesEdit}
+use Rattle.book_requests.specs.Failing.{EditHasFailed, refusal_for}
 use Rattle.book_states.specs.Stores.{RecoversTo}
 use Rattle.book_states.specs.Same.{ChangesNothing, IsSame}
 
@@ -28,23 +28,27 @@ pub record DoubtsEdit (edit : Edit) (old new : State) : Type 0 where
   pub same : IsSame old new
   pub survives : Survives old new (LeavesMade (MakesEdit edit) old.now)
 
--- the edit was not made, and nothing has changed; the error of the statement is answered so
-pub record IsToldOfEdit (refusal : Refusal) (old new : State) : Type 0 where
-  pub error : TableError
-  pub answered : refusal ≡ refusal_for error
-  pub either : (refusal ≡ Memory) ⊎ (refusal ≡ Store)
-  pub nothing : ChangesNothing old new
+-- The edit was not made, and nothing has changed; the error of the statement is answered so. A
+-- failure of the store has a cause.
+pub record IsToldOfEdit (edit : Edit) (prior : ℕ) (refusal : Refusal) (old new : State) : Type 0
+  where
+    pub error : TableError
+    pub answered : refusal ≡ refusal_for error
+    pub either : (refusal ≡ Memory) ⊎ (refusal ≡ Store)
+    pub nothing : ChangesNothing old new
+    pub failed : refusal ≡ Store → EditHasFailed edit prior error old new
 
 -- why an edit is not known to be committed: it was not made, or its commit failed
-abbrev pub FailsToEdit : Edit → State → State → Refusal → Type 0
-FailsToEdit edit old new refusal =
-    IsToldOfEdit refusal old new ⊎ ((refusal ≡ Store) × DoubtsEdit edit old new)
+abbrev pub FailsToEdit : Edit → ℕ → State → State → Refusal → Type 0
+FailsToEdit edit prior old new refusal =
+    IsToldOfEdit edit prior refusal old new ⊎ ((refusal ≡ Store) × DoubtsEdit edit old new)
 
--- an edit was committed, or not
-pub record Commits (edit : Edit) (result : Result (Unit {0}) Refusal) (old new : State) : Type 0
-  where
-    pub done : OnOk result (HasEdit edit old new)
-    pub failed : IfErr result (FailsToEdit edit old new)
+-- an edit was committed, with the tenths of a sale's month as they were read before it; or it was not
+pub record Commits (edit : Edit) (prior : ℕ) (result : Result (Unit {0}) Refusal)
+    (old new : State) : Type 0 where
+  pub done : OnOk result (HasEdit edit old new)
+  pub counted : OnOk result (IsCounted edit prior old.now)
+  pub failed : IfErr result (FailsToEdit edit prior old new)
 
 -- all that a crash may leave stands for one of the two offices
 abbrev pub MayBeLeft : State → Office → Office → Type 0

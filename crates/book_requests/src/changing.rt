@@ -1,7 +1,9 @@
 //! What an edit does to the tables.
 
 ghost use Rattle.std.specs.Prelude.{⊤};
-ghost use Rattle.book_requests.specs.Changing.{Makes};
+ghost use Rattle.book_tables.specs.Reading.{HasTables};
+ghost use Rattle.book_requests.specs.Changing.{MakesAsComputed};
+ghost use Rattle.book_requests.specs.Failing.{FailsToMake};
 
 use book_tables::adding::{add_meter, add_shift, add_tariff};
 use book_tables::bases::move_base;
@@ -28,9 +30,12 @@ pub(crate) struct Editing<'a> {
 impl<S: Alter> Change<S> for Editing<'_> {
     type Fault = TableError;
 
-    ghost makes = { λ change. Makes change.edit.now };
+    ghost makes = { λ change. MakesAsComputed change.edit.now change.prior };
 
     ghost tells = { λ _ _ _. ⊤ };
+
+    ghost fails = { λ change old new error.
+        HasTables old → FailsToMake change.edit.now change.prior old new error };
 
     fn make(&self, tx: &mut Transaction<'_, S>) -> Result<(), TableError> {
         members_law();

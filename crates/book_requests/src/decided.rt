@@ -1,3 +1,6 @@
+ghost use Rattle.std.specs.Prelude.{◌≡◌};
+ghost use Rattle.book_requests.specs.Failing.{prior_of_account};
+
 use vend_core::{Change, Facts};
 
 /// What was decided, and the tenths of a kWh that the meter of a sale had in its month before it.
@@ -8,7 +11,9 @@ pub struct Decided {
 }
 
 /// The tenths that the meter of a sale had in its month, as they were read.
-pub(crate) fn prior_of(facts: &Facts) -> u64 {
+pub(crate) fn prior_of(facts: &Facts) -> u64
+    ensures { result ≡ prior_of_account facts.now.account }
+{
     match &facts.account {
         Some(account) => account.prior,
         None => 0,

@@ -1,13 +1,13 @@
 //! What is decided by what the tables hold.
 
-ghost use Rattle.std.specs.Prelude.{◌≡◌, ◌≢◌, ◌+◌, Err, IfErr, false, length};
+ghost use Rattle.std.specs.Prelude.{◌≡◌, ◌≢◌, ◌+◌, Err, IfErr, IfOk, false, length};
 ghost use Rattle.sqlite.specs.State.{HasCleanDisk};
 ghost use Rattle.sqlite.specs.Held.{state};
 ghost use Rattle.vend_core.specs.Decision.{decision};
 ghost use Rattle.vend_core.specs.Decision.Facts.{AreFacts, IsUnlessMemory};
 ghost use Rattle.vend_core.specs.Office.{Office};
 ghost use Rattle.book_tables.specs.Reading.{HasTables};
-ghost use Rattle.book_requests.specs.Failing.{RefusesUnchanged};
+ghost use Rattle.book_requests.specs.Failing.{IsPriorRead, RefusesUnchanged, prior_of_account};
 ghost use Rattle.book_states.specs.Stores.{Stores};
 ghost use Rattle.book_states.specs.Same.{ChangesNothing};
 ghost use Rattle.book_requests.specs.Deciding.{IsDecided, change_in};
@@ -42,6 +42,9 @@ pub fn decision_of<S: Alter, T: BlockTransform>(
         → HasTables (state S.Store conn.old)
         → IfErr result (RefusesUnchanged at.now next_number
         (state S.Store conn.old) (state S.Store conn.new)) }
+    ensures prior { HasCleanDisk (state S.Store conn.new)
+        → IfOk result (λ decided. IsPriorRead at.now next_number
+        (state S.Store conn.old) decided.prior) }
     ensures clean { HasCleanDisk (state S.Store conn.new) → HasCleanDisk (state S.Store conn.old) }
     ensures never_stopped { result ≢ Err Refusal.Stopped }
     ensures outside { conn.new.in_transaction ≡ false }
@@ -63,6 +66,8 @@ fn decided_by<T: BlockTransform>(
 ) -> Result<Decided, Refusal>
     ensures decided { (o : Office) → AreFacts o at.now facts.now
         → IsUnlessMemory (change_in result) (decision (T.forwards transform.now) o at.now) }
+    ensures prior { IfOk result (λ decided.
+        decided.prior ≡ prior_of_account facts.now.account) }
     ensures no_store { (result ≢ Err Refusal.Store) × (result ≢ Err Refusal.Stopped) }
 {
     let change = decide(alloc, transform, facts, at)?;

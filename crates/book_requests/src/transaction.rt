@@ -20,7 +20,7 @@ pub fn commit<S: Alter>(conn: &mut Connection<S>, edit: &Edit, prior: u64) -> Re
     requires { conn.old.in_transaction ≡ false }
     ensures commits { HasCleanDisk (state S.Store conn.new)
         → HasTables (state S.Store conn.old)
-        → Commits edit.now result (state S.Store conn.old) (state S.Store conn.new) }
+        → Commits edit.now prior result (state S.Store conn.old) (state S.Store conn.new) }
     ensures clean { HasCleanDisk (state S.Store conn.new) → HasCleanDisk (state S.Store conn.old) }
     ensures never_stopped { result ≢ Err Refusal.Stopped }
     ensures outside { conn.new.in_transaction ≡ false }

@@ -1,5 +1,5 @@
 -- A request that was decided, and how its commit ends.
-use Rattle.std.proofs.Common.{◌≡◌, ◌⊎◌, ◌+◌, List, [], ◌∷◌, length, Option, Some, None, Result, Ok, Err, refl, sym, ap, subst, ◌∙◌, inl, inr, length-append}
+use Rattle.std.proofs.Common.{◌≡◌, ◌⊎◌, ℕ, ◌+◌, List, [], ◌∷◌, length, Option, Some, None, Result, Ok, Err, refl, sym, ap, subst, ◌∙◌, inl, inr, length-append}
 use Rattle.std.specs.Option.{option_map_or}
 use Rattle.std.specs.Prelude.{IsErrAnd}
 use Rattle.sqlite.specs.State.{HasCleanDisk, State}
@@ -101,12 +101,12 @@ module _ (forward : BlockFunction) (o : Office) (at : Stamped) (change : Change)
       is_applied = ap (office_after o) is_decision ∙ ap (λ (e : Option Edit). option_map_or (λ edit. applied edit o) e o) some
 
       module _ (mid : State) (held : Stores mid o) (meets : Meets edit o) (office : IsOffice (applied edit o)) where
-        pub committed_ends : Commits edit (Ok tt) mid new.state → new.next_number ≡ length (applied edit o).sales + 1 → ServingEnds forward o at (Ok change.answer) new
-        committed_ends commits next =
+        pub committed_ends : (prior : ℕ) → Commits edit prior (Ok tt) mid new.state → new.next_number ≡ length (applied edit o).sales + 1 → ServingEnds forward o at (Ok change.answer) new
+        committed_ends prior commits next =
             inl (replies, subst (λ (p : Office). HoldsOffice p new) (sym is_applied) (record { at = edit_held edit o mid new.state held meets office commits.done; next = next }))
 
-        pub failed_ends : (refusal : Refusal) → HasCleanDisk new.state → Commits edit (Err refusal) mid new.state → new.next_number ≡ length o.sales + 1 → ServingEnds forward o at (Err refusal) new
-        failed_ends refusal clean commits next = elim commits.failed [
+        pub failed_ends : (prior : ℕ) (refusal : Refusal) → HasCleanDisk new.state → Commits edit prior (Err refusal) mid new.state → new.next_number ≡ length o.sales + 1 → ServingEnds forward o at (Err refusal) new
+        failed_ends prior refusal clean commits next = elim commits.failed [
           | inl unmade ↦
               (let here = still_held o mid new.state clean held unmade.nothing in
               elim unmade.either [

@@ -1,5 +1,5 @@
 -- How a request ends at books.
-use Rattle.std.specs.Prelude.{◌≡◌, ◌⊎◌, ◌+◌, Option, Some, None, Result, Ok, Err, length}
+use Rattle.std.specs.Prelude.{◌≡◌, ◌⊎◌, ◌+◌, ℕ, Option, Some, None, Result, Ok, Err, length}
 use Rattle.sts_token.specs.Token.{BlockFunction}
 use Rattle.vend_core.specs.Decision.{decision}
 use Rattle.vend_core.specs.Decision.Fold.{reply, step}
@@ -10,7 +10,8 @@ use Rattle.vend_core.specs.declared.decision.change.Edit.{Edit}
 use Rattle.vend_core.specs.declared.decision.refusal.Refusal.{Refusal}
 use Rattle.vend_core.specs.declared.decision.refusal.Refusal.TheVariants.{Memory, Store}
 use Rattle.vend_core.specs.declared.decision.request.Stamped.{Stamped}
-use Rattle.book_requests.specs.Failing.{RefusesUnchanged}
+use Rattle.book_requests.specs.Changing.{IsCounted}
+use Rattle.book_requests.specs.Failing.{IsPriorRead, RefusesUnchanged}
 use Rattle.book_requests.specs.Transaction.{FailsToEdit, HasEdit, MayBeLeft}
 use Rattle.book_states.specs.Stores.{Stores}
 use Rattle.books.specs.Keeps.{Seen}
@@ -31,18 +32,23 @@ abbrev pub IsDecidedFor : Stamped → Seen → Edit → Type 0
 IsDecidedFor at books edit = IsGrantedWith at books (Some edit)
 
 -- What a granted request left: where it changes nothing, nothing was written and a crash leaves
--- nothing new; else its edit was committed.
+-- nothing new; else its edit was committed, and the tenths that are told of a sale's month are those
+-- that were read for it and its own.
 abbrev pub ServesGranted : Stamped → Seen → Seen → Type 0
 ServesGranted at old new =
     (IsGrantedWith at old None × ChangesNothing old.state new.state)
-    ⊎ ((edit : Edit) × IsDecidedFor at old edit × HasEdit edit old.state new.state)
+    ⊎ ((edit : Edit) × IsDecidedFor at old edit × HasEdit edit old.state new.state
+    × ((prior : ℕ) × IsPriorRead at old.next_number old.state prior
+    × IsCounted edit prior old.state.now))
 
 -- Why a request is refused by books that are not stopped. It was refused before anything changed, or
 -- its edit is not known to be committed.
 abbrev pub FailsToServe : Stamped → Seen → Seen → Refusal → Type 0
 FailsToServe at old new refusal =
     (ChangesNothing old.state new.state × RefusesUnchanged at old.next_number old.state new.state refusal)
-    ⊎ ((edit : Edit) × IsDecidedFor at old edit × FailsToEdit edit old.state new.state refusal)
+    ⊎ ((edit : Edit) × IsDecidedFor at old edit
+    × ((prior : ℕ) × IsPriorRead at old.next_number old.state prior
+    × FailsToEdit edit prior old.state new.state refusal))
 
 -- the office served the request, and the books hold the office after it; or no memory was found,
 -- and they hold the office from before; or the store failed, and may be opened again with either,

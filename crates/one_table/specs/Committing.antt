@@ -1,7 +1,9 @@
 -- One transaction with one commit.
-use Rattle.std.specs.Prelude.{◌≡◌, false, [], IsTrue}
+use Rattle.std.specs.Prelude.{◌≡◌, true, false, [], IsTrue}
 use Rattle.sqlite_trees.specs.Tree.{Trees}
+use Rattle.sqlite_trees.specs.declared.store.Store.{Ghosts}
 use Rattle.sqlite.specs.Effect.{Database}
+use Rattle.sqlite.specs.Held.{Held, state}
 use Rattle.one_table.specs.declared.committing.CommitFault.{CommitFault}
 use Rattle.one_table.specs.declared.committing.CommitFault.TheVariants.{Unmade, InDoubt}
 use Rattle.sqlite.specs.State.{State, Survives}
@@ -45,3 +47,12 @@ WasMade old (InDoubt e) = IsTrue old.is_open
 abbrev pub Tells : {F : Type 0} → (Database → F → Type 0) → Database → CommitFault F → Type 0
 Tells Says old (Unmade why) = Says old why
 Tells Says old (InDoubt e) = Unit {0}
+
+-- Why a change was not made: in the transaction that was begun on this connection it failed for this
+-- reason. What was left of it then was undone, and no fault is forgotten.
+abbrev pub FailsInside : {S F : Type 0} → (g : Ghosts S) → (State → State → F → Type 0) → Held S
+    → State → CommitFault F → Type 0
+FailsInside {S} g Fails old new (Unmade why) =
+    (left : Held S) × Fails (state g (record old { in_transaction = true })) (state g left) why
+    × Survives (state g left) new (λ _. ⊥)
+FailsInside g Fails old new (InDoubt e) = Unit {0}

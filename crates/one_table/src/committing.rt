@@ -1,10 +1,10 @@
 ghost use Rattle.std.specs.Prelude.{◌≡◌, false, IsTrue, IfErr, OnOk, OnErr, MatchResult};
 ghost use Rattle.sqlite_trees.specs.Tree.{Trees};
 ghost use Rattle.sqlite.specs.Effect.{Database};
-ghost use Rattle.sqlite.specs.State.{HasCleanDisk, Survives};
+ghost use Rattle.sqlite.specs.State.{HasCleanDisk, State, Survives};
 ghost use Rattle.sqlite.specs.Held.{state};
 ghost use Rattle.one_table.specs.InTransaction.{IsUnderWay, KeepsTransaction};
-ghost use Rattle.one_table.specs.Committing.{IsUndone, HasCommitted, LeavesMade, Risks, Tells, WasMade};
+ghost use Rattle.one_table.specs.Committing.{FailsInside, IsUndone, HasCommitted, LeavesMade, Risks, Tells, WasMade};
 
 use sqlite::{Alter, Connection, Error, Transaction};
 
@@ -18,6 +18,9 @@ pub trait Change<S: Alter> {
     // What a fault tells of the database before it.
     ghost tells: { Self → Database → Self.Fault → Type 0 };
 
+    // Why it is not made, by what the connection was when the change began and is when it failed.
+    ghost fails: { Self → State → State → Self.Fault → Type 0 };
+
     fn make(&self, tx: &mut Transaction<'_, S>) -> Result<(), Self::Fault>
         ensures same_reference { tx.new.conn.ghost_name ≡ tx.old.conn.ghost_name }
         ensures made { HasCleanDisk (state S.Store tx.new.conn.now)
@@ -27,6 +30,10 @@ pub trait Change<S: Alter> {
         ensures told { HasCleanDisk (state S.Store tx.new.conn.now)
             → IsUnderWay (state S.Store tx.old.conn.now)
             → IfErr result (tells self.now (state S.Store tx.old.conn.now).now) }
+        ensures refused { HasCleanDisk (state S.Store tx.new.conn.now)
+            → IsUnderWay (state S.Store tx.old.conn.now)
+            → IfErr result (fails self.now
+            (state S.Store tx.old.conn.now) (state S.Store tx.new.conn.now)) }
         ensures transaction { KeepsTransaction
             (state S.Store tx.old.conn.now) (state S.Store tx.new.conn.now) result };
 }
@@ -52,6 +59,8 @@ pub fn change_once<S: Alter, C: Change<S>>(
         × HasCommitted db (state S.Store conn.old) (state S.Store conn.new)) }
     ensures told { HasCleanDisk (state S.Store conn.new)
         → IfErr result (Tells (C.tells change.now) (state S.Store conn.old).now) }
+    ensures refused { HasCleanDisk (state S.Store conn.new)
+        → IfErr result (FailsInside S.Store (C.fails change.now) conn.old (state S.Store conn.new)) }
     ensures undone { HasCleanDisk (state S.Store conn.new)
         → OnErr result (IsUndone (state S.Store conn.old) (state S.Store conn.new)) }
     ensures doubted { HasCleanDisk (state S.Store conn.new)

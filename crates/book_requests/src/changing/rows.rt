@@ -1,9 +1,10 @@
 //! The rows of an import.
 
-ghost use Rattle.std.specs.Prelude.{◌≡◌, [], ◌∷◌, OnOk};
+ghost use Rattle.std.specs.Prelude.{◌≡◌, ◌≤◌, [], ◌∷◌, length, IfErr, OnOk};
 ghost use Rattle.sqlite.specs.State.{HasCleanDisk};
 ghost use Rattle.sqlite.specs.Held.{state};
 ghost use Rattle.one_table.specs.InTransaction.{IsUnderWay, KeepsTransaction};
+ghost use Rattle.book_tables.specs.Failing.{FailsToWriteAll};
 ghost use Rattle.book_tables.specs.Reading.{HasTables};
 ghost use Rattle.book_requests.specs.Changing.{MakesRows};
 
@@ -26,6 +27,11 @@ pub(crate) fn add_rows<S: Alter>(
         → IsUnderWay (state S.Store tx.old.conn.now) → HasTables (state S.Store tx.old.conn.now)
         → OnOk result (MakesRows rows.now
         (state S.Store tx.old.conn.now).now (state S.Store tx.new.conn.now).now) }
+    ensures refused { HasCleanDisk (state S.Store tx.new.conn.now)
+        → IsUnderWay (state S.Store tx.old.conn.now)
+        → HasTables (state S.Store tx.old.conn.now)
+        → 1 ≤ length rows.now → IfErr result (FailsToWriteAll
+        (state S.Store tx.old.conn.now) (state S.Store tx.new.conn.now)) }
     ensures transaction { KeepsTransaction
         (state S.Store tx.old.conn.now) (state S.Store tx.new.conn.now) result }
 {
@@ -45,6 +51,11 @@ fn add_row<S: Alter>(tx: &mut Transaction<'_, S>, row: &Row) -> Result<(), Table
         → HasTables (state S.Store tx.old.conn.now)
         → OnOk result (MakesRows (row.now ∷ [])
         (state S.Store tx.old.conn.now).now (state S.Store tx.new.conn.now).now) }
+    ensures refused { HasCleanDisk (state S.Store tx.new.conn.now)
+        → IsUnderWay (state S.Store tx.old.conn.now)
+        → HasTables (state S.Store tx.old.conn.now)
+        → IfErr result (FailsToWriteAll
+        (state S.Store tx.old.conn.now) (state S.Store tx.new.conn.now)) }
     ensures transaction { KeepsTransaction
         (state S.Store tx.old.conn.now) (state S.Store tx.new.conn.now) result }
 {

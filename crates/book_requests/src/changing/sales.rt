@@ -1,11 +1,13 @@
 //! A sale, with the totals that it changes.
 
-ghost use Rattle.std.specs.Prelude.{◌≡◌, OnOk};
+ghost use Rattle.std.specs.Prelude.{◌≡◌, IfErr, OnOk};
 ghost use Rattle.sqlite.specs.State.{HasCleanDisk};
 ghost use Rattle.sqlite.specs.Held.{state};
 ghost use Rattle.one_table.specs.InTransaction.{IsUnderWay, KeepsTransaction};
 ghost use Rattle.book_tables.specs.Reading.{HasTables};
+ghost use Rattle.vend_core.specs.declared.decision.change.Edit.TheVariants.{AddSale};
 ghost use Rattle.book_requests.specs.Changing.{AddsAsComputed};
+ghost use Rattle.book_requests.specs.Failing.{FailsToMake};
 
 use book_tables::TableError;
 use book_tables::totalling::add_sold;
@@ -25,6 +27,11 @@ pub(crate) fn add_counted<S: Alter>(
         → IsUnderWay (state S.Store tx.old.conn.now)
         → HasTables (state S.Store tx.old.conn.now)
         → OnOk result (AddsAsComputed sale.now prior
+        (state S.Store tx.old.conn.now) (state S.Store tx.new.conn.now)) }
+    ensures refused { HasCleanDisk (state S.Store tx.new.conn.now)
+        → IsUnderWay (state S.Store tx.old.conn.now)
+        → HasTables (state S.Store tx.old.conn.now)
+        → IfErr result (FailsToMake (AddSale sale.now) prior
         (state S.Store tx.old.conn.now) (state S.Store tx.new.conn.now)) }
     ensures transaction { KeepsTransaction
         (state S.Store tx.old.conn.now) (state S.Store tx.new.conn.now) result }

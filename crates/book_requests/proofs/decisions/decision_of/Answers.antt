@@ -1,5 +1,6 @@
 use Rattle.std.proofs.Common.{◌≡◌, arith, length, rules, IsTrue, ap, inl, inr, Err}
 use Rattle.sqlite.specs.Held.{state}
+use Rattle.one_table.proofs.ChangeLemmas.{if_ok}
 use Rattle.book_requests.proofs.FailingLemmas.{refused_after, told_of_read}
 use Rattle.book_states.proofs.StayLemmas.{clean_before, left_same}
 use Rattle.book_requests.proofs.decisions.decision_of.Goals as goal
@@ -41,3 +42,7 @@ pub returns-in-Err-clause-failures : goal.returns-in-Err-clause-failures
 returns-in-Err-clause-failures g c clean tables =
     inl (told_of_read (state g.S.Store c.args.conn.now) (state g.S.Store c.facts_of.new.conn) c.in-Err.error c.refusal_of.result c.refusal_of.ensures.value (c.in-Err.ensures.reads.faults clean tables) clean
     (c.facts_of.ensures.reads.survives tables))
+
+pub returns-in-Ok-clause-prior : goal.returns-in-Ok-clause-prior
+returns-in-Ok-clause-prior g c clean =
+    if_ok c.decided_by.result (λ decided is. (c.in-Ok.facts, (λ o office members next. c.in-Ok.ensures.facts clean o office members (omega (arith, c.saturating_sub.ensures, next))), is)) c.decided_by.ensures.prior

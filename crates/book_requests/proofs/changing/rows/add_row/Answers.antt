@@ -1,3 +1,4 @@
+use Rattle.std.proofs.Common.{length, ap, arith}
 use Rattle.sqlite.specs.Held.{state}
 use Rattle.book_requests.proofs.ChangeLemmas.{makes_meter_row, makes_steps_row, makes_tariff_row, on_ok}
 use Rattle.book_requests.proofs.changing.rows.add_row.Goals as goal
@@ -20,3 +21,8 @@ returns-in-Steps-clause-added g c clean has =
     let new = state g.S.Store c.add_steps.new.tx.conn.now in
     let arm = c.in-Steps in
     on_ok c.add_steps.result (λ adds. makes_steps_row c.members_law.ensures.edited old new c.args.row.now arm.name arm.day arm.steps c.as_slice-in-Steps.result.now arm.is c.as_slice-in-Steps.ensures.view adds) (c.add_steps.ensures.added clean has)
+
+pub returns-in-Steps-clause-refused : goal.returns-in-Steps-clause-refused
+returns-in-Steps-clause-refused g c clean way has =
+    let steps = c.as_slice-in-Steps.ensures in
+    c.add_steps.ensures.refused clean way has (omega (arith, steps.steps.count.0, ap length steps.view))

@@ -2,7 +2,9 @@ use Rattle.std.proofs.Common.{rules, arith, List, ◌∷◌, [], Ok, get_or, tak
 use Rattle.std.proofs.lemmas.List.{take_more}
 use Rattle.sqlite.specs.Held.{state}
 use Rattle.sqlite.specs.State.{HasCleanDisk}
-use Rattle.one_table.proofs.ChangeLemmas.{transaction_off, transaction_on, transaction_then}
+use Rattle.one_table.proofs.ChangeLemmas.{told_as, transaction_off, transaction_on, transaction_then}
+use Rattle.book_tables.specs.Failing.{FailsToWriteAll}
+use Rattle.book_tables.proofs.CauseLemmas.{came_inside, of_later}
 use Rattle.vend_core.specs.declared.office.row.Row.{Row}
 use Rattle.book_requests.specs.Changing.{MakesRows}
 use Rattle.book_requests.proofs.ChangeLemmas.{makes_more, still_has}
@@ -43,3 +45,22 @@ returns-in_err-add_row-2-clause-transaction g c =
     let r = c.from_residual-in_err-add_row-2.result in
     let failed = c.in_err-add_row-2.ensures.transaction in
     transaction_then old mid new r c.others.invariant.transaction (transaction_off _ r c.from_residual-in_err-add_row-2.ensures.1 failed.kept failed.survives)
+
+pub returns-in_err-add_row-clause-refused : goal.returns-in_err-add_row-clause-refused
+returns-in_err-add_row-clause-refused g c clean way has some =
+    let old = state g.S.Store c.args.tx.now.conn.now in
+    let new = state g.S.Store c.add_row.new.tx.conn.now in
+    told_as (FailsToWriteAll old new) c.from_residual.result c.in_err-add_row.field-0.0 c.from_residual.ensures.1 (c.in_err-add_row.ensures.refused clean way has)
+
+pub returns-in_err-add_row-2-clause-refused : goal.returns-in_err-add_row-2-clause-refused
+returns-in_err-add_row-2-clause-refused g c clean way has some =
+    let old = state g.S.Store c.args.tx.now.conn.now in
+    let mid = state g.S.Store c.others.tx.conn.now in
+    let new = state g.S.Store c.add_row-in-others.new.tx.conn.now in
+    let early : HasCleanDisk mid = omega (arith, c.add_row-in-others.ensures.transaction.survives.clean) in
+    let so_far = c.others.invariant.added early way has in
+    let inside = c.others.invariant.transaction.inside early way in
+    let came = came_inside old mid inside so_far.2.schema c.others.invariant.transaction.survives in
+    let there = still_has (so_far.0 ∷ take c.others.row-index c.in-Some.others.now) old mid so_far.2 inside has in
+    let e = c.in_err-add_row-2.field-0.0 in
+    told_as (FailsToWriteAll old new) c.from_residual-in_err-add_row-2.result e c.from_residual-in_err-add_row-2.ensures.1 (of_later old mid new came e (c.in_err-add_row-2.ensures.refused clean inside.mode there))

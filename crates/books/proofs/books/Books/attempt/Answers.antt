@@ -5,7 +5,7 @@ use Rattle.books.specs.Keeps.{seen}
 use Rattle.books.specs.Serving.{IsDecidedFor, IsGrantedWith}
 use Rattle.books.proofs.AttemptLemmas.{committed_ends, failed_ends, handed_on, is_applied, is_decision, refused_ends, unchanged_ends}
 use Rattle.book_requests.proofs.FactsLemmas.{none_of}
-use Rattle.book_requests.proofs.CommitLemmas.{commits_others, fails_after, has_after}
+use Rattle.book_requests.proofs.CommitLemmas.{commits_others, counted_after, fails_after, has_after}
 use Rattle.book_requests.proofs.OthersLemmas.{nothing_others, others_then, tables_stay}
 use Rattle.book_states.proofs.StayLemmas.{has_tables, still_held}
 use Rattle.books.proofs.books.Books.attempt.Goals as goal
@@ -44,7 +44,7 @@ returns-in_err-commit-clause-attempts g c clean o held =
     let applied = is_applied forward o at change decided new c.in-Some.edit c.in-Some.is in
     let office = subst IsOffice applied (c.office_law.ensures.keeps_office forward o at held.at.office c.requires.stamped range) in
     let commits = c.in_err-commit.ensures.commits clean (has_tables o mid here) in
-    rw same (failed_ends forward o at change decided new c.in-Some.edit c.in-Some.is mid here meets office c.in_err-commit.field-0.0 clean commits held.next)
+    rw same (failed_ends forward o at change decided new c.in-Some.edit c.in-Some.is mid here meets office c.in_ok-change.field-0.prior c.in_err-commit.field-0.0 clean commits held.next)
 
 pub returns-in_err-commit-clause-others : goal.returns-in_err-commit-clause-others
 returns-in_err-commit-clause-others g c clean tables =
@@ -53,7 +53,7 @@ returns-in_err-commit-clause-others g c clean tables =
     let new = state g.S.Store c.commit.new.conn in
     let early = c.commit.ensures.clean clean in
     let first = nothing_others old mid early (c.decision_of.ensures.nothing early tables) in
-    others_then old mid new first (commits_others c.in-Some.edit _ mid new clean (c.in_err-commit.ensures.commits clean (tables_stay old mid first tables)))
+    others_then old mid new first (commits_others c.in-Some.edit c.in_ok-change.field-0.prior _ mid new clean (c.in_err-commit.ensures.commits clean (tables_stay old mid first tables)))
 
 pub returns-clause-attempts : goal.returns-clause-attempts
 returns-clause-attempts g c clean o held =
@@ -79,7 +79,7 @@ returns-clause-attempts g c clean o held =
           let office = subst IsOffice applied (c.office_law.ensures.keeps_office forward o at held.at.office c.requires.stamped range) in
           let commits = w.in_ok-commit.ensures.commits late (has_tables o mid here) in
           let next = w.next_after-self.ensures o meets held.next in
-          rw w.self-is (committed_ends forward o at change decided new edit w.in-Some.is mid here meets office commits next)
+          rw w.self-is (committed_ends forward o at change decided new edit w.in-Some.is mid here meets office c.in_ok-change.field-0.prior commits next)
       | in_default w ↦
           let late = rw w.self-is at clean in
           let new = record old { state = mid } in
@@ -98,7 +98,7 @@ returns-clause-others g c clean tables =
           let early = w.commit.ensures.clean late in
           let new = state g.S.Store w.commit.new.conn in
           let first = nothing_others old mid early (c.decision_of.ensures.nothing early tables) in
-          rw w.self-is (others_then old mid new first (commits_others w.in-Some.edit _ mid new late (w.in_ok-commit.ensures.commits late (tables_stay old mid first tables))))
+          rw w.self-is (others_then old mid new first (commits_others w.in-Some.edit c.in_ok-change.field-0.prior _ mid new late (w.in_ok-commit.ensures.commits late (tables_stay old mid first tables))))
       | in_default w ↦
           let late = rw w.self-is at clean in
           rw w.self-is (nothing_others old mid late (c.decision_of.ensures.nothing late tables))
@@ -123,7 +123,8 @@ returns-in_err-commit-clause-failures g c clean tables =
       is_decision (g.T.BlockTransform.forwards c.args.self.now.transform) o c.args.at.now c.in_ok-change.field-0.change (c.in_ok-change.ensures.decides early o held.at held.next),
       c.in-Some.is,
     ) in
-    rw same (inr (c.in-Some.edit, decided, fails_after c.in-Some.edit old mid new clean nothing c.in_err-commit.field-0.0 commits.failed))
+    let prior = c.in_ok-change.field-0.prior in
+    rw same (inr (c.in-Some.edit, decided, (prior, c.in_ok-change.ensures.prior early, fails_after c.in-Some.edit old mid new clean nothing prior c.in_err-commit.field-0.0 commits.failed)))
 
 pub returns-clause-granted : goal.returns-clause-granted
 returns-clause-granted g c clean tables =
@@ -143,7 +144,9 @@ returns-clause-granted g c clean tables =
             is_decision (g.T.BlockTransform.forwards c.args.self.now.transform) o c.args.at.now change (c.in_ok-change.ensures.decides early o held.at held.next),
             w.in-Some.is,
           ) in
-          rw w.self-is (inr (w.in-Some.edit, decided, has_after w.in-Some.edit old mid new late nothing commits.done))
+          let prior = c.in_ok-change.field-0.prior in
+          let counted = counted_after w.in-Some.edit old mid new late nothing prior commits.done.was_open commits.counted in
+          rw w.self-is (inr (w.in-Some.edit, decided, has_after w.in-Some.edit old mid new late nothing commits.done, (prior, c.in_ok-change.ensures.prior early, counted)))
       | in_default w ↦
           let late = rw w.self-is at clean in
           let decided : IsGrantedWith c.args.at.now books None = λ o held. (
