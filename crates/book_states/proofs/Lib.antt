@@ -1,1 +1,3 @@
+pub mod FailingLemmas
+pub mod OthersLemmas
 pub mod StayLemmas

@@ -15,9 +15,9 @@ use Rattle.vend_core.specs.declared.decision.refusal.Refusal.TheVariants.{Store,
 use Rattle.vend_core.specs.declared.decision.request.Stamped.{Stamped}
 use Rattle.books.specs.Asking.{AreServedInTurn, Replies}
 use Rattle.books.specs.Keeps.{HaveTables, Represents, Seen}
-use Rattle.book_requests.specs.Others.{LeavesOthers}
+use Rattle.book_states.specs.Others.{LeavesOthers}
 use Rattle.books.specs.Stopping.{StopAtFailure}
-use Rattle.book_requests.proofs.OthersLemmas.{others_same, others_then}
+use Rattle.book_states.proofs.OthersLemmas.{others_same, others_then}
 
 -- the requests were served with these replies
 pub record HaveServed (old new : Seen) (ats : List Stamped) (replies : List (Result Answer Refusal)) : Type 0 where

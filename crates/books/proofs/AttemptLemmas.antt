@@ -20,10 +20,10 @@ use Rattle.vend_core.specs.declared.office.sale.Sale.{Sale}
 use Rattle.book_states.specs.Stores.{Stores}
 use Rattle.books.specs.Keeps.{Seen}
 use Rattle.book_states.specs.Same.{ChangesNothing}
-use Rattle.book_requests.specs.Transaction.{Commits, MayBeLeft}
+use Rattle.book_edits.specs.Transaction.{Commits, MayBeLeft}
 use Rattle.books.specs.Serving.{HoldsOffice, ServingEnds}
-use Rattle.book_requests.specs.Deciding.{IsDecided}
-use Rattle.book_requests.proofs.CommitLemmas.{edit_doubted, edit_held}
+use Rattle.book_facts.specs.Deciding.{IsDecided}
+use Rattle.book_edits.proofs.CommitLemmas.{edit_doubted, edit_held}
 use Rattle.book_states.proofs.StayLemmas.{still_held}
 
 -- the error of a call, which is handed on

@@ -13,7 +13,7 @@ use Rattle.vend_core.specs.declared.decision.refusal.Refusal.TheVariants.{Memory
 use Rattle.vend_core.specs.declared.decision.request.Stamped.{Stamped}
 use Rattle.books.specs.Keeps.{IsNextOrOneBefore, IsRepresented, Seen}
 use Rattle.books.specs.Serving.{HoldsOffice, ServingEnds}
-use Rattle.book_requests.specs.Transaction.{MayBeLeft}
+use Rattle.book_edits.specs.Transaction.{MayBeLeft}
 use Rattle.books.proofs.AttemptLemmas.{sales_step}
 
 -- books are stopped where the store failed, which answer none as stopped

@@ -9,7 +9,7 @@ use Rattle.vend_core.specs.declared.decision.refusal.Refusal.TheVariants.{Store,
 use Rattle.vend_core.specs.declared.decision.request.Request.{Request}
 use Rattle.vend_core.specs.declared.decision.request.Stamped.{Stamped}
 use Rattle.books.specs.Keeps.{HaveTables, Represents, Seen}
-use Rattle.book_requests.specs.Others.{LeavesOthers}
+use Rattle.book_states.specs.Others.{LeavesOthers}
 use Rattle.books.specs.Serving.{FailsToServe, ServesGranted}
 
 -- the stamped request is this request at this moment, with the nibble of the next sale's number

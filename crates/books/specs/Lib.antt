@@ -6,10 +6,10 @@ pub mod Serving
 pub mod Stopping
 pub use Rattle.book_opening.specs.Fault
 pub use Rattle.book_opening.specs.Opening
-pub use Rattle.book_requests.specs.Changing
-pub use Rattle.book_requests.specs.Failing
-pub use Rattle.book_requests.specs.Others
-pub use Rattle.book_requests.specs.Totals
-pub use Rattle.book_requests.specs.Transaction
+pub use Rattle.book_states.specs.Changing
+pub use Rattle.book_states.specs.Failing
+pub use Rattle.book_states.specs.Others
+pub use Rattle.book_facts.specs.Totals
+pub use Rattle.book_edits.specs.Transaction
 pub use Rattle.book_states.specs.Same
 pub use Rattle.book_states.specs.Stores

@@ -10,9 +10,9 @@ use Rattle.vend_core.specs.declared.decision.change.Edit.{Edit}
 use Rattle.vend_core.specs.declared.decision.refusal.Refusal.{Refusal}
 use Rattle.vend_core.specs.declared.decision.refusal.Refusal.TheVariants.{Memory, Store}
 use Rattle.vend_core.specs.declared.decision.request.Stamped.{Stamped}
-use Rattle.book_requests.specs.Changing.{IsCounted}
-use Rattle.book_requests.specs.Failing.{IsPriorRead, RefusesUnchanged}
-use Rattle.book_requests.specs.Transaction.{FailsToEdit, HasEdit, MayBeLeft}
+use Rattle.book_states.specs.Changing.{IsCounted}
+use Rattle.book_states.specs.Failing.{IsPriorRead, RefusesUnchanged}
+use Rattle.book_edits.specs.Transaction.{FailsToEdit, HasEdit, MayBeLeft}
 use Rattle.book_states.specs.Stores.{Stores}
 use Rattle.books.specs.Keeps.{Seen}
 use Rattle.book_states.specs.Same.{ChangesNothing}

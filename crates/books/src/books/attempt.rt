@@ -10,11 +10,12 @@ ghost use Rattle.vend_core.specs.Decision.Requests.{IsStamped};
 ghost use Rattle.vend_core.specs.Law.Store.{Meets};
 ghost use Rattle.book_tables.specs.Reading.{HasTables};
 ghost use Rattle.books.specs.Keeps.{seen};
-ghost use Rattle.book_requests.specs.Others.{LeavesOthers};
+ghost use Rattle.book_states.specs.Others.{LeavesOthers};
 ghost use Rattle.books.specs.Serving.{FailsToServe, HoldsOffice, ServesGranted, ServingEnds};
 
 use super::Books;
-use book_requests::{Decided, commit, decision_of};
+use book_edits::commit;
+use book_facts::{Decided, decision_of};
 use sqlite::Alter;
 use sts_token::BlockTransform;
 use vend_core::{Change, Edit, Refusal, Reply, Stamped, office_law, store_law};

@@ -6,13 +6,14 @@ ghost use Rattle.sqlite.specs.Held.{state};
 ghost use Rattle.vend_core.specs.Law.Life.{Life, MayLeave, present};
 ghost use Rattle.vend_core.specs.Office.{Office};
 ghost use Rattle.vend_core.specs.Law.Store.{sales_above};
-ghost use Rattle.book_requests.specs.Failing.{IsToldOfRead};
+ghost use Rattle.book_states.specs.Failing.{IsToldOfRead};
 ghost use Rattle.books.specs.Keeps.{HaveTables, IsNextOrOneBefore, Represents, seen};
-ghost use Rattle.book_requests.specs.Others.{LeavesOthers};
+ghost use Rattle.book_states.specs.Others.{LeavesOthers};
 ghost use Rattle.book_states.specs.Same.{ChangesNothing};
 
 use super::Books;
-use book_requests::{has_failed, page};
+use book_facts::page;
+use book_states::has_failed;
 use sqlite::Alter;
 use sts_token::BlockTransform;
 use vend_core::{Refusal, Sale};

@@ -5,7 +5,7 @@ ghost use Rattle.books.specs.Asking.{Replies};
 ghost use Rattle.books.specs.Keeps.{seen};
 
 use super::Books;
-use book_requests::has_failed;
+use book_states::has_failed;
 use sqlite::Alter;
 use sts_token::BlockTransform;
 use vend_core::{Refusal, Reply, Stamped, life_law};

@@ -6,7 +6,7 @@ ghost use Rattle.vend_core.specs.Law.Life.{Life};
 ghost use Rattle.vend_core.specs.Law.LifeLaws.{extended_along};
 ghost use Rattle.books.specs.Asking.{AreServedInTurn};
 ghost use Rattle.books.specs.Keeps.{HaveTables, Represents, seen};
-ghost use Rattle.book_requests.specs.Others.{LeavesOthers};
+ghost use Rattle.book_states.specs.Others.{LeavesOthers};
 ghost use Rattle.books.specs.Stopping.{StopAtFailure};
 
 use super::Books;

@@ -4,14 +4,15 @@ ghost use Rattle.std.specs.Prelude.{◌≡◌, ◌↔◌, ◌⊎◌, false, true
 ghost use Rattle.sqlite.specs.Held.{state};
 ghost use Rattle.sqlite.specs.State.{HasCleanDisk};
 ghost use Rattle.vend_core.specs.Law.Life.{Life, present};
-ghost use Rattle.book_requests.specs.Failing.{IsToldOfRead};
+ghost use Rattle.book_states.specs.Failing.{IsToldOfRead};
 ghost use Rattle.books.specs.Keeps.{HaveTables, Represents, seen};
-ghost use Rattle.book_requests.specs.Others.{LeavesOthers};
+ghost use Rattle.book_states.specs.Others.{LeavesOthers};
 ghost use Rattle.book_states.specs.Same.{ChangesNothing};
-ghost use Rattle.book_requests.specs.Totals.{shift_totals};
+ghost use Rattle.book_facts.specs.Totals.{shift_totals};
 
 use super::Books;
-use book_requests::{has_failed, totals};
+use book_facts::totals;
+use book_states::has_failed;
 use book_tables::Totals;
 use sqlite::Alter;
 use sts_token::BlockTransform;

@@ -4,9 +4,9 @@ use Rattle.vend_core.specs.Office.{IsOffice}
 use Rattle.books.specs.Keeps.{seen}
 use Rattle.books.specs.Serving.{IsDecidedFor, IsGrantedWith}
 use Rattle.books.proofs.AttemptLemmas.{committed_ends, failed_ends, handed_on, is_applied, is_decision, refused_ends, unchanged_ends}
-use Rattle.book_requests.proofs.FactsLemmas.{none_of}
-use Rattle.book_requests.proofs.CommitLemmas.{commits_others, counted_after, fails_after, has_after}
-use Rattle.book_requests.proofs.OthersLemmas.{nothing_others, others_then, tables_stay}
+use Rattle.book_facts.proofs.FactsLemmas.{none_of}
+use Rattle.book_edits.proofs.CommitLemmas.{commits_others, counted_after, fails_after, has_after}
+use Rattle.book_states.proofs.OthersLemmas.{nothing_others, others_then, tables_stay}
 use Rattle.book_states.proofs.StayLemmas.{has_tables, still_held}
 use Rattle.books.proofs.books.Books.attempt.Goals as goal
 use Rattle.books.proofs.books.Books.attempt.Goals.{in-Some+in_ok-commit, in_default}

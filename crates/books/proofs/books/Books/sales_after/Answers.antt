@@ -1,7 +1,7 @@
 use Rattle.std.proofs.Common.{refl}
 use Rattle.sqlite.specs.Held.{state}
 use Rattle.books.specs.Keeps.{seen}
-use Rattle.book_requests.proofs.OthersLemmas.{nothing_others, others_same, tables_stay}
+use Rattle.book_states.proofs.OthersLemmas.{nothing_others, others_same, tables_stay}
 use Rattle.books.proofs.PageLemmas.{kept_read}
 use Rattle.book_states.proofs.StayLemmas.{has_tables, nothing_same, still_held}
 use Rattle.books.proofs.books.Books.sales_after.Goals as goal

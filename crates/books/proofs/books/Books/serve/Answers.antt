@@ -1,7 +1,7 @@
 use Rattle.std.proofs.Common.{rules, ap, sym, subst, ◌∙◌}
 use Rattle.books.specs.Keeps.{seen}
 use Rattle.books.specs.Serving.{ServingEnds}
-use Rattle.book_requests.proofs.OthersLemmas.{others_same, tables_stay}
+use Rattle.book_states.proofs.OthersLemmas.{others_same, tables_stay}
 use Rattle.books.proofs.ServeLemmas.{GoesOnWith, kept_attempted, kept_stopped, stops_on, with_stopped}
 use Rattle.books.proofs.books.Books.serve.Goals as goal
 

@@ -1,0 +1,258 @@
+-- What a write of the tables makes of the members of an office, and what it leaves of other tables.
+use Rattle.std.proofs.Common.{◌≡◌, ◌≤◌, ℕ, ◌+◌, true, false, List, [], ◌∷◌, ◌++◌, length, codes, IfErr, Result, Ok, Err, OnOk, refl, sym, ap, subst, ◌∙◌, inl, inr, arith}
+use Rattle.std.proofs.lemmas.Bool.{cases_order}
+use Rattle.std.specs.List.{AllByRecursion}
+use Rattle.sqlite.specs.Effect.{Database}
+use Rattle.sqlite.specs.State.{HasCleanDisk, Shows, State}
+use Rattle.sqlite_schema.specs.declared.schema.Schema.{Schema}
+use Rattle.sqlite_schema.specs.declared.schema.Table.{Table}
+use Rattle.sqlite_trees.specs.Tree.{Trees}
+use Rattle.sts_fields.specs.declared.base.Base.{Base}
+use Rattle.tariff.specs.declared.step.Step.{Step}
+use Rattle.one_table.specs.InTransaction.{IsUnderWay}
+use Rattle.one_table.proofs.ChangeLemmas.{if_err}
+use Rattle.vend_core.specs.Decision.Edits.{applied, with_row, with_rows}
+use Rattle.vend_core.specs.Office.{AreNumbered, IsOffice, Office}
+use Rattle.vend_core.specs.Law.Store.{MeetRows, Meets, MeetsRow}
+use Rattle.vend_core.specs.declared.decision.change.Edit.{Edit}
+use Rattle.vend_core.specs.declared.decision.change.Edit.TheVariants as edits
+use Rattle.vend_core.specs.declared.office.meter.Meter.{Meter}
+use Rattle.vend_core.specs.declared.office.row.Row.{Row}
+use Rattle.vend_core.specs.declared.office.row.Row.TheVariants as kinds
+use Rattle.vend_core.specs.declared.office.sale.Sale.{Sale}
+use Rattle.vend_core.specs.declared.office.shift.Shift.{Shift}
+use Rattle.book_tables.specs.Edited.{edited, is_sale}
+use Rattle.book_tables.specs.Failing.{FailsToMergeAll, FailsToWriteAll}
+use Rattle.book_tables.specs.Holds.{HasOffice, HoldsMembers, table_names}
+use Rattle.book_tables.specs.Reading.{HasTables}
+use Rattle.book_tables.specs.Rows.{Rows, present_format}
+use Rattle.book_tables.specs.Stands.{AreMembersOf}
+use Rattle.book_tables.specs.Writing.{AddsMeter, AddsShift, AddsSold, AddsSteps, AddsTariff, ClosesShift, FindsNoFalseRow, IsNextNumber, IsOfNone, MayAddSold, MovesBase, SetsTariff, WritesOnly, totals_names}
+use Rattle.book_tables.specs.declared.error.TableError.{TableError}
+use Rattle.book_tables.specs.declared.totals.SaleTotals.{SaleTotals}
+use Rattle.book_states.specs.Changing.{IsCounted, MakesAsComputed, MakesEdit, MakesRows}
+use Rattle.book_states.specs.Failing.{FailsToMake}
+use Rattle.book_states.specs.Others.{SameOthers}
+
+-- the rows after an edit that its office decided are the members of the office after it
+abbrev pub KeepsMembers : Type 0
+KeepsMembers =
+    (rows : Rows) (o : Office) (edit : Edit) → AreMembersOf rows o → Meets edit o → is_sale edit ≡ false → AreMembersOf (edited edit rows) (applied edit o)
+
+-- ---- other tables
+
+-- what is of no table of the office is of none of these
+abbrev AreOurs : List (List ℕ) → Type 0
+AreOurs names = (s : Schema) (tree : ℕ) → IsOfNone s table_names tree → IsOfNone s names tree
+
+same_in : (s : Schema) (names : List (List ℕ)) (old new : Trees) → AreOurs names → (tables : List Table)
+    → AllByRecursion (λ u. IsOfNone s names u.tree → new u.tree ≡ old u.tree) tables → AllByRecursion (λ u. IsOfNone s table_names u.tree → new u.tree ≡ old u.tree) tables
+same_in s names old new ours [] kept = tt
+same_in s names old new ours (t ∷ tables) kept = (λ none. kept.0 (ours s t.tree none), same_in s names old new ours tables kept.1)
+
+same_then : (s : Schema) (old mid new : Trees) (tables : List Table) → AllByRecursion (λ u. IsOfNone s table_names u.tree → mid u.tree ≡ old u.tree) tables
+    → AllByRecursion (λ u. IsOfNone s table_names u.tree → new u.tree ≡ mid u.tree) tables → AllByRecursion (λ u. IsOfNone s table_names u.tree → new u.tree ≡ old u.tree) tables
+same_then s old mid new [] first second = tt
+same_then s old mid new (t ∷ tables) first second = (λ none. second.0 none ∙ first.0 none, same_then s old mid new tables first.1 second.1)
+
+-- ---- one statement
+
+-- what the edit makes of the members is told, and the write leaves the rest
+makes : (edit : Edit) (names : List (List ℕ)) (old new : State) → AreOurs names → WritesOnly names old new
+    → ((o : Office) → IsOffice o → Meets edit o → HoldsMembers old.now o → HoldsMembers new.now (applied edit o)) → MakesEdit edit old.now new.now
+makes edit names old new ours only members = record {
+  members = members;
+  schema = only.schema;
+  others = same_in old.now.schema names old.now.trees new.now.trees ours old.now.schema.tables only.tables;
+  sound = only.sound;
+}
+
+makes_row : (row : Row) (names : List (List ℕ)) (old new : State) → AreOurs names → WritesOnly names old new
+    → ((o : Office) → MeetsRow row o → HoldsMembers old.now o → HoldsMembers new.now (with_row row o)) → MakesRows (row ∷ []) old.now new.now
+makes_row row names old new ours only members = record {
+  members = λ o meets held. members o meets.0 held;
+  schema = only.schema;
+  others = same_in old.now.schema names old.now.trees new.now.trees ours old.now.schema.tables only.tables;
+  sound = only.sound;
+}
+
+-- the tables of meters and of their bases
+abbrev both_meters : List (List ℕ)
+both_meters = codes "meters" ∷ codes "meter_bases" ∷ []
+
+of_meters : AreOurs both_meters
+of_meters s tree none = (none.1.1.1.0, (none.1.1.1.1.1.1.1.1.1.0, tt))
+
+module _ (law : KeepsMembers) (old new : State) where
+  -- ---- sales and shifts
+
+  pub makes_sale : (s : Sale) → AddsSold s old new → MakesEdit (edits.AddSale s) old.now new.now
+  makes_sale s adds =
+      makes (edits.AddSale s) (codes "sales" ∷ totals_names) old new (λ t tree none. (none.1.1.1.1.1.0, (none.1.1.1.1.1.1.0, (none.1.1.1.1.1.1.1.0, (none.1.1.1.1.1.1.1.1.0, tt))))) adds.only adds.members
+
+  pub makes_shift : (s : Shift) → AddsShift s old new → MakesEdit (edits.OpenShift s) old.now new.now
+  makes_shift s adds =
+      makes (edits.OpenShift s) (codes "shifts" ∷ []) old new (λ t tree none. (none.1.1.1.1.0, tt)) adds.only (λ o office meets held.
+      let are = held.2 in
+      let next : IsNextNumber (λ (s : Shift). s.number) held.0.shifts s.number = record {
+        numbered = subst (λ (l : List Shift). AreNumbered (λ (s : Shift). s.number) l) (sym are.shifts) office.shift_numbers;
+        next_is = meets.number ∙ ap (λ (l : List Shift). length l + 1) (sym are.shifts);
+      } in
+      (edited (edits.OpenShift s) held.0, adds.rows held.0 held.1 next, law held.0 o (edits.OpenShift s) are meets refl))
+
+  pub makes_closing : (number moment : ℕ) → ClosesShift number moment old new → MakesEdit (edits.CloseShift number moment) old.now new.now
+  makes_closing number moment closes =
+      makes (edits.CloseShift number moment) (codes "shifts" ∷ []) old new (λ t tree none. (none.1.1.1.1.0, tt)) closes.only (λ o office meets held.
+      let are = held.2 in
+      let numbered = subst (λ (l : List Shift). AreNumbered (λ (s : Shift). s.number) l) (sym are.shifts) office.shift_numbers in
+      (edited (edits.CloseShift number moment) held.0, closes.rows held.0 held.1 numbered, law held.0 o (edits.CloseShift number moment) are meets refl))
+
+  -- ---- tariffs and meters
+
+  pub makes_setting : (number name : List ℕ) → SetsTariff number name old new → MakesEdit (edits.SetTariff number name) old.now new.now
+  makes_setting number name sets =
+      makes (edits.SetTariff number name) (codes "meters" ∷ []) old new (λ t tree none. (none.1.1.1.0, tt)) sets.only (λ o office meets held.
+      let are = held.2 in
+      (edited (edits.SetTariff number name) held.0, sets.rows held.0 held.1 are.meters_once, law held.0 o (edits.SetTariff number name) are meets refl))
+
+  pub makes_moving : (number : List ℕ) (base : Base) → MovesBase number base old new → MakesEdit (edits.MoveBase number base) old.now new.now
+  makes_moving number base moves =
+      makes (edits.MoveBase number base) both_meters old new of_meters moves.only (λ o office meets held.
+      let are = held.2 in
+      (edited (edits.MoveBase number base) held.0, moves.rows held.0 held.1 are.meters_once, law held.0 o (edits.MoveBase number base) are meets refl))
+
+  with_steps_row : (name : List ℕ) (day : ℕ) (steps : List Step) → AddsSteps name day steps old new → (o : Office) → MeetsRow (kinds.Steps name day steps) o → HoldsMembers old.now o
+      → HoldsMembers new.now (with_row (kinds.Steps name day steps) o)
+  with_steps_row name day steps adds o meets held =
+      (edited (edits.AddSteps name day steps) held.0, adds.rows held.0 held.1, law held.0 o (edits.AddSteps name day steps) held.2 meets refl)
+
+  pub makes_steps : (name : List ℕ) (day : ℕ) (steps : List Step) → AddsSteps name day steps old new → MakesEdit (edits.AddSteps name day steps) old.now new.now
+  makes_steps name day steps adds =
+      makes (edits.AddSteps name day steps) (codes "dated_steps" ∷ []) old new (λ t tree none. (none.1.1.1.1.1.1.1.1.1.1.0, tt)) adds.only
+      (λ o office meets held. with_steps_row name day steps adds o meets held)
+
+  of_steps : (name : List ℕ) (day : ℕ) (steps : List Step) → AddsSteps name day steps old new → MakesRows (kinds.Steps name day steps ∷ []) old.now new.now
+  of_steps name day steps adds =
+      makes_row (kinds.Steps name day steps) (codes "dated_steps" ∷ []) old new (λ t tree none. (none.1.1.1.1.1.1.1.1.1.1.0, tt)) adds.only (with_steps_row name day steps adds)
+
+  pub makes_steps_row : (row : Row) (name : List ℕ) (day : ℕ) (steps listed : List Step) → row ≡ kinds.Steps name day steps → listed ≡ steps → AddsSteps name day listed old new → MakesRows (row ∷ []) old.now new.now
+  makes_steps_row row name day steps listed is same adds =
+      subst (λ (r : Row). MakesRows (r ∷ []) old.now new.now) (sym is) (of_steps name day steps (subst (λ (l : List Step). AddsSteps name day l old new) same adds))
+
+  with_tariff_row : (name : List ℕ) (steps : List Step) → AddsTariff name steps old new → (o : Office) → MeetsRow (kinds.Tariff name steps) o → HoldsMembers old.now o
+      → HoldsMembers new.now (with_row (kinds.Tariff name steps) o)
+  with_tariff_row name steps adds o meets held =
+      (edited (edits.AddTariff name steps) held.0, adds.rows held.0 held.1, law held.0 o (edits.AddTariff name steps) held.2 meets refl)
+
+  with_meter_row : (number : List ℕ) (m : Meter) → AddsMeter number m old new → (o : Office) → MeetsRow (kinds.Meter number m) o → HoldsMembers old.now o
+      → HoldsMembers new.now (with_row (kinds.Meter number m) o)
+  with_meter_row number m adds o meets held =
+      (edited (edits.AddMeter number m) held.0, adds.rows held.0 held.1, law held.0 o (edits.AddMeter number m) held.2 meets refl)
+
+  pub makes_tariff : (name : List ℕ) (steps : List Step) → AddsTariff name steps old new → MakesEdit (edits.AddTariff name steps) old.now new.now
+  makes_tariff name steps adds =
+      makes (edits.AddTariff name steps) (codes "tariffs" ∷ codes "tariff_steps" ∷ []) old new (λ t tree none. (none.1.0, (none.1.1.0, tt))) adds.only
+      (λ o office meets held. with_tariff_row name steps adds o meets held)
+
+  pub makes_meter : (number : List ℕ) (m : Meter) → AddsMeter number m old new → MakesEdit (edits.AddMeter number m) old.now new.now
+  makes_meter number m adds =
+      makes (edits.AddMeter number m) both_meters old new of_meters adds.only
+      (λ o office meets held. with_meter_row number m adds o meets held)
+
+  of_tariff : (name : List ℕ) (steps : List Step) → AddsTariff name steps old new → MakesRows (kinds.Tariff name steps ∷ []) old.now new.now
+  of_tariff name steps adds =
+      makes_row (kinds.Tariff name steps) (codes "tariffs" ∷ codes "tariff_steps" ∷ []) old new (λ t tree none. (none.1.0, (none.1.1.0, tt))) adds.only
+      (with_tariff_row name steps adds)
+
+  of_meter : (number : List ℕ) (m : Meter) → AddsMeter number m old new → MakesRows (kinds.Meter number m ∷ []) old.now new.now
+  of_meter number m adds =
+      makes_row (kinds.Meter number m) both_meters old new of_meters adds.only (with_meter_row number m adds)
+
+  pub makes_tariff_row : (row : Row) (name : List ℕ) (steps listed : List Step) → row ≡ kinds.Tariff name steps → listed ≡ steps → AddsTariff name listed old new → MakesRows (row ∷ []) old.now new.now
+  makes_tariff_row row name steps listed is same adds =
+      subst (λ (r : Row). MakesRows (r ∷ []) old.now new.now) (sym is) (of_tariff name steps (subst (λ (l : List Step). AddsTariff name l old new) same adds))
+
+  pub makes_meter_row : (row : Row) (number : List ℕ) (m : Meter) → row ≡ kinds.Meter number m → AddsMeter number m old new → MakesRows (row ∷ []) old.now new.now
+  makes_meter_row row number m is adds = subst (λ (r : Row). MakesRows (r ∷ []) old.now new.now) (sym is) (of_meter number m adds)
+
+-- ---- rows one after another
+
+meets_first : (xs : List Row) (y : Row) (o : Office) → MeetRows (xs ++ y ∷ []) o → MeetRows xs o
+meets_first [] y o meets = tt
+meets_first (x ∷ xs) y o meets = (meets.0, meets_first xs y (with_row x o) meets.1)
+
+meets_last : (xs : List Row) (y : Row) (o : Office) → MeetRows (xs ++ y ∷ []) o → MeetRows (y ∷ []) (with_rows xs o)
+meets_last [] y o meets = meets
+meets_last (x ∷ xs) y o meets = meets_last xs y (with_row x o) meets.1
+
+with_last : (xs : List Row) (y : Row) (o : Office) → with_rows (y ∷ []) (with_rows xs o) ≡ with_rows (xs ++ y ∷ []) o
+with_last [] y o = refl
+with_last (x ∷ xs) y o = with_last xs y (with_row x o)
+
+-- one row more, after those that were made
+pub makes_more : (xs : List Row) (y : Row) (old mid new : Database) → MakesRows xs old mid → MakesRows (y ∷ []) mid new → MakesRows (xs ++ y ∷ []) old new
+makes_more xs y old mid new first second = record {
+  members = λ o meets held.
+      subst (HoldsMembers new) (with_last xs y o) (second.members (with_rows xs o) (meets_last xs y o meets) (first.members o (meets_first xs y o meets) held));
+  schema = second.schema ∙ first.schema;
+  others = same_then old.schema old.trees mid.trees new.trees old.schema.tables first.others
+      (subst (λ (s : Schema). SameOthers s mid.trees new.trees) first.schema second.others);
+  sound = second.sound;
+}
+
+pub makes_import : (rows : List Row) (old new : Database) → MakesRows rows old new → MakesEdit (edits.AddRows rows) old new
+makes_import rows old new makes = record {
+  members = λ o office meets held. makes.members o meets.1 held;
+  schema = makes.schema;
+  others = makes.others;
+  sound = makes.sound;
+}
+
+-- ---- what is told where a statement succeeds
+
+pub on_ok : {A E : Type 0} {P Q : Type 0} (r : Result A E) → (P → Q) → OnOk r P → OnOk r Q
+on_ok (Ok x) f p = f p
+on_ok (Err e) f p = tt
+
+-- ---- inside one transaction
+
+-- the office's tables are still there
+pub still_has : (rows : List Row) (old mid : State) → MakesRows rows old.now mid.now → Shows old mid mid.now old.committed true → HasTables old → HasTables mid
+still_has rows old mid makes inside has = λ _. subst HasOffice (sym makes.schema) (has inside.was_open)
+
+-- ---- an edit
+
+-- what the statement of an edit did is what the edit makes, and what is told of it is as computed
+pub made_by : {A E P : Type 0} (r : Result A E) (found edit : Edit) (prior : ℕ) (old new : State) → found ≡ edit → (HasTables old → OnOk r P) → (P → MakesEdit edit old.now new.now × IsCounted edit prior old.now)
+    → OnOk r (MakesAsComputed found prior old.now new.now)
+made_by (Ok x) found edit prior old new is did makes = λ has. subst (λ (e : Edit). MakesEdit e old.now new.now × IsCounted e prior old.now) (sym is) (makes (did (λ _. has)))
+made_by (Err e) found edit prior old new is did makes = tt
+
+-- ---- why an edit is not made
+
+-- where its tables are there
+pub told_where : {A : Type 0} (edit : Edit) (prior : ℕ) (old new : State) (r : Result A TableError) → (HasTables old → IfErr r (FailsToMake edit prior old new)) → IfErr r (λ e. HasTables old → FailsToMake edit prior old new e)
+told_where edit prior old new (Ok x) told = tt
+told_where edit prior old new (Err e) told = told
+
+-- where it is this one
+pub refused_by : {A : Type 0} (r : Result A TableError) (found edit : Edit) (prior : ℕ) (old new : State) → found ≡ edit → IfErr r (FailsToMake edit prior old new) → IfErr r (FailsToMake found prior old new)
+refused_by r found edit prior old new is why = subst (λ (e : Edit). IfErr r (FailsToMake e prior old new)) (sym is) why
+
+all_err : {A E : Type 0} {P : E → Type 0} (r : Result A E) → ((e : E) → P e) → IfErr r P
+all_err (Ok x) f = tt
+all_err (Err e) f = f e
+
+-- no office has an import of no rows to add
+pub rows_refused : {A : Type 0} (r : Result A TableError) (rows listed : List Row) (prior : ℕ) (old new : State) → listed ≡ rows → (1 ≤ length listed → IfErr r (FailsToWriteAll old new)) → IfErr r (FailsToMake (edits.AddRows rows) prior old new)
+rows_refused r rows listed prior old new same why = elim (cases_order 0 (length listed)) [
+  | inl none ↦ all_err r (λ e. inr (inl (λ is_open o office meets held. omega (arith, meets.0, none, ap length same))))
+  | inr (inl some) ↦ if_err r (λ e fails. inl fails) (why (omega arith))
+  | inr (inr below) ↦ absurd (omega (arith, below))
+]
+
+-- totals that are told to be no office's show that there is none that the sale meets
+pub sold_refused : (s : Sale) (prior : ℕ) (old new : State) (e : TableError) → IsUnderWay old → HasCleanDisk new → FailsToMergeAll old new e → FindsNoFalseRow {T = SaleTotals} (MayAddSold s) old new (Err e) → FailsToMake (edits.AddSale s) prior old new e
+sold_refused s prior old new e way clean (inl fails) never = inl fails
+sold_refused s prior old new e way clean (inr is) never =
+    inr (inl (λ is_open o office meets held. never clean way present_format held.0 (λ _. held.1) (refl, (o, office, meets, held.2)) (ap (λ e. Err e) is)))

@@ -1,0 +1,68 @@
+//! The rows of an import.
+
+ghost use Rattle.std.specs.Prelude.{◌≡◌, ◌≤◌, [], ◌∷◌, length, IfErr, OnOk};
+ghost use Rattle.sqlite.specs.State.{HasCleanDisk};
+ghost use Rattle.sqlite.specs.Held.{state};
+ghost use Rattle.one_table.specs.InTransaction.{IsUnderWay, KeepsTransaction};
+ghost use Rattle.book_tables.specs.Failing.{FailsToWriteAll};
+ghost use Rattle.book_tables.specs.Reading.{HasTables};
+ghost use Rattle.book_states.specs.Changing.{MakesRows};
+
+use book_tables::adding::{add_meter, add_tariff};
+use book_tables::dated::add_steps;
+use book_tables::{TableError, members_law};
+use sqlite::{Alter, Error, ErrorCode, Transaction};
+use vend_core::Row;
+
+/// Adds the rows of an import, one after another.
+///
+/// An import that changes something has at least one. With none there would be no statement to
+/// tell that the transaction is still under way, and so there is an error.
+pub(crate) fn add_rows<S: Alter>(
+    tx: &mut Transaction<'_, S>,
+    rows: &[Row],
+) -> Result<(), TableError>
+    ensures same_reference { tx.new.conn.ghost_name ≡ tx.old.conn.ghost_name }
+    ensures added { HasCleanDisk (state S.Store tx.new.conn.now)
+        → IsUnderWay (state S.Store tx.old.conn.now) → HasTables (state S.Store tx.old.conn.now)
+        → OnOk result (MakesRows rows.now
+        (state S.Store tx.old.conn.now).now (state S.Store tx.new.conn.now).now) }
+    ensures refused { HasCleanDisk (state S.Store tx.new.conn.now)
+        → IsUnderWay (state S.Store tx.old.conn.now)
+        → HasTables (state S.Store tx.old.conn.now)
+        → 1 ≤ length rows.now → IfErr result (FailsToWriteAll
+        (state S.Store tx.old.conn.now) (state S.Store tx.new.conn.now)) }
+    ensures transaction { KeepsTransaction
+        (state S.Store tx.old.conn.now) (state S.Store tx.new.conn.now) result }
+{
+    let Some((first, others)) = rows.split_first() else {
+        return Err(TableError::Database(Error::SqliteFailure(ErrorCode::TransactionState)));
+    };
+    add_row(tx, first)?;
+    'others: for row in others {
+        add_row(tx, row)?;
+    }
+    Ok(())
+}
+
+fn add_row<S: Alter>(tx: &mut Transaction<'_, S>, row: &Row) -> Result<(), TableError>
+    ensures same_reference { tx.new.conn.ghost_name ≡ tx.old.conn.ghost_name }
+    ensures added { HasCleanDisk (state S.Store tx.new.conn.now)
+        → HasTables (state S.Store tx.old.conn.now)
+        → OnOk result (MakesRows (row.now ∷ [])
+        (state S.Store tx.old.conn.now).now (state S.Store tx.new.conn.now).now) }
+    ensures refused { HasCleanDisk (state S.Store tx.new.conn.now)
+        → IsUnderWay (state S.Store tx.old.conn.now)
+        → HasTables (state S.Store tx.old.conn.now)
+        → IfErr result (FailsToWriteAll
+        (state S.Store tx.old.conn.now) (state S.Store tx.new.conn.now)) }
+    ensures transaction { KeepsTransaction
+        (state S.Store tx.old.conn.now) (state S.Store tx.new.conn.now) result }
+{
+    members_law();
+    match row {
+        Row::Tariff(name, steps) => add_tariff(tx, name, steps.as_slice()),
+        Row::Steps(name, day, steps) => add_steps(tx, name, *day, steps.as_slice()),
+        Row::Meter(number, meter) => add_meter(tx, number, meter),
+    }
+}

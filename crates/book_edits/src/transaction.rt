@@ -1,0 +1,35 @@
+//! The one transaction of a request that changes something.
+
+ghost use Rattle.std.specs.Prelude.{◌≡◌, ◌≢◌, Err, false};
+ghost use Rattle.sqlite.specs.State.{HasCleanDisk};
+ghost use Rattle.sqlite.specs.Held.{state};
+ghost use Rattle.book_tables.specs.Reading.{HasTables};
+ghost use Rattle.book_edits.specs.Transaction.{Commits};
+
+use crate::changing::Editing;
+use book_states::refusal_of;
+use one_table::{CommitFault, change_once};
+use sqlite::{Alter, Connection};
+use vend_core::{Edit, Refusal};
+
+/// Makes an edit in a transaction of its own, and commits it once. `prior` are the tenths that the
+/// meter of a sale had in its month before it.
+///
+/// A commit that fails may be there after a crash, whatever it failed of.
+pub fn commit<S: Alter>(conn: &mut Connection<S>, edit: &Edit, prior: u64) -> Result<(), Refusal>
+    requires { conn.old.in_transaction ≡ false }
+    ensures commits { HasCleanDisk (state S.Store conn.new)
+        → HasTables (state S.Store conn.old)
+        → Commits edit.now prior result (state S.Store conn.old) (state S.Store conn.new) }
+    ensures clean { HasCleanDisk (state S.Store conn.new) → HasCleanDisk (state S.Store conn.old) }
+    ensures never_stopped { result ≢ Err Refusal.Stopped }
+    ensures outside { conn.new.in_transaction ≡ false }
+{
+    // Outside a transaction an open connection has what was committed last.
+    let _settled = conn.is_autocommit();
+    match change_once(conn, &Editing { edit, prior }) {
+        Ok(()) => Ok(()),
+        Err(CommitFault::Unmade(error)) => Err(refusal_of(error)),
+        Err(CommitFault::InDoubt(_)) => Err(Refusal::Store),
+    }
+}

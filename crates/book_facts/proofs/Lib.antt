@@ -1,0 +1,3 @@
+pub mod FactsLemmas
+pub mod PageLemmas
+pub mod PassedLemmas

@@ -1,0 +1,18 @@
+use Rattle.std.proofs.Common.{ℕ, ◌++◌, List, drop}
+use Rattle.sqlite.specs.Held.{state}
+use Rattle.sqlite.specs.State.{HasCleanDisk}
+use Rattle.vend_core.specs.Decision.Facts.{AreRowsFacts}
+use Rattle.vend_core.specs.Office.{IsOffice, Office}
+use Rattle.vend_core.specs.declared.decision.row_facts.RowFacts.{RowFacts}
+use Rattle.book_states.specs.Members.{HasMembers}
+use Rattle.book_facts.proofs.PassedLemmas.{HasPassed}
+use Rattle.book_facts.proofs.facts.imports.found_of.Given as goal
+
+-- nothing was changed, and what is found for the other rows is, behind what is found so far, found
+-- for all
+abbrev pub invariant-loop-row : goal.invariant-loop-row
+invariant-loop-row g l = record {
+  passed : HasPassed (state g.S.Store l.fn.conn) (state g.S.Store l.conn);
+  found : HasCleanDisk (state g.S.Store l.conn) → (o : Office) → IsOffice o → HasMembers (state g.S.Store l.fn.conn) o
+      → (today : ℕ) (more : List RowFacts) → AreRowsFacts o today (drop l.row-index l.rows) more → AreRowsFacts o today l.rows (l.found.items ++ more);
+}

@@ -1,0 +1,78 @@
+//! What is decided by what the tables hold.
+
+ghost use Rattle.std.specs.Prelude.{◌≡◌, ◌≢◌, ◌+◌, Err, IfErr, IfOk, false, length};
+ghost use Rattle.sqlite.specs.State.{HasCleanDisk};
+ghost use Rattle.sqlite.specs.Held.{state};
+ghost use Rattle.vend_core.specs.Decision.{decision};
+ghost use Rattle.vend_core.specs.Decision.Facts.{AreFacts, IsUnlessMemory};
+ghost use Rattle.vend_core.specs.Office.{Office};
+ghost use Rattle.book_tables.specs.Reading.{HasTables};
+ghost use Rattle.book_states.specs.Failing.{IsPriorRead, RefusesUnchanged, prior_of_account};
+ghost use Rattle.book_states.specs.Stores.{Stores};
+ghost use Rattle.book_states.specs.Same.{ChangesNothing};
+ghost use Rattle.book_facts.specs.Deciding.{IsDecided, change_in};
+
+use crate::decided::{Decided, prior_of};
+use crate::facts::facts_of;
+use book_states::refusal_of;
+use sqlite::{Alter, Connection};
+use std::alloc::Global;
+use sts_token::BlockTransform;
+use vend_core::{Facts, Refusal, Stamped, decide};
+
+/// What a request changes and its answer, by what the tables hold. Nothing is changed yet.
+///
+/// # Errors
+/// The refusals of the rules; `Store` and `Memory`.
+pub fn decision_of<S: Alter, T: BlockTransform>(
+    alloc: Global,
+    conn: &mut Connection<S>,
+    transform: &T,
+    at: &Stamped,
+    next_number: u64,
+) -> Result<Decided, Refusal>
+    requires { conn.old.in_transaction ≡ false }
+    ensures decides { HasCleanDisk (state S.Store conn.new)
+        → (o : Office) → Stores (state S.Store conn.old) o → next_number ≡ length o.sales + 1
+        → IsDecided (T.forwards transform.now) o at.now (change_in result) }
+    ensures nothing { HasCleanDisk (state S.Store conn.new)
+        → HasTables (state S.Store conn.old)
+        → ChangesNothing (state S.Store conn.old) (state S.Store conn.new) }
+    ensures failures { HasCleanDisk (state S.Store conn.new)
+        → HasTables (state S.Store conn.old)
+        → IfErr result (RefusesUnchanged at.now next_number
+        (state S.Store conn.old) (state S.Store conn.new)) }
+    ensures prior { HasCleanDisk (state S.Store conn.new)
+        → IfOk result (λ decided. IsPriorRead at.now next_number
+        (state S.Store conn.old) decided.prior) }
+    ensures clean { HasCleanDisk (state S.Store conn.new) → HasCleanDisk (state S.Store conn.old) }
+    ensures never_stopped { result ≢ Err Refusal.Stopped }
+    ensures outside { conn.new.in_transaction ≡ false }
+{
+    // Outside a transaction an open connection has what was committed last.
+    let _settled = conn.is_autocommit();
+    match facts_of(alloc, conn, at, next_number.saturating_sub(1)) {
+        Ok(facts) => decided_by(alloc, transform, &facts, at),
+        Err(error) => Err(refusal_of(error)),
+    }
+}
+
+// What the facts decide.
+fn decided_by<T: BlockTransform>(
+    alloc: Global,
+    transform: &T,
+    facts: &Facts,
+    at: &Stamped,
+) -> Result<Decided, Refusal>
+    ensures decided { (o : Office) → AreFacts o at.now facts.now
+        → IsUnlessMemory (change_in result) (decision (T.forwards transform.now) o at.now) }
+    ensures prior { IfOk result (λ decided.
+        decided.prior ≡ prior_of_account facts.now.account) }
+    ensures no_store { (result ≢ Err Refusal.Store) × (result ≢ Err Refusal.Stopped) }
+{
+    let change = decide(alloc, transform, facts, at)?;
+    Ok(Decided {
+        change,
+        prior: prior_of(facts),
+    })
+}

@@ -1,0 +1,51 @@
+//! What the tests of a request look at, read from the tables.
+
+ghost use Rattle.std.specs.Prelude.{◌≡◌, length};
+ghost use Rattle.sqlite.specs.Held.{state};
+ghost use Rattle.vend_core.specs.Decision.Facts.{AreFacts};
+ghost use Rattle.book_tables.specs.Reading.{OnlyReads};
+ghost use Rattle.book_states.specs.Members.{SaysOfOffice};
+ghost use Rattle.book_states.specs.Same.{IsSame};
+
+use book_tables::TableError;
+use sqlite::{Alter, Connection};
+use std::alloc::Global;
+use vend_core::{Facts, Request, Stamped};
+
+mod accounts;
+mod imports;
+mod meters;
+mod sales;
+pub(crate) mod shifts;
+mod steps;
+
+/// What the tests of a request look at, as far as they do and no further. The count of sales is the
+/// caller's.
+///
+/// # Errors
+/// What the database refuses, want of memory, and a row that is no office's.
+pub(crate) fn facts_of<S: Alter>(
+    alloc: Global,
+    conn: &mut Connection<S>,
+    at: &Stamped,
+    sale_count: u64,
+) -> Result<Facts, TableError>
+    ensures facts { SaysOfOffice (λ o f. sale_count ≡ length o.sales → AreFacts o at.now f)
+        (state S.Store conn.old) (state S.Store conn.new) result }
+    ensures reads { OnlyReads IsSame
+        (state S.Store conn.old) (state S.Store conn.new) result }
+{
+    match &at.request {
+        Request::AddTariff(name, _) => meters::tariff_facts(alloc, conn, name),
+        Request::AddSteps(name, day, _) => steps::dated_facts(alloc, conn, name, *day),
+        Request::AddMeter(number, meter) => meters::meter_facts(conn, number, meter),
+        Request::Import(rows) => imports::import_facts(alloc, conn, rows),
+        Request::SetTariff(number, name) => meters::setting_facts(conn, number, name),
+        Request::MoveBase(number, _) => meters::moving_facts(conn, number),
+        Request::OpenShift(operator) => shifts::opening_facts(conn, operator),
+        Request::CloseShift(operator) => shifts::closing_facts(conn, operator),
+        Request::Sell(order) => { sales::sale_facts(alloc, conn, at.moment, order, sale_count) },
+        Request::Reprint(number) => sales::reprint_facts(conn, *number),
+        Request::ShiftReport(number) => shifts::report_facts(alloc, conn, *number),
+    }
+}

@@ -1,0 +1,78 @@
+//! What a sale looks at of its meter.
+
+ghost use Rattle.std.specs.Prelude.{◌≡◌, ◌<◌};
+ghost use Rattle.sqlite.specs.State.{IsUnchanged};
+ghost use Rattle.sqlite.specs.Held.{state};
+ghost use Rattle.sts_fields.specs.Calendar.{month_at};
+ghost use Rattle.vend_core.specs.Decision.{account_of};
+ghost use Rattle.vend_core.specs.Office.Lookup.{greatest_of, prior, used};
+ghost use Rattle.book_tables.specs.Reading.{OnlyReads};
+ghost use Rattle.book_states.specs.Members.{SaysOfOffice};
+
+use crate::facts::steps::steps_on;
+use book_tables::{TableError, members_law, meters, sold};
+use sqlite::{Alter, Connection};
+use std::alloc::Global;
+use sts_fields::{LAST_TID, day_of, month_of};
+use tariff::{MAX_PRIOR, Steps};
+use vend_core::{Meter, MeterAccount, MeterNo, Moment, store_law};
+
+/// What a sale at a moment looks at of the meter of a number.
+pub(crate) fn account_numbered<S: Alter>(
+    alloc: Global,
+    conn: &mut Connection<S>,
+    number: &MeterNo,
+    moment: Moment,
+) -> Result<Option<MeterAccount>, TableError>
+    ensures facts { SaysOfOffice (λ o found. found ≡ account_of o number.now moment)
+        (state S.Store conn.old) (state S.Store conn.new) result }
+    ensures reads { OnlyReads IsUnchanged
+        (state S.Store conn.old) (state S.Store conn.new) result }
+{
+    members_law();
+    let there = meters::meter_numbered(conn, number)?;
+    let Some(meter) = there else {
+        return Ok(None);
+    };
+    let found = steps_on(alloc, conn, &meter.tariff, day_of(moment))?;
+    let Some(steps) = found else {
+        // An office has the tariff of each of its meters.
+        return Err(TableError::RowOfNoOffice);
+    };
+    let account = account_at(conn, number, moment, meter, steps)?;
+    Ok(Some(account))
+}
+
+// What was sold to the meter of a number, as a sale at a moment looks at it.
+fn account_at<S: Alter>(
+    conn: &mut Connection<S>,
+    number: &MeterNo,
+    moment: Moment,
+    meter: Meter,
+    steps: Steps,
+) -> Result<MeterAccount, TableError>
+    ensures facts { SaysOfOffice (λ o b. b ≡ record {
+      meter = meter;
+      steps = steps;
+      last = greatest_of (used o number.now meter.base);
+      prior = prior o number.now (month_at moment);
+    })
+        (state S.Store conn.old) (state S.Store conn.new) result }
+    ensures reads { OnlyReads IsUnchanged
+        (state S.Store conn.old) (state S.Store conn.new) result }
+{
+    store_law();
+    let last = sold::greatest_tid(conn, number, meter.base)?;
+    let month = month_of(moment).unwrap();
+    let prior = sold::tenths_in_month(conn, number, month)?;
+    if last.unwrap_or(0) > LAST_TID || prior > MAX_PRIOR {
+        // What an office sold to a meter is within both.
+        return Err(TableError::RowOfNoOffice);
+    }
+    Ok(MeterAccount {
+        meter,
+        steps,
+        last,
+        prior,
+    })
+}

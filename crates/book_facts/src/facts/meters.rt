@@ -1,0 +1,100 @@
+//! What requests on tariffs and meters look at.
+
+ghost use Rattle.std.specs.Prelude.{◌≡◌, ℕ};
+ghost use Rattle.sqlite.specs.State.{IsUnchanged};
+ghost use Rattle.sqlite.specs.Held.{state};
+ghost use Rattle.vend_core.specs.Decision.Facts.{AreMeterFacts, AreSettingFacts};
+ghost use Rattle.book_tables.specs.Reading.{OnlyReads};
+ghost use Rattle.book_states.specs.Members.{SaysOfOffice};
+
+use book_tables::{TableError, members_law, meters, tariffs};
+use sqlite::{Alter, Connection};
+use std::alloc::Global;
+use vend_core::{Facts, Meter, MeterNo, TariffName};
+
+/// What AddTariff looks at: the steps under its name.
+pub(crate) fn tariff_facts<S: Alter>(
+    alloc: Global,
+    conn: &mut Connection<S>,
+    name: &TariffName,
+) -> Result<Facts, TableError>
+    ensures facts { SaysOfOffice (λ o f. f.tariff ≡ o.tariffs name.now)
+        (state S.Store conn.old) (state S.Store conn.new) result }
+    ensures reads { OnlyReads IsUnchanged
+        (state S.Store conn.old) (state S.Store conn.new) result }
+{
+    let steps = tariffs::steps_of(alloc, conn, name)?;
+    Ok(Facts {
+        tariff: steps,
+        ..Facts::none()
+    })
+}
+
+/// What MoveBase looks at: the meter of its number.
+pub(crate) fn moving_facts<S: Alter>(
+    conn: &mut Connection<S>,
+    number: &MeterNo,
+) -> Result<Facts, TableError>
+    ensures facts { SaysOfOffice (λ o f. f.meter ≡ o.meters number.now)
+        (state S.Store conn.old) (state S.Store conn.new) result }
+    ensures reads { OnlyReads IsUnchanged
+        (state S.Store conn.old) (state S.Store conn.new) result }
+{
+    members_law();
+    let there = meters::meter_numbered(conn, number)?;
+    Ok(Facts {
+        meter: there,
+        ..Facts::none()
+    })
+}
+
+/// What AddMeter looks at: the tariff only where there is no meter of the number.
+pub(crate) fn meter_facts<S: Alter>(
+    conn: &mut Connection<S>,
+    number: &MeterNo,
+    meter: &Meter,
+) -> Result<Facts, TableError>
+    ensures facts { SaysOfOffice (λ o. AreMeterFacts o number.now meter.now)
+        (state S.Store conn.old) (state S.Store conn.new) result }
+    ensures reads { OnlyReads IsUnchanged
+        (state S.Store conn.old) (state S.Store conn.new) result }
+{
+    members_law();
+    let there = meters::meter_numbered(conn, number)?;
+    if there.is_some() {
+        return Ok(Facts {
+            meter: there,
+            ..Facts::none()
+        });
+    }
+    let has_tariff = tariffs::has_tariff(conn, &meter.tariff)?;
+    Ok(Facts {
+        meter: there,
+        has_tariff,
+        ..Facts::none()
+    })
+}
+
+/// What SetTariff looks at: the tariff only where there is a meter of the number.
+pub(crate) fn setting_facts<S: Alter>(
+    conn: &mut Connection<S>,
+    number: &MeterNo,
+    name: &TariffName,
+) -> Result<Facts, TableError>
+    ensures facts { SaysOfOffice (λ o. AreSettingFacts o number.now name.now)
+        (state S.Store conn.old) (state S.Store conn.new) result }
+    ensures reads { OnlyReads IsUnchanged
+        (state S.Store conn.old) (state S.Store conn.new) result }
+{
+    members_law();
+    let there = meters::meter_numbered(conn, number)?;
+    if there.is_none() {
+        return Ok(Facts::none());
+    }
+    let has_tariff = tariffs::has_tariff(conn, name)?;
+    Ok(Facts {
+        meter: there,
+        has_tariff,
+        ..Facts::none()
+    })
+}

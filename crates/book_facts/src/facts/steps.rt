@@ -1,0 +1,61 @@
+//! What requests look at of a tariff's steps by their days.
+
+ghost use Rattle.std.specs.Prelude.{◌≡◌};
+ghost use Rattle.std.specs.Option.{option_or};
+ghost use Rattle.sqlite.specs.Held.{state};
+ghost use Rattle.sqlite.specs.State.{IsUnchanged};
+ghost use Rattle.vend_core.specs.Decision.Facts.{AreDatedFacts};
+ghost use Rattle.vend_core.specs.Office.Lookup.{latest};
+ghost use Rattle.book_tables.specs.Reading.{OnlyReads};
+ghost use Rattle.book_states.specs.Members.{SaysOfOffice};
+
+use book_tables::{TableError, dated, tariffs};
+use sqlite::{Alter, Connection};
+use std::alloc::Global;
+use sts_fields::Day;
+use tariff::Steps;
+use vend_core::{Facts, TariffName};
+
+/// The steps of the tariff of a name on a day: the latest that have begun by then, else the first.
+pub(crate) fn steps_on<S: Alter>(
+    alloc: Global,
+    conn: &mut Connection<S>,
+    name: &TariffName,
+    day: Day,
+) -> Result<Option<Steps>, TableError>
+    ensures facts { SaysOfOffice (λ o found. found
+        ≡ option_or (latest (o.dated_steps name.now) day) (o.tariffs name.now))
+        (state S.Store conn.old) (state S.Store conn.new) result }
+    ensures reads { OnlyReads IsUnchanged
+        (state S.Store conn.old) (state S.Store conn.new) result }
+{
+    let begun = dated::latest_steps(alloc, conn, name, day)?;
+    if begun.is_some() {
+        return Ok(begun);
+    }
+    tariffs::steps_of(alloc, conn, name)
+}
+
+/// What AddSteps looks at: whether there is its tariff, and the steps of its day only where there is.
+pub(crate) fn dated_facts<S: Alter>(
+    alloc: Global,
+    conn: &mut Connection<S>,
+    name: &TariffName,
+    day: Day,
+) -> Result<Facts, TableError>
+    ensures facts { SaysOfOffice (λ o. AreDatedFacts o name.now day)
+        (state S.Store conn.old) (state S.Store conn.new) result }
+    ensures reads { OnlyReads IsUnchanged
+        (state S.Store conn.old) (state S.Store conn.new) result }
+{
+    let has_tariff = tariffs::has_tariff(conn, name)?;
+    if !has_tariff {
+        return Ok(Facts::none());
+    }
+    let dated_steps = dated::steps_from(alloc, conn, name, day)?;
+    Ok(Facts {
+        has_tariff,
+        dated_steps,
+        ..Facts::none()
+    })
+}

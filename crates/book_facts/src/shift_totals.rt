@@ -1,0 +1,50 @@
+//! The running totals of a shift.
+
+ghost use Rattle.std.specs.Prelude.{◌≡◌, ◌⊎◌, false, Err, None, Some, IfErr, IfOk};
+ghost use Rattle.sqlite.specs.Held.{state};
+ghost use Rattle.sqlite.specs.State.{HasCleanDisk};
+ghost use Rattle.vend_core.specs.Office.{Office};
+ghost use Rattle.book_tables.specs.Reading.{HasTables};
+ghost use Rattle.book_states.specs.Failing.{IsToldOfRead};
+ghost use Rattle.book_states.specs.Stores.{Stores};
+ghost use Rattle.book_states.specs.Same.{ChangesNothing};
+ghost use Rattle.book_facts.specs.Totals.{shift_totals};
+
+use crate::facts::shifts::totals_of;
+use book_states::refusal_of;
+use book_tables::Totals;
+use sqlite::{Alter, Connection};
+use vend_core::Refusal;
+
+/// The totals that the tables have of the shift of a number (1 to 10^9).
+///
+/// # Errors
+/// `NoSuchShift`; `Store` and `Memory`.
+pub fn totals<S: Alter>(conn: &mut Connection<S>, number: u32) -> Result<Totals, Refusal>
+    requires { conn.old.in_transaction ≡ false }
+    ensures given { HasCleanDisk (state S.Store conn.new)
+        → (o : Office) → Stores (state S.Store conn.old) o
+        → IfOk result (λ totals. shift_totals o number ≡ Some totals) }
+    ensures none { HasCleanDisk (state S.Store conn.new)
+        → (o : Office) → Stores (state S.Store conn.old) o
+        → result ≡ Err Refusal.NoSuchShift → shift_totals o number ≡ None }
+    ensures nothing { HasCleanDisk (state S.Store conn.new)
+        → HasTables (state S.Store conn.old)
+        → ChangesNothing (state S.Store conn.old) (state S.Store conn.new) }
+    ensures clean { HasCleanDisk (state S.Store conn.new) → HasCleanDisk (state S.Store conn.old) }
+    ensures failures { HasCleanDisk (state S.Store conn.new)
+        → HasTables (state S.Store conn.old)
+        → IfErr result (λ refusal. (refusal ≡ Refusal.NoSuchShift) ⊎ IsToldOfRead refusal
+        (state S.Store conn.old) (state S.Store conn.new)) }
+    ensures refusals { IfErr result (λ refusal. (refusal ≡ Refusal.NoSuchShift)
+        ⊎ ((refusal ≡ Refusal.Memory) ⊎ (refusal ≡ Refusal.Store))) }
+    ensures outside { conn.new.in_transaction ≡ false }
+{
+    // Outside a transaction an open connection has what was committed last.
+    let _settled = conn.is_autocommit();
+    match totals_of(conn, number) {
+        Ok(Some(totals)) => Ok(totals),
+        Ok(None) => Err(Refusal::NoSuchShift),
+        Err(error) => Err(refusal_of(error)),
+    }
+}

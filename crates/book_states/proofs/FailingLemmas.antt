@@ -1,0 +1,73 @@
+-- Why a read of the tables fails, and what is answered.
+use Rattle.std.proofs.Common.{◌≡◌, ◌≢◌, ℕ, true, arith, IfErr, Result, Ok, Err, refl, ap, sym, inl, inr, ◌∙◌}
+use Rattle.std.proofs.lemmas.Bool.{cases_Bool}
+use Rattle.sqlite.specs.State.{HasCause, HasCleanDisk, State, Survives, store_error}
+use Rattle.sqlite.specs.Held.{Held, state}
+use Rattle.sqlite.specs.declared.error.Error.{Error}
+use Rattle.sqlite_trees.specs.declared.error.StoreError.{StoreError}
+use Rattle.sqlite_trees.specs.declared.store.Store.{Ghosts}
+use Rattle.sqlite_trees.specs.declared.error.StoreError.TheVariants.{OutOfMemory, Io, Corrupt, Full, Broken, Unstorable}
+use Rattle.one_table.specs.Reading.{FailsPlainly}
+use Rattle.vend_core.specs.declared.decision.change.Edit.{Edit}
+use Rattle.vend_core.specs.declared.decision.refusal.Refusal.{Refusal}
+use Rattle.vend_core.specs.declared.decision.refusal.Refusal.TheVariants.{Store}
+use Rattle.vend_core.specs.declared.decision.request.Stamped.{Stamped}
+use Rattle.book_tables.specs.Failing.{IsRefused}
+use Rattle.book_tables.specs.Reading.{FailsToRead, HasTables}
+use Rattle.book_tables.specs.declared.error.TableError.{TableError}
+use Rattle.book_tables.specs.declared.error.TableError.TheVariants.{Database, RowOfNoOffice}
+use Rattle.book_states.specs.Failing.{EditHasFailed, FailsToMake, HasFailed, RefusesUnchanged, IsToldOfRead, WereRead, refusal_for}
+
+module _ (old new : State) where
+  caused : (e : Error) → refusal_for (Database e) ≡ Store → (cause : StoreError) → e ≡ store_error cause → HasCause old new ⊥ cause → HasFailed old new
+  caused e is OutOfMemory same why = absurd (let told = rw same at is in cc)
+  caused e is Io same why = inl why
+  caused e is Corrupt same why = inl why
+  caused e is Full same why = inl why
+  caused e is Broken same why = inr (inl why)
+  caused e is Unstorable same why = absurd why
+
+  plainly : (e : Error) → refusal_for (Database e) ≡ Store → FailsPlainly old new e → HasFailed old new
+  plainly e is (inl fails) = caused e is fails.0 fails.1 fails.2
+  plainly e is (inr limit) = inr (inr (inl limit.1))
+
+  -- a read that is answered as a failure of the store has one of its causes
+  pub has_failed : (e : TableError) → FailsToRead old new e → refusal_for e ≡ Store → HasFailed old new
+  has_failed (Database e) (inl why) is = elim (cases_Bool old.is_open) [ inl is_open ↦ plainly e is (why is_open) | inr shut ↦ inr (inl shut) ]
+  has_failed (Database e) (inr why) is = absurd (let told = rw why.0 at is in cc)
+  has_failed RowOfNoOffice why is = inr (inr (inr why.0))
+
+  pub told_of_read : (e : TableError) (refusal : Refusal) → refusal ≡ refusal_for e → FailsToRead old new e → HasCleanDisk new → Survives old new (λ _. ⊥) → IsToldOfRead refusal old new
+  told_of_read e refusal answered fails clean survives = record {
+    error = e;
+    answered = answered;
+    fails = fails;
+    failed = λ is. has_failed e fails (sym answered ∙ is);
+    still_open = survives.closes clean;
+  }
+
+-- where the facts were read, nothing is answered as a failure of the store
+pub refused_after : {A : Type 0} (at : Stamped) (next : ℕ) (old new : State) (r : Result A Refusal) → r ≢ Err Store → WereRead at next old → IfErr r (RefusesUnchanged at next old new)
+refused_after at next old new (Ok x) never read = tt
+refused_after at next old new (Err refusal) never read = inr ((λ is. never (ap (λ r. Err r) is)), read)
+
+-- An edit that is answered as a failure of the store has one of its causes, by what the connection was
+-- before its transaction was begun, and is after it was undone.
+module _ {S : Type 0} (g : Ghosts S) (edit : Edit) (prior : ℕ) (old left : Held S) (new : State) (later : Survives (state g left) new (λ _. ⊥)) where
+  abbrev begun : Held S
+  begun = record old { in_transaction = true }
+
+  refused_before : (e : Error) → IsRefused (state g begun) e → IsRefused (state g old) e
+  refused_before e it = record { db = it.db; schema = it.schema; shows = it.shows; command = it.command; params = it.params; refused = it.refused }
+
+  by_cause : (e : TableError) → refusal_for e ≡ Store → FailsToMake edit prior (state g begun) (state g left) e → EditHasFailed edit prior e (state g old) new
+  by_cause (Database e) is (inl (inl none)) = absurd (let told = rw none at is in cc)
+  by_cause (Database e) is (inl (inr (inl more))) = inl (omega (arith, more, later.counts))
+  by_cause (Database e) is (inl (inr (inr (inl shut)))) = inr (inl shut)
+  by_cause (Database e) is (inl (inr (inr (inr refused)))) = inr (inr (inl (e, refl, refused_before e refused)))
+  by_cause RowOfNoOffice is (inl why) = absurd why
+  by_cause e is (inr (inl none)) = inr (inr (inr (inl none)))
+  by_cause e is (inr (inr told)) = inr (inr (inr (inr told)))
+
+  pub edit_failed : (e : TableError) → refusal_for e ≡ Store → HasTables (state g old) → (HasTables (state g begun) → FailsToMake edit prior (state g begun) (state g left) e) → EditHasFailed edit prior e (state g old) new
+  edit_failed e is has why = by_cause e is (why has)
