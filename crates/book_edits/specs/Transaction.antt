@@ -13,8 +13,8 @@ use Rattle.book_states.specs.Failing.{EditHasFailed, refusal_for}
 use Rattle.book_states.specs.Stores.{RecoversTo}
 use Rattle.book_states.specs.Same.{ChangesNothing, IsSame}
 
--- an open connection has the edit, which is committed: a crash leaves nothing else. It has the limit
--- on steps that it had.
+-- an open connection has the edit, which is committed: a crash leaves nothing else. It has the
+-- limit on steps that it had.
 pub record HasEdit (edit : Edit) (old new : State) : Type 0 where
   pub was_open : IsTrue old.is_open
   pub makes : MakesEdit edit old.now new.now
@@ -43,7 +43,8 @@ abbrev pub FailsToEdit : Edit → ℕ → State → State → Refusal → Type 0
 FailsToEdit edit prior old new refusal =
     IsToldOfEdit edit prior refusal old new ⊎ ((refusal ≡ Store) × DoubtsEdit edit old new)
 
--- an edit was committed, with the tenths of a sale's month as they were read before it; or it was not
+-- an edit was committed, with the tenths of a sale's month as they were read before it; or it was
+-- not
 pub record Commits (edit : Edit) (prior : ℕ) (result : Result (Unit {0}) Refusal)
     (old new : State) : Type 0 where
   pub done : OnOk result (HasEdit edit old new)

@@ -1,5 +1,5 @@
-//! What a request looks at in the tables over one connection, and how it is decided by that; also a page
-//! of sales, and the totals of a shift. Nothing is changed.
+//! What a request looks at in the tables over one connection, and how it is decided by that; also a
+//! page of sales, and the totals of a shift. Nothing is changed.
 //!
 //! `specs/Deciding.antt` says what is decided, and `docs/OFFICE.md` has the facts in words.
 #![tactic(auto)]

@@ -98,7 +98,8 @@ shown_before old mid NotAnOffice after none = λ o at. none o (after o at)
 shown_before old mid Store after none = tt
 shown_before old mid Memory after none = tt
 
--- a store that is not clean shows as shut, so the tables are there after a look, whatever the disk did
+-- a store that is not clean shows as shut, so the tables are there after a look, whatever the disk
+-- did
 pub tables_after : (n : ℕ) (old mid : State) → (mid.is_clean ≡ false → mid.is_open ≡ false) → (HasCleanDisk mid → IsUnchanged old mid) → HasTablesOf n old → HasTablesOf n mid
 tables_after n old mid shut same has = λ is_open. elim (cases_Bool mid.is_clean) [
   | inl is ↦ (let it = same (no_doubt mid.is_clean is) in subst (λ (db : Database). HasOfficeOf n db.schema) (sym it.0.now_is) (has it.0.was_open))

@@ -30,7 +30,8 @@ abbrev pub BringsTold : Database → Database → Type 0
 BringsTold old new =
     (from : ℕ) × (from < present_format) × BringsOffice from old new × TellsFormat from old
 
--- the office may be brought to the present format in a sound database that has the tables of a format
+-- the office may be brought to the present format in a sound database that has the tables of a
+-- format
 abbrev pub BringsSound : ℕ → Database → Database → Type 0
 BringsSound from old new = IsDatabase old → HasOfficeOf from old.schema → BringsOffice from old new
 
@@ -40,8 +41,8 @@ pub record IsBrought (from : ℕ) (old new : State) : Type 0 where
   pub is_open : IsTrue new.is_open
   pub brings : BringsOffice from old.now new.now
 
--- What is opened is an office of the present format, which stays as it is, or one of an older format
--- or of none, which is brought to it. Where tables are found, `about` tells their format.
+-- What is opened is an office of the present format, which stays as it is, or one of an older
+-- format or of none, which is brought to it. Where tables are found, `about` tells their format.
 pub record OpensAs (old new : State) : Type 0 where
   pub was_open : IsTrue old.is_open
   pub is_open : IsTrue new.is_open
@@ -81,8 +82,8 @@ IsNextSale s next = (o : Office) → StoreStandsFor s o → next ≡ length o.sa
 abbrev pub HasTablesOf : ℕ → State → Type 0
 HasTablesOf n s = IsTrue s.is_open → HasOfficeOf n s.now.schema
 
--- The tables of a format were only looked at, where they are there: this holds of what was found, and
--- a fault that names the file is true of it.
+-- The tables of a format were only looked at, where they are there: this holds of what was found,
+-- and a fault that names the file is true of it.
 pub record LooksAt {T : Type 0} (n : ℕ) (Says : T → Type 0) (old new : State)
     (result : Result T OpenFault) : Type 0 where
   pub finds : HasCleanDisk new → HasTablesOf n old → HasSoundDatabase old → IfOk result Says

@@ -38,7 +38,8 @@ impl<S: Alter> Change<S> for Bringing {
     }
 }
 
-/// Brings the tables of a format to the present one, in one commit; format 0 is that there are none.
+/// Brings the tables of a format to the present one, in one commit; format 0 is that there are
+/// none.
 pub(crate) fn bring_office<S: Alter>(
     alloc: Global,
     conn: &mut Connection<S>,

@@ -1,4 +1,5 @@
-//! The opening of an office over a connection, and the bringing of its tables to the present format.
+//! The opening of an office over a connection, and the bringing of its tables to the present
+//! format.
 //!
 //! `docs/LIVES.md` has it in words ("Opening"). `specs/Opening.antt` says what is found and left.
 #![tactic(auto)]

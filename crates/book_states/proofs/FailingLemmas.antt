@@ -51,8 +51,8 @@ pub refused_after : {A : Type 0} (at : Stamped) (next : ℕ) (old new : State) (
 refused_after at next old new (Ok x) never read = tt
 refused_after at next old new (Err refusal) never read = inr ((λ is. never (ap (λ r. Err r) is)), read)
 
--- An edit that is answered as a failure of the store has one of its causes, by what the connection was
--- before its transaction was begun, and is after it was undone.
+-- An edit that is answered as a failure of the store has one of its causes, by what the connection
+-- was before its transaction was begun, and is after it was undone.
 module _ {S : Type 0} (g : Ghosts S) (edit : Edit) (prior : ℕ) (old left : Held S) (new : State) (later : Survives (state g left) new (λ _. ⊥)) where
   abbrev begun : Held S
   begun = record old { in_transaction = true }

@@ -23,15 +23,15 @@ pub record MakesEdit (edit : Edit) (old new : Database) : Type 0 where
   pub others : SameOthers old.schema old.trees new.trees
   pub sound : IsDatabase new
 
--- A sale is added with its totals, and of these the tenths of its meter's month are told to be those
--- before it and its own.
+-- A sale is added with its totals, and of these the tenths of its meter's month are told to be
+-- those before it and its own.
 pub record AddsAsComputed (s : Sale) (prior : ℕ) (old new : State) : Type 0 where
   pub shown : SaleTotals
   pub tells : TellsSold s shown old new
   pub month : shown.month_tenths ≡ prior + s.tenths
 
--- where the tables held an office that the sale meets, these are told as the totals of its month and
--- its shift
+-- where the tables held an office that the sale meets, these are told as the totals of its month
+-- and its shift
 abbrev pub TellTotals : Sale → SaleTotals → Database → Type 0
 TellTotals s shown old =
     (o : Office) → IsOffice o → MeetsNewSale o s → HoldsMembers old o

@@ -38,8 +38,8 @@ HasFailed old new =
     ⊎ (IsSome old.step_limit
     ⊎ ((rows : Rows) → Holds old.now rows → ¬ AreOfOffice rows)))
 
--- A read of the tables failed, and its error is answered so. Nothing has changed: an open connection
--- is open still, or the disk failed more often than before.
+-- A read of the tables failed, and its error is answered so. Nothing has changed: an open
+-- connection is open still, or the disk failed more often than before.
 pub record IsToldOfRead (refusal : Refusal) (old new : State) : Type 0 where
   pub error : TableError
   pub answered : refusal ≡ refusal_for error
@@ -66,8 +66,8 @@ abbrev pub IsPriorRead : Stamped → ℕ → State → ℕ → Type 0
 IsPriorRead at next s prior =
     (facts : Facts) × AreRead at next s facts × (prior ≡ prior_of_account facts.account)
 
--- Before anything changed a read failed; or the facts were read, and the rules refuse the request or
--- there was no memory for its answer.
+-- Before anything changed a read failed; or the facts were read, and the rules refuse the request
+-- or there was no memory for its answer.
 abbrev pub RefusesUnchanged : Stamped → ℕ → State → State → Refusal → Type 0
 RefusesUnchanged at next old new refusal =
     IsToldOfRead refusal old new ⊎ ((refusal ≢ Store) × WereRead at next old)

@@ -1,10 +1,11 @@
-//! The words in which the openings of an office and the requests over a connection are stated: which
-//! office a state stands for, what an edit makes of it, what a call leaves as it was, and why a call
-//! fails.
+//! The words in which the openings of an office and the requests over a connection are stated:
+//! which office a state stands for, what an edit makes of it, what a call leaves as it was, and why
+//! a call fails.
 //!
-//! `specs/Stores.antt` has what a store and what a stop leaves stand for, `specs/Changing.antt` what an
-//! edit makes, `specs/Same.antt` and `specs/Others.antt` what has not changed, `specs/Failing.antt` why a
-//! request is answered that there was no memory or that the store failed.
+//! `specs/Stores.antt` has what a store and what a stop leaves stand for, `specs/Changing.antt`
+//! what an edit makes, `specs/Same.antt` and `specs/Others.antt` what has not changed,
+//! `specs/Failing.antt` why a request is answered that there was no memory or that the store
+//! failed.
 #![tactic(auto)]
 
 pub use failing::{has_failed, refusal_of};

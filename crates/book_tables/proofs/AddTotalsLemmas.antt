@@ -1,4 +1,5 @@
--- What the tables are after the totals of a sale were added one by one, and after the sale with them.
+-- What the tables are after the totals of a sale were added one by one, and after the sale with
+-- them.
 use Rattle.std.proofs.Common.{◌≡◌, ◌≤◌, ◌+◌, ℕ, List, [], ◌∷◌, ◌++◌, codes, length, map, unwrap_or, Some, sym, ap, subst, ◌∙◌}
 use Rattle.std.specs.List.{AllByRecursion}
 use Rattle.sqlite_rules.specs.Edit.{IsNoIndex}

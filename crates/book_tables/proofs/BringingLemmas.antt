@@ -1,4 +1,5 @@
--- The tables of an older format are brought up to the present one, step after step: the same office.
+-- The tables of an older format are brought up to the present one, step after step: the same
+-- office.
 use Rattle.std.proofs.Common.{◌≡◌, ◌≢◌, ◌≤◌, ◌↔◌, ◌∙◌, ℕ, Bool, false, List, [], ◌∷◌, codes, nat_le, refl, sym, subst, inl, inr, arith, IsPermutation, Result, Ok, Err, IfErr}
 use Rattle.std.specs.Prelude.{AllPairs, Contains}
 use Rattle.std.specs.List.{AllByRecursion}
@@ -42,7 +43,8 @@ bases_apart xs ys same apart =
     let decides = λ (a b : List ℕ × Base). tells_under b a in
     AllPairs-from_IsDistinct decides ys (IsDistinct-IsPermutation eq flips xs ys same (IsDistinct-from_AllPairs decides xs apart))
 
--- where its totals are made anew, its bases stand in another order, and there are no steps of later days
+-- where its totals are made anew, its bases stand in another order, and there are no steps of later
+-- days
 members_brought : (rows totals : Rows) (bases : List (List ℕ × Base)) (o : Office) → AreMembersOf rows o → rows.dated_steps ≡ [] → IsPermutation rows.bases bases → AreTotalsOf o.sales totals
     → AreMembersOf (record (with_totals_of totals rows) { bases = bases; dated_steps = [] }) o
 members_brought rows totals bases o are none same they = record {

@@ -1,4 +1,5 @@
--- What the rows of the tariffs, their steps and the meters are after a write. SQLite chooses the numbers of these rows.
+-- What the rows of the tariffs, their steps and the meters are after a write. SQLite chooses the
+-- numbers of these rows.
 use Rattle.std.proofs.Common.{◌≡◌, ◌≢◌, ℕ, pos, Bool, List, [], ◌∷◌, ◌++◌, length, map, filter, find, drop, ◌≤◌, codes, refl, sym, ap, ◌∙◌, subst}
 use Rattle.std.specs.Prelude.{AllPairs, bytes_eq}
 use Rattle.std.proofs.lemmas.List.{map-append}

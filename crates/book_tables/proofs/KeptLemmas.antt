@@ -1,4 +1,5 @@
--- Where the rows of one of the office's tables change, the others stay: what the database then holds.
+-- Where the rows of one of the office's tables change, the others stay: what the database then
+-- holds.
 use Rattle.std.proofs.Common.{◌≡◌, ◌≢◌, ℕ, zero, suc, List, [], ◌∷◌, drop, map, Some, inl, inr, refl, sym, ◌∙◌, ap, subst, arith}
 use Rattle.std.specs.Prelude.{◌==◌, ◌⊎◌, bytes_eq, codes, false, find, slice_get}
 use Rattle.std.specs.List.{AllByRecursion}

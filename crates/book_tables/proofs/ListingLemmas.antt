@@ -54,7 +54,8 @@ module _ {M : Type 0} (shown : M → Row) (keeps : M → Type 0) where
   values_are one (m ∷ ms) (x ∷ xs) kept all =
       ap₂ ◌∷◌ (one x m all.0.1 (All-head keeps m ms kept) all.0.0) (values_are one ms xs (All-tail keeps m ms kept) all.1)
 
--- the text, with these parameters, answers the records that are found in the office's rows, each once and in this order, and no others
+-- the text, with these parameters, answers the records that are found in the office's rows, each
+-- once and in this order, and no others
 pub record Lists {M : Type 0} (k : Kept) (sql : List ℕ) (params : Row) (shown : M → Row) (keeps : M → Type 0) (IsFound : Rows → List M → Type 0) : Type 0 where
   pub table : ℕ → Table
   pub query : ℕ → Query

@@ -1,4 +1,5 @@
--- The tables that an older format lacks are made, and `about` tells the present format: the same office.
+-- The tables that an older format lacks are made, and `about` tells the present format: the same
+-- office.
 use Rattle.std.proofs.Common.{◌≡◌, ◌≢◌, ◌≤◌, ◌<◌, ℕ, zero, suc, ◌+◌, ◌==◌, arith, Bool, true, false, not, cond, List, [], ◌∷◌, drop, filter, find, length, map, nat_le, Option, None, Some, refl, sym, ap, subst, ◌∙◌, inl, inr, IfErr, Result, Ok, Err}
 use Rattle.std.specs.Prelude.{codes, pos}
 use Rattle.std.specs.List.{AllByRecursion, position_from}

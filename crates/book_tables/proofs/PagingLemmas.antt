@@ -47,7 +47,8 @@ module _ {K : State → Type 0} {old new : State} where
   inside_stop {B = B} f (Err x) is this stops =
       record { same = λ _ _. tt; kept = λ clean known. inl (this.same clean known); faults = λ clean known. subst (B old new) (sym is) (stops clean known) }
 
-  -- one of which is known what something else implies, and which fails for a reason that implies another
+  -- one of which is known what something else implies, and which fails for a reason that implies
+  -- another
   inside_where : {T E : Type 0} {A B : State → State → E → Type 0} {L : State → Type 0} (r : Result T E) → (L old → K old) → ReadsInside K A old new r → (HasCleanDisk new → L old → IfErr r (B old new)) → ReadsInside L B old new r
   inside_where r implies this faults = record {
     same = λ clean known. this.same clean (implies known);

@@ -1,4 +1,5 @@
--- Rows that are those of a function, one for each key: what stands under a key, and what the rows are with a value under it.
+-- Rows that are those of a function, one for each key: what stands under a key, and what the rows
+-- are with a value under it.
 use Rattle.std.proofs.Common.{◌≡◌, ◌≢◌, ◌≤◌, ◌<ℤ◌, ◌⊎◌, ◌||◌, ◌↔◌, ℕ, ℤ, pos, Bool, true, false, cond, if◌then◌else◌, List, [], ◌∷◌, ◌++◌, length, map, filter, Option, Some, None, inl, inr, refl, sym, ap, subst, ◌∙◌, arith, Ordering, Less, Equal, Greater, int_cmp, true≢false}
 use Rattle.std.specs.Prelude.{AllPairs, Contains}
 use Rattle.std.specs.List.{list_any}

@@ -82,7 +82,8 @@ module _ {K V : Type 0} (stored : K × V → Row) (is_key : K → Bool) (key : K
         (rows_updated is_key key tells rows has are one.1 some (λ (v : V). to (Some v)))
 
   module _ (t : Table) (m : Merging) (params : Row) (old new : State) where
-    -- the rows of a table whose numbers are hidden are those with the value under its key, and this is the key's row
+    -- the rows of a table whose numbers are hidden are those with the value under its key, and this
+    -- is the key's row
     pub record HiddenAfter (row : Row) : Type 0 where
       pub rest : List (K × V)
       pub columns : map (drop 1) (new.now.trees t.tree) ≡ map stored rest

@@ -58,15 +58,18 @@ row_added (kinds.Tariff name steps) rows =
 row_added (kinds.Steps name day steps) rows =
     record rows { dated_steps = rows.dated_steps ++ dated_rows name day steps }
 row_added (kinds.Meter number m) rows =
-    record rows { meters = rows.meters ++ (number, m) ∷ []; bases = rows.bases ++ (number, m.base) ∷ [] }
+    record rows {
+      meters = rows.meters ++ (number, m) ∷ [];
+      bases = rows.bases ++ (number, m.base) ∷ [];
+    }
 
 -- the rows with several of them, one after another
 abbrev pub rows_added : List Row → Rows → Rows
 rows_added [] rows = rows
 rows_added (row ∷ new) rows = rows_added new (row_added row rows)
 
--- the rows after an edit: new ones stand at the end, and a meter or a shift that is changed stays in
--- its place. With a sale come its totals, which are no matter of this function.
+-- the rows after an edit: new ones stand at the end, and a meter or a shift that is changed stays
+-- in its place. With a sale come its totals, which are no matter of this function.
 abbrev pub edited : Edit → Rows → Rows
 edited (AddTariff name steps) rows = row_added (kinds.Tariff name steps) rows
 edited (AddSteps name day steps) rows = row_added (kinds.Steps name day steps) rows

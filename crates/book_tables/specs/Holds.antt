@@ -45,15 +45,16 @@ abbrev pub rows_in : Database → List ℕ → List Row
 rows_in db name = db.trees (tree_in db.schema name)
 
 -- The rows are these, or these after their hidden numbers. SQLite keeps rows in the order of their
--- numbers, but no clause of `sqlite` says that of a database that is found, so it is said here: then
--- a new row stands last.
+-- numbers, but no clause of `sqlite` says that of a database that is found, so it is said here:
+-- then a new row stands last.
 abbrev pub AreStoredRows : Bool → List Row → List Row → Type 0
 AreStoredRows true rows stored = rows ≡ stored
 AreStoredRows false rows stored = (map (drop 1) rows ≡ stored) × IsInOrder rows
 
 -- the table has what is stored of these rows, where `about` tells this format
 abbrev pub HoldsRows : Database → ℕ → Rows → Kept → Type 0
-HoldsRows db told rows k = AreStoredRows k.is_numbered (rows_in db k.table.name) (k.stored told rows)
+HoldsRows db told rows k =
+    AreStoredRows k.is_numbered (rows_in db k.table.name) (k.stored told rows)
 
 -- The database has the tables of a format, with exactly these rows in them, and `about` tells a
 -- format: this one, or an older one while the tables are brought up to this one.
@@ -72,8 +73,8 @@ HoldsMembersOf n db o = (rows : Rows) × HoldsOf n n db rows × AreMembersOf row
 abbrev pub HoldsMembers : Database → Office → Type 0
 HoldsMembers db o = HoldsMembersOf present_format db o
 
--- the database stands for the office: it holds its members in the tables of a format, and where that
--- has none the office is empty
+-- the database stands for the office: it holds its members in the tables of a format, and where
+-- that has none the office is empty
 pub record StandsFor (db : Database) (o : Office) : Type 0 where
   pub office : IsOffice o
   pub format : ℕ

@@ -1,5 +1,5 @@
--- What is seen of the rows of `sales` and of `meters`, whoever wrote them, before tables of an older
--- format are brought up.
+-- What is seen of the rows of `sales` and of `meters`, whoever wrote them, before tables of an
+-- older format are brought up.
 use Rattle.std.specs.Prelude.{◌≡◌, ◌≢◌, ◌≤◌, ◌+◌, ℕ, zero, suc, List, [], ◌∷◌, All, codes, drop, length, map, slice_get, take, Option, Some, Result, Err, IfOk, OnOk}
 use Rattle.std.specs.List.{AllByRecursion}
 use Rattle.sqlite.specs.Effect.{Database}
@@ -42,7 +42,8 @@ pub record AreMeters (rows : List Row) (meters : List (List ℕ × Meter)) : Typ
   pub shown : map meter_values rows ≡ map meter_columns meters
   pub values : All (λ m. IsMeterNo m.0 × AreMeterValues m.1) meters
 
--- where the rows of `sales` stand in the order of their numbers, as SQLite keeps them, they are sales
+-- where the rows of `sales` stand in the order of their numbers, as SQLite keeps them, they are
+-- sales
 abbrev pub ShowSales : List Row → Type 0
 ShowSales rows = IsInOrder rows → (sales : List Sale) × AreSales rows sales
 
@@ -61,8 +62,8 @@ ShowsRowsOf (suc n) db = ShowsRows db
 
 -- ---- one table
 
--- A look at a table leaves all as it was, and what it answers says this of the rows of the table. It
--- tells of a row of no office only where the rows are those of none.
+-- A look at a table leaves all as it was, and what it answers says this of the rows of the table.
+-- It tells of a row of no office only where the rows are those of none.
 pub record Looks {T : Type 0} (k : Kept) (Says : T → List Row → Type 0) (old new : State)
     (result : Result T TableError) : Type 0 where
   pub same : HasCleanDisk new → HasTable k old → OnOk result (IsUnchanged old new)
@@ -82,7 +83,8 @@ StartsFrom1 rows = IsInOrder rows → AreFrom1 rows
 
 -- so many of the rows, from the first one, are those of sales
 abbrev pub ShowFirst : ℕ → List Row → Type 0
-ShowFirst count rows = (count ≤ length rows) × ((sales : List Sale) × AreSales (take count rows) sales)
+ShowFirst count rows =
+    (count ≤ length rows) × ((sales : List Sale) × AreSales (take count rows) sales)
 
 -- the sales have the numbers after this one
 abbrev pub AreNext : ℕ → List Sale → Type 0

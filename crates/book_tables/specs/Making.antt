@@ -69,9 +69,9 @@ pub record TellsPresent (told : ℕ) (old new : State) : Type 0 where
   pub tells : rows_in old.now (codes "about") ≡ about_rows told → HasFormat new.now present_format
 
 -- The database has the present tables in place of those of a format, or of none, and holds the
--- office that it stood for: the empty one, where there was none. Whatever the other rows are, `about`
--- tells the present format in place of that of the tables. The rows of `sales` and of `meters` were
--- looked at, and are sales and meters.
+-- office that it stood for: the empty one, where there was none. Whatever the other rows are,
+-- `about` tells the present format in place of that of the tables. The rows of `sales` and of
+-- `meters` were looked at, and are sales and meters.
 pub record BringsOffice (from : ℕ) (old new : Database) : Type 0 where
   pub had : HasOfficeOf from old.schema
   pub has : HasOffice new.schema

@@ -31,8 +31,9 @@ use Rattle.book_tables.specs.declared.paging.MeterRow.{MeterRow}
 abbrev pub AreOfOffice : Rows → Type 0
 AreOfOffice rows = (o : Office) × IsOffice o × AreMembersOf rows o
 
--- why a read fails: a row is no office's only where the rows are not those of an office; and an open
--- connection fails else only for want of memory, by the disk, or at a limit on steps that was set
+-- why a read fails: a row is no office's only where the rows are not those of an office; and an
+-- open connection fails else only for want of memory, by the disk, or at a limit on steps that was
+-- set
 abbrev pub FailsToReadOf : (Database → Rows → Type 0) → State → State → TableError → Type 0
 FailsToReadOf Has old new (fails.Database e) =
     (IsTrue old.is_open → FailsPlainly old new e)
@@ -58,7 +59,8 @@ HasTableRows k s rows = IsTrue s.is_open → TableHolds k s.now rows
 abbrev pub SaysOfTable : {T : Type 0} → Kept → (Rows → T → Type 0) → State → State
     → Result T TableError → Type 0
 SaysOfTable k Says old new result =
-    HasCleanDisk new → (rows : Rows) → HasTableRows k old rows → AreOfOffice rows → IfOk result (Says rows)
+    HasCleanDisk new → (rows : Rows) → HasTableRows k old rows → AreOfOffice rows
+    → IfOk result (Says rows)
 
 -- the table is only read, wherever it stands, and whatever other tables there are
 abbrev pub ReadsTable : {T : Type 0} → Kept → State → State → Result T TableError → Type 0
@@ -117,7 +119,8 @@ FailsToMerge old new (fails.Database e) =
     (t : Table) × (m : Merging) × (params : Row) × (at : ℕ)
     × FailsToTouch t m params old new at (fault.Database e)
 FailsToMerge old new fails.RowOfNoOffice =
-    (t : Table) × (m : Merging) × (params : Row) × (at : ℕ) × FailsToTouch t m params old new at fault.Row
+    (t : Table) × (m : Merging) × (params : Row) × (at : ℕ)
+    × FailsToTouch t m params old new at fault.Row
 
 -- what is told of a reader's fault: rows that add up to too much are no office's either
 abbrev pub told : ReadFault → TableError

@@ -16,7 +16,8 @@ use Rattle.vend_core.specs.declared.office.sale.Sale.{Sale}
 -- the tariff of the row's name has its step, at its place
 abbrev pub HasStep : Office → StepRow → Type 0
 HasStep o r =
-    (steps : List Step) × (o.tariffs r.tariff ≡ Some steps) × (slice_get steps r.place ≡ Some r.step)
+    (steps : List Step) × (o.tariffs r.tariff ≡ Some steps)
+    × (slice_get steps r.place ≡ Some r.step)
 
 -- two rows of steps that are not at one place of one tariff
 abbrev pub AreApart : StepRow → StepRow → Type 0
@@ -37,7 +38,8 @@ pub record AreRowsOf {K V : Type 0} (rows : List (K × V)) (has : K → Option V
   pub members : (key : K) (value : V) → (has key ≡ Some value) ↔ Contains rows (key, value)
   pub once : AllPairs (λ a b. a.0 ≢ b.0) rows
 
--- the sales to a meter under a base, those to a meter in a month under any base, and those of a shift
+-- the sales to a meter under a base, those to a meter in a month under any base, and those of a
+-- shift
 abbrev pub sales_under : List Sale → (List ℕ × Base) → List Sale
 sales_under sales key = filter (λ s. bytes_eq s.meter key.0 && base_eq s.base key.1) sales
 

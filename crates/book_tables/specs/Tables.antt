@@ -121,7 +121,8 @@ last_ids_table tree =
 abbrev pub month_tenths_table : ℕ → Table
 month_tenths_table tree =
     strict_table (codes "month_tenths") tree
-    (text_column (codes "meter") ∷ number_column (codes "month") ∷ number_column (codes "tenths") ∷ [])
+    (text_column (codes "meter") ∷ number_column (codes "month") ∷ number_column (codes "tenths")
+    ∷ [])
     None [] ((1 ∷ 2 ∷ []) ∷ []) []
 
 abbrev pub shift_totals_table : ℕ → Table

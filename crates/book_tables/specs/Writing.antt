@@ -258,7 +258,8 @@ pub record AddsTotals (s : Sale) (last : ℕ) (old new : State) : Type 0 where
 
 -- the last identifier is one of 24 bits
 abbrev pub MaySetLastId : ℕ → ℕ → Rows → Type 0
-MaySetLastId tid format rows = IsTid tid × ((has : (List ℕ × Base) → Option ℕ) × AreRowsOf rows.last_ids has)
+MaySetLastId tid format rows =
+    IsTid tid × ((has : (List ℕ × Base) → Option ℕ) × AreRowsOf rows.last_ids has)
 
 -- the sum is not too great for an office
 abbrev pub MayAddTenths : (List ℕ × ℕ) → ℕ → ℕ → Rows → Type 0

@@ -114,7 +114,8 @@ pub fn add_step<S: Alter>(
     step: Step,
 ) -> Result<(), TableError>
     ensures same_reference { tx.new.conn.ghost_name ≡ tx.old.conn.ghost_name }
-    ensures writes { WritesTables (AddsStep (record { tariff = name.now; place = place; step = step }))
+    ensures writes { WritesTables
+        (AddsStep (record { tariff = name.now; place = place; step = step }))
         (state S.Store tx.old.conn.now) (state S.Store tx.new.conn.now) result }
 {
     put(tx, NEW_STEP, &step_values(name, place, step))

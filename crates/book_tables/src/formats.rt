@@ -19,8 +19,10 @@ pub(crate) struct Parts {
 // How many of the tables, in their order, a format has.
 fn count_of(format: u32) -> usize
     ensures within { result ≤ 11 }
-    ensures names { format ≤ present_format → take result (kept_names kept) ≡ kept_names (upto format) }
-    ensures texts { format ≤ present_format → take result (kept_texts kept) ≡ kept_texts (upto format) }
+    ensures names { format ≤ present_format → take result (kept_names kept)
+        ≡ kept_names (upto format) }
+    ensures texts { format ≤ present_format → take result (kept_texts kept)
+        ≡ kept_texts (upto format) }
     ensures later_names { format ≤ present_format
         → drop result (kept_names kept) ≡ kept_names (later format) }
     ensures later_texts { format ≤ present_format

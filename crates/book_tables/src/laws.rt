@@ -33,8 +33,8 @@ pub fn stands_law()
     ensures untaken { (db : Database) → IsUntaken db.schema → StandsFor db empty_office }
     ensures members { (db : Database) (o : Office)
         → IsOffice o → HoldsMembers db o → StandsFor db o }
-    // By the format of its tables, of which there is one: it holds the office's members in them, and
-    // where there are none the office is empty.
+    // By the format of its tables, of which there is one: it holds the office's members in them,
+    // and where there are none the office is empty.
     ensures held { (db : Database) (o : Office) (n : ℕ)
         → StandsFor db o → n ≤ present_format → HasOfficeOf n db.schema
         → HoldsMembersOf n db o × (n ≡ 0 → o ≡ empty_office) }

@@ -48,7 +48,8 @@ fn tell_first<S: Alter>(tx: &mut Transaction<'_, S>) -> Result<(), TableError>
     put(tx, NEW_FORMAT, &[])
 }
 
-// The tables of an office, with nothing in them but the number of their format, where there are none.
+// The tables of an office, with nothing in them but the number of their format, where there are
+// none.
 fn begin<S: Alter>(tx: &mut Transaction<'_, S>) -> Result<(), TableError>
     ensures same_reference { tx.new.conn.ghost_name ≡ tx.old.conn.ghost_name }
     ensures brings { HasCleanDisk (state S.Store tx.new.conn.now)
@@ -128,11 +129,12 @@ fn bring_third<S: Alter>(alloc: Global, tx: &mut Transaction<'_, S>) -> Result<(
     tell_present(tx)
 }
 
-/// Brings the tables of a format to the present one, with the same office; format 0 is that there are
-/// none, and the office is the empty one.
+/// Brings the tables of a format to the present one, with the same office; format 0 is that there
+/// are none, and the office is the empty one.
 ///
-/// Each table that is there keeps its rows, whatever they are, but for `about`: it tells the present
-/// format then. What was made before an error goes with the transaction, which the caller drops.
+/// Each table that is there keeps its rows, whatever they are, but for `about`: it tells the
+/// present format then. What was made before an error goes with the transaction, which the caller
+/// drops.
 ///
 /// # Errors
 /// What the database refuses, want of memory, and a row that is no office's.

@@ -90,7 +90,8 @@ fn sales_of(alloc: Global, booked: Vec<Booked>) -> Result<Vec<Sale>, AllocError>
     booked.into_iter().map(|booked| booked.sale).collect(alloc)
 }
 
-/// A page: the first sales after a number, at most so many. The month of each is that of its moment.
+/// A page: the first sales after a number, at most so many. The month of each is that of its
+/// moment.
 ///
 /// # Errors
 /// What the database refuses, and a row that is no office's.
@@ -153,7 +154,8 @@ pub fn meters_inside<S: Alter>(
     tx: &mut Transaction<'_, S>,
 ) -> Result<Vec<MeterRow>, TableError>
     ensures same_reference { tx.new.conn.ghost_name ≡ tx.old.conn.ghost_name }
-    ensures given { SaysOfTable meters_kept (λ rows found. IsPermutation (map meter_row rows.meters) found.items)
+    ensures given { SaysOfTable meters_kept
+        (λ rows found. IsPermutation (map meter_row rows.meters) found.items)
         (state S.Store tx.old.conn.now) (state S.Store tx.new.conn.now) result }
     ensures shows { HasCleanDisk (state S.Store tx.new.conn.now)
         → HasTable meters_kept (state S.Store tx.old.conn.now)
@@ -178,7 +180,8 @@ pub fn greatest_inside<S: Alter>(
     base: Base,
 ) -> Result<Option<u32>, TableError>
     ensures same_reference { tx.new.conn.ghost_name ≡ tx.old.conn.ghost_name }
-    ensures given { SaysOfTable last_ids_kept (λ rows greatest. greatest ≡ greatest_of (map (λ s. s.tid)
+    ensures given { SaysOfTable last_ids_kept
+        (λ rows greatest. greatest ≡ greatest_of (map (λ s. s.tid)
         (sales_under rows.sales (meter.now, base))))
         (state S.Store tx.old.conn.now) (state S.Store tx.new.conn.now) result }
     ensures reads { ReadsTableInside last_ids_kept

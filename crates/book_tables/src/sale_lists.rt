@@ -41,7 +41,8 @@ pub fn sales_of_shift<S: Alter>(
     conn: &mut Connection<S>,
     shift: u32,
 ) -> Result<Vec<Sale>, TableError>
-    ensures given { SaysOfTable sales_kept (λ rows found. found.items ≡ filter (λ s. s.shift == shift) rows.sales)
+    ensures given { SaysOfTable sales_kept
+        (λ rows found. found.items ≡ filter (λ s. s.shift == shift) rows.sales)
         (state S.Store conn.old) (state S.Store conn.new) result }
     ensures reads { ReadsTable sales_kept
         (state S.Store conn.old) (state S.Store conn.new) result }

@@ -21,7 +21,8 @@ pub fn sale_numbered<S: Alter>(
     conn: &mut Connection<S>,
     number: u32,
 ) -> Result<Option<Sale>, TableError>
-    ensures given { SaysOfTable sales_kept (λ rows found. found ≡ find (λ s. s.number == number) rows.sales)
+    ensures given { SaysOfTable sales_kept
+        (λ rows found. found ≡ find (λ s. s.number == number) rows.sales)
         (state S.Store conn.old) (state S.Store conn.new) result }
     ensures reads { ReadsTable sales_kept
         (state S.Store conn.old) (state S.Store conn.new) result }
@@ -38,7 +39,8 @@ pub fn sale_of_ref<S: Alter>(
     operator: &Operator,
     order_ref: &Ref,
 ) -> Result<Option<Sale>, TableError>
-    ensures given { SaysOfTable sales_kept (λ rows found. found ≡ find (λ s. bytes_eq s.operator operator.now
+    ensures given { SaysOfTable sales_kept
+        (λ rows found. found ≡ find (λ s. bytes_eq s.operator operator.now
         && bytes_eq s.order_ref order_ref.now) rows.sales)
         (state S.Store conn.old) (state S.Store conn.new) result }
     ensures reads { ReadsTable sales_kept
@@ -53,7 +55,8 @@ pub fn sale_of_ref<S: Alter>(
 /// # Errors
 /// What the database refuses, and a row that is no office's.
 pub fn last_sale_number<S: Alter>(conn: &mut Connection<S>) -> Result<Option<u32>, TableError>
-    ensures given { SaysOfTable sales_kept (λ rows found. found ≡ option_map (λ s. s.number) (last_or None rows.sales))
+    ensures given { SaysOfTable sales_kept
+        (λ rows found. found ≡ option_map (λ s. s.number) (last_or None rows.sales))
         (state S.Store conn.old) (state S.Store conn.new) result }
     ensures counted { SaysOfTable sales_kept (λ rows found. unwrap_or found 0 ≡ length rows.sales)
         (state S.Store conn.old) (state S.Store conn.new) result }

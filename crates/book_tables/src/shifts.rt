@@ -21,7 +21,8 @@ pub fn shift_numbered<S: Alter>(
     conn: &mut Connection<S>,
     number: u32,
 ) -> Result<Option<Shift>, TableError>
-    ensures given { SaysOfTable shifts_kept (λ rows found. found ≡ find (λ s. s.number == number) rows.shifts)
+    ensures given { SaysOfTable shifts_kept
+        (λ rows found. found ≡ find (λ s. s.number == number) rows.shifts)
         (state S.Store conn.old) (state S.Store conn.new) result }
     ensures reads { ReadsTable shifts_kept
         (state S.Store conn.old) (state S.Store conn.new) result }
@@ -37,7 +38,8 @@ pub fn open_shift<S: Alter>(
     conn: &mut Connection<S>,
     operator: &Operator,
 ) -> Result<Option<Shift>, TableError>
-    ensures given { SaysOfTable shifts_kept (λ rows found. found ≡ find (λ s. bytes_eq s.operator operator.now
+    ensures given { SaysOfTable shifts_kept
+        (λ rows found. found ≡ find (λ s. bytes_eq s.operator operator.now
         && is_none s.closed) rows.shifts)
         (state S.Store conn.old) (state S.Store conn.new) result }
     ensures reads { ReadsTable shifts_kept
@@ -52,7 +54,8 @@ pub fn open_shift<S: Alter>(
 /// # Errors
 /// What the database refuses, and a row that is no office's.
 pub fn last_shift_number<S: Alter>(conn: &mut Connection<S>) -> Result<Option<u32>, TableError>
-    ensures given { SaysOfTable shifts_kept (λ rows found. found ≡ option_map (λ s. s.number) (last_or None rows.shifts))
+    ensures given { SaysOfTable shifts_kept
+        (λ rows found. found ≡ option_map (λ s. s.number) (last_or None rows.shifts))
         (state S.Store conn.old) (state S.Store conn.new) result }
     ensures counted { SaysOfTable shifts_kept (λ rows found. unwrap_or found 0 ≡ length rows.shifts)
         (state S.Store conn.old) (state S.Store conn.new) result }

@@ -29,7 +29,8 @@ pub fn greatest_tid<S: Alter>(
     meter: &MeterNo,
     base: Base,
 ) -> Result<Option<u32>, TableError>
-    ensures given { SaysOfTable last_ids_kept (λ rows greatest. greatest ≡ greatest_of (map (λ s. s.tid)
+    ensures given { SaysOfTable last_ids_kept
+        (λ rows greatest. greatest ≡ greatest_of (map (λ s. s.tid)
         (sales_under rows.sales (meter.now, base))))
         (state S.Store conn.old) (state S.Store conn.new) result }
     ensures reads { ReadsTable last_ids_kept

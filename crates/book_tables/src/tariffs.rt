@@ -25,7 +25,8 @@ use vend_core::TariffName;
 /// # Errors
 /// What the database refuses, and a row that is no office's.
 pub fn has_tariff<S: Alter>(conn: &mut Connection<S>, name: &TariffName) -> Result<bool, TableError>
-    ensures given { SaysOfTable tariffs_kept (λ rows there. IsTrue there ↔ Contains rows.tariffs name.now)
+    ensures given { SaysOfTable tariffs_kept
+        (λ rows there. IsTrue there ↔ Contains rows.tariffs name.now)
         (state S.Store conn.old) (state S.Store conn.new) result }
     ensures reads { ReadsTable tariffs_kept
         (state S.Store conn.old) (state S.Store conn.new) result }

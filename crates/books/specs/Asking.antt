@@ -39,7 +39,8 @@ ReplyAt moment request reply old new =
     (at : Stamped) × IsAsked moment request old at × Replies at reply old new
 
 -- They replied so to these requests, one after another.
-abbrev pub AreServedInTurn : {B : Type 0} → (B → Seen) → B → List Stamped → List (Result Answer Refusal)
+abbrev pub AreServedInTurn : {B : Type 0} → (B → Seen) → B → List Stamped
+    → List (Result Answer Refusal)
     → B → Type 0
 AreServedInTurn see old [] [] new = new ≡ old
 AreServedInTurn {B} see old (at ∷ ats) (reply ∷ replies) new =

@@ -19,7 +19,8 @@ pub record Seen : Type 1 where
   pub stopped : Bool
   pub next_number : ℕ
 
-abbrev pub seen : {S : Type 0} → {T : Type 0} → (g : Ghosts S) → (T → BlockFunction) → Books S T g → Seen
+abbrev pub seen : {S : Type 0} → {T : Type 0} → (g : Ghosts S) → (T → BlockFunction) → Books S T g
+    → Seen
 seen g forwards books = record {
   state = state g books.conn;
   forward = forwards books.transform;
@@ -27,8 +28,8 @@ seen g forwards books = record {
   next_number = books.next_number;
 }
 
--- Books that are not stopped have the office's tables, as long as the disk returns what was written.
--- Nothing is said of the rows: they may be those of no office.
+-- Books that are not stopped have the office's tables, as long as the disk returns what was
+-- written. Nothing is said of the rows: they may be those of no office.
 abbrev pub HaveTables : Seen → Type 0
 HaveTables books = HasCleanDisk books.state → books.stopped ≡ false → HasTables books.state
 

@@ -86,8 +86,8 @@ module _ {D : Type 0} {g : Ghosts D} where
       (store : FileStore D g) × (store_files store ≡ (files.log, files.db)) × IsClosed last store
   AreTakenFrom (Unconnected left) files = files_left left ≡ (files.log, files.db)
 
-  -- The same at a path. Of one that is not opened the database tells nothing but its error, so where
-  -- no connection could be made, the fault names no file.
+  -- The same at a path. Of one that is not opened the database tells nothing but its error, so
+  -- where no connection could be made, the fault names no file.
   abbrev pub RefusesPath : Image → OpenFault → Option (Held (FileStore D g)) → Type 0
   RefusesPath image fault (Some last) = RefusesConnection image fault last
   RefusesPath image fault None = (fault ≡ Store) ⊎ (fault ≡ Memory)

@@ -32,8 +32,8 @@ abbrev pub IsDecidedFor : Stamped → Seen → Edit → Type 0
 IsDecidedFor at books edit = IsGrantedWith at books (Some edit)
 
 -- What a granted request left: where it changes nothing, nothing was written and a crash leaves
--- nothing new; else its edit was committed, and the tenths that are told of a sale's month are those
--- that were read for it and its own.
+-- nothing new; else its edit was committed, and the tenths that are told of a sale's month are
+-- those that were read for it and its own.
 abbrev pub ServesGranted : Stamped → Seen → Seen → Type 0
 ServesGranted at old new =
     (IsGrantedWith at old None × ChangesNothing old.state new.state)
@@ -41,11 +41,12 @@ ServesGranted at old new =
     × ((prior : ℕ) × IsPriorRead at old.next_number old.state prior
     × IsCounted edit prior old.state.now))
 
--- Why a request is refused by books that are not stopped. It was refused before anything changed, or
--- its edit is not known to be committed.
+-- Why a request is refused by books that are not stopped. It was refused before anything changed,
+-- or its edit is not known to be committed.
 abbrev pub FailsToServe : Stamped → Seen → Seen → Refusal → Type 0
 FailsToServe at old new refusal =
-    (ChangesNothing old.state new.state × RefusesUnchanged at old.next_number old.state new.state refusal)
+    (ChangesNothing old.state new.state
+    × RefusesUnchanged at old.next_number old.state new.state refusal)
     ⊎ ((edit : Edit) × IsDecidedFor at old edit
     × ((prior : ℕ) × IsPriorRead at old.next_number old.state prior
     × FailsToEdit edit prior old.state new.state refusal))

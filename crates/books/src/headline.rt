@@ -35,12 +35,14 @@ use vend_core::{history_law, life_law};
 pub fn headline_law<S: Alter, T: BlockTransform>()
     // The lives of which books keep the last one are lives of one office.
     ensures lives { (lives : List Life) (life : Life) (books : Books S T S.Store)
-        → RepresentTheLast lives life (seen S.Store T.forwards books) → AreLives (with_last lives life) (present life) }
+        → RepresentTheLast lives life (seen S.Store T.forwards books)
+        → AreLives (with_last lives life) (present life) }
 
     // All that a stop may leave stands for an office that these lives may leave: it is that of the
     // acknowledged requests, or of these and the one in doubt.
     ensures left { (lives : List Life) (life : Life) (books : Books S T S.Store) (trees : Trees)
-        → RepresentTheLast lives life (seen S.Store T.forwards books) → (state S.Store books.conn).may_leave trees
+        → RepresentTheLast lives life (seen S.Store T.forwards books)
+        → (state S.Store books.conn).may_leave trees
         → (o : Office) × RecoversTo trees o × AreLives (with_last lives life) o }
 
     // A connection that is opened on it stands for that office, which is the one that the next life
@@ -50,18 +52,22 @@ pub fn headline_law<S: Alter, T: BlockTransform>()
         → RepresentTheLast lives life (seen S.Store T.forwards books)
         → (state S.Store books.conn).may_leave (state S.Store again).committed.trees
         → Opens (state S.Store again) → IsLive (state S.Store again)
-        → (o : Office) × StoreStandsFor (state S.Store again) o × AreLives (with_last lives life) o }
+        → (o : Office) × StoreStandsFor (state S.Store again) o
+        × AreLives (with_last lives life) o }
     ensures one_office { (trees : Trees) (o p : Office)
         → RecoversTo trees o → RecoversTo trees p → o ≡ p }
 
     // Each sale that was handed out in any of the lives stands there, unchanged.
-    ensures stands { (lives : List Life) (life : Life) (books : Books S T S.Store) (trees : Trees) (s : Sale)
-        → RepresentTheLast lives life (seen S.Store T.forwards books) → (state S.Store books.conn).may_leave trees
+    ensures stands { (lives : List Life) (life : Life) (books : Books S T S.Store) (trees : Trees)
+        (s : Sale)
+        → RepresentTheLast lives life (seen S.Store T.forwards books)
+        → (state S.Store books.conn).may_leave trees
         → IsHanded (with_last lives life) s
         → (o : Office) × RecoversTo trees o × Contains o.sales s }
 
     // No two of them share an identifier of a meter under a base, a number, or an operator's ref.
-    ensures one_identifier { (lives : List Life) (life : Life) (books : Books S T S.Store) (a b : Sale)
+    ensures one_identifier { (lives : List Life) (life : Life) (books : Books S T S.Store)
+        (a b : Sale)
         → RepresentTheLast lives life (seen S.Store T.forwards books)
         → IsHanded (with_last lives life) a → IsHanded (with_last lives life) b
         → a.meter ≡ b.meter → a.base ≡ b.base → a.tid ≡ b.tid → a ≡ b }
@@ -75,7 +81,8 @@ pub fn headline_law<S: Alter, T: BlockTransform>()
         → a.operator ≡ b.operator → a.order_ref ≡ b.order_ref → a ≡ b }
 
     // A reprint is the first token, whatever transforms the lives have.
-    ensures reprint { (lives : List Life) (life : Life) (books : Books S T S.Store) (first again : Sale)
+    ensures reprint { (lives : List Life) (life : Life) (books : Books S T S.Store)
+        (first again : Sale)
         → RepresentTheLast lives life (seen S.Store T.forwards books)
         → Answered (with_last lives life) (Answer.Sold first)
         → Answered (with_last lives life) (Answer.Reprinted again)
@@ -84,21 +91,26 @@ pub fn headline_law<S: Alter, T: BlockTransform>()
     // The tokens of one meter's sales under one base, entered into a new meter in any order and
     // with repeats: each is accepted at its first entry exactly if those of fewer than fifty later
     // sales came before it, and the credit is the sum of the distinct ones accepted.
-    ensures first_entry { (lives : List Life) (life : Life) (books : Books S T S.Store) (m : SimMeter)
+    ensures first_entry { (lives : List Life) (life : Life) (books : Books S T S.Store)
+        (m : SimMeter)
         (sales came : List Sale) (s : Sale)
-        → RepresentTheLast lives life (seen S.Store T.forwards books) → AreSalesTo (with_last lives life) m sales
+        → RepresentTheLast lives life (seen S.Store T.forwards books)
+        → AreSalesTo (with_last lives life) m sales
         → All (Contains sales) came → Contains sales s → ¬ Contains came s
         → (Accepts (reads_by m) (tokens_of came) s.digits (fields_of s)
         ↔ (later_sales_come sales came s < 50)) }
     ensures credit { (lives : List Life) (life : Life) (books : Books S T S.Store) (m : SimMeter)
         (sales came : List Sale)
-        → RepresentTheLast lives life (seen S.Store T.forwards books) → AreSalesTo (with_last lives life) m sales
+        → RepresentTheLast lives life (seen S.Store T.forwards books)
+        → AreSalesTo (with_last lives life) m sales
         → All (Contains sales) came
         → credit_of (reads_by m) (tokens_of came)
         ≡ sum_by (λ s. s.tenths) (accepted_of (reads_by m) (tokens_of came) sales) }
-    ensures at_most_sold { (lives : List Life) (life : Life) (books : Books S T S.Store) (m : SimMeter)
+    ensures at_most_sold { (lives : List Life) (life : Life) (books : Books S T S.Store)
+        (m : SimMeter)
         (sales came : List Sale)
-        → RepresentTheLast lives life (seen S.Store T.forwards books) → AreSalesTo (with_last lives life) m sales
+        → RepresentTheLast lives life (seen S.Store T.forwards books)
+        → AreSalesTo (with_last lives life) m sales
         → All (Contains sales) came
         → credit_of (reads_by m) (tokens_of came) ≤ sum_by (λ s. s.tenths) sales }
 

@@ -1,5 +1,5 @@
-//! Tests of the office in its file, which have no code of their own, also on disks that stop at each
-//! of their calls.
+//! Tests of the office in its file, which have no code of their own, also on disks that stop at
+//! each of their calls.
 //!
 //! Each reply of the books is compared with the one that the office over plain lists gives to the
 //! same request. What is expected was worked out by hand, from `docs/OFFICE.md`, `docs/PROFILE.md`

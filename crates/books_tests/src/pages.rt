@@ -146,7 +146,8 @@ fn taken_back(rt: &(impl Abort + AllocGlobal), both: Office, sql: &str) -> Resul
 }
 
 // The third page is empty at first, and then has one sale. It is the same office when it is opened
-// again, whatever format its tables were taken back to: an opening fills the totals in three pages too.
+// again, whatever format its tables were taken back to: an opening fills the totals in three pages
+// too.
 #[test]
 fn an_export_in_three_pages(rt: HostRuntime) -> Result<(), Fail> {
     let alloc = rt.alloc();
@@ -214,8 +215,8 @@ fn is_stopped_answer<T>(answer: &Result<T, Refusal>) -> bool {
     matches!(answer, Err(Refusal::Stopped))
 }
 
-// A sale that meets such a row is answered Store, and leaves nothing. The books stop, until they are
-// opened again.
+// A sale that meets such a row is answered Store, and leaves nothing. The books stop, until they
+// are opened again.
 fn stops_at(rt: &(impl Abort + AllocGlobal), sql: &str) -> Result<(), Fail> {
     let alloc = rt.alloc();
     let mut both = office(alloc, Base::Y2014, flat(alloc, 100)?)?;

@@ -42,8 +42,8 @@ table tariff_steps
 table tariffs
 ";
 
-/// The names of all tables, and the rows of those that an office may have. A table that is not there,
-/// or that has other columns, shows nothing but its name.
+/// The names of all tables, and the rows of those that an office may have. A table that is not
+/// there, or that has other columns, shows nothing but its name.
 pub(crate) fn all_shown<S: Alter>(alloc: Global, conn: &mut Connection<S>) -> Result<String, Fail> {
     let mut text = String::new(alloc);
     for sql in TABLES {

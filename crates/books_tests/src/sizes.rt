@@ -34,8 +34,8 @@ fn from_tomorrow(alloc: Global, text: &[u8]) -> Result<Request, Fail> {
     Ok(Request::AddSteps(tariff_name(b"block")?, day, steps))
 }
 
-// Eight steps are stored, and are there when they come again; others are refused. A sale of tomorrow
-// goes by them.
+// Eight steps are stored, and are there when they come again; others are refused. A sale of
+// tomorrow goes by them.
 #[test]
 fn eight_dated_steps(rt: HostRuntime) -> Result<(), Fail> {
     let alloc = rt.alloc();

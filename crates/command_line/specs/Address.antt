@@ -16,12 +16,14 @@ pub record IsCutAt (byte : ℕ) (text before behind : Text) : Type 0 where
 
 -- a number below 256 stands before the first point, and this behind it
 abbrev pub BeginsWithOctet : Text → ℕ → Text → Type 0
-BeginsWithOctet text octet rest = (number : Text) × IsCutAt 46 text number rest × SaysOctet number octet
+BeginsWithOctet text octet rest =
+    (number : Text) × IsCutAt 46 text number rest × SaysOctet number octet
 
 -- a number below 256 stands before the first colon, and a port behind it
 abbrev pub EndsWithPort : Text → (octet port : ℕ) → Type 0
 EndsWithPort text octet port =
-    (number digits : Text) × IsCutAt 58 text number digits × SaysOctet number octet × SaysPort digits port
+    (number digits : Text) × IsCutAt 58 text number digits × SaysOctet number octet
+    × SaysPort digits port
 
 -- four numbers with points between them, a colon and a port
 pub record SaysAddress (text : Text) (address : Address) : Type 0 where

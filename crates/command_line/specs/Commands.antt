@@ -22,26 +22,32 @@ use Rattle.vend_core.specs.declared.decision.request.Request.{Request}
 use Rattle.vend_core.specs.declared.decision.request.Request.TheVariants.{MoveBase, OpenShift, CloseShift, Sell}
 
 pub record SaysTrial (rows : List Row) (words : TrialWords) : Type 0 where
-  pub transform : IsArgument SaysTransform (parsed_argument (codes "transform") rows) words.transform
+  pub transform : IsArgument SaysTransform
+      (parsed_argument (codes "transform") rows) words.transform
   pub base : IsArgument SaysBase (parsed_argument (codes "base") rows) words.base
   pub key : IsArgument SaysKey (parsed_argument (codes "key") rows) words.key
   pub at : IsOptionalArgument SaysMoment (parsed_argument (codes "at") rows) words.at
-  pub amounts : IsArgument (SayEach SaysAmount) (parsed_arguments (codes "amounts") rows) words.amounts.items
+  pub amounts : IsArgument (SayEach SaysAmount)
+      (parsed_arguments (codes "amounts") rows) words.amounts.items
 
 -- tokens are any texts
 pub record SaysMeterCommand (rows : List Row) (words : MeterWords) : Type 0 where
-  pub transform : IsArgument SaysTransform (parsed_argument (codes "transform") rows) words.transform
+  pub transform : IsArgument SaysTransform
+      (parsed_argument (codes "transform") rows) words.transform
   pub key : IsArgument SaysKey (parsed_argument (codes "key") rows) words.key
-  pub tokens : IsArgument (SayEach SaysText) (parsed_arguments (codes "tokens") rows) words.tokens.now
+  pub tokens : IsArgument (SayEach SaysText)
+      (parsed_arguments (codes "tokens") rows) words.tokens.now
 
 pub record SaysQuote (rows : List Row) (words : QuoteWords) : Type 0 where
-  pub transform : IsArgument SaysTransform (parsed_argument (codes "transform") rows) words.transform
+  pub transform : IsArgument SaysTransform
+      (parsed_argument (codes "transform") rows) words.transform
   pub steps : IsArgument SaysSteps (parsed_argument (codes "steps") rows) words.steps
   pub prior : IsArgument SaysPrior (parsed_argument (codes "prior") rows) words.prior
   pub tender : IsArgument SaysTender (parsed_argument (codes "tender") rows) words.tender
 
 pub record SaysSelfcheck (rows : List Row) (words : SelfcheckWords) : Type 0 where
-  pub transform : IsArgument SaysTransform (parsed_argument (codes "transform") rows) words.transform
+  pub transform : IsArgument SaysTransform
+      (parsed_argument (codes "transform") rows) words.transform
 
 -- the files of an import, by their kind
 abbrev pub kind_name : FileKind → Text
@@ -52,7 +58,8 @@ abbrev pub SaysKind : Text → FileKind → Type 0
 SaysKind text kind = text ≡ kind_name kind
 
 pub record SaysImport (rows : List Row) (words : ImportWords) : Type 0 where
-  pub transform : IsArgument SaysTransform (parsed_argument (codes "transform") rows) words.transform
+  pub transform : IsArgument SaysTransform
+      (parsed_argument (codes "transform") rows) words.transform
   pub file : IsArgument SaysText (parsed_argument (codes "file") rows) words.file
   pub at : IsOptionalArgument SaysMoment (parsed_argument (codes "at") rows) words.at
   pub kind : IsArgument SaysKind (parsed_argument (codes "kind") rows) words.kind
@@ -80,7 +87,8 @@ SaysRequest name rows request = ⊥
 
 -- a request, made to the office in a file
 pub record SaysRequestWords (name : Text) (rows : List Row) (words : RequestWords) : Type 0 where
-  pub transform : IsArgument SaysTransform (parsed_argument (codes "transform") rows) words.transform
+  pub transform : IsArgument SaysTransform
+      (parsed_argument (codes "transform") rows) words.transform
   pub file : IsArgument SaysText (parsed_argument (codes "file") rows) words.file
   pub at : IsOptionalArgument SaysMoment (parsed_argument (codes "at") rows) words.at
   pub request : SaysRequest name rows words.request
@@ -94,10 +102,13 @@ SaysPaper kind number Sales = kind ≡ Some (codes "sales")
 
 pub record SaysReport (rows : List Row) (words : ReportWords) : Type 0 where
   pub file : IsArgument SaysText (parsed_argument (codes "file") rows) words.file
-  pub paper : SaysPaper (parsed_argument (codes "kind") rows) (parsed_argument (codes "number") rows) words.paper
+  pub paper : SaysPaper (parsed_argument (codes "kind") rows)
+      (parsed_argument (codes "number") rows) words.paper
 
 pub record SaysServe (rows : List Row) (words : ServeWords) : Type 0 where
-  pub transform : IsArgument SaysTransform (parsed_argument (codes "transform") rows) words.transform
+  pub transform : IsArgument SaysTransform
+      (parsed_argument (codes "transform") rows) words.transform
   pub file : IsArgument SaysText (parsed_argument (codes "file") rows) words.file
   pub listen : IsArgument SaysAddress (parsed_argument (codes "listen") rows) words.listen
-  pub connections : IsArgument SaysConnections (parsed_argument (codes "connections") rows) words.connections
+  pub connections : IsArgument SaysConnections
+      (parsed_argument (codes "connections") rows) words.connections

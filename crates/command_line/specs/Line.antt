@@ -126,7 +126,8 @@ sells_by_base words = false
 
 -- the words as they are meant: `sell` is `trial` where `--base` comes next
 abbrev pub meant_by : List Text → List Text
-meant_by (command ∷ rest) = (if sells_by_base (command ∷ rest) then codes "trial" else command) ∷ rest
+meant_by (command ∷ rest) =
+    (if sells_by_base (command ∷ rest) then codes "trial" else command) ∷ rest
 meant_by [] = []
 
 -- the faults that `clap` finds in the words; none where they are those of a command

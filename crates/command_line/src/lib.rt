@@ -1,7 +1,7 @@
 //! The command line of the program: which words are commands, and what they ask for.
 //!
-//! `clap` parses the words, and each value is read by the product's own reader. `specs/Line.antt` has
-//! the line, `specs/Commands.antt` what the words of each command say.
+//! `clap` parses the words, and each value is read by the product's own reader. `specs/Line.antt`
+//! has the line, `specs/Commands.antt` what the words of each command say.
 #![tactic(auto)]
 
 pub use address::Address;

@@ -7,7 +7,8 @@ use clap::ArgMatches;
 
 /// The first text that stands for an argument.
 pub(crate) fn text<'a>(matches: &ArgMatches<'a>, id: &str) -> Option<&'a str>
-    ensures { option_map (λ text. text.now) result ≡ parsed_argument id.now (argument_rows matches.now) }
+    ensures { option_map (λ text. text.now) result
+        ≡ parsed_argument id.now (argument_rows matches.now) }
 {
     matches.get_str(id)
 }

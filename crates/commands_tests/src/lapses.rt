@@ -1,5 +1,5 @@
-//! A store that fails within `serve`: the next connection is served, and a repeated ref is one sale.
-//! Or it fails for good: then nobody is served after it.
+//! A store that fails within `serve`: the next connection is served, and a repeated ref is one
+//! sale. Or it fails for good: then nobody is served after it.
 mod lapse;
 mod lost;
 mod ports;

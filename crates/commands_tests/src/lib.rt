@@ -1,5 +1,5 @@
-//! The desk of the program on a machine in memory, whose files, connections or outputs fail. There is
-//! no code here. What words print, and what an output that is cut leaves, is in `tools/rows` and
+//! The desk of the program on a machine in memory, whose files, connections or outputs fail. There
+//! is no code here. What words print, and what an output that is cut leaves, is in `tools/rows` and
 //! `tools/check_program`.
 #![tactic(auto)]
 

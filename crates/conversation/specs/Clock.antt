@@ -21,4 +21,5 @@ unread = negsuc 9223372036854775807
 abbrev pub IsAnswerFor : Option ℕ → ℤ → Type 0
 IsAnswerFor None now = now ≡ unread
 IsAnswerFor (Some seconds) now =
-    (seconds < 9223372036854775808 → now ≡ pos seconds) × (9223372036854775808 ≤ seconds → now ≡ unread)
+    (seconds < 9223372036854775808 → now ≡ pos seconds)
+    × (9223372036854775808 ≤ seconds → now ≡ unread)

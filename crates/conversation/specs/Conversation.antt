@@ -1,4 +1,5 @@
--- The conversation that an input has: its messages, answered one after another, and what is written.
+-- The conversation that an input has: its messages, answered one after another, and what is
+-- written.
 use Rattle.std.specs.Prelude.{◌≡◌, ℕ, ◌<◌, ◌⊎◌, List, [], ◌++◌, length, map, take}
 use Rattle.std.specs.List.{flat_map}
 use Rattle.conversation.specs.declared.message.message_fault.MessageFault.{MessageFault}
@@ -71,7 +72,8 @@ pub record IsCutOff
   pub short : part < length last
   pub written_is : written ≡ whole ++ take part last
 
--- memory was short: the replies to some messages were written, and the next one may have been answered
+-- memory was short: the replies to some messages were written, and the next one may have been
+-- answered
 pub record IsGivenUp
     {O : Type 0} (step : O → MessageExchange → O → Type 0) (gave_up : O → Message → O → Type 0)
     (input : List ℕ) (old : O) (text : List ℕ) (new : O) : Type 0 where

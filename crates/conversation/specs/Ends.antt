@@ -1,5 +1,5 @@
--- What reading and writing do to what a reader has left and a writer holds, and which uses that were,
--- where this is known.
+-- What reading and writing do to what a reader has left and a writer holds, and which uses that
+-- were, where this is known.
 use Rattle.std.specs.Prelude.{◌≡◌, ℕ, ◌<◌, ◌≤◌, ⊤, true, false, List, [], ◌∷◌, ◌++◌, length, take, Option, Some, None, Result, Ok, Err}
 use Rattle.std.specs.Io.KnownBytes.{Appends, Consumes, IsAtEnd, Keeps}
 use Rattle.conversation.specs.declared.end.End.{End}
@@ -30,8 +30,8 @@ pub record WritesWhole (old new : Output) (text : List ℕ) : Type 0 where
   pub writes : Writes old new text
   pub open_still : AreOpen writes.uses
 
--- texts after which a run ends so: the last one was not taken whole for a write fault, and each was for
--- another end
+-- texts after which a run ends so: the last one was not taken whole for a write fault, and each was
+-- for another end
 abbrev pub SendsEnd : End → List Use → Type 0
 SendsEnd ReadFault uses = ⊥
 SendsEnd WriteFault uses = (bytes : List ℕ) × EndsWith uses (sent bytes false)

@@ -22,18 +22,22 @@ abbrev pub Timed : Type 0 → Type 0
 Timed O = O × Option (List ℤ)
 
 -- the office answered, by what its clock gave
-abbrev pub timed : {O : Type 0} → (O → MessageExchange → O → Type 0) → Timed O → MessageExchange → Timed O → Type 0
+abbrev pub timed : {O : Type 0} → (O → MessageExchange → O → Type 0) → Timed O → MessageExchange
+    → Timed O → Type 0
 timed step old x new = step old.0 x new.0 × ReadsClock old.1 x.now new.1
 
 -- the office gave up on the reply to this message: it is as before, or answered it all the same
-abbrev pub GaveUp : {O : Type 0} → (O → MessageExchange → O → Type 0) → Timed O → Message → Timed O → Type 0
+abbrev pub GaveUp : {O : Type 0} → (O → MessageExchange → O → Type 0) → Timed O → Message
+    → Timed O → Type 0
 GaveUp step old message new =
     (now : Option ℤ) × ReadsClock old.1 now new.1
     × ((new.0 ≡ old.0)
-    ⊎ ((reply : List ℕ) × step old.0 (record { message = message; now = now; reply = reply }) new.0))
+    ⊎ ((reply : List ℕ)
+    × step old.0 (record { message = message; now = now; reply = reply }) new.0))
 
 -- one exchange after another, each once, from one office to another
-abbrev pub Exchanged : {O : Type 0} → (O → MessageExchange → O → Type 0) → O → List MessageExchange → O → Type 0
+abbrev pub Exchanged : {O : Type 0} → (O → MessageExchange → O → Type 0) → O
+    → List MessageExchange → O → Type 0
 Exchanged step old [] new = new ≡ old
 Exchanged {O} step old (x ∷ xs) new = (mid : O) × step old x mid × Exchanged step mid xs new
 
@@ -41,4 +45,5 @@ Exchanged {O} step old (x ∷ xs) new = (mid : O) × step old x mid × Exchanged
 abbrev pub BeginsMessages : List ℕ → List Message → List ℕ → Type 0
 BeginsMessages input [] rest = input ≡ rest
 BeginsMessages input (m ∷ ms) rest =
-    (after : List ℕ) × BeginsMessage input m after × (m.closes ≡ false) × BeginsMessages after ms rest
+    (after : List ℕ) × BeginsMessage input m after × (m.closes ≡ false)
+    × BeginsMessages after ms rest

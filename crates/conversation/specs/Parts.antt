@@ -1,5 +1,5 @@
--- What the parts of a run do, which its own proof rests on: to one message, to all that are whole, and
--- where the input ended.
+-- What the parts of a run do, which its own proof rests on: to one message, to all that are whole,
+-- and where the input ended.
 use Rattle.std.specs.Prelude.{◌≡◌, ℕ, ◌≤◌, List, [], ◌++◌, length, drop, Result, Ok, Err}
 use Rattle.conversation.specs.declared.end.End.{End}
 use Rattle.conversation.specs.declared.end.End.TheVariants.{Closed, BadMessage, ReadFault, WriteFault, Memory}
@@ -34,7 +34,8 @@ ReplyIsWritten step old new held holds m (Ok _) =
     (x : MessageExchange) × (x.message ≡ m) × timed step old x new × WritesWhole held holds x.reply
 ReplyIsWritten step old new held holds m (Err WriteFault) =
     (x : MessageExchange) × (x.message ≡ m) × timed step old x new × IsBeginning held holds x.reply
-ReplyIsWritten step old new held holds m (Err Memory) = GaveUp step old m new × WritesWhole held holds []
+ReplyIsWritten step old new held holds m (Err Memory) =
+    GaveUp step old m new × WritesWhole held holds []
 ReplyIsWritten step old new held holds m (Err end) = ⊥
 
 -- the refusal of a message was written, or not
@@ -51,7 +52,8 @@ IsOver refusal rest held holds end =
     IsRefused ended rest Head × RefusalIsWritten held holds (refusal Head) end
 
 -- all whole messages of the input were answered, and this is left and awaited; or the end came
-abbrev pub RepliesAreWritten : {O : Type 0} → (O → MessageExchange → O → Type 0) → (MessageFault → List ℕ)
+abbrev pub RepliesAreWritten : {O : Type 0} → (O → MessageExchange → O → Type 0)
+    → (MessageFault → List ℕ)
     → Timed O → Timed O → Output → Output → List ℕ → Result Awaiting End → Type 0
 RepliesAreWritten step refusal old new held holds input (Ok awaiting) =
     (text : List ℕ) × WritesWhole held holds text × (awaiting.len ≤ length input)
@@ -66,8 +68,10 @@ abbrev pub EndsHere : {O : Type 0} → (O → MessageExchange → O → Type 0) 
 EndsHere step refusal old text new input Closed =
     Conversation (timed step) refusal ended input old text finished new
 EndsHere step refusal old text new input BadMessage =
-    (fault : MessageFault) × Conversation (timed step) refusal ended input old text (refused fault) new
+    (fault : MessageFault)
+    × Conversation (timed step) refusal ended input old text (refused fault) new
 EndsHere step refusal old text new input ReadFault = ⊥
-EndsHere step refusal old text new input WriteFault = IsCutOff (timed step) refusal input old text new
+EndsHere step refusal old text new input WriteFault =
+    IsCutOff (timed step) refusal input old text new
 EndsHere step refusal old text new input Memory =
     IsGivenUp (timed step) (GaveUp step) input old text new

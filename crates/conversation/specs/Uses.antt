@@ -11,8 +11,9 @@ use Rattle.conversation.specs.message.Framing.{longest_body}
 use Rattle.conversation.specs.message.Heads.{longest_head}
 use Rattle.conversation.specs.Wants.{count_of, IsAwaited}
 
--- A read that asked for so many bytes, with those that came, none at the end, or without any where it
--- failed; or a text that was handed to the writer: the bytes that it took, and whether these are all.
+-- A read that asked for so many bytes, with those that came, none at the end, or without any where
+-- it failed; or a text that was handed to the writer: the bytes that it took, and whether these are
+-- all.
 pub data Use : Type 0 where
   asked : ℕ → Option (List ℕ) → Use
   sent : List ℕ → Bool → Use
@@ -81,8 +82,8 @@ pub record MayAsk
   pub within : count ≤ count_of wants
   pub held : length rest + count ≤ longest_message
 
--- This use may follow those: a read where nothing failed and the input has not ended, by which no more
--- comes than it asked for, and a text where nothing failed.
+-- This use may follow those: a read where nothing failed and the input has not ended, by which no
+-- more comes than it asked for, and a text where nothing failed.
 abbrev pub MayFollow : {O : Type 0} → (O → MessageExchange → O → Type 0) → Timed O → List Use → Use
     → Type 0
 MayFollow step old before (asked count came) =
@@ -120,9 +121,9 @@ reads_in (sent bytes all ∷ uses) = reads_in uses
 abbrev pub most_reads : ℕ
 most_reads = 18446744073709551615
 
--- By these uses a run ends so: with a read fault where the last of them is a read that failed, or where
--- one read more would be number 2^64; with a write fault where the last is a text that the writer did
--- not take whole; and else where nothing failed.
+-- By these uses a run ends so: with a read fault where the last of them is a read that failed, or
+-- where one read more would be number 2^64; with a write fault where the last is a text that the
+-- writer did not take whole; and else where nothing failed.
 abbrev pub EndsBy : End → List Use → Type 0
 EndsBy ReadFault uses =
     ((count : ℕ) × EndsWith uses (asked count None)) ⊎ (AreOpen uses × (reads_in uses ≡ most_reads))

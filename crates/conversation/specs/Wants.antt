@@ -15,8 +15,8 @@ abbrev pub IsAwaited : List ℕ → Wants → Type 0
 IsAwaited rest (Head count) = AwaitsHead rest × (length rest + count ≡ longest_head)
 IsAwaited rest (Body count) = LacksBody rest count
 
--- where this was awaited of what is left, and so many bytes came behind that, the answer, if there is one,
--- is awaited then
+-- where this was awaited of what is left, and so many bytes came behind that, the answer, if there
+-- is one, is awaited then
 abbrev pub StaysAwaited : Wants → ℕ → Option Wants → Type 0
 StaysAwaited wants count result =
     (rest bytes : List ℕ) → IsAwaited rest wants → length bytes ≡ count

@@ -19,11 +19,11 @@ use std::alloc::Global;
 use std::io::{Read, Write};
 
 /// Holds the conversation of a reader and a writer: answers each message that is read, in order, by
-/// a reply that is written before more is asked for, until one of them ends it. While it awaits a head
-/// it asks for at most `MAX_HEAD` bytes of it in all, and while it awaits a body for what that lacks;
-/// it holds no more than one longest message, and reads nothing after an end (`specs/Uses.antt`). A
-/// head is parsed when it is whole and once more when its body is, however small the pieces are in
-/// which that comes. No bytes are kept for another run.
+/// a reply that is written before more is asked for, until one of them ends it. While it awaits a
+/// head it asks for at most `MAX_HEAD` bytes of it in all, and while it awaits a body for what that
+/// lacks; it holds no more than one longest message, and reads nothing after an end
+/// (`specs/Uses.antt`). A head is parsed when it is whole and once more when its body is, however
+/// small the pieces are in which that comes. No bytes are kept for another run.
 pub fn run<O, S: Service<O>, L: Line<R, W>, R: Read, W: Write, C: Clock>(
     service: &S,
     alloc: Global,
@@ -128,7 +128,8 @@ fn answer_one<O, S: Service<O>, L: Line<R, W>, R: Read, W: Write, C: Clock>(
     writer: &mut W,
     message: &Received<'_>,
 ) -> Result<(), End>
-    ensures { ReplyIsWritten S.step (office.old, C.answers clock.old) (office.new, C.answers clock.new)
+    ensures { ReplyIsWritten S.step (office.old, C.answers clock.old)
+        (office.new, C.answers clock.new)
         (W.contents writer.old, L.uses line.old) (W.contents writer.new, L.uses line.new)
         (message_of message.now) result }
 {

@@ -9,7 +9,8 @@ const UNREAD: i64 = i64::MIN;
 
 /// What tells the time of day.
 pub trait TimeSource {
-    /// It gave this: the whole seconds since 1970, or nothing where it can't be read, or stands before
+    /// It gave this: the whole seconds since 1970, or nothing where it can't be read, or stands
+    /// before
     /// 1970.
     ghost gives: { Self → Option ℕ → Type 0 };
 
@@ -30,8 +31,8 @@ impl<K: time::Clock> TimeSource for K {
     }
 }
 
-/// The machine's clock. Contracts aren't told its answers beforehand, but that each is what its source
-/// gave (`reads`). Where that can't be read, it answers what is no moment of the office.
+/// The machine's clock. Contracts aren't told its answers beforehand, but that each is what its
+/// source gave (`reads`). Where that can't be read, it answers what is no moment of the office.
 #[derive(Clone, Copy)]
 pub struct MachineClock<'a, T> {
     source: &'a T,
@@ -45,7 +46,8 @@ impl<'a, T: TimeSource> MachineClock<'a, T> {
 }
 
 impl<T: TimeSource> Clock for MachineClock<'_, T> {
-    ghost reads = { λ clock now. (given : Option ℕ) × T.gives clock.source.now given × IsAnswerFor given now };
+    ghost reads = { λ clock now. (given : Option ℕ) × T.gives clock.source.now given
+        × IsAnswerFor given now };
 
     fn now(&mut self) -> i64 {
         answer_for(self.source.seconds())

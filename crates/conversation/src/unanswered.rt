@@ -36,8 +36,8 @@ impl Unanswered {
         &self.bytes
     }
 
-    // Reads at most as many bytes as wanted behind those that are there, and says how many came: none
-    // only at the end of the input. Room is made first, so that want of memory loses no byte.
+    // Reads at most as many bytes as wanted behind those that are there, and says how many came:
+    // none only at the end of the input. Room is made first, so that want of memory loses no byte.
     pub(crate) fn read_more<L: Line<R, W>, R: Read, W: Write>(
         &mut self,
         line: &mut L,

@@ -20,8 +20,8 @@ impl Wants {
         }
     }
 
-    // What is awaited of a body where so many bytes of it came and more are missing. To know it takes
-    // no look at them, nor at the head again.
+    // What is awaited of a body where so many bytes of it came and more are missing. To know it
+    // takes no look at them, nor at the head again.
     pub(crate) fn after(self, count: usize) -> Option<Wants>
         ensures { StaysAwaited self count result }
     {

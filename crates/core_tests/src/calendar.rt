@@ -84,8 +84,8 @@ fn days_around_each_new_year_and_leap_day(rt: HostRuntime) -> Result<(), Fail> {
     Ok(())
 }
 
-// Texts that are almost days: before and after the range, dates that the calendar has not, and other
-// ways to write a date.
+// Texts that are almost days: before and after the range, dates that the calendar has not, and
+// other ways to write a date.
 fn almost_days() -> [&'static [u8]; 32] {
     [
         b"1992-12-31",

@@ -1,5 +1,5 @@
-//! Requests over plain vectors: imports and a report at their greatest size, an office that is nearly
-//! full, and the number, name and sentence of each refusal.
+//! Requests over plain vectors: imports and a report at their greatest size, an office that is
+//! nearly full, and the number, name and sentence of each refusal.
 
 mod decisions;
 mod imports;

@@ -17,7 +17,8 @@ pub record AskedNothing (x : MessageExchange) : Type 0 where
   pub told : x.reply ≡ reply_bytes_of outcome x.message.closes
 
 -- the message asked this of the office, and was told the reply
-pub record AskedOffice (x : MessageExchange) (at : Stamped) (reply : Result Answer Refusal) : Type 0 where
+pub record AskedOffice (x : MessageExchange) (at : Stamped)
+    (reply : Result Answer Refusal) : Type 0 where
   pub form : Form
   pub asks : MessageAsks x.message x.now form at.moment at.request
   pub told : x.reply ≡ reply_bytes_of (Replied form reply) x.message.closes

@@ -23,7 +23,8 @@ use Rattle.desk.specs.reply.Text.{reply_bytes_of}
 abbrev pub Serving : Type 0 → Type 1
 Serving O = ℕ → Request → Result Answer Refusal → O → O → Type 0
 
--- what comes of a message: it asks nothing and the office is as before, or its request is served, once
+-- what comes of a message: it asks nothing and the office is as before, or its request is served,
+-- once
 abbrev pub Comes : {O : Type 0} → Serving O → Message → Option ℤ → Outcome → O → O → Type 0
 Comes serves m now outcome old new =
     (IsIdle m now outcome × (new ≡ old))
@@ -45,9 +46,10 @@ message_refusal_of fault = reply_bytes_of (Refused fault) true
 abbrev pub books_serve : {B : Type 0} → (B → Seen) → Serving B
 books_serve see moment request reply old new = ReplyAt moment request reply (see old) (see new)
 
--- the stamped request is this request at this moment, and its nibble that of the next sale's number,
--- unless the office was stopped
-pub record IsStampedBy (life : Life) (moment : ℕ) (request : Request) (reply : Result Answer Refusal)
+-- the stamped request is this request at this moment, and its nibble that of the next sale's
+-- number, unless the office was stopped
+pub record IsStampedBy (life : Life) (moment : ℕ) (request : Request)
+    (reply : Result Answer Refusal)
     (at : Stamped) : Type 0 where
   pub at_moment : at.moment ≡ moment
   pub for_request : at.request ≡ request

@@ -39,9 +39,9 @@ AsksImport kind body result =
     (records : List Fields) × AreFileRecords body records
     × (read : Result (List Row) RowFault) × IsReading kind records read × (result ≡ import_of read)
 
--- What a body asks of a route: a request, or why there is none. A route that is asked by GET doesn't
--- look at the body, two are asked by files of rows, and the others by JSON. Each route has its line,
--- so that one more has no meaning until it has one.
+-- What a body asks of a route: a request, or why there is none. A route that is asked by GET
+-- doesn't look at the body, two are asked by files of rows, and the others by JSON. Each route has
+-- its line, so that one more has no meaning until it has one.
 abbrev pub BodyAsks : Route → List ℕ → Result Request BodyFault → Type 0
 BodyAsks AddTariff body result = AsksByJson kinds.Tariff body result
 BodyAsks (AddSteps tariff) body result = AsksByJson (kinds.TariffSteps tariff) body result

@@ -66,7 +66,8 @@ pub record ComesOutside (m : Message) (now : Option ℤ) : Type 0 where
 abbrev pub MessageHasFault : Message → Option ℤ → DeskFault → Type 0
 MessageHasFault m now faults.Clock = ComesOutside m now
 MessageHasFault m now faults.Body =
-    (route : Route) × (moment : ℕ) × ComesAt m now route moment × BodyAsks route m.body (Err OutsideRule)
+    (route : Route) × (moment : ℕ) × ComesAt m now route moment
+    × BodyAsks route m.body (Err OutsideRule)
 MessageHasFault m now fault = IsRouted m.target m.method (Err fault) × (now ≡ None)
 
 -- what comes of a message that asks nothing of the office: its fault, or the refusal of its first

@@ -36,10 +36,10 @@ asked_at ats = map (λ at. (at.moment, at.request)) ats
 abbrev pub conversation_text : List MessageExchange → Ending → List ℕ
 conversation_text xs ending = replies_of xs ++ last_words message_refusal_of ending
 
--- Two conversations of an input that stops so are one: the same exchanges, by which the same is asked
--- at the same moments. Where the input ended they end alike, and what is written is the same, to its
--- last byte. Where its reader failed, one may end by the refusal of what is no head, and the other
--- without a word.
+-- Two conversations of an input that stops so are one: the same exchanges, by which the same is
+-- asked at the same moments. Where the input ended they end alike, and what is written is the same,
+-- to its last byte. Where its reader failed, one may end by the refusal of what is no head, and the
+-- other without a word.
 pub record IsOneConversation (stop : Stop) (xs ys : List MessageExchange) (e f : Ending)
     (ats bts : List Stamped) : Type 0 where
   pub exchanges : xs ≡ ys

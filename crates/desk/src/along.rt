@@ -25,8 +25,9 @@ pub fn desk_law()
 {}
 
 /// A message has one meaning, and an input one conversation: with the same answers of the clock and
-/// the same replies of the office, two conversations of an input are the same exchanges, and ask the
-/// same requests at the same moments. Where the input ended they end alike, and are written the same.
+/// the same replies of the office, two conversations of an input are the same exchanges, and ask
+/// the same requests at the same moments. Where the input ended they end alike, and are written the
+/// same.
 pub fn conversation_law()
     ensures meaning { (m : Message) (now : Option ℤ) → HasOneMeaning m now }
     ensures one { (stop : Stop) (input : List ℕ) (xs ys : List MessageExchange) (e f : Ending)

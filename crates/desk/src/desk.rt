@@ -41,8 +41,8 @@ impl Desk {
     /// is answered in order, and its request served once, before more is asked for. A request comes
     /// at the moment that the clock gives for it. See `End` for what was written and served by the
     /// end; `specs/Answering.antt` says how books and their lives answer. No more is read than
-    /// `specs/Uses.antt` of `conversation` allows (`paced`): while a head is awaited 8192 bytes of it
-    /// in all, while a body is awaited what it lacks, and nothing after an end.
+    /// `specs/Uses.antt` of `conversation` allows (`paced`): while a head is awaited 8192 bytes of
+    /// it in all, while a body is awaited what it lacks, and nothing after an end.
     pub fn run<S: Alter, T: BlockTransform, R: Read, W: Write, C: Clock>(
         &self,
         alloc: Global,
@@ -76,8 +76,8 @@ impl Desk {
     }
 
     /// The same, where each use of the reader and the writer goes through a line: the uses that it
-    /// tells are in turn (`paced`), so that each reply is written before more input is asked for, and
-    /// the last of them is why it ended.
+    /// tells are in turn (`paced`), so that each reply is written before more input is asked for,
+    /// and the last of them is why it ended.
     pub fn run_over<S: Alter, T: BlockTransform, L: Line<R, W>, R: Read, W: Write, C: Clock>(
         &self,
         alloc: Global,

@@ -1,5 +1,5 @@
-//! The desk of a vending office: what the messages of a connection ask, and what is replied to them.
-//! `conversation` has the messages themselves.
+//! The desk of a vending office: what the messages of a connection ask, and what is replied to
+//! them. `conversation` has the messages themselves.
 #![tactic(auto)]
 
 mod along;

@@ -1,6 +1,6 @@
 //! A sale and the call for its receipt, 159 bytes, over books: cut after any byte, in pieces, by a
-//! reader that fails, and to a writer that fails. Each time over an office of its own, so that it has
-//! to sell anew.
+//! reader that fails, and to a writer that fails. Each time over an office of its own, so that it
+//! has to sell anew.
 use crate::inputs::first;
 use crate::prepared::{NO_HEAD, PRINTED, RECEIPT, SALE, SOLD, hold, prepared};
 use crate::streams::{Asking, Counting, Failing, Full, Pieces};

@@ -1,5 +1,5 @@
-//! Later base dates and dated steps, message by message: what each asks of the office over plain lists,
-//! and that a desk tells the same of books in memory and in a file.
+//! Later base dates and dated steps, message by message: what each asks of the office over plain
+//! lists, and that a desk tells the same of books in memory and in a file.
 
 use crate::asked::{message, reply_bytes};
 use crate::offices::{Conversation, converse, listed};
@@ -130,8 +130,8 @@ static LATER: [(i64, Ask, Wanted); 25] = [
     ),
 ];
 
-// What is asked after it, of an office that was opened again or not. The minute after the last identifier
-// is reserved.
+// What is asked after it, of an office that was opened again or not. The minute after the last
+// identifier is reserved.
 static AGAIN: [(i64, Ask, Wanted); 7] = [
     (
         FEBRUARY,

@@ -2,8 +2,8 @@
 //!
 //! Messages as they are written, cut anywhere, and with each fault; bodies, routes and replies; and
 //! whole conversations, with an office in memory or in a file too, beside the office over plain
-//! lists. What is expected was worked out by hand, from `docs/DESK.md` and `docs/OFFICE.md`. Messages
-//! at their limits are in `tools/check_desk`.
+//! lists. What is expected was worked out by hand, from `docs/DESK.md` and `docs/OFFICE.md`.
+//! Messages at their limits are in `tools/check_desk`.
 #![tactic(auto)]
 
 #[cfg(test)]

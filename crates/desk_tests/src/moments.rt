@@ -18,8 +18,8 @@ const ADDED: &[u8] = b"HTTP/1.1 200 OK\r\n\
 // 2014-01-01T00:00:30Z, then 2014-01-31T23:59:59Z and the second after it.
 const MOMENTS: (i64, [i64; 2]) = (1_388_534_430, [1_391_212_799, 1_391_212_800]);
 
-// Steps that the tariff is to have from February on, and a sale in each month. The other messages have
-// no route.
+// Steps that the tariff is to have from February on, and a sale in each month. The other messages
+// have no route.
 const INPUT: &[u8] = b"POST /imports/tariffs HTTP/1.1\r\nHost: d\r\nContent-Length: 37\r\n\r\n\
     name,steps,from\nflat,:200,2014-02-01\n\
     GET /nowhere HTTP/1.1\r\nHost: d\r\n\r\n\
@@ -45,8 +45,8 @@ const SOLD_IN_FEBRUARY: &[u8] = b"HTTP/1.1 200 OK\r\nContent-Type: application/j
     \"operator\":\"ann\",\"price\":20,\"ref\":\"A-2\",\"shift\":1,\"tender\":20,\"tenths\":1,\"tid\":44640,\
     \"token\":\"00144306915416069371\"}";
 
-// How the conversation ends. It has no clause, so that the proof of the test does not carry what the
-// desk promises.
+// How the conversation ends. It has no clause, so that the proof of the test does not carry what
+// the desk promises.
 fn hold(alloc: Global, books: &mut Books<MemStore, Plain>, text: &mut Vec<u8>) -> Option<End> {
     let desk = Desk::new(alloc).ok()?;
     let (first, others) = MOMENTS;

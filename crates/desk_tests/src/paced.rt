@@ -61,8 +61,8 @@ fn noted(alloc: Global, input: &[u8], size: usize) -> Result<Vec<Passed>, Fail> 
     Ok(line.passed)
 }
 
-// The most bytes that were held and asked for at a time. In these inputs a reply leaves nothing that
-// came before it.
+// The most bytes that were held and asked for at a time. In these inputs a reply leaves nothing
+// that came before it.
 fn most(passed: &[Passed]) -> usize {
     let (mut held, mut most) = (0_usize, 0);
     for one in passed {
@@ -116,8 +116,8 @@ fn no_more_is_held_than_the_longest_message(rt: HostRuntime) -> Result<(), Fail>
     asks_at_most(&rt, &too_long, usize::MAX, 8192)
 }
 
-// A read asks for no more than a head or its body still lacks, the replies leave before the next one,
-// and the refusal is last.
+// A read asks for no more than a head or its body still lacks, the replies leave before the next
+// one, and the refusal is last.
 #[test]
 fn reads_and_replies_in_turn(rt: HostRuntime) -> Result<(), Fail> {
     let alloc = rt.alloc();

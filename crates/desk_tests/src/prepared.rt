@@ -74,8 +74,8 @@ pub(crate) fn prepared(alloc: Global) -> Option<Books<MemStore, Plain>> {
     Some(books)
 }
 
-/// How the conversation with it ends, whose clock stands still. It has no clause, so that the proof of
-/// a test does not carry what the desk promises.
+/// How the conversation with it ends, whose clock stands still. It has no clause, so that the proof
+/// of a test does not carry what the desk promises.
 pub(crate) fn hold<R: Read, W: Write>(
     alloc: Global,
     books: &mut Books<MemStore, Plain>,

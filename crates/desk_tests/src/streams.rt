@@ -59,8 +59,8 @@ impl Write for Full {
     }
 }
 
-/// What a read has to find: so many bytes written by then, and no more asked for than this; and what
-/// it gives.
+/// What a read has to find: so many bytes written by then, and no more asked for than this; and
+/// what it gives.
 pub(crate) type Step<'a> = (usize, usize, &'a [u8]);
 
 /// Gives a step a read, and notes where less was written by then, or more was asked for.

@@ -1,5 +1,5 @@
-//! Requests and replies as lines of text. `tools/oracle` says what a line is, and answers such lines
-//! from the rules alone.
+//! Requests and replies as lines of text. `tools/oracle` says what a line is, and answers such
+//! lines from the rules alone.
 
 use crate::values::{import, meter_no, operator, order_of, stamped, tariff_name};
 use std::alloc::Global;

@@ -166,8 +166,8 @@ fn agree_on_shifts<S: Alter, T: BlockTransform>(both: &mut Both<S, T>) -> Result
     Ok(())
 }
 
-/// The totals of each shift are the count and the sums of the sales that the lists have of it. No other
-/// number has any.
+/// The totals of each shift are the count and the sums of the sales that the lists have of it. No
+/// other number has any.
 pub fn agree_on_totals<S: Alter, T: BlockTransform>(
     books: &mut Books<S, T>,
     lists: &Lists<T>,

@@ -49,8 +49,8 @@ fn close<T: BlockTransform + Drop>(both: InFile<T>, sql: &str) -> Result<Lists<T
     Ok(lists)
 }
 
-/// A life of the office of a file, beside the lists that an earlier life left. The file is closed at
-/// its end, where no comparison failed.
+/// A life of the office of a file, beside the lists that an earlier life left. The file is closed
+/// at its end, where no comparison failed.
 pub fn live<T: BlockTransform + Drop, R: Drop, L: Life<T, R> + Drop>(
     host: &HostRuntime,
     path: &str,

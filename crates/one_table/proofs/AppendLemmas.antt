@@ -25,7 +25,8 @@ pub record IsLast (source : Row) (rows : List Row) : Type 0 where
   pub rises : IsTable (put_row (with_rowid Chosen rows source) rows)
   pub are_numbers : AllByRecursion (λ r. IsTrue (is_int (rowid r))) (put_row (with_rowid Chosen rows source) rows)
 
--- A table without numbers of its own gains the row at its end, beside rowids that only the database knows.
+-- A table without numbers of its own gains the row at its end, beside rowids that only the database
+-- knows.
 pub stands_last : (source : Row) → is_null (rowid source) ≡ true → (rows : List Row) → IsTable rows → AllByRecursion (λ r. IsTrue (is_int (rowid r))) rows → IsLast source rows
 stands_last source none rows up ids =
     let order : IsInOrder rows = record { rises = up; are_numbers = ids } in

@@ -1,4 +1,5 @@
--- The parts of a SELECT, and what RETURNING shows, mean the same where the names that they may have find the same columns.
+-- The parts of a SELECT, and what RETURNING shows, mean the same where the names that they may have
+-- find the same columns.
 use Rattle.std.proofs.Common.{◌≡◌, ℕ, Bool, true, List, [], ◌∷◌, ◌++◌, Option, Some, None, is_some, unwrap_or, slice_get, refl, sym, ap, ap₂, true≢false}
 use Rattle.std.specs.List.{list_all}
 use Rattle.std.proofs.Math.Path.{fun_ext}

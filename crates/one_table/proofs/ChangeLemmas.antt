@@ -37,7 +37,8 @@ same_value e = cc
 abbrev pub task_on : State → Row → Table → Task
 task_on s params t = record { limit = s.step_limit; keys = Enforced; schema = s.now.schema; table = t; params = params }
 
--- a change of rows by a statement, as the rows that it wrote, what it shows of them and the database that they make
+-- a change of rows by a statement, as the rows that it wrote, what it shows of them and the
+-- database that they make
 pub record HasWritten (t : Table) (returning : Option Returning) (command : Command) (params : Row) (shown : List Row) (old new : State) : Type 0 where
   pub written : Written
   pub wrote : WritesRows (task_on old params t) old.now.trees command (Ok written)

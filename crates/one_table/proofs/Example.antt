@@ -1,4 +1,5 @@
--- How the lemmas are cited, over a small table that may stand anywhere: a page, a look-up, all rows of a kind, the last row, and an UPDATE.
+-- How the lemmas are cited, over a small table that may stand anywhere: a page, a look-up, all rows
+-- of a kind, the last row, and an UPDATE.
 use Rattle.std.proofs.Common.{◌≡◌, ℕ, true, false, List, [], ◌∷◌, Some, refl, codes, pos, sym, ◌∙◌, ◌==◌, nat_lt, map, filter, find, take, reverse, bytes_eq, option_map, slice_get}
 use Rattle.sqlite_value.specs.declared.value.Value.TheVariants.{Null, Int, Text}
 use Rattle.sqlite_value.specs.declared.keys.Collation.TheVariants.{Binary}

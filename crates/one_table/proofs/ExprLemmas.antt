@@ -1,4 +1,5 @@
--- A simple expression means the same in any two contexts in which the names that it may have find the same columns.
+-- A simple expression means the same in any two contexts in which the names that it may have find
+-- the same columns.
 use Rattle.std.proofs.Common.{◌≡◌, ℕ, zero, suc, Bool, true, false, ◌&&◌, ◌||◌, ◌==◌, if◌then◌else◌, unwrap_or, option_map, List, [], Option, Some, None, is_some, slice_get, Ok, refl, sym, ap, ap₂, ◌∙◌, true≢false}
 use Rattle.std.proofs.Math.Path.{fun_ext}
 use Rattle.std.proofs.lemmas.Bool.{and_parts}

@@ -1,4 +1,5 @@
--- A SELECT over one table fails only for want of memory, by a fault of the disk, or at a limit on steps.
+-- A SELECT over one table fails only for want of memory, by a fault of the disk, or at a limit on
+-- steps.
 use Rattle.std.proofs.Common.{◌≡◌, ℕ, ◌≤◌, ◌==◌, nat_le, true, false, List, [], ◌∷◌, length, Option, None, Ok, Err, sym, ap, append-nil, subst, ◌∙◌, inl, inr, true≢false}
 use Rattle.std.proofs.lemmas.Bool.{and_parts, eqb-true, leb-true}
 use Rattle.sqlite_value.specs.Order.{Row}

@@ -1,4 +1,5 @@
--- What an upsert sets, and what it shows, read a row that is given: its columns are the same wherever the table stands.
+-- What an upsert sets, and what it shows, read a row that is given: its columns are the same
+-- wherever the table stands.
 use Rattle.std.proofs.Common.{◌≡◌, ℕ, zero, suc, Bool, true, false, not, ◌&&◌, ◌==◌, if◌then◌else◌, unwrap_or, option_map, Option, Some, None, List, [], ◌∷◌, ◌++◌, is_some, length, map, slice_get, Ok, refl, sym, ap, ◌∙◌, true≢false}
 use Rattle.std.specs.Char.{to_ascii_lowercase}
 use Rattle.std.proofs.lemmas.Bool.{and_parts}
@@ -47,7 +48,8 @@ module _ (s : Schema) (t : Table) (count : ℕ) where
     stays : slice_get (with_given s t count).tables at ≡ Some t
     stays = got_stays s.tables (given t count ∷ []) at t listed
 
-    -- the affinity of a column, by whether its slot is that of the row there, or of the row that is given
+    -- the affinity of a column, by whether its slot is that of the row there, or of the row that is
+    -- given
     affinity_in : Context → ℕ → ℕ → ℕ → ℕ → Bool → Bool → Affinity
     affinity_in cx place other slot p is_there is_given = if slot == 0 && p == 0 then None' else unwrap_or (option_map (λ table. at_place cx.schema table p)
         (or_else (option_map (λ (b : Bound). b.table) (if is_there then Some (record { name = t.name; table = place; slot = 1; shared = [] }) else None))

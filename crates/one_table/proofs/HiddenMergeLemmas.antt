@@ -21,7 +21,9 @@ use Rattle.one_table.proofs.CastLemmas.{cast_int}
 use Rattle.one_table.proofs.MergeLemmas.{MergesAs, PutsIn, SetsOne, any_map, upserts_listed}
 use Rattle.one_table.proofs.NumberedLemmas.{as_many, beside, changes, gains, makes, number as number_of, picks, rise, rows_are, set_in, value, values_are, with_last, with_number}
 
--- In a table that holds these values, xs: the row that is given is x, which has no number yet, and its columns keep it as it is. Whatever the numbers are, the rows of its key are those of p, and what is set makes f of them.
+-- In a table that holds these values, xs: the row that is given is x, which has no number yet, and
+-- its columns keep it as it is. Whatever the numbers are, the rows of its key are those of p, and
+-- what is set makes f of them.
 pub record MergesHidden {X : Type 0} (t : Table) (m : Merging) (params : Row) (stored : X → Row) (x : X) (p : X → Bool) (f : X → X) (xs : List X) : Type 0 where
   pub source : source_row t m.given params ≡ Null ∷ stored x
   pub fits : cast_all t.columns (stored x) ≡ stored x

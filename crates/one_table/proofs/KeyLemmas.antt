@@ -79,7 +79,8 @@ none_left ks next low = (λ h. omega (arith, ap length h, length-drop next ks), 
 eqb_not : (a b : ℕ) → a ≢ b → (a == b) ≡ false
 eqb_not a b off = elim (cases_Bool (a == b)) [ inl is ↦ absurd (off (eqb-true a b is)) | inr not ↦ not ]
 
--- the keys on a tree, among the indexes that are left, are those that are left to meet, exactly if the whole is so
+-- the keys on a tree, among the indexes that are left, are those that are left to meet, exactly if
+-- the whole is so
 abbrev pub Left : ℕ → List Key → Type 0 → ℕ → List Index → Type 0
 Left tree ks whole next rest = (map key_of (filter (λ i. i.table == tree) rest) ≡ drop next ks) ↔ whole
 

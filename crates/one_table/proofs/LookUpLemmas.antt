@@ -1,4 +1,5 @@
--- What follows for a caller: the one row of a look-up, the last row, the values that a reader gives, and rows with a hidden number.
+-- What follows for a caller: the one row of a look-up, the last row, the values that a reader
+-- gives, and rows with a hidden number.
 use Rattle.std.proofs.Common.{◌≡◌, ℤ, ◌≤◌, ◌<ℤ◌, arith, Bool, true, false, List, [], ◌∷◌, map, filter, find, take, length, reverse, option_map, slice_get, refl, sym, ap, ap₂, ◌∙◌, true≢false}
 use Rattle.std.specs.List.{AllZip}
 use Rattle.std.proofs.lemmas.Int.{ints}

@@ -28,7 +28,8 @@ pub any_map : {X Y : Type 0} (q : Y → Bool) (f : X → Y) (p : X → Bool) →
 any_map q f p same [] = refl
 any_map q f p same (x ∷ xs) = ap₂ ◌||◌ (same x) (any_map q f p same xs)
 
--- In a table that holds these values, xs: the row that is given is x, and its columns keep it as it is. Where it is given, the rows of its key are those of p, and what is set makes f of them.
+-- In a table that holds these values, xs: the row that is given is x, and its columns keep it as it
+-- is. Where it is given, the rows of its key are those of p, and what is set makes f of them.
 pub record MergesAs {X : Type 0} (t : Table) (m : Merging) (params : Row) (rows : List Row) (key : X → ℤ) (stored : X → Row) (x : X) (p : X → Bool) (f : X → X) (xs : List X) : Type 0 where
   pub keyed : (y : X) → rowid (stored y) ≡ Int (key y)
   pub gives : given_row t m params rows ≡ stored x

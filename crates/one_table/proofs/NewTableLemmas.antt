@@ -1,4 +1,5 @@
--- What CREATE TABLE adds to a sound database: a table that is found by its name and by its tree, with its own keys.
+-- What CREATE TABLE adds to a sound database: a table that is found by its name and by its tree,
+-- with its own keys.
 use Rattle.std.proofs.Common.{◌≡◌, ℕ, ◌+◌, ◌^◌, ◌<◌, ◌==◌, Bool, true, false, List, [], ◌∷◌, ◌++◌, length, map, filter, slice_index_or, Some, refl, sym, ap, subst, ◌∙◌, inl, inr, arith}
 use Rattle.std.proofs.lemmas.Bool.{cases_Bool, eq-eqb, lt-leb}
 use Rattle.std.proofs.lemmas.List.Elements.{filter-append}

@@ -47,7 +47,8 @@ module _ {K : State → Type 0} {old new : State} where
   read_into (Ok y) this stops = read_on this
   read_into {B = B} (Err f) this stops = record { same = λ _ _. tt; kept = λ clean known. inl (this.same clean known); mode = this.mode; faults = stops; survives = this.survives }
 
-  -- one of which is known what something else implies, and which fails for a reason that implies another
+  -- one of which is known what something else implies, and which fails for a reason that implies
+  -- another
   pub read_where : {Same : State → State → Type 0} {T E : Type 0} {A B : State → State → E → Type 0} {L : State → Type 0} (r : Result T E) → (L old → K old) → ReadsOnly K Same A old new r
       → (HasCleanDisk new → L old → IfErr r (B old new)) → ReadsOnly L Same B old new r
   read_where r implies this faults = record {

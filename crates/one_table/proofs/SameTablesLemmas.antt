@@ -1,4 +1,5 @@
--- Trees tell their tables: two sound databases over the same trees have the same ones, at the same places.
+-- Trees tell their tables: two sound databases over the same trees have the same ones, at the same
+-- places.
 use Rattle.std.proofs.Common.{◌≡◌, ℕ, ◌+◌, pos, List, [], ◌∷◌, Ok, filter, slice_get, option_map, unwrap_or, refl, sym, ap, subst, ◌∙◌, arith}
 use Rattle.std.specs.List.{AllZip, position_from}
 use Rattle.sqlite_value.specs.declared.value.Value.TheVariants.{Int, Text}

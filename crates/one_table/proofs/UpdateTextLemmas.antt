@@ -113,7 +113,8 @@ module _ (s : Schema) (at : ℕ) (t : Table) (has : Has s at t) where
     by_parsed sql (Err e) parsed h = absurd cc
     by_parsed sql (Ok p) parsed h = understood_as s sql p (update_as at q) None parsed (by_update p (update_of p.statement) refl h)
 
-  -- An UPDATE of the table is the query that it is where the table stands alone, at the table's place.
+  -- An UPDATE of the table is the query that it is where the table stands alone, at the table's
+  -- place.
   pub updates : (q : Query) (sql : List ℕ) → IsUpdate t q sql → Means s sql (update_as at q)
   unfolding update_meant
   updates q sql is = by_parsed q is.from sql (first sql) refl is.means

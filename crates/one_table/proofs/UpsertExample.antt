@@ -1,4 +1,5 @@
--- Upserts into small tables at any place, what they mean and what they make of values: one that sets, one that adds, and one by an INTEGER PRIMARY KEY that counts and adds.
+-- Upserts into small tables at any place, what they mean and what they make of values: one that
+-- sets, one that adds, and one by an INTEGER PRIMARY KEY that counts and adds.
 use Rattle.std.proofs.Common.{◌≡◌, ◌+◌, ◌<◌, ◌^◌, ◌==◌, ◌&&◌, ℕ, ℤ, Bool, true, false, List, [], ◌∷◌, map, bytes_eq, Option, Some, None, refl, codes, pos}
 use Rattle.sqlite_value.specs.declared.keys.Collation.TheVariants.{Binary}
 use Rattle.sqlite_value.specs.declared.keys.Order.{Order}

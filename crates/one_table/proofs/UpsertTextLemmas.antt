@@ -249,7 +249,8 @@ module _ (s : Schema) (at : ℕ) (t : Table) (has : Has s at t) (keys : keys_on 
       let plan = by_test p u m (upsert_as_written p.statement u is) ((length p.formats == 0) && (small p.names == length p.names) && is_simple_upsert t (length p.names) u) refl h in
       (understood_as s sql p (upsert_as at t m) (Some (returning_as m)) parsed plan.0, plan.1)
 
-  -- An upsert of one row of the table is that row, merged into the one that has its key, at the table's place.
+  -- An upsert of one row of the table is that row, merged into the one that has its key, at the
+  -- table's place.
   pub means_upsert : (m : Merging) (sql : List ℕ) → IsUpsert t m sql → (means : MeansAs s sql (upsert_as at t m) (Some (returning_as m))) × (length means.compiled.names ≡ m.count)
   unfolding upsert_meant upsert_in
   means_upsert m sql is =

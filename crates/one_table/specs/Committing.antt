@@ -48,8 +48,8 @@ abbrev pub Tells : {F : Type 0} → (Database → F → Type 0) → Database →
 Tells Says old (Unmade why) = Says old why
 Tells Says old (InDoubt e) = Unit {0}
 
--- Why a change was not made: in the transaction that was begun on this connection it failed for this
--- reason. What was left of it then was undone, and no fault is forgotten.
+-- Why a change was not made: in the transaction that was begun on this connection it failed for
+-- this reason. What was left of it then was undone, and no fault is forgotten.
 abbrev pub FailsInside : {S F : Type 0} → (g : Ghosts S) → (State → State → F → Type 0) → Held S
     → State → CommitFault F → Type 0
 FailsInside {S} g Fails old new (Unmade why) =

@@ -170,7 +170,8 @@ pub record IsUpsert (t : Table) (m : Merging) (sql : List ℕ) : Type 0 where
 -- the command, at the table's place, and what it shows
 abbrev pub upsert_as : ℕ → Table → Merging → Command
 upsert_as at t m = InsertOr at Abort (source_of_row t m.given)
-    (record { target = Some m.key; update = Some (record { lets = []; body = set_query t m }) } ∷ [])
+    (record { target = Some m.key; update = Some (record { lets = []; body = set_query t m }) }
+    ∷ [])
 
 abbrev pub returning_as : Merging → Returning
 returning_as m = record { names = m.names; row = shown_source m }

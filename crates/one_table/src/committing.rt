@@ -60,7 +60,8 @@ pub fn change_once<S: Alter, C: Change<S>>(
     ensures told { HasCleanDisk (state S.Store conn.new)
         → IfErr result (Tells (C.tells change.now) (state S.Store conn.old).now) }
     ensures refused { HasCleanDisk (state S.Store conn.new)
-        → IfErr result (FailsInside S.Store (C.fails change.now) conn.old (state S.Store conn.new)) }
+        → IfErr result
+        (FailsInside S.Store (C.fails change.now) conn.old (state S.Store conn.new)) }
     ensures undone { HasCleanDisk (state S.Store conn.new)
         → OnErr result (IsUndone (state S.Store conn.old) (state S.Store conn.new)) }
     ensures doubted { HasCleanDisk (state S.Store conn.new)

@@ -29,7 +29,8 @@ pub export_fields-are : (s : Sale) (number moment shift operator order_ref meter
 export_fields-are s number moment shift operator order_ref meter base tid tenths price tender change token e1 e2 e3 e4 e5 e6 e7 e8 e9 e10 e11 e12 e13 =
     rw (e1, e2, e3, e4, e5, e6, e7, e8, e9, e10, e11, e12, e13)
 
--- what an `into_inner` gives, with its error mapped: a vector that has the bytes that the writer held
+-- what an `into_inner` gives, with its error mapped: a vector that has the bytes that the writer
+-- held
 pub items_given : {E F : Type 0} (Q : E → F → Type 0) (r : Result (Vec ℕ Global) E) (s : Result (Vec ℕ Global) F) (held bytes : List ℕ)
     → Some held ≡ Some bytes → IfOk r (λ w. w.items ≡ held) → MatchResult r (λ w. s ≡ Ok w) (λ e. IsErrAnd s (Q e)) → IfOk s (λ w. w.items ≡ bytes)
 items_given Q (Ok w) s held bytes same keeps given = let items : w.items ≡ bytes = cc in rw given items

@@ -34,7 +34,8 @@ pub time-parts : (moment : ℕ) (c : Civil) → c ≡ civil_at moment
 unfolding time_text iso_date
 time-parts moment c shown = rw shown (simp append_assoc)
 
--- the line of a sale is its number with a space, its meter, and its amounts with a space before each and a line feed
+-- the line of a sale is its number with a space, its meter, and its amounts with a space before
+-- each and a line feed
 pub sale_line-parts : (old number amounts : List ℕ) (s : Sale) → number ≡ right 10 (decimal s.number) ++ 32 ∷ []
     → amounts ≡ 32 ∷ (right 8 (decimal s.tenths) ++ 32 ∷ (right 9 (decimal s.price) ++ 32 ∷ (right 9 (decimal s.tender) ++ 32 ∷ (right 9 (decimal (change_of s)) ++ 10 ∷ []))))
     → ((old ++ number) ++ s.meter) ++ amounts ≡ old ++ sale_line s

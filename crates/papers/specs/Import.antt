@@ -21,7 +21,8 @@ unfoldable pub AreSaid : FileForm → List Fields → List Row → Type 0
 AreSaid form [] [] = ⊤
 AreSaid form [] (row ∷ rows) = ⊥
 AreSaid form (fields ∷ records) [] = ⊥
-AreSaid form (fields ∷ records) (row ∷ rows) = RecordSays form fields row × AreSaid form records rows
+AreSaid form (fields ∷ records) (row ∷ rows) =
+    RecordSays form fields row × AreSaid form records rows
 
 -- the rows of a file in a form, at most 10000: its records are the header, and then one that says
 -- each row
@@ -77,14 +78,15 @@ IsNoRow kind records number cause =
     (form : FileForm) × HasForm kind records form
     × (fields : Fields) × IsRowAt records number fields × HasCause form fields cause
 
--- the fault that a file has at a number: at 0 it has no header of its kind, from 1 to 10000 a record
--- that says no row, and at 10001 a record too many, whatever it holds
+-- the fault that a file has at a number: at 0 it has no header of its kind, from 1 to 10000 a
+-- record that says no row, and at 10001 a record too many, whatever it holds
 abbrev pub FileHasFault : FileKind → List Fields → ℕ → RowCause → Type 0
 FileHasFault kind records number Header =
     (number ≡ 0) × ((form : FileForm) → ¬ HasForm kind records form)
 FileHasFault kind records number Columns = IsNoRow kind records number Columns
 FileHasFault kind records number (Field k) = IsNoRow kind records number (Field k)
-FileHasFault kind records number TooManyRows = (number ≡ greatest_rows + 1) × (number < length records)
+FileHasFault kind records number TooManyRows =
+    (number ≡ greatest_rows + 1) × (number < length records)
 FileHasFault kind records number Differs = ⊥
 FileHasFault kind records number NoTariff = ⊥
 FileHasFault kind records number DayPast = ⊥

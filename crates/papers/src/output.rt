@@ -4,8 +4,8 @@ ghost use Rattle.std.specs.Prelude.{◌≢◌, Err};
 use crate::fault::TextFault;
 use std::io::Write;
 
-/// Hands a whole text to a writer, by as many writes as it takes. Where the writer fails or takes no
-/// byte, it has a beginning of the text and no more.
+/// Hands a whole text to a writer, by as many writes as it takes. Where the writer fails or takes
+/// no byte, it has a beginning of the text and no more.
 pub fn write_whole<W: Write>(text: &[u8], out: &mut W) -> Result<(), TextFault>
     ensures written { IsWritten (W.contents out.old) (W.contents out.new) text.now result }
     ensures never_memory { result ≢ Err TextFault.Memory }

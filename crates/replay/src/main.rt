@@ -1,10 +1,10 @@
-//! Replays lists of requests on three offices: over plain vectors, in memory, and in a file. Each reply
-//! is compared with the one that the list has.
+//! Replays lists of requests on three offices: over plain vectors, in memory, and in a file. Each
+//! reply is compared with the one that the list has.
 //!
-//! A list is a file `NAME.txt` in the folder that the program runs in. `lists.txt` has a line for each
-//! list: its name, and the formats that the tables are taken back to between its lives, if any. For each
-//! list a line is printed, after a line for each reply that is another. A list that cannot be read ends
-//! the program with status 1.
+//! A list is a file `NAME.txt` in the folder that the program runs in. `lists.txt` has a line for
+//! each list: its name, and the formats that the tables are taken back to between its lives, if
+//! any. For each list a line is printed, after a line for each reply that is another. A list that
+//! cannot be read ends the program with status 1.
 //!
 //! No function has a contract beyond that it returns.
 #![tactic(auto)]

@@ -28,9 +28,9 @@ struct Offices<'a> {
     outcome: Outcome<'a>,
 }
 
-/// The outcome of these lives, from empty offices on. Every second life ends without a close, as a program
-/// that is killed. These statements, by turns, take tables back: those in memory before each opening but
-/// the first, and those in the file after each life that ends with a close.
+/// The outcome of these lives, from empty offices on. Every second life ends without a close, as a
+/// program that is killed. These statements, by turns, take tables back: those in memory before
+/// each opening but the first, and those in the file after each life that ends with a close.
 pub(crate) fn replay<'a>(
     rt: &HostRuntime,
     lives: Vec<ListedLife<'_>>,

@@ -85,7 +85,8 @@ impl Outcome<'_> {
         self.text.push_str(note.as_str())
     }
 
-    /// The same. A line does not have all fields of a reply: these have to be those of plain vectors.
+    /// The same. A line does not have all fields of a reply: these have to be those of plain
+    /// vectors.
     pub(crate) fn compare_reply(
         &mut self,
         alloc: Global,

@@ -39,7 +39,8 @@ pub record MeterHolds {T : Type 0} (taken : Taken) (meter : Meter T) : Type 0 wh
   pub credit : meter.credit ≡ min (2 ^ 64 - 1) (sum taken.amounts)
 
 -- the meter reads texts as `read`, and was given these entries since it was new
-pub record ComesFrom {T : Type 0} (inverses : T → BlockFunction) (read : Reader) (history : List Entry)
+pub record ComesFrom {T : Type 0} (inverses : T → BlockFunction) (read : Reader)
+    (history : List Entry)
     (meter : Meter T) : Type 0 where
   pub reads : (text : Text) → reading_of (inverses meter.transform) meter.key text ≡ read text
   pub holds : MeterHolds (taken_over read history) meter

@@ -23,7 +23,8 @@ below_true_first t places are =
                 let at_first = get_or-map (is_below t) places first 0 false (omega arith) in
                 let at_later = get_or-map (is_below t) places later 0 false (omega arith) in
                 let rises = are.upward first later 0 (omega arith) (omega arith) in
-                let stays : ltb (get_or places first 0) t ≡ false → ltb (get_or places later 0) t ≡ false =
+                let stays : ltb (get_or places first 0) t ≡ false → ltb (get_or places later 0) t
+                ≡ false =
                 λ less. grind (arith, nat_tests) in
                 at_later ∙ stays (sym at_first ∙ none)
             | inr past ↦ get_or_past (map (is_below t) places) later false (omega arith)

@@ -27,7 +27,8 @@ pub record IsOfClassZero (text : Text) : Type 0 where
 
 -- the text has the number of a transformed block that is, inverted, the block of these fields in
 -- this subclass
-pub record Carries (inverse : BlockFunction) (key : ℕ) (text : Text) (subclass : ℕ) (f : TokenFields) :
+pub record Carries (inverse : BlockFunction) (key : ℕ) (text : Text) (subclass : ℕ)
+    (f : TokenFields) :
     Type 0 where
   pub subclass_bits : subclass < 2 ^ 4
   pub fields : AreFields f
@@ -75,7 +76,8 @@ block_reading block =
     else (if not (block / 2 ^ 60 == 0) then Err WrongSubclass
     else Ok (fields_in block))
 
-unfoldable pub reading_of : (inverse : BlockFunction) (key : ℕ) (text : Text) → Result TokenFields TokenFault
+unfoldable pub reading_of : (inverse : BlockFunction) (key : ℕ) (text : Text)
+    → Result TokenFields TokenFault
 reading_of inverse key text =
     if not (is_twenty_digits text) then Err NotTwentyDigits
     else (if nat_le (2 ^ 66) (number_in text) then Err TooLarge

@@ -19,7 +19,8 @@ entries_of forward key fields = map (λ f. entered (token_of forward key f)) fie
 
 -- how many of the tokens sold later than f are among those that came
 abbrev pub later_come : List TokenFields → List TokenFields → TokenFields → ℕ
-later_come sold came f = count_by (λ g. nat_lt f.tid g.tid && is_member (map tid_of came) g.tid) sold
+later_come sold came f =
+    count_by (λ g. nat_lt f.tid g.tid && is_member (map tid_of came) g.tid) sold
 
 -- those of the tokens sold that the meter accepted over these entries
 abbrev pub sold_accepted : Reader → List Entry → List TokenFields → List TokenFields

@@ -18,7 +18,8 @@ pub record AreTwentyDigits (text : Text) : Type 0 where
   pub digits : AllPass is_ascii_digit text
 
 -- the text is the token of the fields: its number is that of their block, transformed with the key
-pub record IsToken (forward : BlockFunction) (key : ℕ) (f : TokenFields) (text : Text) : Type 0 where
+pub record IsToken (forward : BlockFunction) (key : ℕ) (f : TokenFields)
+    (text : Text) : Type 0 where
   pub digits : AreTwentyDigits text
   pub number : digits_value 10 text ≡ number_of (forward key (block_of 0 f))
 

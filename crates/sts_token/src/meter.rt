@@ -36,7 +36,8 @@ pub fn meter_law()
         → Contains sold f → ¬ Contains came f
         → (Accepts (reading_of inverse key) (entries_of forward key came) (token_of forward key f) f
         ↔ (later_come sold came f < 50)) }
-    ensures in_order { (forward inverse : BlockFunction) (key : ℕ) (earlier later : List TokenFields)
+    ensures in_order { (forward inverse : BlockFunction) (key : ℕ)
+        (earlier later : List TokenFields)
         (f : TokenFields)
         → IsTransform forward inverse → key < 2 ^ 64 → AreSold (earlier ++ f ∷ later)
         → Accepts (reading_of inverse key) (entries_of forward key earlier)
@@ -48,7 +49,8 @@ pub fn meter_law()
         → credit_of (reading_of inverse key) (entries_of forward key came)
         ≡ sum_by (λ f. f.tenths)
         (sold_accepted (reading_of inverse key) (entries_of forward key came) sold) }
-    ensures at_most_sold { (forward inverse : BlockFunction) (key : ℕ) (sold came : List TokenFields)
+    ensures at_most_sold { (forward inverse : BlockFunction) (key : ℕ)
+        (sold came : List TokenFields)
         → IsTransform forward inverse → key < 2 ^ 64 → AreSold sold → All (Contains sold) came
         → credit_of (reading_of inverse key) (entries_of forward key came)
         ≤ sum_by (λ f. f.tenths) sold }

@@ -15,7 +15,8 @@ use Rattle.sqlite_wal.specs.Reads.{AreClean}
 use Rattle.books.specs.Keeps.{Seen}
 
 -- so a connection to two files shows itself
-pub record IsSeenAs {D : Type 0} {g : Ghosts D} (conn : Held (FileStore D g)) (s : State) : Type 0 where
+pub record IsSeenAs {D : Type 0} {g : Ghosts D} (conn : Held (FileStore D g))
+    (s : State) : Type 0 where
   pub now : s.now ≡ (file_state conn).now
   pub committed : s.committed ≡ (file_state conn).committed
   pub is_open : s.is_open ≡ (file_state conn).is_open
@@ -24,11 +25,13 @@ pub record IsSeenAs {D : Type 0} {g : Ghosts D} (conn : Held (FileStore D g)) (s
   pub left : (trees : Trees) → s.may_leave trees → (file_state conn).may_leave trees
   pub leaves : (trees : Trees) → (file_state conn).may_leave trees → s.may_leave trees
 
--- They were closed, the database file alone holds what the books last committed, and holds it after a
--- crash too; or there is a cause why they could not be closed. Either way a crash leaves of the files
--- nothing that it could not leave of the books, and these files were let go.
-pub data IsClosed {D : Type 0} (g : Ghosts D) (LetsGo : D → D → Type 0) (books : Seen) : Type 0 where
-  closed : (conn : Held (FileStore D g)) (last : FileStore D g) (here : Files D) → IsSeenAs conn books.state
+-- They were closed, the database file alone holds what the books last committed, and holds it after
+-- a crash too; or there is a cause why they could not be closed. Either way a crash leaves of the
+-- files nothing that it could not leave of the books, and these files were let go.
+pub data IsClosed {D : Type 0} (g : Ghosts D) (LetsGo : D → D → Type 0)
+    (books : Seen) : Type 0 where
+  closed : (conn : Held (FileStore D g)) (last : FileStore D g) (here : Files D)
+      → IsSeenAs conn books.state
       → ClosesAs conn last → files last ≡ (here.log, here.db)
       → (AreClean g here.log here.db → IsCopied conn here) → LetsGo here.log here.db
       → IsClosed g LetsGo books

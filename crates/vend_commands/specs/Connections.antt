@@ -28,10 +28,10 @@ GoOn old new Goes = HasCleanDisk new.state → (life : Life) → Represents life
     → (after : Life) × Goes life after × Represents after new × LeavesOthers old.state new.state
 
 module _ {D R W B : Type 0} (way : Way D R W) (see : B → Seen) where
-  -- A connection came in, the desk held its conversation over what it sends and what it is sent, and it
-  -- was let go as the conversation left it. No more was read than the desk may ask for, nor before the
-  -- replies to what came before it were written. Every life that the books kept goes on by that, and by
-  -- nothing beside.
+  -- A connection came in, the desk held its conversation over what it sends and what it is sent,
+  -- and it was let go as the conversation left it. No more was read than the desk may ask for, nor
+  -- before the replies to what came before it were written. Every life that the books kept goes on
+  -- by that, and by nothing beside.
   pub record IsHeld (old new : Service D B) : Type 0 where
     pub reader : R
     pub writer : W
@@ -43,11 +43,13 @@ module _ {D R W B : Type 0} (way : Way D R W) (see : B → Seen) where
         (new.books, new.answers) (way.remaining reader) (way.remaining read)
         (way.contents writer) (way.contents written) end
     pub paced : (uses : List Use) × IsPaced (answers_by (books_serve see)) (old.books, old.answers)
-        (way.remaining reader) (way.remaining read) (way.contents writer) (way.contents written) uses
+        (way.remaining reader) (way.remaining read) (way.contents writer)
+        (way.contents written) uses
     pub clean : HasCleanDisk (see new.books).state → HasCleanDisk (see old.books).state
     pub lives : GoOn (see old.books) (see new.books) (λ life after.
         IsRun (answers_by life_serves) message_refusal_of (life, old.answers) (after, new.answers)
-        (way.remaining reader) (way.remaining read) (way.contents writer) (way.contents written) end)
+        (way.remaining reader) (way.remaining read) (way.contents writer)
+        (way.contents written) end)
     pub ended : way.ends read written
 
   -- no connection could be had, and nothing else has changed
@@ -89,7 +91,8 @@ module _ {D R W B : Type 0} (way : Way D R W) (forward : BlockFunction) (see : B
     pub are_ready : AreReady see forward last.books ready
     pub unheld : IsUnheld way see (service last.door ready last.answers) new
 
-  -- after fewer the file of stopped books could not be opened again, and nothing else has changed since
+  -- after fewer the file of stopped books could not be opened again, and nothing else has changed
+  -- since
   pub record IsLost (loses : OpenFault → Type 0) (asked : ℕ) (old : Service D B) (new_door : D)
       (left : Option (List ℤ)) (fault : OpenFault) : Type 0 where
     pub count : ℕ

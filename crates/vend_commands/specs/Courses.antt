@@ -23,7 +23,8 @@ course over life = record { over = over; life = life }
 -- the same life goes on; or the next one does, of an office that the one before may leave
 abbrev pub IsNext : BlockFunction → (old new : Course) → Type 0
 IsNext forward old new = (new ≡ old)
-    ⊎ ((o : Office) × MayLeave old.life o × (new ≡ course (with_last old.over old.life) (opened forward o)))
+    ⊎ ((o : Office) × MayLeave old.life o
+    × (new ≡ course (with_last old.over old.life) (opened forward o)))
 
 module _ {D R W : Type 0} (way : Way D R W) where
   -- a connection came in, the life went on by the conversation over its bytes, and it was let go
@@ -47,9 +48,10 @@ module _ {D R W : Type 0} (way : Way D R W) where
       × ((next : Course) × IsNext forward mid.books next
       × GoesOnBy (service mid.door next mid.answers) new)
 
--- The lives of some books go on along so many connections, to lives of the same office of which these
--- books keep the last.
-abbrev pub LiveOn : {D R W B : Type 0} → Way D R W → BlockFunction → (B → Seen) → ℕ → Service D Course
+-- The lives of some books go on along so many connections, to lives of the same office of which
+-- these books keep the last.
+abbrev pub LiveOn : {D R W B : Type 0} → Way D R W → BlockFunction → (B → Seen) → ℕ
+    → Service D Course
     → Service D B → Type 0
 LiveOn way forward see count old new = (last : Course)
     × AreLived way forward count old (service new.door last new.answers)

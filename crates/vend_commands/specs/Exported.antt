@@ -25,13 +25,13 @@ abbrev pub IsPageOf : (old new : Seen) → ℕ → List Sale → Type 0
 IsPageOf old new page sales = HasCleanDisk new.state → (life : Life) → Represents life old
     → sales ≡ page_of (present life).sales page
 
--- a page is refused for want of memory, for its sales or its text; or as the store failed, or the books
--- are stopped
+-- a page is refused for want of memory, for its sales or its text; or as the store failed, or the
+-- books are stopped
 abbrev pub IsPageRefusal : Refusal → Type 0
 IsPageRefusal refusal = (refusal ≡ Memory) ⊎ ((refusal ≡ Store) ⊎ (refusal ≡ Stopped))
 
--- the sales of the page are printed, the first page behind the header, and another page follows where
--- it is full and no write failed; or it was refused for such a cause, and nothing was printed
+-- the sales of the page are printed, the first page behind the header, and another page follows
+-- where it is full and no write failed; or it was refused for such a cause, and nothing was printed
 abbrev pub IsPage : (old new : Seen) → ℕ → (before after : Sink) → Result Bool Refusal → Type 0
 IsPage old new page before after (Ok more) =
     (sales : List Sale) × IsPageOf old new page sales
@@ -52,8 +52,8 @@ abbrev pub export_stop_end : Option Refusal → End
 export_stop_end None = how.Done
 export_stop_end (Some refusal) = how.Refused
 
--- the text is a beginning of the export of all these sales; it is the whole where no page was refused
--- and no write failed
+-- the text is a beginning of the export of all these sales; it is the whole where no page was
+-- refused and no write failed
 pub record IsExportOf (sales : List Sale) (text : Text) (stop : Option Refusal) (failed : Bool) :
     Type 0 where
   pub begins : (rest : Text) × (text ++ rest ≡ export_of true sales)

@@ -26,7 +26,8 @@ refusal_of_rows (At row cause) = refusal.ImportRow row cause
 refusal_of_rows Memory = refusal.Memory
 
 -- rows that were read go to the office as one request; a fault is told, and no office is found
-abbrev pub AreAdded : {S : Type 0} → Ghosts S → (Text → Place) → (untouched : Type 0) → ImportWords → ℕ
+abbrev pub AreAdded : {S : Type 0} → Ghosts S → (Text → Place) → (untouched : Type 0)
+    → ImportWords → ℕ
     → Result (List Row) RowFault → Outputs → End → Type 0
 AreAdded store at untouched words moment (Ok rows) o end =
     IsAskedAt store at words.transform words.file.now moment (Import rows) o end
@@ -34,7 +35,8 @@ AreAdded store at untouched words moment (Err fault) o end =
     untouched × IsTold o [] (refusal_line (refusal_of_rows fault)) Refused end
 
 -- the rows of these bytes, by their kind, are added
-abbrev pub IsImported : {S : Type 0} → Ghosts S → (Text → Place) → (untouched : Type 0) → ImportWords → ℕ
+abbrev pub IsImported : {S : Type 0} → Ghosts S → (Text → Place) → (untouched : Type 0)
+    → ImportWords → ℕ
     → List ℕ → Outputs → End → Type 0
 IsImported store at untouched words moment bytes o end =
     (records : List Fields) × (rows : Result (List Row) RowFault)
@@ -46,10 +48,11 @@ abbrev pub read_fault_line : ReadFault → Text
 read_fault_line read.Unreadable = file_line
 read_fault_line read.Memory = refusal_line refusal.Memory
 
--- the file of the words has some bytes, which are imported; or it is not read, and that is told, and no
--- office is found
+-- the file of the words has some bytes, which are imported; or it is not read, and that is told,
+-- and no office is found
 abbrev pub IsFileImported : {S : Type 0} → Ghosts S → (Text → Place) → (untouched : Type 0)
-    → (Text → List ℕ → Type 0) → (Text → ReadFault → Type 0) → ImportWords → ℕ → Outputs → End → Type 0
+    → (Text → List ℕ → Type 0) → (Text → ReadFault → Type 0) → ImportWords → ℕ → Outputs → End
+    → Type 0
 IsFileImported store at untouched Reads Lacks words moment o end =
     ((bytes : List ℕ) × Reads words.csv.now bytes
     × IsImported store at untouched words moment bytes o end)

@@ -19,7 +19,8 @@ use Rattle.vend_commands.specs.declared.end.End.{End}
 use Rattle.vend_commands.specs.declared.end.End.TheVariants.{Done, Refused}
 
 -- the door listens at the address of the words, and at which port was told whole
-pub record Listens {D R W : Type 0} (way : Way D R W) (address : Address) (old new : D) (err_old err_new : Sink)
+pub record Listens {D R W : Type 0} (way : Way D R W) (address : Address) (old new : D)
+    (err_old err_new : Sink)
     : Type 0 where
   pub port : ℕ
   pub is_port : IsPortFor address port
@@ -27,9 +28,11 @@ pub record Listens {D R W : Type 0} (way : Way D R W) (address : Address) (old n
   pub told : Takes err_old err_new (listening_line address port)
   pub heard : err_new.failed ≡ false
 
--- why nobody is served: there is no room for the desk, and the door is as it was; or the door could not
--- listen, and that is told; or it listens, and there is no room to say where, or that cannot be told
-pub data IsDeaf {D R W : Type 0} (way : Way D R W) (address : Address) (old new : D) (err_old err_new : Sink)
+-- why nobody is served: there is no room for the desk, and the door is as it was; or the door could
+-- not listen, and that is told; or it listens, and there is no room to say where, or that cannot be
+-- told
+pub data IsDeaf {D R W : Type 0} (way : Way D R W) (address : Address) (old new : D)
+    (err_old err_new : Sink)
     : Type 0 where
   no_room : new ≡ old → Takes err_old err_new (refusal_line Memory)
       → IsDeaf way address old new err_old err_new
@@ -37,11 +40,13 @@ pub data IsDeaf {D R W : Type 0} (way : Way D R W) (address : Address) (old new 
       → IsDeaf way address old new err_old err_new
   no_text : (port : ℕ) → IsPortFor address port → way.listens old address port new
       → Takes err_old err_new (refusal_line Memory) → IsDeaf way address old new err_old err_new
-  not_told : (port : ℕ) → IsPortFor address port → way.listens old address port new → err_new.failed ≡ true
-      → Takes err_old err_new (listening_line address port) → IsDeaf way address old new err_old err_new
+  not_told : (port : ℕ) → IsPortFor address port → way.listens old address port new
+      → err_new.failed ≡ true
+      → Takes err_old err_new (listening_line address port)
+      → IsDeaf way address old new err_old err_new
 
--- how it ends: all connections were served; or one could not be had, or the file of stopped books was
--- not opened again, and that is told
+-- how it ends: all connections were served; or one could not be had, or the file of stopped books
+-- was not opened again, and that is told
 abbrev pub stop_line : {B : Type 0} → Result (B × Bool) OpenFault → Text
 stop_line (Ok (books, true)) = []
 stop_line (Ok (books, false)) = net_line
@@ -57,10 +62,12 @@ abbrev pub IsClosedAfter : {B : Type 0} → (B → Type 0) → Result (B × Bool
 IsClosedAfter Closes (Ok (books, all)) = Closes books
 IsClosedAfter Closes (Err fault) = ⊤
 
--- Books were open to connections, which were served, and it ended so. The door is left as the last of them
--- left it: so none came in beside.
-pub record WereOpen {S D R W : Type 0} (store : Ghosts S) (way : Way D R W) (place : Place) (words : ServeWords)
-    (old : Books S Shipped store) (door : D) (answers : Option (List ℤ)) (err_old err_new : Sink) (end : End)
+-- Books were open to connections, which were served, and it ended so. The door is left as the last
+-- of them left it: so none came in beside.
+pub record WereOpen {S D R W : Type 0} (store : Ghosts S) (way : Way D R W) (place : Place)
+    (words : ServeWords)
+    (old : Books S Shipped store) (door : D) (answers : Option (List ℤ)) (err_old err_new : Sink)
+    (end : End)
     : Type 0 where
   pub listening : D
   pub mid : Sink
@@ -76,9 +83,12 @@ pub record WereOpen {S D R W : Type 0} (store : Ghosts S) (way : Way D R W) (pla
   pub ends : end ≡ serving_end served
 
 -- The file is not opened, and that is told; or books are opened in it, and nobody is served, or
--- connections are, until it ends. Then the file is closed as it was left. In each case the door is left.
-pub data IsServing {S D R W : Type 0} (store : Ghosts S) (way : Way D R W) (at : Text → Place) (door : D)
-    (answers : Option (List ℤ)) (words : ServeWords) (err_old err_new : Sink) (end : End) : Type 0 where
+-- connections are, until it ends. Then the file is closed as it was left. In each case the door is
+-- left.
+pub data IsServing {S D R W : Type 0} (store : Ghosts S) (way : Way D R W) (at : Text → Place)
+    (door : D)
+    (answers : Option (List ℤ)) (words : ServeWords) (err_old err_new : Sink)
+    (end : End) : Type 0 where
   unopened : (fault : OpenFault) → (at words.file.now).fails fault → way.leaves door
       → Takes err_old err_new (opening_line fault) → end ≡ Refused
       → IsServing store way at door answers words err_old err_new end
@@ -92,7 +102,8 @@ pub data IsServing {S D R W : Type 0} (store : Ghosts S) (way : Way D R W) (at :
       → IsServing store way at door answers words err_old err_new end
 
 -- it is served so, and the output is given nothing
-abbrev pub IsServedTo : {S D R W : Type 0} → Ghosts S → Way D R W → (Text → Place) → D → Option (List ℤ)
+abbrev pub IsServedTo : {S D R W : Type 0} → Ghosts S → Way D R W → (Text → Place) → D
+    → Option (List ℤ)
     → ServeWords → Outputs → End → Type 0
 IsServedTo store way at door answers words o end =
     (o.new ≡ o.old) × IsServing store way at door answers words o.err_old o.err_new end

@@ -7,8 +7,9 @@ use Rattle.books.specs.Keeps.{Seen}
 use Rattle.books.specs.Path.{OpensFiles}
 use Rattle.vend_commands.specs.Closed.{IsSeenAs}
 
--- The books opened an office over a connection that was just made to the files. It was there, and stays
--- as it is, or it was made, or brought to the present format; and tables of other names stay as they are.
+-- The books opened an office over a connection that was just made to the files. It was there, and
+-- stays as it is, or it was made, or brought to the present format; and tables of other names stay
+-- as they are.
 pub record OpensIn {D : Type 0} (g : Ghosts D) (image : Image) (books : Seen) : Type 0 where
   pub conn : Held (FileStore D g)
   pub seen_as : IsSeenAs conn books.state

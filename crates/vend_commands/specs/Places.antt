@@ -18,9 +18,9 @@ use Rattle.vend_commands.specs.declared.ports.OfficeFile as file
 use Rattle.vend_commands.specs.declared.ports.SaltSource as source
 use Rattle.vend_commands.specs.declared.read_fault.ReadFault.{ReadFault}
 
--- No office was opened: no files were found at its path, or two were, and there was no salt for a new
--- log, or the office in them was refused. Then these are taken from what the refusal gave back, which
--- says what they hold, and let go.
+-- No office was opened: no files were found at its path, or two were, and there was no salt for a
+-- new log, or the office in them was refused. Then these are taken from what the refusal gave back,
+-- which says what they hold, and let go.
 pub data IsUnopened {D S : Type 0} (disk : disk.Ghosts D) (salts : source.Ghosts S)
     (finds lets_go : D → D → Type 0) (fails : OpenFault → Type 0) (fault : OpenFault) : Type 0 where
   unfound : fails fault → IsUnopened disk salts finds lets_go fails fault
@@ -36,8 +36,8 @@ abbrev pub IsUnreopened : {S : Type 0} → source.Ghosts S → OpenFault → Typ
 IsUnreopened {S} salts fault = (it : S)
     × ((salts.lacks it × (fault ≡ Store)) ⊎ ((salt : ℕ) × salts.draws it salt))
 
--- a file at a path: what it holds, that it was found, how an office was opened there and why none was,
--- how it is closed, and why it is not opened again
+-- a file at a path: what it holds, that it was found, how an office was opened there and why none
+-- was, how it is closed, and why it is not opened again
 pub record Place : Type 1 where
   pub image : Image
   pub finds : Type 0
@@ -46,8 +46,9 @@ pub record Place : Type 1 where
   pub closes : Seen → Type 0
   pub loses : OpenFault → Type 0
 
--- What a door tells: where it listens or that it could not, which connection came in or that none could
--- be had, that it was let go, and that the door was left; and what is known of the bytes of its halves.
+-- What a door tells: where it listens or that it could not, which connection came in or that none
+-- could be had, that it was let go, and that the door was left; and what is known of the bytes of
+-- its halves.
 pub record Way (D R W : Type 0) : Type 1 where
   pub listens : D → Address → ℕ → D → Type 0
   pub fails : D → Address → D → Type 0
@@ -70,8 +71,8 @@ way of remaining contents = record {
   contents = contents;
 }
 
--- the files that keep offices and that none of them was found, the files that are read, the answers of the
--- clock, and the door
+-- the files that keep offices and that none of them was found, the files that are read, the answers
+-- of the clock, and the door
 pub record Machine (D R W : Type 0) : Type 1 where
   pub at : Text → Place
   pub untouched : Type 0
@@ -82,7 +83,8 @@ pub record Machine (D R W : Type 0) : Type 1 where
   pub door : D
 
 -- what keeps offices has a file at each path
-abbrev pub places_of : {H D S : Type 0} → (disk : disk.Ghosts D) → source.Ghosts S → file.Ghosts H D S
+abbrev pub places_of : {H D S : Type 0} → (disk : disk.Ghosts D) → source.Ghosts S
+    → file.Ghosts H D S
     → H → Text → Place
 places_of {H} {D} {S} disk salts of office path = record {
   image = of.image office path;
@@ -101,7 +103,8 @@ IsShut m = m.way.leaves m.door
 abbrev pub IsIdle : {D R W : Type 0} → Machine D R W → Type 0
 IsIdle m = m.untouched × IsShut m
 
-abbrev pub machine : {D R W : Type 0} → (Text → Place) → (untouched : Type 0) → (Text → List ℕ → Type 0)
+abbrev pub machine : {D R W : Type 0} → (Text → Place) → (untouched : Type 0)
+    → (Text → List ℕ → Type 0)
     → (Text → ReadFault → Type 0) → Option (List ℤ) → Way D R W → D → Machine D R W
 machine at untouched reads lacks answers way door = record {
   at = at;

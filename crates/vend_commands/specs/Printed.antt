@@ -60,7 +60,8 @@ abbrev pub opening_line : OpenFault → Text
 opening_line fault =
     line_of (codes "open" ∷ decimal (open_fault_number fault) ∷ open_fault_name fault ∷ [])
 
--- that it is done, how many rows an import added, the number of a shift, and a selfcheck that found no fault
+-- that it is done, how many rows an import added, the number of a shift, and a selfcheck that found
+-- no fault
 abbrev pub done_line : Text
 done_line = line_of (codes "done" ∷ [])
 

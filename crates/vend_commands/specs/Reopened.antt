@@ -13,7 +13,8 @@ pub record IsNextOf (old new : State) : Type 0 where
   pub live : IsLive new
   pub left : ∥ old.may_leave new.committed.trees ∥₁
 
--- books opened what others may have left: they keep the life that opens the office that this stands for
+-- books opened what others may have left: they keep the life that opens the office that this stands
+-- for
 abbrev pub OpensLeft : BlockFunction → (old new : Seen) → Type 0
 OpensLeft forward old new = (trees : Trees) × old.state.may_leave trees
     × ((o : Office) → RecoversTo trees o → Represents (opened forward o) new)

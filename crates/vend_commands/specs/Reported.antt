@@ -18,8 +18,10 @@ use Rattle.vend_commands.specs.declared.end.End.{End}
 
 -- a report or a receipt is asked for at the first moment, since it is the same at each
 abbrev pub PrintsPaper : Paper → (old new : Seen) → Outputs → End → Type 0
-PrintsPaper (Shift number) old new o end = IsServedAndTold first_moment (ShiftReport number) old new o end
-PrintsPaper (Receipt number) old new o end = IsServedAndTold first_moment (Reprint number) old new o end
+PrintsPaper (Shift number) old new o end =
+    IsServedAndTold first_moment (ShiftReport number) old new o end
+PrintsPaper (Receipt number) old new o end =
+    IsServedAndTold first_moment (Reprint number) old new o end
 PrintsPaper (Totals number) old new o end = IsTotalled number old new o end
 PrintsPaper Sales old new o end = IsExported old new o end
 
@@ -27,4 +29,5 @@ PrintsPaper Sales old new o end = IsExported old new o end
 abbrev pub IsReported : {S : Type 0} → Ghosts S → (Text → Place) → ReportWords → Outputs → End
     → Type 0
 IsReported store at words o end =
-    IsVisited store (at words.file.now) Plain (λ old new. PrintsPaper words.paper old new o end) o end
+    IsVisited store (at words.file.now) Plain
+    (λ old new. PrintsPaper words.paper old new o end) o end

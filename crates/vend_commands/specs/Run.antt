@@ -25,9 +25,10 @@ use Rattle.command_line.specs.declared.asked.Asked.TheVariants.{Trial, Import, R
 use Rattle.vend_commands.specs.declared.end.End.{End}
 use Rattle.vend_commands.specs.declared.end.End.TheVariants.{Done, Refused, BadWords}
 
--- What is asked for is done, and nothing of the machine is used beside: where no office is needed none is
--- found, and only `serve` has the door.
-abbrev pub IsCarriedOut : {S D R W : Type 0} → Ghosts S → Machine D R W → Asked → Outputs → End → Type 0
+-- What is asked for is done, and nothing of the machine is used beside: where no office is needed
+-- none is found, and only `serve` has the door.
+abbrev pub IsCarriedOut : {S D R W : Type 0} → Ghosts S → Machine D R W → Asked → Outputs → End
+    → Type 0
 IsCarriedOut store m (Trial words) o end =
     IsIdle m × IsTimed ⊤ words.at m.answers (λ moment. IsTried words moment o end) o end
 IsCarriedOut store m (Import words) o end = IsShut m × IsTimed m.untouched words.at m.answers
@@ -38,10 +39,11 @@ IsCarriedOut store m (Report words) o end = IsShut m × IsReported store m.at wo
 IsCarriedOut store m (Meter words) o end = IsIdle m × IsMetered words o end
 IsCarriedOut store m (Quote words) o end = IsIdle m × IsQuoted words o end
 IsCarriedOut store m (Serve words) o end = IsServedTo store m.way m.at m.door m.answers words o end
-IsCarriedOut store m (Selfcheck words) o end = IsIdle m × IsSelfchecked (HasReplies words.transform) o end
+IsCarriedOut store m (Selfcheck words) o end =
+    IsIdle m × IsSelfchecked (HasReplies words.transform) o end
 
--- what is said of words that are no command's: help, which goes to the output, or what is wrong with
--- them, which goes to the error output
+-- what is said of words that are no command's: help, which goes to the output, or what is wrong
+-- with them, which goes to the error output
 abbrev pub IsExplained : ErrorKind → Text → Outputs → End → Type 0
 IsExplained OutOfMemory text o end = ⊥
 IsExplained DisplayHelp text o end = IsTold o text [] Done end

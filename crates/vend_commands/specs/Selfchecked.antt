@@ -1,5 +1,5 @@
--- What `selfcheck` does: the desk answers two messages over memory, and the replies over a connection
--- are compared with those.
+-- What `selfcheck` does: the desk answers two messages over memory, and the replies over a
+-- connection are compared with those.
 use Rattle.std.specs.Prelude.{◌≡◌, ℕ, pos, List, [], ◌∷◌, ◌++◌, Some, None, Ok, codes}
 use Rattle.std.specs.Io.KnownBytes.{Appends}
 use Rattle.desk.specs.Answering.{answers_by, life_serves, message_refusal_of}
@@ -42,7 +42,8 @@ abbrev pub add_flat : Request
 add_flat = AddTariff flat_name (record { ends = None; price = 100 } ∷ [])
 
 abbrev pub add_selfcheck_meter : Request
-add_selfcheck_meter = AddMeter (codes "12345678903") (record { base = Y2014; tariff = flat_name; key = 0 })
+add_selfcheck_meter =
+    AddMeter (codes "12345678903") (record { base = Y2014; tariff = flat_name; key = 0 })
 
 abbrev pub open_selfcheck_shift : Request
 open_selfcheck_shift = OpenShift (codes "ann")
@@ -64,7 +65,8 @@ AreGranted (request ∷ requests) old new =
 -- the life of an empty office that was prepared to sell to a meter
 abbrev pub IsPrepared : BlockFunction → Life → Type 0
 IsPrepared forward life =
-    AreGranted (add_flat ∷ add_selfcheck_meter ∷ open_selfcheck_shift ∷ []) (opened forward empty_office) life
+    AreGranted (add_flat ∷ add_selfcheck_meter ∷ open_selfcheck_shift ∷ [])
+    (opened forward empty_office) life
 
 -- ---- the conversation
 
@@ -85,11 +87,13 @@ IsAnsweredFrom life unread held holds =
 -- the text is the replies of an office that was prepared to these messages
 abbrev pub AreReplies : BlockFunction → Text → Type 0
 AreReplies forward text =
-    (life : Life) × IsPrepared forward life × IsAnsweredFrom life (Some messages) (Some []) (Some text)
+    (life : Life) × IsPrepared forward life
+    × IsAnsweredFrom life (Some messages) (Some []) (Some text)
 
 -- the messages were written on this stream, and nothing more
 abbrev pub MessagesAreSent : {S : Type 0} → (contents : S → Held) → S → Type 0
-MessagesAreSent {S} contents stream = (fresh : S) × Appends (contents fresh) (contents stream) messages
+MessagesAreSent {S} contents stream =
+    (fresh : S) × Appends (contents fresh) (contents stream) messages
 
 -- the desk of an office so prepared answered all that came on one stream, and wrote that on another
 abbrev pub IsAnsweredOver : {S : Type 0} → (remaining contents : S → Held) → BlockFunction → Type 0
@@ -97,9 +101,10 @@ IsAnsweredOver {S} remaining contents forward =
     (life : Life) × IsPrepared forward life × (reader old new : S)
     × IsAnsweredFrom life (remaining reader) (contents old) (contents new)
 
--- The messages were sent on a stream of this kind, and the desk answered over such streams; all that
--- came back, where that is known, was exactly the replies that it writes over memory.
-pub record AgreesOver {S : Type 0} (remaining contents : S → Held) (forward : BlockFunction) : Type 0 where
+-- The messages were sent on a stream of this kind, and the desk answered over such streams; all
+-- that came back, where that is known, was exactly the replies that it writes over memory.
+pub record AgreesOver {S : Type 0} (remaining contents : S → Held)
+    (forward : BlockFunction) : Type 0 where
   pub text : Text
   pub replies : AreReplies forward text
   pub stream : S
@@ -113,9 +118,9 @@ HasReplies transform = (text : Text) × AreReplies (forward_of transform) text
 
 -- ---- what is told
 
--- what is told of a conversation over memory that ended so before all was answered: where a write failed there
--- was no room, since all that there is room for is taken; and where the desk itself found no memory the
--- replies are others
+-- what is told of a conversation over memory that ended so before all was answered: where a write
+-- failed there was no room, since all that there is room for is taken; and where the desk itself
+-- found no memory the replies are others
 abbrev pub fault_in_memory : conversation.End → SelfcheckFault
 fault_in_memory WriteFault = Refused refusals.Memory
 fault_in_memory end = Net

@@ -27,9 +27,11 @@ pub record IsOrdered (moment : ℕ) (order : Order) (office : Office) (at : Stam
   pub by_number : at.nibble ≡ (length office.sales + 1) % 16
   pub for_order : at.request ≡ Sell order
 
--- The output was given the receipt of the sale that the office's rules give for the order. The sale stands
--- in the office after it, and all that a crash may leave of the files stands for that office.
-pub record HasSold (forward : BlockFunction) (office : Office) (order : Order) (moment : ℕ) (o : Outputs)
+-- The output was given the receipt of the sale that the office's rules give for the order. The sale
+-- stands in the office after it, and all that a crash may leave of the files stands for that
+-- office.
+pub record HasSold (forward : BlockFunction) (office : Office) (order : Order) (moment : ℕ)
+    (o : Outputs)
     (books : Seen) : Type 0 where
   pub at : Stamped
   pub ordered : IsOrdered moment order office at
@@ -40,13 +42,15 @@ pub record HasSold (forward : BlockFunction) (office : Office) (order : Order) (
   pub left : (trees : Trees) → books.state.may_leave trees
       → RecoversTo trees (step forward office at)
 
--- of a sale that books replied nothing is told but its receipt: so what is told else came before it stood
+-- of a sale that books replied nothing is told but its receipt: so what is told else came before it
+-- stood
 abbrev pub TellsSale : Sale → Outputs → End → Type 0
 TellsSale sale o end = IsTold o (receipt_of sale) [] Done end
 
--- so with the books as the command left them and closed their file, as long as the disk returned what
--- was written
-abbrev pub EndsSold : {S : Type 0} → Ghosts S → (Closes : Seen → Type 0) → Shipped → Order → (moment : ℕ)
+-- so with the books as the command left them and closed their file, as long as the disk returned
+-- what was written
+abbrev pub EndsSold : {S : Type 0} → Ghosts S → (Closes : Seen → Type 0) → Shipped → Order
+    → (moment : ℕ)
     → Office → Outputs → Type 0
 EndsSold {S} store Closes transform order moment office o =
     (books : Books S Shipped store) × Closes (seen_in books)

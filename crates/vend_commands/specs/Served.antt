@@ -25,7 +25,8 @@ answer_text (Sold sale) = receipt_of sale
 answer_text (Reprinted sale) = receipt_of sale
 answer_text (Report shift sales) = report_of shift sales
 
--- an answer whose text is made whole in memory before it is printed: a report, which changes nothing
+-- an answer whose text is made whole in memory before it is printed: a report, which changes
+-- nothing
 abbrev pub TakesRoom : core.Answer → Type 0
 TakesRoom Done = ⊥
 TakesRoom (Imported count) = ⊥
@@ -47,7 +48,8 @@ TellsReply (Ok answer) o end = TellsAnswer answer o end
 TellsReply (Err refusal) o end = IsTold o [] (refusal_line refusal) how.Refused end
 
 -- Books replied to the request at this moment, and the text of that reply is told.
-pub record IsServedAndTold (moment : ℕ) (request : Request) (old new : Seen) (o : Outputs) (end : End)
+pub record IsServedAndTold (moment : ℕ) (request : Request) (old new : Seen) (o : Outputs)
+    (end : End)
     : Type 0 where
   pub reply : Result core.Answer Refusal
   pub replied : ReplyAt moment request reply old new

@@ -15,7 +15,8 @@ IsNextAnswer (Some (first ∷ others)) now = now ≡ first
 -- the moment of the clock's next answer, or none where that is no moment
 abbrev pub IsToldBy : Option (List ℤ) → Option ℕ → Type 0
 IsToldBy answers (Some moment) = IsNextAnswer answers (pos moment)
-IsToldBy answers None = (now : ℤ) × IsNextAnswer answers now × ((moment : ℕ) → IsMoment moment → ¬ (now ≡ pos moment))
+IsToldBy answers None =
+    (now : ℤ) × IsNextAnswer answers now × ((moment : ℕ) → IsMoment moment → ¬ (now ≡ pos moment))
 
 -- the moment that is given, or else the clock's
 abbrev pub IsTakenMoment : Option ℕ → Option (List ℤ) → Option ℕ → Type 0
@@ -28,6 +29,7 @@ IsDoneAt Idle At o end (Some moment) = At moment
 IsDoneAt Idle At o end None = Idle × IsTold o [] clock_line Refused end
 
 -- it is done at the moment that is given, or else at the clock's
-abbrev pub IsTimed : (Idle : Type 0) → Option ℕ → Option (List ℤ) → (ℕ → Type 0) → Outputs → End → Type 0
+abbrev pub IsTimed : (Idle : Type 0) → Option ℕ → Option (List ℤ) → (ℕ → Type 0) → Outputs → End
+    → Type 0
 IsTimed Idle given answers At o end =
     (moment : Option ℕ) × IsTakenMoment given answers moment × IsDoneAt Idle At o end moment

@@ -30,8 +30,8 @@ writer held failed name = record { held = held; failed = failed; name = name }
 abbrev pub IsCut : Held → Held → Text → Type 0
 IsCut old new text = (n : ℕ) × (n < length text) × Appends old new (take n text)
 
--- the text stands whole behind what was held; or a write failed within it; or one had failed before,
--- and nothing more was written
+-- the text stands whole behind what was held; or a write failed within it; or one had failed
+-- before, and nothing more was written
 abbrev pub IsTaken : (failed fails : Bool) → Held → Held → Text → Type 0
 IsTaken false false old new text = Appends old new text
 IsTaken false true old new text = IsCut old new text

@@ -16,11 +16,12 @@ use Rattle.vend_commands.specs.declared.end.End.TheVariants.{Done, Refused}
 
 -- the shift, the count of its sales, and the sums of their tenths and of their prices
 abbrev pub totals_line : ℕ → Totals → Text
-totals_line number totals = line_of (codes "shift" ∷ decimal number ∷ codes "sales" ∷ decimal totals.sales
+totals_line number totals =
+    line_of (codes "shift" ∷ decimal number ∷ codes "sales" ∷ decimal totals.sales
     ∷ codes "tenths" ∷ decimal totals.tenths ∷ codes "cash" ∷ decimal totals.cash ∷ [])
 
--- the shift has none in every life that the books kept, where it is refused as no such shift; and what
--- else is refused is so as the tables were not read, or the books are stopped
+-- the shift has none in every life that the books kept, where it is refused as no such shift; and
+-- what else is refused is so as the tables were not read, or the books are stopped
 pub record HaveNoTotals (number : ℕ) (old new : Seen) (refusal : Refusal) : Type 0 where
   pub none : HasCleanDisk new.state → (life : Life) → Represents life old
       → refusal ≡ NoSuchShift → shift_totals (present life) number ≡ None
@@ -37,7 +38,8 @@ abbrev pub TellsTotals : ℕ → Result Totals Refusal → Outputs → End → T
 TellsTotals number (Ok totals) o end = IsTold o (totals_line number totals) [] Done end
 TellsTotals number (Err refusal) o end = IsTold o [] (refusal_line refusal) Refused end
 
--- The totals of the shift in the present office are told, or why not. The books keep what they kept.
+-- The totals of the shift in the present office are told, or why not. The books keep what they
+-- kept.
 pub record IsTotalled (number : ℕ) (old new : Seen) (o : Outputs) (end : End) : Type 0 where
   pub totals : Result Totals Refusal
   pub are_totals : AreTotals number old new totals

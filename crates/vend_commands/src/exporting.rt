@@ -24,8 +24,8 @@ const PAGE: u32 = 1000;
 // The pages of the greatest office, all of them full, and an empty one.
 const PAGES: u32 = 1_000_001;
 
-/// Prints all sales, the header once in front of them, or tells why it stops. Where the output fails
-/// it goes no further.
+/// Prints all sales, the header once in front of them, or tells why it stops. Where the output
+/// fails it goes no further.
 pub(crate) fn print_sales<S: Alter, T: BlockTransform, O: Write, E: Write>(
     alloc: Global,
     books: &mut Books<S, T>,

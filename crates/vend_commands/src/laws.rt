@@ -31,15 +31,18 @@ use sqlite_trees::store::Store;
 use vend_core::{history_law, office_law};
 
 /// What `sell` has done where it ends as done: where the files stood for an office, it printed the
-/// receipt of the sale that the office's rules give for the order, and the sale stands in all that a
-/// crash may leave of them as they are closed. Of a sale nothing is told but the receipt: what is
+/// receipt of the sale that the office's rules give for the order, and the sale stands in all that
+/// a crash may leave of them as they are closed. Of a sale nothing is told but the receipt: what is
 /// told of want of memory came before any sale stood.
 pub fn sell_law<H: OfficeFile>()
-    ensures done { (file : H) (path : Text) (transform : Shipped) (order : Order) (moment : ℕ) (office : Office)
+    ensures done { (file : H) (path : Text) (transform : Shipped) (order : Order) (moment : ℕ)
+        (office : Office)
         (o : Outputs) → StandsIn (H.image file path) office
-        → IsAskedAt ⟦<FileStore<H::Medium> as Store>⟧ (places_of H.Medium.Disk H.Salts.SaltSource H.OfficeFile file)
+        → IsAskedAt ⟦<FileStore<H::Medium> as Store>⟧
+        (places_of H.Medium.Disk H.Salts.SaltSource H.OfficeFile file)
         transform path moment (Sell order) o Done
-        → EndsSold ⟦<FileStore<H::Medium> as Store>⟧ (IsClosed H.Medium.Disk H.lets_go) transform order
+        → EndsSold ⟦<FileStore<H::Medium> as Store>⟧
+        (IsClosed H.Medium.Disk H.lets_go) transform order
         moment office o }
     ensures told { (sale : Sale) (o : Outputs) (end : End)
         → TellsReply (Ok (Sold sale)) o end → TellsSale sale o end }
@@ -48,12 +51,13 @@ pub fn sell_law<H: OfficeFile>()
 }
 
 /// What holds of connections that are served one after another, and of the openings between them:
-/// while the disk returns what was written, they are lives of one office. Each connection went on the last of them by the
-/// conversation over its own bytes, and by nothing beside; so what `headline_law` of `books` says of
-/// lives holds of these.
+/// while the disk returns what was written, they are lives of one office. Each connection went on
+/// the last of them by the conversation over its own bytes, and by nothing beside; so what
+/// `headline_law` of `books` says of lives holds of these.
 pub fn serve_law<H: OfficeFile, D: Door>()
     ensures { (forward : BlockFunction) (count : ℕ)
-        (old new : Service D (Books (Files H.Medium H.Medium.Disk) Shipped ⟦<FileStore<H::Medium> as Store>⟧)) (start : Course)
+        (old new : Service D (Books (Files H.Medium H.Medium.Disk) Shipped
+        ⟦<FileStore<H::Medium> as Store>⟧)) (start : Course)
         → AreHeld (way D.Door D.Reader.remaining D.Writer.contents)
         forward seen_in count old new
         → HasCleanDisk (seen_in new.books).state

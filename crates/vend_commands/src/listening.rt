@@ -16,9 +16,9 @@ use desk::{Clock, Desk};
 use sqlite::{Alter, FileStore};
 use std::alloc::Global;
 
-/// Serves as many connections as the words ask for, one after another. Answers the books as they are
-/// left and whether all connections could be had, or why the file of stopped books was not opened
-/// again.
+/// Serves as many connections as the words ask for, one after another. Answers the books as they
+/// are left and whether all connections could be had, or why the file of stopped books was not
+/// opened again.
 ///
 /// However a conversation ends, its connection is let go then, and counts.
 pub fn serve<H: OfficeFile, D: Door, C: Clock>(
@@ -32,7 +32,8 @@ pub fn serve<H: OfficeFile, D: Door, C: Clock>(
 ) -> Result<(Books<FileStore<H::Medium>, Shipped>, bool), OpenFault>
     ensures { AreServed
         (way D.Door D.Reader.remaining D.Writer.contents)
-        (forward_of words.now.transform) seen_in (IsUnreopened H.Salts.SaltSource) words.now.connections
+        (forward_of words.now.transform) seen_in
+        (IsUnreopened H.Salts.SaltSource) words.now.connections
         (service door.old books (C.answers clock.old)) door.new (C.answers clock.new) result }
 {
     let mut books = books;
@@ -65,7 +66,8 @@ fn readied<H: OfficeFile>(
     open_again::<H>(alloc, salts, books, transform)
 }
 
-// Takes the next connection, holds its conversation and lets it go. Answers whether one could be had.
+// Takes the next connection, holds its conversation and lets it go. Answers whether one could be
+// had.
 fn hold<S: Alter, D: Door, C: Clock>(
     alloc: Global,
     desk: &Desk,
@@ -75,9 +77,11 @@ fn hold<S: Alter, D: Door, C: Clock>(
 ) -> bool
     ensures { MatchBool result
         (IsHeld (way D.Door D.Reader.remaining D.Writer.contents) seen_in
-        (service door.old books.old (C.answers clock.old)) (service door.new books.new (C.answers clock.new)))
+        (service door.old books.old (C.answers clock.old))
+        (service door.new books.new (C.answers clock.new)))
         (IsUnheld (way D.Door D.Reader.remaining D.Writer.contents) seen_in
-        (service door.old books.old (C.answers clock.old)) (service door.new books.new (C.answers clock.new))) }
+        (service door.old books.old (C.answers clock.old))
+        (service door.new books.new (C.answers clock.new))) }
 {
     let Some((mut reader, mut writer)) = door.accept() else {
         return false;

@@ -16,7 +16,8 @@ use std::alloc::Global;
 /// Opens the office at a path, or begins one where there is no file.
 ///
 /// # Errors
-/// `NotAnOffice` where the file stands for no office; `Store` where it cannot be opened, and `Memory`.
+/// `NotAnOffice` where the file stands for no office; `Store` where it cannot be opened, and
+/// `Memory`.
 pub(crate) fn open_office<H: OfficeFile>(
     alloc: Global,
     office: H,
@@ -26,8 +27,10 @@ pub(crate) fn open_office<H: OfficeFile>(
 ) -> Result<Books<FileStore<H::Medium>, Shipped>, OpenFault>
     ensures opened { IfOk result (IsOpened (H.image office path.now)
         (OpensIn H.Medium.Disk (H.image office path.now)) transform) }
-    ensures finds { IfOk result (λ _. (places_of H.Medium.Disk H.Salts.SaltSource H.OfficeFile office path.now).finds) }
-    ensures fails { IfErr result (places_of H.Medium.Disk H.Salts.SaltSource H.OfficeFile office path.now).fails }
+    ensures finds { IfOk result
+        (λ _. (places_of H.Medium.Disk H.Salts.SaltSource H.OfficeFile office path.now).finds) }
+    ensures fails { IfErr result
+        (places_of H.Medium.Disk H.Salts.SaltSource H.OfficeFile office path.now).fails }
 {
     let (log, db) = match office.find(path) {
         Ok(files) => files,

@@ -1,5 +1,5 @@
-//! What a command has of the machine beside its outputs: each a small trait that says what it means.
-//! Whatever stands over them is proved for every machine.
+//! What a command has of the machine beside its outputs: each a small trait that says what it
+//! means. Whatever stands over them is proved for every machine.
 
 ghost use Rattle.std.specs.Prelude.{◌≡◌, ℕ, List, IfErr, IfNone, IfOk, IfSome, IsTrue};
 ghost use Rattle.sqlite_wal.specs.Files.{seen_image};

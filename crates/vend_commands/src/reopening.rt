@@ -28,7 +28,8 @@ pub(crate) fn open_again<H: OfficeFile>(
     books: Books<FileStore<H::Medium>, Shipped>,
     transform: Shipped,
 ) -> Result<Books<FileStore<H::Medium>, Shipped>, OpenFault>
-    ensures reopened { IfOk result (λ next. IsReopened (forward_of transform) (seen_in books) (seen_in next)) }
+    ensures reopened { IfOk result
+        (λ next. IsReopened (forward_of transform) (seen_in books) (seen_in next)) }
     ensures lost { IfErr result (IsUnreopened H.Salts.SaltSource) }
 {
     let Some(salt) = salts.draw() else {

@@ -46,7 +46,8 @@ pub fn run<B: Start, O: Write, E: Write>(
     err: &mut E,
 ) -> u8
     ensures run { (end : End) × (out_failed err_failed : Bool) × (out_name err_name : ℕ)
-        × IsProgramRun ⟦<FileStore<FileFrom<B>> as Store>⟧ (untold ⟦<FileFrom<B> as Disk>⟧ (image_at B.Start))
+        × IsProgramRun ⟦<FileStore<FileFrom<B>> as Store>⟧
+        (untold ⟦<FileFrom<B> as Disk>⟧ (image_at B.Start))
         (map (λ w. w.now) words.now)
         (outputs (writer (O.contents out.old) false out_name)
         (writer (O.contents out.new) out_failed out_name)
@@ -87,7 +88,8 @@ pub fn run_over<H: OfficeFile, F: TextFiles, C: Clock + Drop, D: Door, N: Net, O
     err: &mut Watched<'_, E>,
 ) -> End
     ensures { IsProgramRun ⟦<FileStore<H::Medium> as Store>⟧ (machine
-        (places_of H.Medium.Disk H.Salts.SaltSource H.OfficeFile ports.office) (H.leaves ports.office)
+        (places_of H.Medium.Disk H.Salts.SaltSource H.OfficeFile ports.office)
+        (H.leaves ports.office)
         (F.reads ports.texts) (F.lacks ports.texts) (C.answers ports.clock)
         (way D.Door D.Reader.remaining D.Writer.contents) ports.door)
         (map (λ w. w.now) words.now)
@@ -133,7 +135,8 @@ fn answer<H: OfficeFile, F: TextFiles, C: Clock + Drop, D: Door, N: Net, O: Writ
     err: &mut Watched<'_, E>,
 ) -> End
     ensures { IsCarriedOut ⟦<FileStore<H::Medium> as Store>⟧ (machine
-        (places_of H.Medium.Disk H.Salts.SaltSource H.OfficeFile ports.office) (H.leaves ports.office)
+        (places_of H.Medium.Disk H.Salts.SaltSource H.OfficeFile ports.office)
+        (H.leaves ports.office)
         (F.reads ports.texts) (F.lacks ports.texts) (C.answers ports.clock)
         (way D.Door D.Reader.remaining D.Writer.contents) ports.door)
         asked.entry (outputs (sink O.contents out.old) (sink O.contents out.new)

@@ -1,5 +1,5 @@
-//! A conversation of this machine with itself: what the desk writes over a connection, beside what it
-//! writes over memory.
+//! A conversation of this machine with itself: what the desk writes over a connection, beside what
+//! it writes over memory.
 
 ghost use Rattle.std.specs.Prelude.{◌≡◌, ◌↔◌, true, IfErr, IfOk, IfSome, OnOk};
 ghost use Rattle.sqlite.specs.Steps.{over_memory};

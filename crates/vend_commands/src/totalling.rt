@@ -20,7 +20,8 @@ pub(crate) fn print_totals<S: Alter, T: BlockTransform, O: Write, E: Write>(
     out: &mut Watched<'_, O>,
     err: &mut Watched<'_, E>,
 ) -> End
-    ensures { IsTotalled number (seen S.Store T.forwards books.old) (seen S.Store T.forwards books.new)
+    ensures { IsTotalled number (seen S.Store T.forwards books.old)
+        (seen S.Store T.forwards books.new)
         (outputs (sink O.contents out.old) (sink O.contents out.new)
         (sink E.contents err.old) (sink E.contents err.new)) result }
 {
@@ -38,7 +39,8 @@ pub(crate) fn print_totals<S: Alter, T: BlockTransform, O: Write, E: Write>(
 
 // Prints the totals of a shift on a line.
 fn put_totals<O: Write>(number: u32, totals: Totals, out: &mut Watched<'_, O>)
-    ensures { Takes (sink O.contents out.old) (sink O.contents out.new) (totals_line number totals) }
+    ensures { Takes (sink O.contents out.old) (sink O.contents out.new)
+        (totals_line number totals) }
 {
     let mut shift = Buffer::new();
     let mut sales = Buffer::new();

@@ -1,4 +1,5 @@
--- Decisions taken apart: what a granted sale found at each of its tests, and which sales each other request answers.
+-- Decisions taken apart: what a granted sale found at each of its tests, and which sales each other
+-- request answers.
 pub mod EditLemmas
 pub mod ImportLemmas
 pub mod ImportWalkLemmas

@@ -36,7 +36,8 @@ use Rattle.vend_core.specs.declared.office.shift.Shift.{Shift}
 use Rattle.vend_core.proofs.DecisionLemmas.NewSaleLemmas.{LowerLaws, granted_sale}
 use Rattle.vend_core.proofs.OfficeLemmas.RowLemmas.{both_true, parts_true, finds, related, same_number}
 
--- two sales of an office are one where they agree in meter, base and identifier, in number, or in operator and ref
+-- two sales of an office are one where they agree in meter, base and identifier, in number, or in
+-- operator and ref
 pub one_of_tid : (o : Office) (a b : Sale) → IsOffice o → Contains o.sales a → Contains o.sales b → a.meter ≡ b.meter → a.base ≡ b.base → a.tid ≡ b.tid → a ≡ b
 one_of_tid o a b office x y meter base tid =
     elim (related IsBefore o.sales a b office.before x y) [

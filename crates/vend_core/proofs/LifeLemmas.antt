@@ -1,4 +1,5 @@
--- Along lives: each office that may be left is an office, and has grown out of each one before; each sale handed out stands in it.
+-- Along lives: each office that may be left is an office, and has grown out of each one before;
+-- each sale handed out stands in it.
 pub mod AgainLifeLemmas
 pub mod AlongLemmas
 pub mod ExtendLemmas

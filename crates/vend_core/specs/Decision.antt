@@ -222,7 +222,8 @@ sell forward moment nibble order shift meter count = do
   } in changed (edits.AddSale sale) (answers.Sold sale)
 
 -- Sell, where the operator made this sale under the ref
-abbrev pub sell_once : BlockFunction → ℕ → ℕ → Order → Option Sale → Option Shift → Option MeterAccount → ℕ
+abbrev pub sell_once : BlockFunction → ℕ → ℕ → Order → Option Sale → Option Shift
+    → Option MeterAccount → ℕ
     → Result Change Refusal
 sell_once forward moment nibble order (Some first) shift meter count = sell_again order first
 sell_once forward moment nibble order None shift meter count =

@@ -58,8 +58,8 @@ sets_only (SetTariff number name) = true
 sets_only (CloseShift number moment) = true
 sets_only edit = false
 
--- what plain lists copy to look at it: steps, what the office has of the names of rows, and the sales
--- of a shift
+-- what plain lists copy to look at it: steps, what the office has of the names of rows, and the
+-- sales of a shift
 abbrev pub CopiesList : Office → ℕ → Request → Type 0
 CopiesList o moment (requests.AddTariff name steps) = IsSome (o.tariffs name)
 CopiesList o moment (requests.AddSteps name day steps) =

@@ -75,8 +75,8 @@ impl<T: BlockTransform> Lists<T> {
     /// Serves a request: its answer, or why it is refused.
     ///
     /// A refused request leaves the office as it was. Besides the refusals of `docs/OFFICE.md` only
-    /// `Refusal::Memory` comes, where a vector found no memory, and only to a request that adds a row
-    /// or looks at a list, which it copies: steps, the rows of an import, the sales of a shift.
+    /// `Refusal::Memory` comes, where a vector found no memory, and only to a request that adds a
+    /// row or looks at a list, which it copies: steps, the rows of an import, the sales of a shift.
     pub fn serve(&mut self, at: &Stamped) -> Reply
         ensures served { IsServed (T.forwards (transform_of self.old))
             (office_of self.old) at.now result (office_of self.new) }

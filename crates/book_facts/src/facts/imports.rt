@@ -43,7 +43,8 @@ fn found_of<S: Alter>(
     conn: &mut Connection<S>,
     rows: &[Row],
 ) -> Result<Vec<RowFacts>, TableError>
-    ensures facts { SaysOfOffice (λ o found. (today : ℕ) → AreRowsFacts o today rows.now found.items)
+    ensures facts { SaysOfOffice
+        (λ o found. (today : ℕ) → AreRowsFacts o today rows.now found.items)
         (state S.Store conn.old) (state S.Store conn.new) result }
     ensures reads { OnlyReads IsSame
         (state S.Store conn.old) (state S.Store conn.new) result }

@@ -23,7 +23,8 @@ pub(crate) fn sale_facts<S: Alter>(
     order: &Order,
     sale_count: u64,
 ) -> Result<Facts, TableError>
-    ensures facts { SaysOfOffice (λ o f. sale_count ≡ length o.sales → AreSaleFacts o moment order.now f)
+    ensures facts { SaysOfOffice
+        (λ o f. sale_count ≡ length o.sales → AreSaleFacts o moment order.now f)
         (state S.Store conn.old) (state S.Store conn.new) result }
     ensures reads { OnlyReads IsUnchanged
         (state S.Store conn.old) (state S.Store conn.new) result }
@@ -47,7 +48,8 @@ fn new_sale_facts<S: Alter>(
     sale_count: u64,
 ) -> Result<Facts, TableError>
     ensures none { IfOk result (λ f. IsNone f.first_sale) }
-    ensures facts { SaysOfOffice (λ o f. sale_count ≡ length o.sales → AreNewSaleFacts o moment order.now f)
+    ensures facts { SaysOfOffice
+        (λ o f. sale_count ≡ length o.sales → AreNewSaleFacts o moment order.now f)
         (state S.Store conn.old) (state S.Store conn.new) result }
     ensures reads { OnlyReads IsUnchanged
         (state S.Store conn.old) (state S.Store conn.new) result }

@@ -36,7 +36,8 @@ pub(crate) fn steps_on<S: Alter>(
     tariffs::steps_of(alloc, conn, name)
 }
 
-/// What AddSteps looks at: whether there is its tariff, and the steps of its day only where there is.
+/// What AddSteps looks at: whether there is its tariff, and the steps of its day only where there
+/// is.
 pub(crate) fn dated_facts<S: Alter>(
     alloc: Global,
     conn: &mut Connection<S>,

@@ -14,8 +14,8 @@ use sqlite::{Alter, Connection};
 use sts_token::BlockTransform;
 
 impl<S: Alter, T: BlockTransform + Drop> Books<S, T> {
-    /// The connection to the database that has the office. It is in no transaction. Unless the books
-    /// are stopped, the store stands for the present office of each life that they keep.
+    /// The connection to the database that has the office. It is in no transaction. Unless the
+    /// books are stopped, the store stands for the present office of each life that they keep.
     ///
     /// It takes no memory.
     pub fn into_connection(self) -> Connection<S>

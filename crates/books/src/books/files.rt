@@ -18,8 +18,8 @@ use sts_token::BlockTransform;
 
 impl<D: Disk + Drop, T: BlockTransform + Drop> Books<FileStore<D>, T> {
     /// Opens the office in a database file and its log, on whatever they are kept, or begins one in
-    /// files that have nothing. `options` have the salt of a new log. Neither file has had a sync that
-    /// failed (`is_usable`).
+    /// files that have nothing. `options` have the salt of a new log. Neither file has had a sync
+    /// that failed (`is_usable`).
     ///
     /// # Errors
     /// As those of `open_path`. The files come back, with the connection to them if there is one.

@@ -19,9 +19,9 @@ use vend_core::life_law;
 
 impl<S: Alter, T: BlockTransform + Drop> Books<S, T> {
     /// Opens the office that the connection's database stands for. In a database that has none of
-    /// the office's tables it is the empty one, whose tables are made in one commit. One of an older
-    /// format is brought to the present one, also in one commit. Tables of other names stay as they
-    /// are. The connection has to be in no transaction (`is_autocommit`).
+    /// the office's tables it is the empty one, whose tables are made in one commit. One of an
+    /// older format is brought to the present one, also in one commit. Tables of other names stay
+    /// as they are. The connection has to be in no transaction (`is_autocommit`).
     ///
     /// # Errors
     /// `NotAnOffice` where the database stands for no office; `Store` and `Memory`. The connection
@@ -40,11 +40,13 @@ impl<S: Alter, T: BlockTransform + Drop> Books<S, T> {
             → OpensAs (state S.Store conn) (state S.Store books.conn)) }
         ensures running { IfOk result (λ books. books.stopped ≡ false) }
         ensures other { IfErr result (λ e. HasCleanDisk (state S.Store e.1)
-            → e.0 ≡ OpenFault.NotAnOffice → (o : Office) → ¬ StoreStandsFor (state S.Store conn) o) }
+            → e.0 ≡ OpenFault.NotAnOffice → (o : Office)
+            → ¬ StoreStandsFor (state S.Store conn) o) }
         ensures same { IfErr result (λ e. HasCleanDisk (state S.Store e.1)
             → IsSame (state S.Store conn) (state S.Store e.1)) }
         ensures refused { IfErr result (λ e. HasCleanDisk (state S.Store e.1)
-            → (o : Office) → StoreStandsFor (state S.Store conn) o → StoreStandsFor (state S.Store e.1) o) }
+            → (o : Office) → StoreStandsFor (state S.Store conn) o
+            → StoreStandsFor (state S.Store e.1) o) }
         ensures rests { IfErr result (λ e. e.1.in_transaction ≡ false) }
         ensures survives { MatchResult result
             (λ books. Survives (state S.Store conn) (state S.Store books.conn)

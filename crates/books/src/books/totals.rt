@@ -19,13 +19,13 @@ use sts_token::BlockTransform;
 use vend_core::Refusal;
 
 impl<S: Alter, T: BlockTransform> Books<S, T> {
-    /// The totals of the shift of a number (1 to 10^9): the count of its sales, and the sums of their
-    /// tenths of a kWh and of their prices in cents. They are read in one row, and are zeros for a
-    /// shift without sales.
+    /// The totals of the shift of a number (1 to 10^9): the count of its sales, and the sums of
+    /// their tenths of a kWh and of their prices in cents. They are read in one row, and are zeros
+    /// for a shift without sales.
     ///
     /// # Errors
-    /// `NoSuchShift`; `Memory`; `Stopped`; and `Store`, after which the books are stopped too. It puts
-    /// nothing in doubt.
+    /// `NoSuchShift`; `Memory`; `Stopped`; and `Store`, after which the books are stopped too. It
+    /// puts nothing in doubt.
     pub fn shift_totals(&mut self, number: u32) -> Result<Totals, Refusal>
         ensures given { HasCleanDisk (seen S.Store T.forwards self.new).state
             → (life : Life) → Represents life (seen S.Store T.forwards self.old)

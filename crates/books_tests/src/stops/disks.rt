@@ -21,8 +21,8 @@ pub(crate) struct Kept {
 /// How much of what is written waits in memory, and how much in the log.
 #[derive(Clone, Copy)]
 pub(crate) enum Room {
-    /// As in the program: a transaction goes to the log at its commit, and the log is copied into the
-    /// database by no life of these tests.
+    /// As in the program: a transaction goes to the log at its commit, and the log is copied into
+    /// the database by no life of these tests.
     Ample,
     /// A transaction goes to the log before its commit too, and the log is copied into the database
     /// again and again.

@@ -1,5 +1,5 @@
-//! A sale whose commit fails is in doubt, and the books stop. The same order, sent again once the office
-//! is opened again, gives one sale, whichever way the doubt fell.
+//! A sale whose commit fails is in doubt, and the books stop. The same order, sent again once the
+//! office is opened again, gives one sale, whichever way the doubt fell.
 
 use crate::stops::disks::{Ended, Kept, Room, SOUND, Stopping, closed, count, life, nothing};
 use crate::stops::scripts::{Script, script_of};
@@ -73,8 +73,8 @@ fn asked_again(rt: &(impl Abort + AllocGlobal), again: &Script, kept: &Kept) -> 
     Ok(before)
 }
 
-// Each number of calls, up to the first at which no call fails. How often the order was in doubt, and how
-// often it was stored then.
+// Each number of calls, up to the first at which no call fails. How often the order was in doubt,
+// and how often it was stored then.
 fn doubts(
     rt: &(impl Abort + AllocGlobal),
     begun: &Kept,
@@ -107,8 +107,8 @@ fn office(alloc: Global, in_log: bool) -> Result<Kept, Fail> {
     closed(alloc, &kept)
 }
 
-// Whether the office stands in the log, which disk stops, how many doubts there are, and after how many
-// of them the order is stored.
+// Whether the office stands in the log, which disk stops, how many doubts there are, and after how
+// many of them the order is stored.
 static DOUBTS: [(bool, Stopping, u32, i64); 4] = [
     (false, Stopping::Log(Room::Ample), 6, 1),
     (false, Stopping::Log(Room::Little), 12, 1),

@@ -1,5 +1,5 @@
-//! A store that stops at each of its calls: all rows of an import are stored or none, and the import
-//! that comes again adds the others.
+//! A store that stops at each of its calls: all rows of an import are stored or none, and the
+//! import that comes again adds the others.
 
 use crate::stops::disks::{Ended, Kept, Room, SOUND, Stopping, count, life, nothing};
 use office_testing::values::{FIRST_DAY, flat_with_meters, import, stamped};
@@ -55,8 +55,8 @@ fn comes_again(
     Ok(())
 }
 
-// Each number of calls, up to the first at which no call fails. What two imports leave alike is gone on
-// with once.
+// Each number of calls, up to the first at which no call fails. What two imports leave alike is
+// gone on with once.
 fn failures(rt: &(impl Abort + AllocGlobal), stopping: Stopping) -> Result<u64, Fail> {
     let (alloc, sent) = (rt.alloc(), sent(rt.alloc())?);
     let empty = life(alloc, &nothing(alloc), SOUND, &[])?.kept;

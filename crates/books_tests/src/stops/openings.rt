@@ -47,7 +47,8 @@ fn goes_on(rt: &(impl Abort + AllocGlobal), old: &OldFile, kept: &Kept) -> Resul
     Ok(())
 }
 
-// What an opening leaves, the old file or the new one, and whether it failed; else it is the new one.
+// What an opening leaves, the old file or the new one, and whether it failed; else it is the new
+// one.
 fn left_by(
     rt: &(impl Abort + AllocGlobal),
     old: &OldFile,
@@ -68,8 +69,8 @@ fn left_by(
     Ok((kept, replies.is_none()))
 }
 
-// Each number of calls, up to the first at which no call fails. What two openings leave alike is gone on
-// with once.
+// Each number of calls, up to the first at which no call fails. What two openings leave alike is
+// gone on with once.
 fn failures(
     rt: &(impl Abort + AllocGlobal),
     old: &OldFile,

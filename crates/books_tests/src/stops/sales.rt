@@ -66,8 +66,8 @@ const FIRST_ROWS: &str = "INSERT INTO about VALUES (1, 1); \
     INSERT INTO sales VALUES (1, 1388534430, 252, 1, 'ann', 'A-1', '12345678903', 2014, 2, 1, 1, \
     10, 10, '00072057602627981690')";
 
-// The same in a file of format 1 that has the first of the sales, with a meter that is moved, and with
-// steps of a later day for two tariffs, of which one comes with an import.
+// The same in a file of format 1 that has the first of the sales, with a meter that is moved, and
+// with steps of a later day for two tariffs, of which one comes with an import.
 const LATER: Sending = Sending {
     name: "later requests",
     begin: &[FIRST_TABLES, FIRST_ROWS],
@@ -246,9 +246,9 @@ fn second_calls(place: u64, stride: u64) -> u64 {
         .saturating_add(above_ten.saturating_mul(stride))
 }
 
-// After a first life, each second one, up to the first in which no call fails, and a third that is sound.
-// Where two second lives, one after the other, leave the same, the third is one. How many second lives
-// there were.
+// After a first life, each second one, up to the first in which no call fails, and a third that is
+// sound. Where two second lives, one after the other, leave the same, the third is one. How many
+// second lives there were.
 fn second_lives(
     rt: &(impl Abort + AllocGlobal),
     sweep: &Sweep,
@@ -270,7 +270,8 @@ fn second_lives(
     Err("each number of calls of a second life was too small".into())
 }
 
-// Each number of calls in the first life, up to the first at which none fails. How many pairs there were.
+// Each number of calls in the first life, up to the first at which none fails. How many pairs there
+// were.
 fn first_lives(rt: &(impl Abort + AllocGlobal), sweep: &Sweep) -> Result<u64, Fail> {
     let script = script_of(rt.alloc(), sweep.sending.script)?;
     let begun = begun(rt.alloc(), sweep.sending.begin)?;

@@ -1,5 +1,5 @@
-//! Requests that are sent in each life, as lines: each begins with a mark, and the replies that it may
-//! have follow it, the one in an office that it is new to first.
+//! Requests that are sent in each life, as lines: each begins with a mark, and the replies that it
+//! may have follow it, the one in an office that it is new to first.
 
 use office_lines::lines::{stamped_of, told};
 use std::alloc::Global;
@@ -38,8 +38,8 @@ fn is_right(alloc: Global, reply: &Reply, wanted: &str) -> Result<bool, Fail> {
 }
 
 impl Script {
-    /// How many of the replies are right, up to a failure of the store. After it each has to be Stopped;
-    /// `None` where a reply is another.
+    /// How many of the replies are right, up to a failure of the store. After it each has to be
+    /// Stopped; `None` where a reply is another.
     pub(crate) fn answered(&self, alloc: Global, replies: &[Reply]) -> Result<Option<usize>, Fail> {
         let (mut right, mut is_stopped) = (0usize, false);
         for (reply, wanted) in replies.iter().zip(&self.wanted) {

@@ -58,7 +58,8 @@ impl<'a> ReportWords<'a> {
 
 fn read_paper(matches: &ArgMatches) -> Option<Paper>
     ensures { ReadsWhat result (SaysPaper
-        (parsed_argument (codes "kind") (argument_rows matches.now)) (parsed_argument (codes "number") (argument_rows matches.now))) }
+        (parsed_argument (codes "kind") (argument_rows matches.now))
+        (parsed_argument (codes "number") (argument_rows matches.now))) }
 {
     match said::text(matches, "kind")? {
         "shift" => Some(Paper::Shift(read_number(matches)?)),

@@ -47,7 +47,8 @@ pub record LacksBody (input : List ℕ) (missing : ℕ) : Type 0 where
 abbrev pub IsCutMessage : List ℕ → Type 0
 IsCutMessage input = (missing : ℕ) × LacksBody input missing
 
--- the input has bytes and begins with no head; where its reader failed, whatever might have followed
+-- the input has bytes and begins with no head; where its reader failed, whatever might have
+-- followed
 abbrev pub BeginsNoHead : Stop → List ℕ → Type 0
 BeginsNoHead ended input = (0 < length input) × HasNoHead input
 BeginsNoHead failed input = NeverHasHead input

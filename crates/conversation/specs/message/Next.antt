@@ -31,7 +31,8 @@ BeginsAs input (NeedBody missing) = LacksBody input missing
 
 -- the answer is this message, and the rest follows it
 abbrev pub IsWholeOf : List ℕ → Message → List ℕ → Next → Type 0
-IsWholeOf input m rest (Whole received) = (message_of received ≡ m) × (drop received.len input ≡ rest)
+IsWholeOf input m rest (Whole received) =
+    (message_of received ≡ m) × (drop received.len input ≡ rest)
 IsWholeOf input m rest (Refused fault) = ⊥
 IsWholeOf input m rest NeedHead = ⊥
 IsWholeOf input m rest (NeedBody missing) = ⊥
@@ -45,7 +46,8 @@ IsHeadless (NeedBody missing) = ⊥
 
 -- what stands at the front of the input is the answer
 pub record FindsNext (input : List ℕ) (next : Next) : Type 0 where
-  pub whole : (m : Message) (rest : List ℕ) → BeginsMessage input m rest → IsWholeOf input m rest next
+  pub whole : (m : Message) (rest : List ℕ) → BeginsMessage input m rest
+      → IsWholeOf input m rest next
   pub faulty : (fault : MessageFault) → BeginsFaulty input fault → next ≡ Refused fault
   pub cut : (missing : ℕ) → LacksBody input missing → next ≡ NeedBody missing
   pub headless : HasNoHead input → IsHeadless next

@@ -7,7 +7,8 @@ use vend_core::{Row, RowCause};
 
 const HEADER: &[u8] = b"name,steps,from\n";
 
-// The first day of the only row of a file, which is of `flat` at a dollar; none where it is a tariff.
+// The first day of the only row of a file, which is of `flat` at a dollar; none where it is a
+// tariff.
 fn first_day(rt: &(impl Abort + AllocGlobal), file: &[u8]) -> Result<Option<u32>, Fail> {
     let rows = read_tariffs(rt.alloc(), file)?;
     let (name, steps, day) = match rows.as_slice() {

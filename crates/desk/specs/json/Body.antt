@@ -1,5 +1,5 @@
--- What a body says as JSON: one object with exactly the members that its route asks for, each of its
--- kind and by its rule.
+-- What a body says as JSON: one object with exactly the members that its route asks for, each of
+-- its kind and by its rule.
 use Rattle.std.specs.Prelude.{◌≡◌, ℕ, List, [], ◌∷◌, length, Option, Some, option_map, IsUtf8, codes}
 use Rattle.std.specs.List.{AllByRecursion}
 use Rattle.serde_json.specs.Data.{Data, string, number, unsigned}
@@ -100,7 +100,8 @@ pub record BodySaysOperator (json : Data) (operator : List ℕ) : Type 0 where
 pub record BodySaysOrder (json : Data) (order : Order) : Type 0 where
   pub members : IsObject json
       ((codes "meter", string order.meter) ∷ (codes "operator", string order.operator)
-      ∷ (codes "ref", string order.order_ref) ∷ (codes "tender", number (unsigned order.tender)) ∷ [])
+      ∷ (codes "ref", string order.order_ref) ∷ (codes "tender", number (unsigned order.tender))
+      ∷ [])
   pub meter : IsMeterNo order.meter
   pub operator : IsOperator order.operator
   pub order_ref : IsName order.order_ref

@@ -17,8 +17,8 @@ use Rattle.vend_core.specs.declared.decision.category.Category.{Category}
 use Rattle.vend_core.specs.declared.decision.category.Category.TheVariants.{Missing, Forbidden, Unfit, UnfitRow, Unable}
 use Rattle.vend_core.specs.declared.decision.refusal.Refusal.{Refusal}
 
--- 404 for what is not there, 409 for what the office forbids as it stands, 422 for what cannot be done
--- as it was asked, and 503 where the office is unable to answer
+-- 404 for what is not there, 409 for what the office forbids as it stands, 422 for what cannot be
+-- done as it was asked, and 503 where the office is unable to answer
 abbrev pub category_status : Category → ℕ
 category_status Missing = 404
 category_status Forbidden = 409

@@ -36,7 +36,8 @@ pub record IsTargetNumber (number : ℕ) : Type 0 where
 -- the target is text, and `matchit` finds the endpoint for it
 pub record Finds (target : List ℕ) (endpoint : Endpoint) : Type 0 where
   pub text : IsUtf8 target
-  pub found : option_map (λ (row : RouteOf Endpoint). row.value) (first table target) ≡ Some endpoint
+  pub found : option_map (λ (row : RouteOf Endpoint). row.value) (first table target)
+      ≡ Some endpoint
 
 -- The target names what the route is for, where the pattern has its parameter: a tariff's name, a
 -- meter's number, or a number without leading zeros. A route whose pattern has none names nothing.
@@ -51,7 +52,8 @@ Names target (MoveBase meter) =
     (target ≡ (codes "/meters/" ++ meter) ++ codes "/base") × IsMeterNo meter
 Names target OpenShift = ⊤
 Names target CloseShift = ⊤
-Names target (ShiftReport number) = (target ≡ codes "/shifts/" ++ decimal number) × IsTargetNumber number
+Names target (ShiftReport number) =
+    (target ≡ codes "/shifts/" ++ decimal number) × IsTargetNumber number
 Names target Sell = ⊤
 Names target (Reprint number) = (target ≡ codes "/sales/" ++ decimal number) × IsTargetNumber number
 Names target (Receipt number) =

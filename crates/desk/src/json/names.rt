@@ -18,7 +18,8 @@ use vend_core::{MeterNo, Operator, Ref, TariffName, Tender};
 
 // The number of a meter that the member of a name is.
 pub(crate) fn meter_at(value: &Value, name: &str) -> Option<MeterNo>
-    ensures { ReadsWritten IsMeterNo (λ text. Some (string text)) (get name.now (view value.now)) result }
+    ensures { ReadsWritten IsMeterNo (λ text. Some (string text))
+        (get name.now (view value.now)) result }
 {
     match text_at(value, name) {
         Some(text) => MeterNo::read(text),
@@ -28,7 +29,8 @@ pub(crate) fn meter_at(value: &Value, name: &str) -> Option<MeterNo>
 
 // The name of a tariff that the member of a name is.
 pub(crate) fn tariff_at(value: &Value, name: &str) -> Option<TariffName>
-    ensures { ReadsWritten IsName (λ text. Some (string text)) (get name.now (view value.now)) result }
+    ensures { ReadsWritten IsName (λ text. Some (string text))
+        (get name.now (view value.now)) result }
 {
     match text_at(value, name) {
         Some(text) => TariffName::read(text),
@@ -38,7 +40,8 @@ pub(crate) fn tariff_at(value: &Value, name: &str) -> Option<TariffName>
 
 // The operator that the member of a name is.
 pub(crate) fn operator_at(value: &Value, name: &str) -> Option<Operator>
-    ensures { ReadsWritten IsOperator (λ text. Some (string text)) (get name.now (view value.now)) result }
+    ensures { ReadsWritten IsOperator (λ text. Some (string text))
+        (get name.now (view value.now)) result }
 {
     match text_at(value, name) {
         Some(text) => Operator::read(text),
@@ -48,7 +51,8 @@ pub(crate) fn operator_at(value: &Value, name: &str) -> Option<Operator>
 
 // The ref that the member of a name is.
 pub(crate) fn ref_at(value: &Value, name: &str) -> Option<Ref>
-    ensures { ReadsWritten IsName (λ text. Some (string text)) (get name.now (view value.now)) result }
+    ensures { ReadsWritten IsName (λ text. Some (string text))
+        (get name.now (view value.now)) result }
 {
     match text_at(value, name) {
         Some(text) => Ref::read(text),

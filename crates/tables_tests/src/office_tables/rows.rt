@@ -41,8 +41,8 @@ fn meter_no() -> Result<MeterNo, Fail> {
     Ok(MeterNo::read(b"01234567897").ok_or("a meter's number")?)
 }
 
-// These rows, after a change. It has no clause, so that the proof of a test does not carry the state of
-// the database.
+// These rows, after a change. It has no clause, so that the proof of a test does not carry the
+// state of the database.
 fn changed(alloc: Global, change: &str) -> Result<Connection<MemStore>, Error> {
     let mut conn = Connection::open_in_memory(alloc)?;
     batch(&mut conn, TABLES)?;

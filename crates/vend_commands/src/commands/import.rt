@@ -23,8 +23,8 @@ use std::io::Write;
 use sts_fields::Moment;
 use vend_core::{Refusal, Request, Rows};
 
-/// Reads the file of rows, adds them to the office, at the moment of the words or else of the clock,
-/// and prints how many were new.
+/// Reads the file of rows, adds them to the office, at the moment of the words or else of the
+/// clock, and prints how many were new.
 pub(crate) fn run<H: OfficeFile, F: TextFiles, C: Clock, O: Write, E: Write>(
     words: &ImportWords,
     alloc: Global,
@@ -39,7 +39,8 @@ pub(crate) fn run<H: OfficeFile, F: TextFiles, C: Clock, O: Write, E: Write>(
         IsTimed (H.leaves office) words.now.at (C.answers clock.old)
         (λ moment. IsFileImported ⟦<FileStore<H::Medium> as Store>⟧
         (places_of H.Medium.Disk H.Salts.SaltSource H.OfficeFile office)
-        (H.leaves office) (F.reads texts.now) (F.lacks texts.now) words.now moment o result) o result }
+        (H.leaves office) (F.reads texts.now)
+        (F.lacks texts.now) words.now moment o result) o result }
 {
     match moment_or_now(words.at, clock) {
         Some(moment) => import_at(words, alloc, office, texts, moment, out, err),
@@ -61,7 +62,8 @@ fn import_at<H: OfficeFile, F: TextFiles, O: Write, E: Write>(
     out: &mut Watched<'_, O>,
     err: &mut Watched<'_, E>,
 ) -> End
-    ensures { IsFileImported ⟦<FileStore<H::Medium> as Store>⟧ (places_of H.Medium.Disk H.Salts.SaltSource H.OfficeFile office)
+    ensures { IsFileImported ⟦<FileStore<H::Medium> as Store>⟧
+        (places_of H.Medium.Disk H.Salts.SaltSource H.OfficeFile office)
         (H.leaves office) (F.reads texts.now) (F.lacks texts.now) words.now moment
         (outputs (sink O.contents out.old) (sink O.contents out.new)
         (sink E.contents err.old) (sink E.contents err.new)) result }
@@ -86,7 +88,8 @@ fn add<H: OfficeFile, O: Write, E: Write>(
     out: &mut Watched<'_, O>,
     err: &mut Watched<'_, E>,
 ) -> End
-    ensures { IsImported ⟦<FileStore<H::Medium> as Store>⟧ (places_of H.Medium.Disk H.Salts.SaltSource H.OfficeFile office)
+    ensures { IsImported ⟦<FileStore<H::Medium> as Store>⟧
+        (places_of H.Medium.Disk H.Salts.SaltSource H.OfficeFile office)
         (H.leaves office) words.now moment bytes.now
         (outputs (sink O.contents out.old) (sink O.contents out.new)
         (sink E.contents err.old) (sink E.contents err.new)) result }

@@ -15,7 +15,8 @@ use sts_token::BlockTransform;
 
 /// Prints what the meter answers to each token, and then its credit.
 pub(crate) fn run<O: Write>(words: &MeterWords, out: &mut Watched<'_, O>) -> End
-    ensures told { Takes (sink O.contents out.old) (sink O.contents out.new) (metering_of words.now) }
+    ensures told { Takes (sink O.contents out.old) (sink O.contents out.new)
+        (metering_of words.now) }
     ensures end { result ≡ End.Done }
 {
     enter_all(words.transform, words.key, words.tokens, out);

@@ -55,8 +55,8 @@ pub(crate) fn run<H: OfficeFile, C: Clock, O: Write, E: Write>(
     }
 }
 
-/// Opens the office in a file, asks it at a moment, prints the answer, and closes the file; or tells
-/// why the file is not opened. The life of the office ends with the request.
+/// Opens the office in a file, asks it at a moment, prints the answer, and closes the file; or
+/// tells why the file is not opened. The life of the office ends with the request.
 pub(crate) fn ask_at<H: OfficeFile, O: Write, E: Write>(
     alloc: Global,
     office: H,

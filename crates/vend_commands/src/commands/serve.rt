@@ -99,7 +99,8 @@ fn end_with<H: OfficeFile, E: Write>(
     served: Result<(Books<FileStore<H::Medium>, Shipped>, bool), OpenFault>,
     err: &mut Watched<'_, E>,
 ) -> End
-    ensures closed { IsClosedAfter (λ books. IsClosed H.Medium.Disk H.lets_go (seen_in books)) served }
+    ensures closed { IsClosedAfter
+        (λ books. IsClosed H.Medium.Disk H.lets_go (seen_in books)) served }
     ensures told { Takes (sink E.contents err.old) (sink E.contents err.new) (stop_line served) }
     ensures end { result ≡ serving_end served }
 {

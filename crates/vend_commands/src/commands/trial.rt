@@ -17,7 +17,8 @@ use std::io::Write;
 use sts_fields::Moment;
 use vend_core::Refusal;
 
-/// Sells at the moment of the words or else of the clock, and prints each token, then why it stopped.
+/// Sells at the moment of the words or else of the clock, and prints each token, then why it
+/// stopped.
 pub(crate) fn run<C: Clock, O: Write, E: Write>(
     words: &TrialWords,
     alloc: Global,
@@ -27,7 +28,8 @@ pub(crate) fn run<C: Clock, O: Write, E: Write>(
 ) -> End
     ensures { let o = outputs (sink O.contents out.old) (sink O.contents out.new)
         (sink E.contents err.old) (sink E.contents err.new) in
-        IsTimed ⊤ words.now.at (C.answers clock.old) (λ moment. IsTried words.now moment o result) o result }
+        IsTimed ⊤ words.now.at (C.answers clock.old)
+        (λ moment. IsTried words.now moment o result) o result }
 {
     match moment_or_now(words.at, clock) {
         Some(moment) => try_at(words, alloc, moment, out, err),

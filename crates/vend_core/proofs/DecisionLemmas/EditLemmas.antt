@@ -26,7 +26,8 @@ use Rattle.vend_core.specs.declared.office.shift.Shift.{Shift}
 use Rattle.vend_core.proofs.OfficeLemmas.RowLemmas.{all_pairs_map, found_none, numbered_map, numbered_push, pairs_push, parts_true}
 use Rattle.vend_core.proofs.LawLemmas.StayLemmas.{put_beside}
 
--- what no edit takes away: tariffs, bases that a meter had, shifts, and meters, which are not moved back
+-- what no edit takes away: tariffs, bases that a meter had, shifts, and meters, which are not moved
+-- back
 pub record Keeps (o p : Office) : Type 0 where
   pub tariffs : (n : List ℕ) → IsSome (o.tariffs n) → IsSome (p.tariffs n)
   pub bases : (q : List ℕ) (b : Base) → o.bases q b ≡ true → p.bases q b ≡ true

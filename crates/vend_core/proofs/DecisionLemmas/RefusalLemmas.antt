@@ -1,4 +1,5 @@
--- The rules refuse for reasons of the request's own: never for memory, for the store, or because the office stopped.
+-- The rules refuse for reasons of the request's own: never for memory, for the store, or because
+-- the office stopped.
 use Rattle.std.proofs.Common.{◌≡◌, ◌≢◌, ℕ, ◌+◌, Bool, true, false, List, [], ◌∷◌, Option, Some, None, Result, Ok, Err, length, refl, sym, ◌∙◌, ap}
 use Rattle.std.specs.Prelude.{bytes_eq, if◌then◌else◌, is_some, nat_lt}
 use Rattle.std.specs.Option.{ok_or}

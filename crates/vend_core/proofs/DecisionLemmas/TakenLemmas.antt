@@ -1,4 +1,5 @@
--- Rows taken by an import, in maps under their names: what is looked up there is what the office with the rows has.
+-- Rows taken by an import, in maps under their names: what is looked up there is what the office
+-- with the rows has.
 use Rattle.std.proofs.Common.{◌≡◌, ℕ, Bool, true, false, List, [], ◌∷◌, ◌++◌, Option, Some, None, is_some, refl, sym, ◌∙◌, ap, arith, Bor, Ordering, Less, Equal, Greater}
 use Rattle.std.specs.Prelude.{◌&&◌, ◌==◌, bytes_eq, cond, if◌then◌else◌}
 use Rattle.std.specs.BTreeMap.{BTreeMap, Updates, get_by}

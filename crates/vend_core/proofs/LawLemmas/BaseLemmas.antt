@@ -1,4 +1,5 @@
--- The bases of meters: the present one is the greatest that a meter had, and a move sets a later one.
+-- The bases of meters: the present one is the greatest that a meter had, and a move sets a later
+-- one.
 use Rattle.std.proofs.Common.{◌≡◌, ℕ, ◌<◌, ◌≤◌, Bool, true, false, List, Some, Result, Ok, Err, refl, sym, ◌∙◌, ap, arith}
 use Rattle.std.specs.Prelude.{◌&&◌, ◌||◌, All, bytes_eq, nat_lt, if◌then◌else◌, option_map}
 use Rattle.std.proofs.lemmas.Bool.{le-ltb, lt-ltb, ne_eqb}

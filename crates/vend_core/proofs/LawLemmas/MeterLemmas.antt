@@ -1,4 +1,5 @@
--- Handed sales of one meter, in the order of sale, are a rising list of tokens; so what holds of such tokens at a meter holds of them.
+-- Handed sales of one meter, in the order of sale, are a rising list of tokens; so what holds of
+-- such tokens at a meter holds of them.
 use Rattle.std.proofs.Common.{◌⊎◌, ◌≡◌, ℕ, ◌-◌, ◌<◌, ◌≤◌, ◌^◌, ◌↔◌, inl, inr, true, List, ◌∷◌, ◌++◌, sym, ◌∙◌, ap, subst, arith}
 use Rattle.std.specs.Prelude.{◌&&◌, ◌==◌, All, AllPairs, Contains, map, nat_eq, nat_lt, sum_by}
 use Rattle.std.proofs.lemmas.Bool.Decides.{Decides-eqb, Decides-ltb, same_from_decides}
@@ -42,7 +43,8 @@ pub record MeterLaws : Type 0 where
       → credit_of (reading_of inverse key) (entries_of forward key came) ≤ sum_by (λ f. f.tenths) fs
   pub below_bound : (fs : List TokenFields) → AreSold fs → sum_by (λ f. f.tenths) fs < 2 ^ 64 - 1
 
--- the earlier of two sales has the lesser number and, at one meter under one base, the lesser identifier
+-- the earlier of two sales has the lesser number and, at one meter under one base, the lesser
+-- identifier
 abbrev Earlier : Sale → Sale → Type 0
 Earlier a b = IsBefore a b × Rises a b
 

@@ -1,4 +1,5 @@
--- The edit of a granted request fits the office: its meter's tariff is there, its identifier is in range, and there is room.
+-- The edit of a granted request fits the office: its meter's tariff is there, its identifier is in
+-- range, and there is room.
 use Rattle.std.proofs.Common.{◌≡◌, ℕ, ◌<◌, ◌≤◌, Bool, true, false, List, [], ◌∷◌, Option, Some, None, Result, Ok, Err, IsSome, bytes_eq, is_some, length, nat_lt, refl, sym, subst, inl, inr, if◌then◌else◌, arith}
 use Rattle.std.proofs.lemmas.Bool.Decides.{nat_tests}
 use Rattle.std.proofs.lemmas.Option.{none-some, same_Some}

@@ -1,4 +1,5 @@
--- The rows of an office in plain lists, after a meter is set or rows are added: what is looked up, and that each meter's tariff is there.
+-- The rows of an office in plain lists, after a meter is set or rows are added: what is looked up,
+-- and that each meter's tariff is there.
 use Rattle.std.proofs.Common.{◌≡◌, ℕ, inl, inr, Bool, true, false, cond, List, [], ◌∷◌, ◌++◌, append_assoc, Option, Some, None, IsSome, map, refl, sym, ◌∙◌, ap, subst, bytes_eq, if◌then◌else◌, option_map}
 use Rattle.std.proofs.lemmas.List.{append-nil, map-append}
 use Rattle.std.proofs.lemmas.Option.{same_Some, none-some}

@@ -72,7 +72,8 @@ numbered_push number xs x numbered is i row at =
           ap number (sym same) ∙ omega arith
     ]
 
--- two rows of a list in which each pair is related: they are one, or the earlier is related to the later
+-- two rows of a list in which each pair is related: they are one, or the earlier is related to the
+-- later
 pub related : {X : Type 0} (R : X → X → Type 0) (xs : List X) (x y : X) → AllPairs R xs → Contains xs x → Contains xs y → (x ≡ y) ⊎ (R x y ⊎ R y x)
 related R xs x y pairs a b =
     elim (cases_lt a.0 b.0) [

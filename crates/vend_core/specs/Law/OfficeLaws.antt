@@ -68,8 +68,8 @@ IsNotBefore day at = day ≤ day_at at.moment
 abbrev pub IsPricedBy : Office → List ℕ → ℕ → Sale → Type 0
 IsPricedBy o name before s = s.price ≡ cost_of (steps_on o name (day_at s.moment)) before s.tenths
 
--- a sale that an office made: it stands in a later one as it was, and costs there by the tariff that
--- its meter had, after the tenths that the meter had in the month
+-- a sale that an office made: it stands in a later one as it was, and costs there by the tariff
+-- that its meter had, after the tenths that the meter had in the month
 pub record KeepsPrice (earlier later : Office) (s : Sale) : Type 0 where
   pub stands : Contains later.sales s
   pub meter : Meter

@@ -19,9 +19,9 @@ pub record WasWritten (lives : List Life) (s : Sale) : Type 0 where
   pub key_bits : key < 2 ^ 64
   pub token : IsToken life.forward key (fields_of s) s.digits
 
--- a simulated meter between two clearings: its number, the base that its identifiers count from, and
--- its transform, two ways, and key. A meter that is moved to a later base is cleared then, and is
--- another such meter from there on: identifiers count anew from the new base
+-- a simulated meter between two clearings: its number, the base that its identifiers count from,
+-- and its transform, two ways, and key. A meter that is moved to a later base is cleared then, and
+-- is another such meter from there on: identifiers count anew from the new base
 pub record SimMeter : Type 0 where
   pub number : List ℕ
   pub base : Base

@@ -44,7 +44,8 @@ pub fn office_law()
         → FreshOutcome (used o meter base) now (fresh_after now (greatest_of (used o meter base))) }
 
     // A new sale is what the rules say, and stands at the end; nothing else adds a sale.
-    ensures new_sale { (forward : BlockFunction) (o : Office) (at : Stamped) (order : Order) (s : Sale)
+    ensures new_sale { (forward : BlockFunction) (o : Office) (at : Stamped) (order : Order)
+        (s : Sale)
         → IsOffice o → KeepsRange forward → at.request ≡ Request.Sell order
         → sale_of_ref o order.operator order.order_ref ≡ None
         → reply forward o at ≡ Ok (Answer.Sold s)
@@ -53,7 +54,8 @@ pub fn office_law()
         → IsOffice o → KeepsRange forward → SellsOne forward o at }
 
     // A ref that comes again changes nothing: the same order gets its sale, another one is refused.
-    ensures again { (forward : BlockFunction) (o : Office) (at : Stamped) (order : Order) (first : Sale)
+    ensures again { (forward : BlockFunction) (o : Office) (at : Stamped) (order : Order)
+        (first : Sale)
         → IsOffice o → at.request ≡ Request.Sell order → WasSold o order first
         → (step forward o at ≡ o)
         × (IsSameOrder order first → reply forward o at ≡ Ok (Answer.Sold first))
