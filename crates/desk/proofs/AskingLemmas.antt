@@ -26,10 +26,10 @@ use Rattle.desk.specs.declared.body_fault.BodyFault.{BodyFault}
 use Rattle.desk.specs.declared.body_fault.BodyFault.TheVariants as faults
 use Rattle.desk.specs.declared.route.Route.{Route}
 use Rattle.desk.specs.declared.route.Route.TheVariants.{AddTariff, AddSteps, AddMeter, SetTariff, MoveBase, OpenShift, CloseShift, ShiftReport, Sell, Reprint, Receipt, ImportMeters, ImportTariffs}
-use Rattle.desk.specs.declared.json.kind.JsonKind.{JsonKind}
-use Rattle.desk.specs.declared.json.kind.JsonKind.TheVariants as kinds
+use Rattle.desk.specs.declared.json_body.kind.JsonKind.{JsonKind}
+use Rattle.desk.specs.declared.json_body.kind.JsonKind.TheVariants as kinds
 use Rattle.desk.specs.Asking.{AsksByJson, AsksImport, BodyAsks, SaysJson, import_of}
-use Rattle.desk.specs.json.Body.{BodySays, BodySaysMeter, BodySaysOperator, BodySaysBase, BodySaysDatedSteps, BodySaysOrder, BodySaysTariff, BodySaysTariffName}
+use Rattle.desk.specs.json_body.Body.{BodySays, BodySaysMeter, BodySaysOperator, BodySaysBase, BodySaysDatedSteps, BodySaysOrder, BodySaysTariff, BodySaysTariffName}
 use Rattle.desk.specs.Reads.{IsFoundIn}
 
 -- ---- members

@@ -13,9 +13,9 @@ use Rattle.vend_core.specs.declared.office.meter.Meter.{Meter}
 use Rattle.vend_core.specs.declared.decision.request.Request.{Request}
 use Rattle.desk.specs.declared.body_fault.BodyFault.{BodyFault}
 use Rattle.desk.specs.declared.body_fault.BodyFault.TheVariants.{OutsideRule, Row, Memory}
-use Rattle.desk.specs.declared.json.kind.JsonKind.{JsonKind}
-use Rattle.desk.specs.declared.json.kind.JsonKind.TheVariants.{Tariff, TariffSteps}
-use Rattle.desk.specs.json.Body.{HasMemberCount, IsKeyAt, BodySays, BodySaysMeter, BodySaysTariff, BodySaysDatedSteps}
+use Rattle.desk.specs.declared.json_body.kind.JsonKind.{JsonKind}
+use Rattle.desk.specs.declared.json_body.kind.JsonKind.TheVariants.{Tariff, TariffSteps}
+use Rattle.desk.specs.json_body.Body.{HasMemberCount, IsKeyAt, BodySays, BodySaysMeter, BodySaysTariff, BodySaysDatedSteps}
 use Rattle.desk.specs.Reads.{IsFoundIn}
 
 -- a map has as many entries as its object has members

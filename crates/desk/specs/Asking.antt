@@ -13,10 +13,10 @@ use Rattle.vend_core.specs.declared.office.row.Row.{Row}
 use Rattle.desk.specs.declared.body_fault.BodyFault.{BodyFault}
 use Rattle.desk.specs.declared.body_fault.BodyFault.TheVariants as faults
 use Rattle.desk.specs.declared.route.Route.{Route}
-use Rattle.desk.specs.declared.json.kind.JsonKind.{JsonKind}
-use Rattle.desk.specs.declared.json.kind.JsonKind.TheVariants as kinds
+use Rattle.desk.specs.declared.json_body.kind.JsonKind.{JsonKind}
+use Rattle.desk.specs.declared.json_body.kind.JsonKind.TheVariants as kinds
 use Rattle.desk.specs.declared.route.Route.TheVariants.{AddTariff, AddSteps, AddMeter, SetTariff, MoveBase, OpenShift, CloseShift, ShiftReport, Sell, Reprint, Receipt, ImportMeters, ImportTariffs}
-use Rattle.desk.specs.json.Body.{IsJson, BodySays}
+use Rattle.desk.specs.json_body.Body.{IsJson, BodySays}
 use Rattle.desk.specs.Reads.{IsFoundIn}
 
 -- the body is JSON that says this request

@@ -5,6 +5,6 @@ pub mod DeskFault
 pub mod Meaning
 pub mod OneConversation
 pub mod Reads
-pub mod json
+pub mod json_body
 pub mod reply
 pub mod route

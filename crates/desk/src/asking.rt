@@ -5,9 +5,9 @@ ghost use Rattle.desk.specs.declared.route.Route.{Route};
 ghost use Rattle.vend_core.specs.declared.decision.request.Request.{Request};
 
 use crate::body_fault::BodyFault;
-use crate::json::kind::JsonKind;
-use crate::json::requests::said;
-use crate::json::value::read_value;
+use crate::json_body::kind::JsonKind;
+use crate::json_body::requests::said;
+use crate::json_body::value::read_value;
 use crate::route::Route;
 use papers::{RowFault, import_law, read_meters, read_tariffs};
 use std::alloc::Global;

@@ -7,7 +7,7 @@ mod asking;
 mod body_fault;
 mod desk;
 mod desk_fault;
-mod json;
+mod json_body;
 mod meaning;
 mod reply;
 mod route;
@@ -21,7 +21,7 @@ pub use conversation::{
 };
 pub use desk::Desk;
 pub use desk_fault::DeskFault;
-pub use json::kind::JsonKind;
+pub use json_body::kind::JsonKind;
 pub use reply::form::Form;
 pub use reply::law::reply_law;
 pub use reply::outcome::Outcome;

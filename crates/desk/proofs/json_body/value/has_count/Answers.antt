@@ -1,6 +1,6 @@
 use Rattle.desk.proofs.BodyLemmas.{count_is}
 use Rattle.serde_json.specs.View.{view}
-use Rattle.desk.proofs.json.value.has_count.Goals as goal
+use Rattle.desk.proofs.json_body.value.has_count.Goals as goal
 
 pub returns-in-Some : goal.returns-in-Some
 returns-in-Some c =

@@ -2,7 +2,7 @@ ghost use Rattle.std.specs.Prelude.{◌≡◌, ◌≢◌, ◌↔◌, ◌⊎◌, 
 ghost use Rattle.serde_json.specs.Data.{Data, number, string, unsigned};
 ghost use Rattle.serde_json.specs.Find.{get};
 ghost use Rattle.serde_json.specs.View.{view};
-ghost use Rattle.desk.specs.json.Body.{HasMemberCount, IsJson};
+ghost use Rattle.desk.specs.json_body.Body.{HasMemberCount, IsJson};
 
 use crate::body_fault::BodyFault;
 use serde_json::Value;

@@ -2,13 +2,13 @@ ghost use Rattle.std.specs.Prelude.{Some};
 ghost use Rattle.serde_json.specs.Data.{number, string, unsigned};
 ghost use Rattle.serde_json.specs.Find.{get};
 ghost use Rattle.serde_json.specs.View.{view};
-ghost use Rattle.desk.specs.json.Body.{IsBaseAt, IsDayAt, IsKeyAt, IsStepsAt};
+ghost use Rattle.desk.specs.json_body.Body.{IsBaseAt, IsDayAt, IsKeyAt, IsStepsAt};
 ghost use Rattle.desk.specs.Reads.{IsFound, IsFoundIn, ReadsWritten};
 ghost use Rattle.tariff.specs.Tender.{IsTender};
 ghost use Rattle.vend_core.specs.Name.{IsMeterNo, IsName, IsOperator};
 
 use crate::body_fault::BodyFault;
-use crate::json::value::{number_at, text_at};
+use crate::json_body::value::{number_at, text_at};
 use serde_json::Value;
 use std::alloc::Global;
 use sts_fields::{Base, Day};

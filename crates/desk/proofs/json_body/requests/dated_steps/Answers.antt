@@ -3,9 +3,9 @@ use Rattle.std.specs.Prelude.{codes}
 use Rattle.serde_json.specs.Find.{get}
 use Rattle.serde_json.specs.View.{view}
 use Rattle.tariff.specs.declared.step.Step.{Step}
-use Rattle.desk.specs.json.Body.{IsStepsAt, BodySaysDatedSteps}
+use Rattle.desk.specs.json_body.Body.{IsStepsAt, BodySaysDatedSteps}
 use Rattle.desk.proofs.BodyLemmas.{not_found_in}
-use Rattle.desk.proofs.json.requests.dated_steps.Goals as goal
+use Rattle.desk.proofs.json_body.requests.dated_steps.Goals as goal
 
 pub returns-in-None : goal.returns-in-None
 returns-in-None c = λ said says. c.in-None.ensures said.0 (says.day_text, says.members.each.0, says.dated)

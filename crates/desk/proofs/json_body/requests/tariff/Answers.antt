@@ -3,9 +3,9 @@ use Rattle.std.specs.Prelude.{codes}
 use Rattle.serde_json.specs.Find.{get}
 use Rattle.serde_json.specs.View.{view}
 use Rattle.tariff.specs.declared.step.Step.{Step}
-use Rattle.desk.specs.json.Body.{IsStepsAt, BodySaysTariff}
+use Rattle.desk.specs.json_body.Body.{IsStepsAt, BodySaysTariff}
 use Rattle.desk.proofs.BodyLemmas.{not_found_in}
-use Rattle.desk.proofs.json.requests.tariff.Goals as goal
+use Rattle.desk.proofs.json_body.requests.tariff.Goals as goal
 
 pub returns-in-Err : goal.returns-in-Err
 returns-in-Err c =

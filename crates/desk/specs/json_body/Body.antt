@@ -19,8 +19,8 @@ use Rattle.vend_core.specs.declared.office.meter.Meter.{Meter}
 use Rattle.vend_core.specs.declared.decision.request.Order.{Order}
 use Rattle.vend_core.specs.declared.decision.request.Request.{Request}
 use Rattle.vend_core.specs.declared.decision.request.Request.TheVariants as requests
-use Rattle.desk.specs.declared.json.kind.JsonKind.{JsonKind}
-use Rattle.desk.specs.declared.json.kind.JsonKind.TheVariants as kinds
+use Rattle.desk.specs.declared.json_body.kind.JsonKind.{JsonKind}
+use Rattle.desk.specs.declared.json_body.kind.JsonKind.TheVariants as kinds
 
 -- the body is the text of this value
 pub record IsJson (body : List ℕ) (json : Data) : Type 0 where

@@ -1,6 +1,6 @@
 use Rattle.serde_json.specs.View.{view}
 use Rattle.desk.proofs.BodyLemmas.{no_key}
-use Rattle.desk.proofs.json.requests.meter.Goals as goal
+use Rattle.desk.proofs.json_body.requests.meter.Goals as goal
 
 pub returns-in_err-key : goal.returns-in_err-key
 returns-in_err-key c =

@@ -1,13 +1,13 @@
 ghost use Rattle.serde_json.specs.View.{view};
-ghost use Rattle.desk.specs.json.Body.{BodySays, BodySaysMeter, BodySaysOperator, BodySaysBase, BodySaysDatedSteps, BodySaysOrder, BodySaysTariff, BodySaysTariffName};
+ghost use Rattle.desk.specs.json_body.Body.{BodySays, BodySaysMeter, BodySaysOperator, BodySaysBase, BodySaysDatedSteps, BodySaysOrder, BodySaysTariff, BodySaysTariffName};
 ghost use Rattle.desk.specs.Reads.{IsFound, IsFoundIn};
 
 use crate::body_fault::BodyFault;
-use crate::json::kind::JsonKind;
-use crate::json::names::{
+use crate::json_body::kind::JsonKind;
+use crate::json_body::names::{
     base_at, day_at, key_at, meter_at, operator_at, ref_at, steps_at, tariff_at, tender_at,
 };
-use crate::json::value::has_count;
+use crate::json_body::value::has_count;
 use serde_json::Value;
 use std::alloc::Global;
 use sts_fields::{Base, Day};
