@@ -1,3 +1,4 @@
+pub mod BufferLemmas
 pub mod EndLemmas
 pub mod FieldLemmas
 pub mod FollowLemmas

@@ -1,23 +1,26 @@
-ghost use Rattle.std.specs.Prelude.{◌≡◌, ◌∷◌, ◌+◌, ◌<◌, ◌≤◌, [], length, take, drop, IfOk, OnOk, vec_len, vec_capacity};
+ghost use Rattle.std.specs.Prelude.{◌≡◌, ◌∷◌, ◌+◌, ◌<◌, ◌≤◌, [], length, take, drop, IfOk, vec_len};
 ghost use Rattle.conversation.specs.Ends.{AsksOnce, IsRead, ReadsAt};
 ghost use Rattle.conversation.specs.Uses.{Grows, asked, came_of, longest_message};
 
 use crate::end::End;
 use crate::line::Line;
-use std::alloc::{AllocError, Global};
+use std::alloc::Global;
 use std::io;
 use std::io::{Read, Write};
 
-// The most bytes that one read asks for.
-const READ_AT_ONCE: usize = 65536;
+// The least and the most bytes that one read asks for, where so many are wanted.
+const LEAST_READ: usize = 1024;
+
+const GREATEST_READ: usize = 65536;
 
 /// The bytes of an input that were read and are not answered: never more than the longest message.
 #[derive(Drop)]
 pub(crate) struct Unanswered {
     bytes: Vec<u8>,
-    // Where a read puts its bytes first. Zeros fill it once, and not for each read.
-    arrived: Vec<u8>,
+    // How many bytes the next read asks for at most.
+    window: usize,
     ghost within: { vec_len bytes ≤ longest_message },
+    ghost some: { 0 < window },
 }
 
 impl Unanswered {
@@ -26,7 +29,7 @@ impl Unanswered {
     {
         Unanswered {
             bytes: Vec::new(alloc),
-            arrived: Vec::new(alloc),
+            window: LEAST_READ,
         }
     }
 
@@ -49,7 +52,9 @@ impl Unanswered {
         ensures { IsRead (L.uses line.old) (L.uses line.new) (R.remaining reader.old)
             (R.remaining reader.new) wanted self.old.bytes.items self.new.bytes.items result }
     {
-        read_behind(line, reader, &mut self.bytes, &mut self.arrived, wanted)
+        let count = read_behind(line, reader, &mut self.bytes, wanted, self.window)?;
+        self.window = window_after(count);
+        Ok(count)
     }
 
     // Takes so many bytes off the front.
@@ -61,80 +66,80 @@ impl Unanswered {
     }
 }
 
-// Reads at most as many bytes as wanted behind the others, by way of a buffer.
-fn read_behind<L: Line<R, W>, R: Read, W: Write>(
+// How many bytes are asked for after a read that brought so many: twice as many, so that what is
+// filled with zeros is seldom more than twice what comes, however small the pieces are.
+fn window_after(count: usize) -> usize
+    ensures { 0 < result }
+{
+    count.saturating_mul(2).max(LEAST_READ).min(GREATEST_READ)
+}
+
+// Reads into the slice, from the place on.
+fn read_at<L: Line<R, W>, R: Read, W: Write>(
     line: &mut L,
     reader: &mut R,
-    bytes: &mut Vec<u8>,
-    buffer: &mut Vec<u8>,
-    wanted: usize,
-) -> Result<usize, End>
-    requires some { 0 < wanted }
-    requires room { vec_len bytes.old + wanted ≤ longest_message }
-    ensures read { IsRead (L.uses line.old) (L.uses line.new) (R.remaining reader.old)
-        (R.remaining reader.new) wanted bytes.old.items bytes.new.items result }
-    ensures within { vec_len bytes.new ≤ longest_message }
+    buffer: &mut [u8],
+    at: usize,
+) -> io::Result<usize>
+    requires { at < length buffer.old }
+    ensures front { take at buffer.new ≡ take at buffer.old }
+    ensures size { length buffer.new ≡ length buffer.old }
+    ensures fits { IfOk result (λ count. at + count ≤ length buffer.new) }
+    ensures bytes { ReadsAt (R.remaining reader.old) (R.remaining reader.new)
+        (drop at buffer.new) result }
+    ensures told { Grows (L.uses line.old) (L.uses line.new)
+        (asked (length (drop at buffer.old)) (came_of (drop at buffer.new) result) ∷ []) }
 {
-    let room = wanted.min(READ_AT_ONCE);
-    if make_room(bytes, buffer, room).is_err() {
-        return Err(End::Memory);
-    }
-    match read_into(line, reader, buffer, room) {
-        Ok(count) => {
-            bytes.extend_from_slice(&buffer[..count]).unwrap();
-            Ok(count)
-        }
-        Err(_) => Err(End::ReadFault),
-    }
+    line.read(reader, &mut buffer[at..])
 }
 
-// Makes room for so many bytes, in the buffer and behind the others.
-fn make_room(bytes: &mut Vec<u8>, buffer: &mut Vec<u8>, room: usize) -> Result<(), AllocError>
-    ensures same { bytes.new.items ≡ bytes.old.items }
-    ensures behind { OnOk result (vec_len bytes.new + room ≤ vec_capacity bytes.new) }
-    ensures front { OnOk result (room ≤ vec_len buffer.new) }
-{
-    bytes.reserve(room)?;
-    if buffer.len() < room {
-        return buffer.resize(room, 0);
-    }
-    Ok(())
-}
-
-// Reads into the front of the buffer, so many bytes at most.
+// The same into a vector.
 fn read_into<L: Line<R, W>, R: Read, W: Write>(
     line: &mut L,
     reader: &mut R,
     buffer: &mut Vec<u8>,
-    room: usize,
+    at: usize,
 ) -> io::Result<usize>
-    requires some { 0 < room }
-    requires within { room ≤ vec_len buffer.old }
+    requires { at < vec_len buffer.old }
+    ensures front { take at buffer.new.items ≡ take at buffer.old.items }
     ensures size { vec_len buffer.new ≡ vec_len buffer.old }
-    ensures fits { IfOk result (λ count. count ≤ room) }
+    ensures fits { IfOk result (λ count. at + count ≤ vec_len buffer.new) }
     ensures bytes { ReadsAt (R.remaining reader.old) (R.remaining reader.new)
-        (take room buffer.new.items) result }
+        (drop at buffer.new.items) result }
     ensures told { Grows (L.uses line.old) (L.uses line.new)
-        (asked room (came_of (take room buffer.new.items) result) ∷ []) }
+        (asked (length (drop at buffer.old.items)) (came_of (drop at buffer.new.items) result) ∷ []) }
 {
-    read_front(line, reader, buffer.as_mut_slice(), room)
+    read_at(line, reader, buffer.as_mut_slice(), at)
 }
 
-// The same into a slice.
-fn read_front<L: Line<R, W>, R: Read, W: Write>(
+// Reads at most as many bytes as wanted, and as the window has, behind the buffer.
+fn read_behind<L: Line<R, W>, R: Read, W: Write>(
     line: &mut L,
     reader: &mut R,
-    buffer: &mut [u8],
-    room: usize,
-) -> io::Result<usize>
-    requires some { 0 < room }
-    requires within { room ≤ length buffer.old }
-    ensures size { length buffer.new ≡ length buffer.old }
-    ensures fits { IfOk result (λ count. count ≤ room) }
-    ensures bytes { ReadsAt (R.remaining reader.old) (R.remaining reader.new)
-        (take room buffer.new) result }
-    ensures told { Grows (L.uses line.old) (L.uses line.new)
-        (asked room (came_of (take room buffer.new) result) ∷ []) }
+    buffer: &mut Vec<u8>,
+    wanted: usize,
+    window: usize,
+) -> Result<usize, End>
+    requires some { 0 < wanted }
+    requires open { 0 < window }
+    requires room { vec_len buffer.old + wanted ≤ longest_message }
+    ensures read { IsRead (L.uses line.old) (L.uses line.new) (R.remaining reader.old)
+        (R.remaining reader.new) wanted buffer.old.items buffer.new.items result }
+    ensures within { vec_len buffer.new ≤ longest_message }
 {
-    line.read(reader, &mut buffer[..room])
+    let filled = buffer.len();
+    let room = wanted.min(window);
+    if buffer.resize(filled + room, 0).is_err() {
+        return Err(End::Memory);
+    }
+    match read_into(line, reader, buffer, filled) {
+        Ok(count) => {
+            buffer.truncate(filled + count);
+            Ok(count)
+        }
+        Err(_) => {
+            buffer.truncate(filled);
+            Err(End::ReadFault)
+        }
+    }
 }
