@@ -1,0 +1,10 @@
+pub mod AuditLaw
+pub mod ByNumberLemmas
+pub mod FitLemmas
+pub mod FormatLemmas
+pub mod PartLemmas
+pub mod PassedLemmas
+pub mod SalesReadLemmas
+pub mod SalesSeenLemmas
+pub mod ValueLaw
+pub mod WholeLemmas
