@@ -1,11 +1,13 @@
 -- The format that is told, and what an audit makes of it.
 use Rattle.std.proofs.Common.{◌≡◌, ◌≢◌, ◌≤◌, ◌<◌, ◌^◌, ◌∙◌, ℕ, zero, suc, true, false, IsTrue, Option, None, Some, Result, Ok, Err, nat_eq, inl, inr, refl, sym, ap, subst, arith}
+use Rattle.std.specs.Prelude.{◌↔◌, IfSome}
 use Rattle.std.specs.Option.{option_eq}
 use Rattle.std.proofs.lemmas.Bool.{le-leb}
 use Rattle.std.proofs.lemmas.Bool.Decides.{nat_tests}
 use Rattle.sqlite.specs.Effect.{Database}
 use Rattle.sqlite.specs.State.{HasCleanDisk, IsUnchanged, State, Survives}
 use Rattle.sqlite_rules.specs.Lists.{Has as Member}
+use Rattle.sqlite_schema.specs.declared.schema.Schema.{Schema}
 use Rattle.one_table.specs.ReadsOnly.{ReadsOnly}
 use Rattle.vend_core.specs.Office.{Office}
 use Rattle.book_tables.specs.Format.{HasFormat, IsFormatOf, TellsFormat}
@@ -16,7 +18,7 @@ use Rattle.book_tables.specs.Rows.{Rows, present_format}
 use Rattle.book_tables.specs.declared.error.TableError.{TableError}
 use Rattle.book_tables.specs.declared.error.TableError.TheVariants as table
 use Rattle.book_tables.proofs.HoldsLemmas.{of_upto, one_format}
-use Rattle.audit.specs.Audited.{Passes, PassesAs}
+use Rattle.audit.specs.Audited.{Passes, PassesAs, no_tables}
 use Rattle.audit.specs.Fails.{FailsToAudit, HasNoFormat, IsKnown, IsSoundOf, failed}
 use Rattle.audit.specs.Listing.{FailsToList}
 use Rattle.audit.specs.declared.audited.Audited.{Audited}
@@ -131,3 +133,20 @@ passes_by db a n is known has tells rows = record {
   tells = subst (λ (k : ℕ). TellsFormat k db) (sym is) (has_tells n db tells);
   rows = subst (λ (k : ℕ). PassesAs k db a) (sym is) rows;
 }
+
+-- ---- the tables that are there
+
+pub here_so : (db : Database) (s : Schema) → s ≡ db.schema → (found : Option ℕ) → ((m : ℕ) → m ≤ present_format → (found ≡ Some m) ↔ HasOfficeOf m s) → (n : ℕ) → n ≤ present_format → found ≡ Some n → HasOfficeOf n db.schema
+here_so db s is found here n known so = subst (HasOfficeOf n) is ((here n known).0 so)
+
+pub known_so : (found : Option ℕ) (n : ℕ) → IfSome found (λ m. m ≤ present_format) → found ≡ Some n → n ≤ present_format
+known_so found n known so = subst (λ (o : Option ℕ). IfSome o (λ m. m ≤ present_format)) so known
+
+-- there is nothing yet
+pub passes_none : (db : Database) (a : Audited) → a ≡ no_tables → HasOfficeOf 0 db.schema → Passes db a
+passes_none db a is has = subst (Passes db) (sym is) (record {
+  known = omega arith;
+  has = has;
+  tells = tt;
+  rows = record { first = λ some. absurd (omega (arith, some)); totals = λ some. absurd (omega (arith, some)); bases = λ some. absurd (omega (arith, some)); dated_steps = λ some. absurd (omega (arith, some)) };
+})

@@ -1,5 +1,5 @@
 -- What is read of the sales: how many there are, or the first row that breaks a rule.
-use Rattle.std.proofs.Common.{◌≡◌, ◌≢◌, ◌+◌, ◌∙◌, ℕ, zero, suc, Bool, true, false, List, [], ◌∷◌, ◌++◌, length, map, Option, option_map, None, Some, Result, Ok, Err, IsPermutation, inl, inr, refl, sym, ap, ap₂, subst, arith}
+use Rattle.std.proofs.Common.{◌≡◌, ◌≢◌, ◌+◌, ◌∙◌, ℕ, zero, suc, Bool, true, false, List, [], ◌∷◌, ◌++◌, length, map, Option, option_map, None, Some, Result, Ok, Err, IfOk, IsTrue, IsPermutation, inl, inr, refl, sym, ap, ap₂, subst, arith}
 use Rattle.std.specs.Prelude.{⊤, ◌==◌, All, Contains, slice_get}
 use Rattle.std.specs.List.{AllZip}
 use Rattle.std.proofs.lemmas.Bool.{false≢true}
@@ -10,7 +10,7 @@ use Rattle.std.proofs.lemmas.List.Sorted.{Contains-permutation, IsPermutation-sy
 use Rattle.std.proofs.lemmas.Option.{same_Some, slice_get-map}
 use Rattle.sqlite.specs.Effect.{Database}
 use Rattle.sqlite.specs.Order.{Row, column}
-use Rattle.sqlite.specs.State.{IsUnchanged, State}
+use Rattle.sqlite.specs.State.{HasCleanDisk, IsUnchanged, State}
 use Rattle.sqlite.specs.declared.error.Error.{Error}
 use Rattle.sqlite_keyed.proofs.ListLemmas.{map-map}
 use Rattle.sts_fields.specs.Calendar.{month_at}
@@ -30,10 +30,11 @@ use Rattle.audit.specs.Fails.{FailsToAudit}
 use Rattle.audit.specs.ListTexts.{lists_sales}
 use Rattle.audit.specs.Listing.{FailsToList, cause_of}
 use Rattle.audit.specs.Sales.{AreSaleRowValues, HasSales, shown_sale_row}
-use Rattle.audit.specs.SalesSeen.{after_row, broken_by, has_its_month, look}
+use Rattle.audit.specs.SalesSeen.{after_row, broken_by, has_its_month, look, outcome, outcome_of}
 use Rattle.audit.specs.Tables.{kept_of}
 use Rattle.audit.specs.Texts.{sales_list}
 use Rattle.audit.specs.Whole.{Sees, all_columns}
+use Rattle.audit.specs.declared.finding.AuditFault.{AuditFault}
 use Rattle.audit.specs.declared.finding.AuditFault.TheVariants.{Failed}
 use Rattle.audit.specs.declared.finding.Finding.{Finding}
 use Rattle.audit.specs.declared.finding.RowKey.TheVariants.{Columns, Number}
@@ -46,7 +47,7 @@ use Rattle.audit.specs.declared.table_name.TableName.{TableName}
 use Rattle.audit.specs.declared.table_name.TableName.TheVariants as table
 use Rattle.audit.proofs.ByNumberLemmas.{by_number}
 use Rattle.audit.proofs.SalesSeenLemmas.{ArePassed, IsEnd, going, walked}
-use Rattle.audit.proofs.WholeLemmas.{all_records, answered, false_there, list_fails, only_asks}
+use Rattle.audit.proofs.WholeLemmas.{all_records, answered, false_there, list_fails, list_reads, only_asks}
 
 one_number : (m n : ℕ) → number m ≡ number n → m ≡ n
 one_number m n e = cc
@@ -186,6 +187,33 @@ module _ (old new : State) (has : HasTable sales_kept old) (same : IsUnchanged o
   sales_break f some runs =
       let said = subst Says some sales_said in
       record { there = subst (λ (t : TableName). IsKept old.now.schema (kept_of t)) (sym said.0) (has runs); breaks = said.1 }
+
+  -- ---- what is told of it
+
+  told_so : (o : Option Finding) → end.broken ≡ o → IfOk (outcome_of end.count o) (HasSales old.now)
+  told_so None is = sales_pass is
+  told_so (Some f) is = tt
+
+  pub told_given : (r : Result ℕ AuditFault) → r ≡ outcome end → IfOk r (HasSales old.now)
+  told_given r is = subst (λ (x : Result ℕ AuditFault). IfOk x (HasSales old.now)) (sym is) (told_so end.broken refl)
+
+module _ (old new : State) (end : SalesSeen) (this : ReadsOnly (OnlyAsks sales_list) IsUnchanged (λ a b why. FailsToGather sees after_row (going 0) sales_list [] a b (λ _ _. ⊤) (λ _. ⊤) why) old new (Ok end))
+    (given : HasCleanDisk new → OnlyAsks sales_list old → GivesGathered sees after_row (going 0) sales_list [] old new end) where
+  told_left : (o : Option Finding) → end.broken ≡ o → ReadsOnly (HasTable sales_kept) IsUnchanged FailsToAudit old new (outcome_of end.count o)
+  told_left None is = list_reads lists_sales sales_list refl old new this
+  told_left (Some f) is = record {
+    same = λ _ _. tt;
+    kept = λ clean has. inl (this.same clean (only_asks lists_sales old has));
+    mode = this.mode;
+    faults = λ clean has.
+        let asks = only_asks lists_sales old has in
+        let same = this.same clean asks in
+        (sales_break old new has same end (given clean asks) f is same.0.was_open, same);
+    survives = λ has. this.survives (only_asks lists_sales old has);
+  }
+
+  pub told_reads : (r : Result ℕ AuditFault) → r ≡ outcome end → ReadsOnly (HasTable sales_kept) IsUnchanged FailsToAudit old new r
+  told_reads r is = subst (ReadsOnly (HasTable sales_kept) IsUnchanged FailsToAudit old new) (sym is) (told_left end.broken refl)
 
 -- why the walk stops
 module _ (old new : State) where

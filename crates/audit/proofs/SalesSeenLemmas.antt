@@ -5,8 +5,10 @@ use Rattle.std.proofs.lemmas.Bool.Decides.{Decides-eqb}
 use Rattle.std.proofs.lemmas.List.Elements.{All-cons, All-nil}
 use Rattle.std.proofs.lemmas.Option.{same_Some}
 use Rattle.sts_fields.specs.Calendar.{month_at}
-use Rattle.audit.specs.SalesSeen.{after_row, has_its_month, look}
+use Rattle.audit.specs.SalesSeen.{after_row, broken_by, has_its_month, look}
 use Rattle.audit.specs.declared.finding.Finding.{Finding}
+use Rattle.audit.specs.declared.finding.RowKey.TheVariants.{Columns, Number}
+use Rattle.audit.specs.declared.finding.Rule.TheVariants.{Gap, Month, Value}
 use Rattle.audit.specs.declared.sale_row.SaleRow.{SaleRow}
 use Rattle.audit.specs.declared.sales_seen.SalesSeen.{SalesSeen}
 use Rattle.audit.specs.declared.seen.Seen.{Seen}
@@ -60,12 +62,9 @@ further n r all count number month (Some b) (front, x, more, are, passed, breaks
       subst (λ (k : ℕ). (look k x).broken ≡ Some b) at breaks,
 )
 
-pub walked : (all : List (Seen SaleRow)) (n : ℕ) → Ends n all (fold after_row (going n) all)
-walked [] n = ([], refl, none_passed n, omega arith)
-walked (seen.False row ∷ all) n =
-    let s : SalesSeen = look n (seen.False row) in
-    subst (Ends n (seen.False row ∷ all)) (sym (stays s refl all)) (first_breaks n (seen.False row) all _ refl)
-walked (seen.Whole r ∷ all) n = by_number (r.sale.number == n + 1) refl
+-- a sale more in front
+one_more : (r : SaleRow) (all : List (Seen SaleRow)) (n : ℕ) → Ends (n + 1) all (fold after_row (going (n + 1)) all) → Ends n (seen.Whole r ∷ all) (fold after_row (look n (seen.Whole r)) all)
+one_more r all n rest = by_number (r.sale.number == n + 1) refl
   where
     back : (m : ℕ) → n ≡ m → (b : Finding) → (look n (seen.Whole r)).broken ≡ Some b → (look m (seen.Whole r)).broken ≡ Some b
     back m same b is = subst (λ (k : ℕ). (look k (seen.Whole r)).broken ≡ Some b) same is
@@ -80,11 +79,17 @@ walked (seen.Whole r ∷ all) n = by_number (r.sale.number == n + 1) refl
     by_month true month number =
         let is : r.sale.number ≡ n + 1 = (Decides-eqb r.sale.number (n + 1)).0 number in
         let goes : look n (seen.Whole r) ≡ going (n + 1) = rw (number, month) (ap going is) in
-        let rest = walked all (n + 1) in
         let end : SalesSeen = fold after_row (going (n + 1)) all in
         subst (λ (s : SalesSeen). Ends n (seen.Whole r ∷ all) (fold after_row s all)) (sym goes) (further n r all end.count is ((Decides-eqb r.month (month_at r.sale.moment)).0 month) end.broken rest)
-    by_month false month number = stops (look n (seen.Whole r)) _ refl (rw (number, month) refl)
+    by_month false month number = stops (look n (seen.Whole r)) (broken_by Month (Number (n + 1))) refl (rw (number, month) refl)
 
     by_number : (b : Bool) → (r.sale.number == n + 1) ≡ b → Ends n (seen.Whole r ∷ all) (fold after_row (look n (seen.Whole r)) all)
     by_number true number = by_month (has_its_month r) refl number
-    by_number false number = stops (look n (seen.Whole r)) _ refl (rw number refl)
+    by_number false number = stops (look n (seen.Whole r)) (broken_by Gap (Number (n + 1))) refl (rw number refl)
+
+pub walked : (all : List (Seen SaleRow)) (n : ℕ) → Ends n all (fold after_row (going n) all)
+walked [] n = ([], refl, none_passed n, omega arith)
+walked (seen.False row ∷ all) n =
+    let s : SalesSeen = look n (seen.False row) in
+    subst (Ends n (seen.False row ∷ all)) (sym (stays s refl all)) (first_breaks n (seen.False row) all (broken_by Value (Columns row)) refl)
+walked (seen.Whole r ∷ all) n = one_more r all n (walked all (n + 1))

@@ -74,6 +74,32 @@ fn audit_as<S: Alter, R: Tables<S> + Drop>(
     Ok(read.counts())
 }
 
+// The same, by the number of the format.
+fn audit_format<S: Alter>(
+    alloc: Global,
+    conn: &mut Connection<S>,
+    format: u32,
+) -> Result<Audited, AuditFault>
+    requires some { 1 ≤ format }
+    requires known { format ≤ present_format }
+    ensures given { HasCleanDisk (state S.Store conn.new)
+        → IsKnown (IsSoundOf format) (state S.Store conn.old)
+        → IfOk result (Passes (state S.Store conn.old).now) }
+    ensures reads { ReadsOnly (IsKnown (IsSoundOf format)) IsUnchanged FailsToAudit
+        (state S.Store conn.old) (state S.Store conn.new) result }
+{
+    if format == 1 {
+        return audit_as::<S, First>(alloc, conn, format);
+    }
+    if format == 2 {
+        return audit_as::<S, Second>(alloc, conn, format);
+    }
+    if format == 3 {
+        return audit_as::<S, Third>(alloc, conn, format);
+    }
+    audit_as::<S, Fourth>(alloc, conn, format)
+}
+
 /// Looks at all rows of all tables, of whatever format they are, and counts them.
 ///
 /// Where it succeeds, no row breaks a rule of its own (`Passes`): the values, the months and the
@@ -82,10 +108,7 @@ fn audit_as<S: Alter, R: Tables<S> + Drop>(
 /// # Errors
 /// A row that breaks a rule, so that the database stands for no office (`audit_law`); tables of no
 /// format; what the database refuses, and want of memory. In each case the database is as it was.
-pub fn audit<S: Alter>(
-    alloc: Global,
-    conn: &mut Connection<S>,
-) -> Result<Audited, AuditFault>
+pub fn audit<S: Alter>(alloc: Global, conn: &mut Connection<S>) -> Result<Audited, AuditFault>
     ensures given { HasCleanDisk (state S.Store conn.new)
         → IsTrue (state S.Store conn.old).is_open
         → IfOk result (Passes (state S.Store conn.old).now) }
@@ -99,12 +122,11 @@ pub fn audit<S: Alter>(
             return Err(AuditFault::Failed(Error::SqliteFailure(ErrorCode::OutOfMemory)));
         }
     };
-    match found {
-        Some(0) => Ok(Audited::none()),
-        Some(1) => audit_as::<S, First>(alloc, conn, 1),
-        Some(2) => audit_as::<S, Second>(alloc, conn, 2),
-        Some(3) => audit_as::<S, Third>(alloc, conn, 3),
-        Some(_) => audit_as::<S, Fourth>(alloc, conn, 4),
-        None => Err(AuditFault::NoOffice),
+    let Some(format) = found else {
+        return Err(AuditFault::NoOffice);
+    };
+    if format == 0 {
+        return Ok(Audited::none());
     }
+    audit_format(alloc, conn, format)
 }

@@ -10,7 +10,7 @@ ghost use Rattle.audit.specs.Fails.{FailsToAudit};
 ghost use Rattle.audit.specs.Sales.{HasSales};
 
 use crate::finding::AuditFault;
-use crate::sales_seen::SalesSeen;
+use crate::sales_seen::{SalesSeen, outcome};
 use crate::source::Source;
 use crate::whole::cause_of;
 use one_table::fold_rows;
@@ -35,13 +35,9 @@ pub(crate) fn count_sales<S: Alter>(conn: &mut Connection<S>) -> Result<u32, Aud
         count: 0,
         broken: None,
     };
-    let seen = match fold_rows(conn, SALES, &[], start) {
-        Ok(seen) => seen,
-        Err(fault) => return Err(AuditFault::Failed(cause_of(fault))),
-    };
-    match seen.broken {
-        Some(finding) => Err(AuditFault::Found(finding)),
-        None => Ok(seen.count),
+    match fold_rows(conn, SALES, &[], start) {
+        Ok(seen) => outcome(seen),
+        Err(fault) => Err(AuditFault::Failed(cause_of(fault))),
     }
 }
 

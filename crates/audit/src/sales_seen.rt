@@ -1,9 +1,9 @@
 //! The sales, as they come in the order of their numbers.
 
 ghost use Rattle.std.specs.Prelude.{◌≡◌, ⊤};
-ghost use Rattle.audit.specs.SalesSeen.{after_row, broken_by, has_its_month, look};
+ghost use Rattle.audit.specs.SalesSeen.{after_row, broken_by, has_its_month, look, outcome};
 
-use crate::finding::{Finding, RowKey, Rule};
+use crate::finding::{AuditFault, Finding, RowKey, Rule};
 use crate::sale_row::SaleRow;
 use crate::seen::Seen;
 use crate::table_name::TableName;
@@ -62,6 +62,16 @@ fn look(count: u32, seen: Seen<SaleRow>) -> SalesSeen
                 broken: None,
             }
         }
+    }
+}
+
+/// How many sales there are, or the first row that breaks a rule.
+pub(crate) fn outcome(seen: SalesSeen) -> Result<u32, AuditFault>
+    ensures { result ≡ outcome seen }
+{
+    match seen.broken {
+        Some(finding) => Err(AuditFault::Found(finding)),
+        None => Ok(seen.count),
     }
 }
 

@@ -27,7 +27,10 @@ pub(crate) trait Tables<S: Alter>: Source<S> {
 }
 
 // Those of the first format,
-pub(crate) type First = (Vec<TariffName>, (Vec<StepRow>, (Vec<MeterRow>, (Vec<Shift>, SaleCount))));
+pub(crate) type First = (
+    Vec<TariffName>,
+    (Vec<StepRow>, (Vec<MeterRow>, (Vec<Shift>, SaleCount))),
+);
 
 // with the totals,
 pub(crate) type Second = (First, (Vec<LastId>, (Vec<MonthTenths>, Vec<ShiftTotals>)));
@@ -52,8 +55,16 @@ impl<S: Alter> Tables<S> for First {
         }
     }
 
-    ghost has = { λ db has. (has.tables.1.0, (has.tables.1.1.0, (has.tables.1.1.1.0,
-        (has.tables.1.1.1.1.0, has.tables.1.1.1.1.1.0)))) };
+    ghost has = { λ db has. (
+      has.tables.1.0,
+      (
+        has.tables.1.1.0,
+        (
+          has.tables.1.1.1.0,
+          (has.tables.1.1.1.1.0, has.tables.1.1.1.1.1.0),
+        ),
+      ),
+    ) };
 }
 
 impl<S: Alter> Tables<S> for Second {
@@ -62,12 +73,25 @@ impl<S: Alter> Tables<S> for Second {
     fn counts(self) -> Audited {
         let (first, _totals) = self;
         let counts = <First as Tables<S>>::counts(first);
-        Audited { format: 2, ..counts }
+        Audited {
+            format: 2,
+            ..counts
+        }
     }
 
-    ghost has = { λ db has. ((has.tables.1.0, (has.tables.1.1.0, (has.tables.1.1.1.0,
-        (has.tables.1.1.1.1.0, has.tables.1.1.1.1.1.0)))),
-        (has.tables.1.1.1.1.1.1.0, (has.tables.1.1.1.1.1.1.1.0, has.tables.1.1.1.1.1.1.1.1.0))) };
+    ghost has = { λ db has. (
+      (
+        has.tables.1.0,
+        (
+          has.tables.1.1.0,
+          (
+            has.tables.1.1.1.0,
+            (has.tables.1.1.1.1.0, has.tables.1.1.1.1.1.0),
+          ),
+        ),
+      ),
+      (has.tables.1.1.1.1.1.1.0, (has.tables.1.1.1.1.1.1.1.0, has.tables.1.1.1.1.1.1.1.1.0)),
+    ) };
 }
 
 impl<S: Alter> Tables<S> for Third {
@@ -76,13 +100,28 @@ impl<S: Alter> Tables<S> for Third {
     fn counts(self) -> Audited {
         let (second, _bases) = self;
         let counts = <Second as Tables<S>>::counts(second);
-        Audited { format: 3, ..counts }
+        Audited {
+            format: 3,
+            ..counts
+        }
     }
 
-    ghost has = { λ db has. (((has.tables.1.0, (has.tables.1.1.0, (has.tables.1.1.1.0,
-        (has.tables.1.1.1.1.0, has.tables.1.1.1.1.1.0)))),
-        (has.tables.1.1.1.1.1.1.0, (has.tables.1.1.1.1.1.1.1.0, has.tables.1.1.1.1.1.1.1.1.0))),
-        has.tables.1.1.1.1.1.1.1.1.1.0) };
+    ghost has = { λ db has. (
+      (
+        (
+          has.tables.1.0,
+          (
+            has.tables.1.1.0,
+            (
+              has.tables.1.1.1.0,
+              (has.tables.1.1.1.1.0, has.tables.1.1.1.1.1.0),
+            ),
+          ),
+        ),
+        (has.tables.1.1.1.1.1.1.0, (has.tables.1.1.1.1.1.1.1.0, has.tables.1.1.1.1.1.1.1.1.0)),
+      ),
+      has.tables.1.1.1.1.1.1.1.1.1.0,
+    ) };
 }
 
 impl<S: Alter> Tables<S> for Fourth {
@@ -91,11 +130,29 @@ impl<S: Alter> Tables<S> for Fourth {
     fn counts(self) -> Audited {
         let (third, _dated) = self;
         let counts = <Third as Tables<S>>::counts(third);
-        Audited { format: 4, ..counts }
+        Audited {
+            format: 4,
+            ..counts
+        }
     }
 
-    ghost has = { λ db has. ((((has.tables.1.0, (has.tables.1.1.0, (has.tables.1.1.1.0,
-        (has.tables.1.1.1.1.0, has.tables.1.1.1.1.1.0)))),
-        (has.tables.1.1.1.1.1.1.0, (has.tables.1.1.1.1.1.1.1.0, has.tables.1.1.1.1.1.1.1.1.0))),
-        has.tables.1.1.1.1.1.1.1.1.1.0), has.tables.1.1.1.1.1.1.1.1.1.1.0) };
+    ghost has = { λ db has. (
+      (
+        (
+          (
+            has.tables.1.0,
+            (
+              has.tables.1.1.0,
+              (
+                has.tables.1.1.1.0,
+                (has.tables.1.1.1.1.0, has.tables.1.1.1.1.1.0),
+              ),
+            ),
+          ),
+          (has.tables.1.1.1.1.1.1.0, (has.tables.1.1.1.1.1.1.1.0, has.tables.1.1.1.1.1.1.1.1.0)),
+        ),
+        has.tables.1.1.1.1.1.1.1.1.1.0,
+      ),
+      has.tables.1.1.1.1.1.1.1.1.1.1.0,
+    ) };
 }

@@ -36,3 +36,6 @@ returns-clause-reads g c =
     let first = c.in_ok-test_told.ensures.reads in
     let second = of_known {A = IsSoundOf c.args.format} {B = g.R.Source.known} (Ok c.in_ok-read.read) more c.in_ok-read.ensures.reads in
     passed_on (read_after (IsSoundOf c.args.format) first (g.met.S.Store.shut_if_dirty c.test_told.new.conn.store) second)
+
+pub returns-in_err-test_told-clause-reads : goal.returns-in_err-test_told-clause-reads
+returns-in_err-test_told-clause-reads g c = fail_on c.from_residual.result c.from_residual.ensures.1 c.in_err-test_told.ensures.reads
