@@ -1,6 +1,6 @@
 -- A row that breaks a rule is no office's.
 use Rattle.std.proofs.Common.{◌≡◌, ◌≤◌, ◌<◌, ◌^◌, ◌∙◌, ℕ, List, map, inl, inr, refl, sym, ap, subst, arith}
-use Rattle.std.specs.Prelude.{Contains}
+use Rattle.std.specs.Prelude.{AllPairs, Contains}
 use Rattle.sqlite.specs.Effect.{Database}
 use Rattle.sqlite.specs.Order.{Row}
 use Rattle.sqlite_value.specs.Order.{column}
@@ -8,11 +8,11 @@ use Rattle.sqlite_value.specs.declared.value.Value.{Value}
 use Rattle.sts_fields.specs.Amount.{IsRepresentable}
 use Rattle.sts_fields.specs.Calendar.{month_at}
 use Rattle.sts_fields.specs.Moment.{IsMoment}
-use Rattle.vend_core.specs.Office.{AreNumbered, Office}
+use Rattle.vend_core.specs.Office.{AreNumbered, NotBothOpen, Office}
 use Rattle.vend_core.specs.declared.sale.Sale.{Sale}
 use Rattle.book_tables.specs.Holds.{IsKept, StandsFor}
-use Rattle.book_tables.specs.Kept.{sales_kept}
-use Rattle.book_tables.specs.Rows.{number, sale_columns, sale_row}
+use Rattle.book_tables.specs.Kept.{sales_kept, shifts_kept}
+use Rattle.book_tables.specs.Rows.{number, sale_columns, sale_row, shift_columns, shift_row}
 use Rattle.book_tables.proofs.ListLemmas.{map_source}
 use Rattle.audit.specs.Breaks.{Breaks, BreaksRule, IsFalseMonth}
 use Rattle.audit.specs.Sales.{shown_sale_row}
@@ -27,6 +27,7 @@ use Rattle.audit.specs.declared.sale_row.SaleRow.{SaleRow}
 use Rattle.audit.specs.declared.table_name.TableName.{TableName}
 use Rattle.audit.specs.declared.table_name.TableName.TheVariants as table
 use Rattle.audit.proofs.ByNumberLemmas.{no_gap}
+use Rattle.audit.proofs.OpenShiftLemmas.{no_two_open}
 use Rattle.audit.proofs.FitLemmas.{columns_numbered, holds_of}
 use Rattle.audit.proofs.ValueLaw.{no_false_row}
 
@@ -44,6 +45,12 @@ module _ (db : Database) (o : Office) (s : StandsFor db o) where
       let month : month_at from.0.moment ≡ r.month = one_number (month_at from.0.moment) r.month (ap (λ (row : Row). column row 2) from.2) in
       other (sym month ∙ ap month_at moment)
 
+  shifts_are : IsKept db.schema shifts_kept → all_columns shifts_kept db ≡ map shift_columns s.held.0.shifts
+  shifts_are there = columns_numbered shifts_kept shift_row shift_columns (λ x. refl) _ s.held.0.shifts (holds_of db s.format s.format s.held.0 shifts_kept (inr (inr (inr (inr (inl refl))))) there s.held.1)
+
+  one_open : AllPairs NotBothOpen s.held.0.shifts
+  one_open = subst (AllPairs NotBothOpen) (sym s.held.2.shifts) s.office.one_open
+
   numbered : AreNumbered (λ (x : Sale). x.number) s.held.0.sales
   numbered = subst (AreNumbered (λ (x : Sale). x.number)) (sym s.held.2.sales) s.office.sale_numbers
 
@@ -52,6 +59,7 @@ module _ (db : Database) (o : Office) (s : StandsFor db o) where
     none_breaks rule.Value (key.Columns row) t there breaks = no_false_row db o s small greatest t there row breaks
     none_breaks rule.Value (key.Number n) t there breaks = breaks
     none_breaks rule.Month (key.Number n) table.Sales there breaks = no_false_month there n breaks
+    none_breaks rule.TwoOpen (key.Number n) table.Shifts there breaks = no_two_open db s.held.0.shifts (shifts_are there) one_open n breaks
     none_breaks rule.Gap (key.Number n) table.Sales there breaks = no_gap db s.held.0.sales (sales_are there) numbered n breaks
     none_breaks _ _ _ there breaks = breaks
 

@@ -2,6 +2,7 @@ pub mod AuditLaw
 pub mod ByNumberLemmas
 pub mod FitLemmas
 pub mod FormatLemmas
+pub mod OpenShiftLemmas
 pub mod PartLemmas
 pub mod PassedLemmas
 pub mod SalesReadLemmas

@@ -3,12 +3,13 @@ use Rattle.std.specs.Prelude.{◌≡◌, ◌≤◌, ℕ, List, length}
 use Rattle.sqlite.specs.Effect.{Database}
 use Rattle.sqlite.specs.Order.{Row}
 use Rattle.vend_core.specs.Names.{IsName}
+use Rattle.vend_core.specs.declared.shift.Shift.{Shift}
 use Rattle.book_tables.specs.Format.{TellsFormat}
 use Rattle.book_tables.specs.Holds.{HasOfficeOf}
-use Rattle.book_tables.specs.Kept.{Kept, bases_kept, dated_steps_kept, last_ids_kept, meters_kept, month_tenths_kept, shift_totals_kept, shifts_kept, steps_kept, tariffs_kept}
-use Rattle.book_tables.specs.Rows.{present_format, shown_shift, tariff_columns}
-use Rattle.book_tables.specs.Values.{AreShiftValues}
+use Rattle.book_tables.specs.Kept.{Kept, bases_kept, dated_steps_kept, last_ids_kept, meters_kept, month_tenths_kept, shift_totals_kept, steps_kept, tariffs_kept}
+use Rattle.book_tables.specs.Rows.{present_format, tariff_columns}
 use Rattle.audit.specs.Breaks.{IsBaseRow, shown_base}
+use Rattle.audit.specs.OpenShifts.{AreShifts}
 use Rattle.audit.specs.Records.{shown_dated_step, shown_last_id, shown_meter_row, shown_month, shown_shift_totals, shown_step_row}
 use Rattle.audit.specs.Sales.{HasSales}
 use Rattle.audit.specs.Values.{AreDatedStepValues, AreLastIdValues, AreMeterRowValues, AreMonthValues, AreShiftTotalsValues, AreStepRowValues}
@@ -24,12 +25,16 @@ HasCount {T} shown keeps k db count =
 abbrev pub HasAll : {T : Type 0} → (T → Row) → (T → Type 0) → Kept → Database → Type 0
 HasAll {T} shown keeps k db = (xs : List T) × AreRecords shown keeps k db xs
 
+-- the shifts are so many, of which no two of one operator are open
+abbrev pub HasShifts : Database → ℕ → Type 0
+HasShifts db count = (shifts : List Shift) × AreShifts db shifts × (length shifts ≡ count)
+
 -- each row of the tables of the first format is that of a record, and the sales are numbered
 pub record PassesFirst (db : Database) (a : Audited) : Type 0 where
   pub tariffs : HasCount tariff_columns IsName tariffs_kept db a.tariffs
   pub steps : HasAll shown_step_row AreStepRowValues steps_kept db
   pub meters : HasCount shown_meter_row AreMeterRowValues meters_kept db a.meters
-  pub shifts : HasCount shown_shift AreShiftValues shifts_kept db a.shifts
+  pub shifts : HasShifts db a.shifts
   pub sales : HasSales db a.sales
 
 -- and of those that came later

@@ -10,6 +10,7 @@ use Rattle.book_tables.specs.Kept.{Kept, bases_kept, dated_steps_kept, last_ids_
 use Rattle.book_tables.specs.Rows.{base_columns, number, shown_shift, tariff_columns}
 use Rattle.book_tables.specs.Values.{AreShiftValues}
 use Rattle.book_tables.specs.declared.paging.MeterBase.{MeterBase}
+use Rattle.audit.specs.OpenShifts.{HasTwoOpen}
 use Rattle.audit.specs.Records.{shown_dated_step, shown_last_id, shown_meter_row, shown_month, shown_shift_totals, shown_step_row}
 use Rattle.audit.specs.Sales.{AreSaleRowValues, shown_sale_row}
 use Rattle.audit.specs.Tables.{kept_of}
@@ -74,6 +75,8 @@ BreaksRule rule.Month (key.Number n) table.Sales db = IsFalseMonth db n
 BreaksRule rule.Month _ _ db = ⊥
 BreaksRule rule.Gap (key.Number n) table.Sales db = IsGap sales_kept db n
 BreaksRule rule.Gap _ _ db = ⊥
+BreaksRule rule.TwoOpen (key.Number n) table.Shifts db = HasTwoOpen db n
+BreaksRule rule.TwoOpen _ _ db = ⊥
 
 -- the table is there, and a row of it breaks the rule
 pub record Breaks (f : Finding) (db : Database) : Type 0 where

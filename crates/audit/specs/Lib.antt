@@ -3,6 +3,7 @@ pub mod Breaks
 pub mod Fails
 pub mod ListTexts
 pub mod Listing
+pub mod OpenShifts
 pub mod Parts
 pub mod Records
 pub mod Sales

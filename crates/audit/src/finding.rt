@@ -10,6 +10,8 @@ pub enum Rule {
     Gap,
     /// The month is not that of the moment.
     Month,
+    /// The shift is open beside another one of its operator.
+    TwoOpen,
 }
 
 /// Which row of a table it is.

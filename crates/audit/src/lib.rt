@@ -14,6 +14,7 @@ mod auditing;
 mod finding;
 mod laws;
 mod listed;
+mod open_shifts;
 mod rows;
 mod sale_row;
 mod sales;

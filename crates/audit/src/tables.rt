@@ -3,12 +3,13 @@
 ghost use Rattle.std.specs.Prelude.{◌≡◌, ℕ};
 
 use crate::audited::Audited;
+use crate::open_shifts::ShiftList;
 use crate::rows::{DatedStepRow, LastId, MeterRow, MonthTenths, ShiftTotals, StepRow};
 use crate::sales::SaleCount;
 use crate::source::Source;
 use book_tables::paging::MeterBase;
 use sqlite::Alter;
-use vend_core::{Shift, TariffName};
+use vend_core::TariffName;
 
 /// What is read of all tables of a format.
 pub(crate) trait Tables<S: Alter>: Source<S> {
@@ -29,7 +30,7 @@ pub(crate) trait Tables<S: Alter>: Source<S> {
 // Those of the first format,
 pub(crate) type First = (
     Vec<TariffName>,
-    (Vec<StepRow>, (Vec<MeterRow>, (Vec<Shift>, SaleCount))),
+    (Vec<StepRow>, (Vec<MeterRow>, (ShiftList, SaleCount))),
 );
 
 // with the totals,
@@ -50,7 +51,7 @@ impl<S: Alter> Tables<S> for First {
             format: 1,
             tariffs: tariffs.len(),
             meters: meters.len(),
-            shifts: shifts.len(),
+            shifts: shifts.shifts.len(),
             sales: sales.count,
         }
     }
