@@ -7,7 +7,6 @@ use Rattle.sts_fields.specs.Text.{Text}
 use Rattle.command_line.specs.Address.{SaysAddress}
 use Rattle.command_line.specs.Said.{IsArgument, IsOptionalArgument, parsed_arguments, parsed_argument}
 use Rattle.command_line.specs.Values.{SayEach, SaysAmount, SaysBase, SaysConnections, SaysItem, SaysKey, SaysMeterNo, SaysMoment, SaysOperator, SaysPrior, SaysRef, SaysSteps, SaysTender, SaysText, SaysTransform}
-use Rattle.command_line.specs.declared.commands.base.BaseWords.{BaseWords}
 use Rattle.command_line.specs.declared.commands.import.ImportWords.{ImportWords}
 use Rattle.command_line.specs.declared.commands.meter.MeterWords.{MeterWords}
 use Rattle.command_line.specs.declared.commands.quote.QuoteWords.{QuoteWords}
@@ -15,12 +14,12 @@ use Rattle.command_line.specs.declared.commands.report.Paper.{Paper}
 use Rattle.command_line.specs.declared.commands.report.Paper.TheVariants.{Shift, Receipt, Totals, Sales}
 use Rattle.command_line.specs.declared.commands.report.ReportWords.{ReportWords}
 use Rattle.command_line.specs.declared.commands.selfcheck.SelfcheckWords.{SelfcheckWords}
-use Rattle.command_line.specs.declared.commands.sell.SellWords.{SellWords}
 use Rattle.command_line.specs.declared.commands.serve.ServeWords.{ServeWords}
-use Rattle.command_line.specs.declared.commands.shift.Act.{Act}
-use Rattle.command_line.specs.declared.commands.shift.Act.TheVariants.{Open, Close}
-use Rattle.command_line.specs.declared.commands.shift.ShiftWords.{ShiftWords}
 use Rattle.command_line.specs.declared.commands.trial.TrialWords.{TrialWords}
+use Rattle.command_line.specs.declared.request_words.RequestWords.{RequestWords}
+use Rattle.vend_core.specs.declared.request.Order.{Order}
+use Rattle.vend_core.specs.declared.request.Request.{Request}
+use Rattle.vend_core.specs.declared.request.Request.TheVariants.{MoveBase, OpenShift, CloseShift, Sell}
 
 pub record SaysTrial (rows : List Row) (words : TrialWords) : Type 0 where
   pub transform : IsArgument SaysTransform (parsed_argument (codes "transform") rows) words.transform
@@ -59,35 +58,32 @@ pub record SaysImport (rows : List Row) (words : ImportWords) : Type 0 where
   pub kind : IsArgument SaysKind (parsed_argument (codes "kind") rows) words.kind
   pub csv : IsArgument SaysText (parsed_argument (codes "csv") rows) words.csv
 
-pub record SaysBaseCommand (rows : List Row) (words : BaseWords) : Type 0 where
+pub record SaysOrder (rows : List Row) (order : Order) : Type 0 where
+  pub operator : IsArgument SaysOperator (parsed_argument (codes "operator") rows) order.operator
+  pub order_ref : IsArgument SaysRef (parsed_argument (codes "ref") rows) order.order_ref
+  pub meter : IsArgument SaysMeterNo (parsed_argument (codes "meter") rows) order.meter
+  pub tender : IsArgument SaysTender (parsed_argument (codes "tender") rows) order.tender
+
+-- `base` moves a meter, `shift` opens or closes an operator's shift, `sell` sells an order
+abbrev pub SaysRequest : (name : Text) → List Row → Request → Type 0
+SaysRequest name rows (MoveBase meter base) = (name ≡ codes "base")
+    × IsArgument SaysMeterNo (parsed_argument (codes "meter") rows) meter
+    × IsArgument SaysBase (parsed_argument (codes "base") rows) base
+SaysRequest name rows (OpenShift operator) = (name ≡ codes "shift")
+    × (parsed_argument (codes "act") rows ≡ Some (codes "open"))
+    × IsArgument SaysOperator (parsed_argument (codes "operator") rows) operator
+SaysRequest name rows (CloseShift operator) = (name ≡ codes "shift")
+    × (parsed_argument (codes "act") rows ≡ Some (codes "close"))
+    × IsArgument SaysOperator (parsed_argument (codes "operator") rows) operator
+SaysRequest name rows (Sell order) = (name ≡ codes "sell") × SaysOrder rows order
+SaysRequest name rows request = ⊥
+
+-- a request, made to the office in a file
+pub record SaysRequestWords (name : Text) (rows : List Row) (words : RequestWords) : Type 0 where
   pub transform : IsArgument SaysTransform (parsed_argument (codes "transform") rows) words.transform
   pub file : IsArgument SaysText (parsed_argument (codes "file") rows) words.file
-  pub meter : IsArgument SaysMeterNo (parsed_argument (codes "meter") rows) words.meter
-  pub base : IsArgument SaysBase (parsed_argument (codes "base") rows) words.base
   pub at : IsOptionalArgument SaysMoment (parsed_argument (codes "at") rows) words.at
-
-abbrev pub act_name : Act → Text
-act_name Open = codes "open"
-act_name Close = codes "close"
-
-abbrev pub SaysAct : Text → Act → Type 0
-SaysAct text act = text ≡ act_name act
-
-pub record SaysShift (rows : List Row) (words : ShiftWords) : Type 0 where
-  pub transform : IsArgument SaysTransform (parsed_argument (codes "transform") rows) words.transform
-  pub file : IsArgument SaysText (parsed_argument (codes "file") rows) words.file
-  pub operator : IsArgument SaysOperator (parsed_argument (codes "operator") rows) words.operator
-  pub at : IsOptionalArgument SaysMoment (parsed_argument (codes "at") rows) words.at
-  pub act : IsArgument SaysAct (parsed_argument (codes "act") rows) words.act
-
-pub record SaysSell (rows : List Row) (words : SellWords) : Type 0 where
-  pub transform : IsArgument SaysTransform (parsed_argument (codes "transform") rows) words.transform
-  pub file : IsArgument SaysText (parsed_argument (codes "file") rows) words.file
-  pub operator : IsArgument SaysOperator (parsed_argument (codes "operator") rows) words.order.operator
-  pub order_ref : IsArgument SaysRef (parsed_argument (codes "ref") rows) words.order.order_ref
-  pub meter : IsArgument SaysMeterNo (parsed_argument (codes "meter") rows) words.order.meter
-  pub tender : IsArgument SaysTender (parsed_argument (codes "tender") rows) words.order.tender
-  pub at : IsOptionalArgument SaysMoment (parsed_argument (codes "at") rows) words.at
+  pub request : SaysRequest name rows words.request
 
 -- a paper by its kind and its number; an export of all sales has none, and takes any word for it
 abbrev pub SaysPaper : (kind number : Option Text) → Paper → Type 0

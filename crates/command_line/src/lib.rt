@@ -6,17 +6,15 @@
 
 pub use address::Address;
 pub use asked::Asked;
-pub use commands::base::BaseWords;
 pub use commands::import::ImportWords;
 pub use commands::meter::MeterWords;
 pub use commands::quote::QuoteWords;
 pub use commands::report::{Paper, ReportWords};
 pub use commands::selfcheck::SelfcheckWords;
-pub use commands::sell::SellWords;
 pub use commands::serve::ServeWords;
-pub use commands::shift::{Act, ShiftWords};
 pub use commands::trial::TrialWords;
 pub use line::{meant, parse};
+pub use request_words::RequestWords;
 pub use transform::Shipped;
 pub use words::BadWords;
 
@@ -25,6 +23,7 @@ mod asked;
 mod commands;
 mod line;
 mod options;
+mod request_words;
 mod said;
 mod transform;
 mod values;

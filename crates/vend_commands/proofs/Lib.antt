@@ -8,6 +8,7 @@ pub mod SameLemmas
 pub mod SelfcheckLemmas
 pub mod SellLemmas
 pub mod TakeLemmas
+pub mod TimedLemmas
 pub mod TrialLemmas
 pub mod UntoldLemmas
 pub mod UnwatchedLemmas

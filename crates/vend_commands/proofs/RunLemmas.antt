@@ -1,9 +1,11 @@
 -- How a run ends.
 use Rattle.std.proofs.Common.{◌≡◌, ◌≢◌, ◌⊎◌, ℕ, ℤ, ◌≤◌, Bool, true, false, List, [], Option, Some, None, Result, Ok, Err, inl, inr, subst, sym, arith}
+use Rattle.std.specs.Prelude.{⊤}
 use Rattle.clap.specs.Kinds.{HasKind, IsAmong}
 use Rattle.clap.specs.Values.{kind_of}
 use Rattle.clap.specs.declared.error.Error.{Error}
 use Rattle.sqlite_trees.specs.declared.store.Store.{Ghosts}
+use Rattle.books.specs.Keeps.{Seen}
 use Rattle.book_tables.specs.declared.totals.Totals.{Totals}
 use Rattle.books.specs.declared.fault.OpenFault.{OpenFault}
 use Rattle.sts_fields.specs.Text.{Text}
@@ -11,93 +13,52 @@ use Rattle.tariff.specs.declared.bought.Buy.{Buy}
 use Rattle.vend_core.specs.declared.answer.Answer as core
 use Rattle.vend_core.specs.declared.refusal.Refusal.{Refusal}
 use Rattle.vend_core.specs.declared.refusal.Refusal.TheVariants.{Memory}
+use Rattle.vend_core.specs.declared.request.Request.{Request}
 use Rattle.vend_core.specs.declared.row.Row.{Row}
 use Rattle.papers.specs.declared.row_fault.RowFault.{RowFault}
 use Rattle.tariff.specs.Purchase.{purchase_of}
 use Rattle.command_line.specs.Asked.{AskFor}
+use Rattle.vend_commands.specs.Asked.{IsAskedAt}
 use Rattle.vend_commands.specs.Exported.{export_stop_end}
 use Rattle.vend_commands.specs.Imported.{AreAdded, IsFileImported}
 use Rattle.command_line.specs.Line.{faults_in}
 use Rattle.vend_commands.specs.Listening.{IsServedTo, IsServing, serving_end}
 use Rattle.vend_commands.specs.Listening.IsServing.{unheard, unopened as serves_unopened, was_open}
 use Rattle.vend_commands.specs.Quoted.{quote_end}
-use Rattle.vend_commands.specs.Places.{IsIdle, Machine, Place, Way, later}
-use Rattle.vend_commands.specs.Printed.{clock_line, refusal_line}
-use Rattle.vend_commands.specs.Run.{IsCarriedOut, IsDoneThen, IsExplained, IsProgramRun}
+use Rattle.vend_commands.specs.Places.{Machine, Place, Way, IsIdle}
+use Rattle.vend_commands.specs.Printed.{refusal_line}
+use Rattle.vend_commands.specs.Reported.{PrintsPaper}
+use Rattle.vend_commands.specs.Run.{IsCarriedOut, IsExplained, IsProgramRun}
 use Rattle.vend_commands.specs.Run.IsProgramRun.{answered, bad_word, explained, no_room}
 use Rattle.vend_commands.specs.Selfchecked.{IsSelfchecked}
 use Rattle.vend_commands.specs.Selfchecked.IsSelfchecked.{agreed, failed}
 use Rattle.vend_commands.specs.Served.{TellsReply}
 use Rattle.vend_commands.specs.Status.{exit_status_of, status_of}
-use Rattle.vend_commands.specs.Timed.{IsDoneAt, IsMomentFor, IsTakenMoment, IsTimed, given_moment}
+use Rattle.vend_commands.specs.Timed.{IsDoneAt, IsTimed}
 use Rattle.vend_commands.specs.Told.{IsTold, Outputs, Sink}
 use Rattle.vend_commands.specs.Totalled.{TellsTotals}
 use Rattle.vend_commands.specs.Tried.{trial_end}
-use Rattle.vend_commands.specs.Visited.{IsVisited}
+use Rattle.vend_commands.specs.Visited.{IsVisited, seen_in}
 use Rattle.vend_commands.specs.Visited.IsVisited.{unopened, visited}
 use Rattle.command_line.specs.declared.asked.Asked.{Asked}
 use Rattle.command_line.specs.declared.asked.Asked.TheVariants as asks
 use Rattle.command_line.specs.declared.commands.import.ImportWords.{ImportWords}
+use Rattle.command_line.specs.declared.commands.report.Paper.{Paper}
+use Rattle.command_line.specs.declared.commands.report.Paper.TheVariants.{Shift, Receipt, Totals, Sales}
 use Rattle.command_line.specs.declared.commands.serve.ServeWords.{ServeWords}
 use Rattle.vend_commands.specs.declared.end.End.TheVariants as how
-use Rattle.vend_commands.specs.declared.errand.Errand.{Errand}
-use Rattle.vend_commands.specs.declared.task.Task.{Task}
-use Rattle.vend_commands.specs.declared.task.Task.TheVariants.{Ask, Total, Export}
 use Rattle.command_line.specs.declared.transform.Shipped.{Shipped}
 use Rattle.vend_commands.specs.declared.trials.TrialFault.{TrialFault}
 use Rattle.vend_commands.specs.declared.end.End.{End}
 
--- ---- the moment
-
-untimed : (Idle : Type 0) (given : Option ℕ) (answers : Option (List ℤ)) (taken : Option ℕ) (At : ℕ → Type 0) (o : Outputs) (end : End) → IsTakenMoment given answers taken → taken ≡ None → Idle → IsTold o [] clock_line how.Refused end → IsTimed Idle given answers At o end
-untimed Idle given answers taken At o end for is idle told = (None, subst (IsTakenMoment given answers) is for, (idle, told))
-
-not_none : {A : Type 0} (taken : Option ℕ) (moment : ℕ) (answers left : Option (List ℤ)) → (taken ≡ Some moment) × (left ≡ answers) → taken ≡ None → A
-not_none taken moment answers left (some, same) none = absurd (cc)
-
--- where there is none, that is told, and nothing was used
-pub no_moment : {S D R W : Type 0} (store : Ghosts S) (m : Machine D R W) (asked : Asked) (left : Option (List ℤ)) (taken : Option ℕ) (o : Outputs) (end : End) → IsMomentFor (given_moment asked) m.answers left taken → taken ≡ None → IsIdle m → IsTold o [] clock_line how.Refused end → IsCarriedOut store m asked o end
-no_moment store m (asks.Trial words) left taken o end for is idle told = untimed (IsIdle m) words.at m.answers taken _ o end for is idle told
-no_moment store m (asks.Import words) left taken o end for is idle told = untimed (IsIdle m) words.at m.answers taken _ o end for is idle told
-no_moment store m (asks.Base words) left taken o end for is idle told = untimed (IsIdle m) words.at m.answers taken _ o end for is idle told
-no_moment store m (asks.Shift words) left taken o end for is idle told = untimed (IsIdle m) words.at m.answers taken _ o end for is idle told
-no_moment store m (asks.Sell words) left taken o end for is idle told = untimed (IsIdle m) words.at m.answers taken _ o end for is idle told
-no_moment store m (asks.Report words) left taken o end for is idle told = not_none taken _ m.answers left for is
-no_moment store m (asks.Meter words) left taken o end for is idle told = not_none taken _ m.answers left for is
-no_moment store m (asks.Quote words) left taken o end for is idle told = not_none taken _ m.answers left for is
-no_moment store m (asks.Serve words) left taken o end for is idle told = not_none taken _ m.answers left for is
-no_moment store m (asks.Selfcheck words) left taken o end for is idle told = not_none taken _ m.answers left for is
-
-timed : (Idle : Type 0) (given : Option ℕ) (answers : Option (List ℤ)) (taken : Option ℕ) (moment : ℕ) (At : ℕ → Type 0) (o : Outputs) (end : End) → IsTakenMoment given answers taken → taken ≡ Some moment → At moment → IsTimed Idle given answers At o end
-timed Idle given answers taken moment At o end for is done = (Some moment, subst (IsTakenMoment given answers) is for, done)
-
-pub at_moment : {S D R W : Type 0} (store : Ghosts S) (m : Machine D R W) (asked : Asked) (left : Option (List ℤ)) (taken : Option ℕ) (moment : ℕ) (o : Outputs) (end : End) → IsMomentFor (given_moment asked) m.answers left taken → taken ≡ Some moment → IsDoneThen store (later m left) asked moment o end → IsCarriedOut store m asked o end
-at_moment store m (asks.Trial words) left taken moment o end for is done = timed (IsIdle m) words.at m.answers taken moment _ o end for is done
-at_moment store m (asks.Import words) left taken moment o end for is done = timed (IsIdle m) words.at m.answers taken moment _ o end for is done
-at_moment store m (asks.Base words) left taken moment o end for is done = timed (IsIdle m) words.at m.answers taken moment _ o end for is done
-at_moment store m (asks.Shift words) left taken moment o end for is done = timed (IsIdle m) words.at m.answers taken moment _ o end for is done
-at_moment store m (asks.Sell words) left taken moment o end for is done = timed (IsIdle m) words.at m.answers taken moment _ o end for is done
-at_moment store m (asks.Report words) left taken moment o end for is done = done
-at_moment store m (asks.Meter words) left taken moment o end for is done = done
-at_moment store m (asks.Quote words) left taken moment o end for is done = done
-at_moment store m (asks.Serve words) left taken moment o end for is done = subst (λ answers. IsServedTo store m.way m.at m.door answers words o end) for.1 done
-at_moment store m (asks.Selfcheck words) left taken moment o end for is done = done
-
--- the same, of what was asked by another name
-pub done_so : {S D R W : Type 0} (store : Ghosts S) (m : Machine D R W) (asked same : Asked) (moment : ℕ) (o : Outputs) (end : End) → asked ≡ same → IsDoneThen store m same moment o end → IsDoneThen store m asked moment o end
-done_so store m asked same moment o end is done = subst (λ a. IsDoneThen store m a moment o end) (sym is) done
+-- what was asked for by another name
+pub done_so : {S D R W : Type 0} (store : Ghosts S) (m : Machine D R W) (asked same : Asked) (o : Outputs) (end : End) → asked ≡ same → IsCarriedOut store m same o end → IsCarriedOut store m asked o end
+done_so store m asked same o end is done = subst (λ a. IsCarriedOut store m a o end) (sym is) done
 
 -- what a selfcheck found is told, by less than it found
 pub selfcheck_done : (o : Outputs) (end : End) (Agrees Has : Type 0) → (Agrees → Has) → IsSelfchecked Agrees o end → IsSelfchecked Has o end
 selfcheck_done o end Agrees Has less (agreed is told) = agreed (less is) told
 selfcheck_done o end Agrees Has less (failed fault told) = failed fault told
-
--- an errand that was made so is done as the words have it
-pub errand_done : {S : Type 0} (store : Ghosts S) (at : Text → Place) (errand made : Errand) (transform : Shipped) (file : Text) (task : Task) (o : Outputs) (end : End) → errand ≡ made → made.transform ≡ transform → made.file.now ≡ file → made.task ≡ task
-    → IsVisited store (at errand.file.now) errand.transform errand.task o end → IsVisited store (at file) transform task o end
-errand_done store at errand made transform file task o end is same_transform same_file same_task done =
-    subst (λ t. IsVisited store (at file) t task o end) same_transform (subst (λ f. IsVisited store (at f) made.transform task o end) same_file (subst (λ k. IsVisited store (at made.file.now) made.transform k o end) same_task
-    (subst (λ e. IsVisited store (at e.file.now) e.transform e.task o end) is done)))
 
 -- what `clap` says of words is a fault of theirs, or there was no room
 pub told_by_clap : {S D R W : Type 0} (store : Ghosts S) (m : Machine D R W) (error : Error) (words : List Text) (Says : Error → Text → Type 0) (o : Outputs) (end : End) → HasKind (faults_in words) error
@@ -133,14 +94,21 @@ totals_ends : (number : ℕ) (totals : Result Totals Refusal) (o : Outputs) (end
 totals_ends number (Ok totals) o end told = told_ends o _ _ how.Done end (omega arith) told
 totals_ends number (Err refusal) o end told = told_ends o _ _ how.Refused end (omega arith) told
 
-visit_ends : {S : Type 0} (store : Ghosts S) (place : Place) (transform : Shipped) (task : Task) (o : Outputs) (end : End) → IsVisited store place transform task o end → exit_status_of end ≤ 1
-visit_ends store place transform task o end (unopened fault fails told) = told_ends o _ _ how.Refused end (omega arith) told
-visit_ends store place transform (Ask moment request) o end (visited old new opened finds done closes) = reply_ends done.reply o end done.told
-visit_ends store place transform (Total number) o end (visited old new opened finds done closes) = totals_ends number done.totals o end done.told
-visit_ends store place transform Export o end (visited old new opened finds done closes) = told_ends o _ _ (export_stop_end done.stop) end (stop_low done.stop) done.told
+visit_ends : {S : Type 0} (store : Ghosts S) (place : Place) (transform : Shipped) (Does : (old new : Seen) → Type 0) (o : Outputs) (end : End) → ((old new : Seen) → Does old new → exit_status_of end ≤ 1) → IsVisited store place transform Does o end → exit_status_of end ≤ 1
+visit_ends store place transform Does o end ends (unopened fault fails told) = told_ends o _ _ how.Refused end (omega arith) told
+visit_ends store place transform Does o end ends (visited old new opened finds done closes) = ends (seen_in old) (seen_in new) done
+
+asked_at_ends : {S : Type 0} (store : Ghosts S) (at : Text → Place) (transform : Shipped) (file : Text) (moment : ℕ) (request : Request) (o : Outputs) (end : End) → IsAskedAt store at transform file moment request o end → exit_status_of end ≤ 1
+asked_at_ends store at transform file moment request o end asked = visit_ends store _ _ _ o end (λ old new done. reply_ends done.reply o end done.told) asked
+
+paper_ends : (paper : Paper) (old new : Seen) (o : Outputs) (end : End) → PrintsPaper paper old new o end → exit_status_of end ≤ 1
+paper_ends (Shift number) old new o end done = reply_ends done.reply o end done.told
+paper_ends (Receipt number) old new o end done = reply_ends done.reply o end done.told
+paper_ends (Totals number) old new o end done = totals_ends number done.totals o end done.told
+paper_ends Sales old new o end done = told_ends o _ _ (export_stop_end done.stop) end (stop_low done.stop) done.told
 
 added_ends : {S : Type 0} (store : Ghosts S) (at : Text → Place) (untouched : Type 0) (words : ImportWords) (moment : ℕ) (rows : Result (List Row) RowFault) (o : Outputs) (end : End) → AreAdded store at untouched words moment rows o end → exit_status_of end ≤ 1
-added_ends store at untouched words moment (Ok rows) o end added = visit_ends store _ _ _ o end added
+added_ends store at untouched words moment (Ok rows) o end added = asked_at_ends store at words.transform words.file.now moment _ o end added
 added_ends store at untouched words moment (Err fault) o end (left, told) = told_ends o _ _ how.Refused end (omega arith) told
 
 import_ends : {S D R W : Type 0} (store : Ghosts S) (m : Machine D R W) (words : ImportWords) (moment : ℕ) (o : Outputs) (end : End) → IsFileImported store m.at m.untouched m.reads m.lacks words moment o end → exit_status_of end ≤ 1
@@ -169,12 +137,10 @@ timed_ends : (Idle : Type 0) (given : Option ℕ) (answers : Option (List ℤ)) 
 timed_ends Idle given answers At o end ends (moment, taken, done) = done_ends Idle At o end moment ends done
 
 answer_ends : {S D R W : Type 0} (store : Ghosts S) (m : Machine D R W) (asked : Asked) (o : Outputs) (end : End) → IsCarriedOut store m asked o end → exit_status_of end ≤ 1
-answer_ends store m (asks.Trial words) o end done = timed_ends (IsIdle m) words.at m.answers _ o end (λ moment tried. told_ends o _ _ (trial_end tried.1.2) end (trial_low tried.1.2) tried.1.4) done
-answer_ends store m (asks.Import words) o end done = timed_ends (IsIdle m) words.at m.answers _ o end (λ moment imported. import_ends store m words moment o end imported.1) done
-answer_ends store m (asks.Base words) o end done = timed_ends (IsIdle m) words.at m.answers _ o end (λ moment moved. visit_ends store _ _ _ o end moved.1) done
-answer_ends store m (asks.Shift words) o end done = timed_ends (IsIdle m) words.at m.answers _ o end (λ moment shifted. visit_ends store _ _ _ o end shifted.1) done
-answer_ends store m (asks.Sell words) o end done = timed_ends (IsIdle m) words.at m.answers _ o end (λ moment sold. visit_ends store _ _ _ o end sold.1) done
-answer_ends store m (asks.Report words) o end (shut, done) = visit_ends store _ _ _ o end done
+answer_ends store m (asks.Trial words) o end (idle, done) = timed_ends ⊤ words.at m.answers _ o end (λ moment tried. told_ends o _ _ (trial_end tried.2) end (trial_low tried.2) tried.4) done
+answer_ends store m (asks.Import words) o end (shut, done) = timed_ends m.untouched words.at m.answers _ o end (λ moment imported. import_ends store m words moment o end imported) done
+answer_ends store m (asks.Request words) o end (shut, done) = timed_ends m.untouched words.at m.answers _ o end (λ moment asked. asked_at_ends store m.at words.transform words.file.now moment words.request o end asked) done
+answer_ends store m (asks.Report words) o end (shut, done) = visit_ends store _ _ _ o end (λ old new printed. paper_ends words.paper old new o end printed) done
 answer_ends store m (asks.Meter words) o end (idle, done) = told_ends o _ _ how.Done end (omega arith) done
 answer_ends store m (asks.Quote words) o end (idle, done) =
     let bought = purchase_of words.steps words.prior words.tender in

@@ -1,25 +1,32 @@
 -- A run ends with the writers that it began with.
 use Rattle.std.proofs.Common.{◌≡◌, ◌∙◌, ℕ, ℤ, List, [], Option, Some, None, Result, Ok, Err, ap, inl, inr}
+use Rattle.std.specs.Prelude.{⊤}
 use Rattle.clap.specs.declared.error.kind.ErrorKind.{ErrorKind}
 use Rattle.clap.specs.declared.error.kind.ErrorKind.TheVariants.{DisplayHelp, DisplayVersion, OutOfMemory}
 use Rattle.sqlite_trees.specs.declared.store.Store.{Ghosts}
+use Rattle.books.specs.Keeps.{Seen}
 use Rattle.book_tables.specs.declared.totals.Totals.{Totals}
 use Rattle.sts_fields.specs.Text.{Text}
 use Rattle.vend_core.specs.declared.answer.Answer as core
 use Rattle.vend_core.specs.declared.refusal.Refusal.{Refusal}
+use Rattle.vend_core.specs.declared.request.Request.{Request}
 use Rattle.vend_core.specs.declared.row.Row.{Row}
 use Rattle.papers.specs.declared.row_fault.RowFault.{RowFault}
 use Rattle.command_line.specs.declared.address.Address.{Address}
 use Rattle.command_line.specs.declared.asked.Asked.{Asked}
 use Rattle.command_line.specs.declared.asked.Asked.TheVariants as asks
 use Rattle.command_line.specs.declared.commands.import.ImportWords.{ImportWords}
+use Rattle.command_line.specs.declared.commands.report.Paper.{Paper}
+use Rattle.command_line.specs.declared.commands.report.Paper.TheVariants.{Shift, Receipt, Totals, Sales}
 use Rattle.command_line.specs.declared.commands.serve.ServeWords.{ServeWords}
 use Rattle.command_line.specs.declared.transform.Shipped.{Shipped}
+use Rattle.vend_commands.specs.Asked.{IsAskedAt}
 use Rattle.vend_commands.specs.Imported.{AreAdded, IsFileImported}
 use Rattle.vend_commands.specs.Listening.{IsDeaf, IsServing}
 use Rattle.vend_commands.specs.Listening.IsDeaf.{no_listener, no_room as deaf_for_room, no_text, not_told}
 use Rattle.vend_commands.specs.Listening.IsServing.{unheard, unopened as serves_unopened, was_open}
-use Rattle.vend_commands.specs.Places.{IsIdle, Machine, Place, Way}
+use Rattle.vend_commands.specs.Places.{Machine, Place, Way}
+use Rattle.vend_commands.specs.Reported.{PrintsPaper}
 use Rattle.vend_commands.specs.Run.{IsCarriedOut, IsExplained, IsProgramRun}
 use Rattle.vend_commands.specs.Run.IsProgramRun.{answered, bad_word, explained, no_room}
 use Rattle.vend_commands.specs.Selfchecked.IsSelfchecked.{agreed, failed}
@@ -27,12 +34,10 @@ use Rattle.vend_commands.specs.Served.{TellsReply}
 use Rattle.vend_commands.specs.Timed.{IsDoneAt, IsTimed}
 use Rattle.vend_commands.specs.Told.{IsTold, Outputs, Sink}
 use Rattle.vend_commands.specs.Totalled.{TellsTotals}
-use Rattle.vend_commands.specs.Visited.{IsVisited}
+use Rattle.vend_commands.specs.Visited.{IsVisited, seen_in}
 use Rattle.vend_commands.specs.Visited.IsVisited.{unopened, visited}
 use Rattle.vend_commands.specs.declared.end.End.{End}
 use Rattle.vend_commands.specs.declared.end.End.TheVariants as how
-use Rattle.vend_commands.specs.declared.task.Task.{Task}
-use Rattle.vend_commands.specs.declared.task.Task.TheVariants.{Ask, Total, Export}
 
 -- both writers are still the same ones
 pub record AreSame (o : Outputs) : Type 0 where
@@ -51,14 +56,21 @@ totals_same : (number : ℕ) (totals : Result Totals Refusal) (o : Outputs) (end
 totals_same number (Ok totals) o end told = told_same o _ _ _ end told
 totals_same number (Err refusal) o end told = told_same o _ _ _ end told
 
-visit_same : {S : Type 0} (store : Ghosts S) (place : Place) (transform : Shipped) (task : Task) (o : Outputs) (end : End) → IsVisited store place transform task o end → AreSame o
-visit_same store place transform task o end (unopened fault fails told) = told_same o _ _ _ end told
-visit_same store place transform (Ask moment request) o end (visited old new opened finds done closes) = reply_same done.reply o end done.told
-visit_same store place transform (Total number) o end (visited old new opened finds done closes) = totals_same number done.totals o end done.told
-visit_same store place transform Export o end (visited old new opened finds done closes) = told_same o _ _ _ end done.told
+visit_same : {S : Type 0} (store : Ghosts S) (place : Place) (transform : Shipped) (Does : (old new : Seen) → Type 0) (o : Outputs) (end : End) → ((old new : Seen) → Does old new → AreSame o) → IsVisited store place transform Does o end → AreSame o
+visit_same store place transform Does o end same (unopened fault fails told) = told_same o _ _ _ end told
+visit_same store place transform Does o end same (visited old new opened finds done closes) = same (seen_in old) (seen_in new) done
+
+asked_at_same : {S : Type 0} (store : Ghosts S) (at : Text → Place) (transform : Shipped) (file : Text) (moment : ℕ) (request : Request) (o : Outputs) (end : End) → IsAskedAt store at transform file moment request o end → AreSame o
+asked_at_same store at transform file moment request o end asked = visit_same store _ _ _ o end (λ old new done. reply_same done.reply o end done.told) asked
+
+paper_same : (paper : Paper) (old new : Seen) (o : Outputs) (end : End) → PrintsPaper paper old new o end → AreSame o
+paper_same (Shift number) old new o end done = reply_same done.reply o end done.told
+paper_same (Receipt number) old new o end done = reply_same done.reply o end done.told
+paper_same (Totals number) old new o end done = totals_same number done.totals o end done.told
+paper_same Sales old new o end done = told_same o _ _ _ end done.told
 
 added_same : {S : Type 0} (store : Ghosts S) (at : Text → Place) (untouched : Type 0) (words : ImportWords) (moment : ℕ) (rows : Result (List Row) RowFault) (o : Outputs) (end : End) → AreAdded store at untouched words moment rows o end → AreSame o
-added_same store at untouched words moment (Ok rows) o end added = visit_same store _ _ _ o end added
+added_same store at untouched words moment (Ok rows) o end added = asked_at_same store at words.transform words.file.now moment _ o end added
 added_same store at untouched words moment (Err fault) o end (left, told) = told_same o _ _ _ end told
 
 import_same : {S D R W : Type 0} (store : Ghosts S) (m : Machine D R W) (words : ImportWords) (moment : ℕ) (o : Outputs) (end : End) → IsFileImported store m.at m.untouched m.reads m.lacks words moment o end → AreSame o
@@ -85,12 +97,10 @@ timed_same : (Idle : Type 0) (given : Option ℕ) (answers : Option (List ℤ)) 
 timed_same Idle given answers At o end same (moment, taken, done) = done_same Idle At o end moment same done
 
 answer_same : {S D R W : Type 0} (store : Ghosts S) (m : Machine D R W) (asked : Asked) (o : Outputs) (end : End) → IsCarriedOut store m asked o end → AreSame o
-answer_same store m (asks.Trial words) o end done = timed_same (IsIdle m) words.at m.answers _ o end (λ moment tried. told_same o _ _ _ end tried.1.4) done
-answer_same store m (asks.Import words) o end done = timed_same (IsIdle m) words.at m.answers _ o end (λ moment imported. import_same store m words moment o end imported.1) done
-answer_same store m (asks.Base words) o end done = timed_same (IsIdle m) words.at m.answers _ o end (λ moment moved. visit_same store _ _ _ o end moved.1) done
-answer_same store m (asks.Shift words) o end done = timed_same (IsIdle m) words.at m.answers _ o end (λ moment shifted. visit_same store _ _ _ o end shifted.1) done
-answer_same store m (asks.Sell words) o end done = timed_same (IsIdle m) words.at m.answers _ o end (λ moment sold. visit_same store _ _ _ o end sold.1) done
-answer_same store m (asks.Report words) o end (shut, done) = visit_same store _ _ _ o end done
+answer_same store m (asks.Trial words) o end (idle, done) = timed_same ⊤ words.at m.answers _ o end (λ moment tried. told_same o _ _ _ end tried.4) done
+answer_same store m (asks.Import words) o end (shut, done) = timed_same m.untouched words.at m.answers _ o end (λ moment imported. import_same store m words moment o end imported) done
+answer_same store m (asks.Request words) o end (shut, done) = timed_same m.untouched words.at m.answers _ o end (λ moment asked. asked_at_same store m.at words.transform words.file.now moment words.request o end asked) done
+answer_same store m (asks.Report words) o end (shut, done) = visit_same store _ _ _ o end (λ old new printed. paper_same words.paper old new o end printed) done
 answer_same store m (asks.Meter words) o end (idle, done) = told_same o _ _ _ end done
 answer_same store m (asks.Quote words) o end (idle, done) = told_same o _ _ _ end done
 answer_same store m (asks.Serve words) o end done =

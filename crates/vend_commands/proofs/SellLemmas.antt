@@ -27,13 +27,13 @@ use Rattle.vend_core.specs.declared.sale.Sale.{Sale}
 use Rattle.vend_core.specs.declared.shift.Shift.{Shift}
 use Rattle.vend_commands.specs.Selling.{EndsSold, TellsSale}
 use Rattle.vend_commands.specs.Served.{TellsReply, answer_text}
-use Rattle.vend_commands.specs.Tasks.{IsAskedAt}
+use Rattle.vend_commands.specs.Asked.{IsAskedAt}
 use Rattle.vend_commands.specs.Places.{Place}
 use Rattle.vend_commands.specs.Told.{IsTold, Outputs, Takes}
 use Rattle.vend_commands.specs.Visited.{seen_in}
 use Rattle.vend_commands.specs.Visited.IsVisited.{unopened, visited}
 use Rattle.command_line.specs.Transform.{forward_of}
-use Rattle.command_line.specs.declared.commands.sell.SellWords.{SellWords}
+use Rattle.command_line.specs.declared.transform.Shipped.{Shipped}
 use Rattle.vend_commands.specs.declared.end.End.{End}
 use Rattle.vend_commands.specs.declared.end.End.TheVariants as how
 
@@ -101,10 +101,10 @@ pub sale_told : (sale : Sale) (o : Outputs) (end : End) → TellsReply (Ok (Sold
 sale_told sale o end (inl told) = told
 sale_told sale o end (inr (none, told)) = absurd none
 
-pub ends_sold : {S : Type 0} (store : Ghosts S) (answers_stand : (forward : BlockFunction) (o : Office) (at : Stamped) → All (Contains (step forward o at).sales) (sales_of (reply forward o at))) (at : Text → Place) (words : SellWords) (moment : ℕ) (office : Office) (o : Outputs) → StandsIn (at words.file.now).image office → IsAskedAt store at words.transform words.file.now moment (Sell words.order) o how.Done → EndsSold store (at words.file.now).closes words moment office o
-ends_sold store answers_stand places words moment office o stands (unopened fault fails told) = absurd (not_refused o _ _ told)
-ends_sold store answers_stand places words moment office o stands (visited old new begins finds done closes) =
-    let forward = forward_of words.transform in
+pub ends_sold : {S : Type 0} (store : Ghosts S) (answers_stand : (forward : BlockFunction) (o : Office) (at : Stamped) → All (Contains (step forward o at).sales) (sales_of (reply forward o at))) (at : Text → Place) (path : Text) (transform : Shipped) (order : Order) (moment : ℕ) (office : Office) (o : Outputs) → StandsIn (at path).image office → IsAskedAt store at transform path moment (Sell order) o how.Done → EndsSold store (at path).closes transform order moment office o
+ends_sold store answers_stand places path transform order moment office o stands (unopened fault fails told) = absurd (not_refused o _ _ told)
+ends_sold store answers_stand places path transform order moment office o stands (visited old new begins finds done closes) =
+    let forward = forward_of transform in
     let told = is_answered done.reply o done.told in
     let at = done.replied.0 in
     let asked = done.replied.1 in
@@ -115,7 +115,7 @@ ends_sold store answers_stand places words moment office o stands (visited old n
           let present = (begins.opens office stands (replies.clean clean)).running begins.running in
           let kept = subst (λ reply. IsRepresented (extended_by (opened forward office) at reply) (seen_in new)) told.1 (replies.keeps (opened forward office) (begins.opens office stands) clean) in
           let granted = one_reply forward office at told.0 kept.is_life in
-          let given = sell_gives forward office at words.order told.0 asked.for_request granted in
+          let given = sell_gives forward office at order told.0 asked.for_request granted in
           let by_rules : reply forward office at ≡ Ok (Sold given.0) = granted ∙ ap Ok given.1 in
           record {
             at = at;

@@ -23,7 +23,6 @@ use Rattle.vend_commands.specs.Timed.{IsTimed}
 use Rattle.vend_commands.specs.Visited.{IsVisited}
 use Rattle.vend_commands.specs.Visited.IsVisited.{unopened as unvisited, visited}
 use Rattle.vend_commands.specs.declared.end.End.{End}
-use Rattle.vend_commands.specs.declared.task.Task.{Task}
 use Rattle.command_line.specs.declared.commands.import.ImportWords.{ImportWords}
 use Rattle.command_line.specs.declared.transform.Shipped.{Shipped}
 use Rattle.command_line.specs.declared.transform.Shipped.TheVariants.{Plain}
@@ -34,9 +33,9 @@ use Rattle.vend_commands.specs.declared.read_fault.ReadFault.{ReadFault}
 abbrev bare_place : Place → Place
 bare_place place = untold_place place.image place.opens place.closes
 
-visited_bare : {S : Type 0} (store : Ghosts S) (place : Place) (transform : Shipped) (task : Task) (o : Outputs) (end : End) → IsVisited store place transform task o end → IsVisited store (bare_place place) transform task o end
-visited_bare store place transform task o end (unvisited fault fails told) = unvisited fault tt told
-visited_bare store place transform task o end (visited old new opens finds done closes) = visited old new opens tt done closes
+visited_bare : {S : Type 0} (store : Ghosts S) (place : Place) (transform : Shipped) (Does : (old new : Seen) → Type 0) (o : Outputs) (end : End) → IsVisited store place transform Does o end → IsVisited store (bare_place place) transform Does o end
+visited_bare store place transform Does o end (unvisited fault fails told) = unvisited fault tt told
+visited_bare store place transform Does o end (visited old new opens finds done closes) = visited old new opens tt done closes
 
 added_bare : {S : Type 0} (store : Ghosts S) (at : Text → Place) (untouched : Type 0) (words : ImportWords) (moment : ℕ) (rows : Result (List Row) RowFault) (o : Outputs) (end : End)
     → AreAdded store at untouched words moment rows o end → AreAdded store (λ path. bare_place (at path)) ⊤ words moment rows o end
@@ -48,12 +47,8 @@ imported_bare : {S : Type 0} (store : Ghosts S) (at : Text → Place) (untouched
 imported_bare store at untouched reads lacks words moment o end (inl (bytes, read, (records, rows, are, reading, added))) = inl (bytes, read, (records, rows, are, reading, added_bare store at untouched words moment rows o end added))
 imported_bare store at untouched reads lacks words moment o end (inr (fault, lacked, left, told)) = inr (fault, lacked, tt, told)
 
--- what is left of a machine of which nothing was used
-abbrev Nothing : Type 0
-Nothing = ⊤ × ⊤
-
-timed_bare : (Idle : Type 0) (given : Option ℕ) (answers : Option (List ℤ)) (At Bare : ℕ → Type 0) (o : Outputs) (end : End) → ((moment : ℕ) → At moment → Bare moment) → IsTimed Idle given answers At o end → IsTimed Nothing given answers Bare o end
-timed_bare Idle given answers At Bare o end less (None, taken, (idle, told)) = (None, taken, ((tt, tt), told))
+timed_bare : (Idle : Type 0) (given : Option ℕ) (answers : Option (List ℤ)) (At Bare : ℕ → Type 0) (o : Outputs) (end : End) → ((moment : ℕ) → At moment → Bare moment) → IsTimed Idle given answers At o end → IsTimed ⊤ given answers Bare o end
+timed_bare Idle given answers At Bare o end less (None, taken, (idle, told)) = (None, taken, (tt, told))
 timed_bare Idle given answers At Bare o end less (Some moment, taken, done) = (Some moment, taken, less moment done)
 
 abbrev bare : {D B : Type 0} → Service D B → Service ⊤ B
@@ -133,11 +128,9 @@ module _ {S D R W : Type 0} (store : Ghosts S) (way : Way D R W) (at : Text → 
 
   module _ (untouched : Type 0) (reads : Text → List ℕ → Type 0) (lacks : Text → ReadFault → Type 0) (answers : Option (List ℤ)) where
     carried_bare : (asked : Asked) (o : Outputs) (end : End) → IsCarriedOut store (machine at untouched reads lacks answers way door) asked o end → IsCarriedOut store (machine (λ path. bare_place (at path)) ⊤ reads lacks answers untold_way tt) asked o end
-    carried_bare (asks.Trial words) o end done = timed_bare (untouched × way.leaves door) words.at answers _ _ o end (λ moment tried. ((tt, tt), tried.1)) done
-    carried_bare (asks.Import words) o end done = timed_bare (untouched × way.leaves door) words.at answers _ _ o end (λ moment imported. (tt, imported_bare store at untouched reads lacks words moment o end imported.1)) done
-    carried_bare (asks.Base words) o end done = timed_bare (untouched × way.leaves door) words.at answers _ _ o end (λ moment asked. (tt, visited_bare store (at words.file.now) words.transform _ o end asked.1)) done
-    carried_bare (asks.Shift words) o end done = timed_bare (untouched × way.leaves door) words.at answers _ _ o end (λ moment asked. (tt, visited_bare store (at words.file.now) words.transform _ o end asked.1)) done
-    carried_bare (asks.Sell words) o end done = timed_bare (untouched × way.leaves door) words.at answers _ _ o end (λ moment asked. (tt, visited_bare store (at words.file.now) words.transform _ o end asked.1)) done
+    carried_bare (asks.Trial words) o end (idle, done) = ((tt, tt), done)
+    carried_bare (asks.Import words) o end (shut, done) = (tt, timed_bare untouched words.at answers _ _ o end (λ moment imported. imported_bare store at untouched reads lacks words moment o end imported) done)
+    carried_bare (asks.Request words) o end (shut, done) = (tt, timed_bare untouched words.at answers _ _ o end (λ moment asked. visited_bare store (at words.file.now) words.transform _ o end asked) done)
     carried_bare (asks.Report words) o end (shut, done) = (tt, visited_bare store (at words.file.now) Plain _ o end done)
     carried_bare (asks.Meter words) o end (idle, done) = ((tt, tt), done)
     carried_bare (asks.Quote words) o end (idle, done) = ((tt, tt), done)

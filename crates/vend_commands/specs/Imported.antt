@@ -12,7 +12,7 @@ use Rattle.vend_core.specs.declared.request.Request.TheVariants.{Import}
 use Rattle.vend_core.specs.declared.row.Row.{Row}
 use Rattle.vend_commands.specs.Places.{Place}
 use Rattle.vend_commands.specs.Printed.{file_line, refusal_line}
-use Rattle.vend_commands.specs.Tasks.{IsAskedAt}
+use Rattle.vend_commands.specs.Asked.{IsAskedAt}
 use Rattle.vend_commands.specs.Told.{Outputs, IsTold}
 use Rattle.command_line.specs.declared.commands.import.ImportWords.{ImportWords}
 use Rattle.vend_commands.specs.declared.end.End.{End}

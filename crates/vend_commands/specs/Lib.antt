@@ -1,3 +1,4 @@
+pub mod Asked
 pub mod Closed
 pub mod Connections
 pub mod Courses
@@ -12,12 +13,12 @@ pub mod Printed
 pub mod Quoted
 pub mod Refused
 pub mod Reopened
+pub mod Reported
 pub mod Run
 pub mod Selfchecked
 pub mod Selling
 pub mod Served
 pub mod Status
-pub mod Tasks
 pub mod Timed
 pub mod Told
 pub mod Totalled

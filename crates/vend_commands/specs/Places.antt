@@ -93,10 +93,6 @@ places_of {H} {D} {S} disk salts of office path = record {
   loses = IsUnreopened salts;
 }
 
--- the same machine, whose clock has these answers left
-abbrev pub later : {D R W : Type 0} → Machine D R W → Option (List ℤ) → Machine D R W
-later m left = record m { answers = left }
-
 -- nobody was listened to: the door was left as it was
 abbrev pub IsShut : {D R W : Type 0} → Machine D R W → Type 0
 IsShut m = m.way.leaves m.door

@@ -1,27 +1,27 @@
 -- A run of the program: how what its words ask for is answered.
-use Rattle.std.specs.Prelude.{◌≡◌, ◌≢◌, ℕ, List, []}
+use Rattle.std.specs.Prelude.{◌≡◌, ◌≢◌, ⊤, List, []}
 use Rattle.clap.specs.Kinds.{IsAmong}
 use Rattle.clap.specs.declared.error.kind.ErrorKind.{ErrorKind}
 use Rattle.clap.specs.declared.error.kind.ErrorKind.TheVariants.{DisplayHelp, DisplayVersion, OutOfMemory}
 use Rattle.sqlite_trees.specs.declared.store.Store.{Ghosts}
 use Rattle.sts_fields.specs.Text.{Text}
 use Rattle.vend_core.specs.declared.refusal.Refusal.TheVariants.{Memory}
-use Rattle.vend_core.specs.declared.request.Request.TheVariants as request
 use Rattle.command_line.specs.Asked.{AskFor}
 use Rattle.command_line.specs.Line.{faults_in}
+use Rattle.vend_commands.specs.Asked.{IsAskedAt}
 use Rattle.vend_commands.specs.Imported.{IsFileImported}
 use Rattle.vend_commands.specs.Listening.{IsServedTo}
 use Rattle.vend_commands.specs.Metered.{IsMetered}
 use Rattle.vend_commands.specs.Places.{IsIdle, IsShut, Machine}
 use Rattle.vend_commands.specs.Printed.{bad_word_line, refusal_line}
 use Rattle.vend_commands.specs.Quoted.{IsQuoted}
+use Rattle.vend_commands.specs.Reported.{IsReported}
 use Rattle.vend_commands.specs.Selfchecked.{HasReplies, IsSelfchecked}
-use Rattle.vend_commands.specs.Tasks.{IsAskedAt, IsReported, base_request, shift_request}
 use Rattle.vend_commands.specs.Timed.{IsTimed}
 use Rattle.vend_commands.specs.Told.{Outputs, IsTold}
 use Rattle.vend_commands.specs.Tried.{IsTried}
 use Rattle.command_line.specs.declared.asked.Asked.{Asked}
-use Rattle.command_line.specs.declared.asked.Asked.TheVariants.{Trial, Import, Base, Shift, Sell, Report, Meter, Quote, Serve, Selfcheck}
+use Rattle.command_line.specs.declared.asked.Asked.TheVariants.{Trial, Import, Request, Report, Meter, Quote, Serve, Selfcheck}
 use Rattle.vend_commands.specs.declared.end.End.{End}
 use Rattle.vend_commands.specs.declared.end.End.TheVariants.{Done, Refused, BadWords}
 
@@ -29,38 +29,16 @@ use Rattle.vend_commands.specs.declared.end.End.TheVariants.{Done, Refused, BadW
 -- found, and only `serve` has the door.
 abbrev pub IsCarriedOut : {S D R W : Type 0} → Ghosts S → Machine D R W → Asked → Outputs → End → Type 0
 IsCarriedOut store m (Trial words) o end =
-    IsTimed (IsIdle m) words.at m.answers (λ moment. IsIdle m × IsTried words moment o end) o end
-IsCarriedOut store m (Import words) o end = IsTimed (IsIdle m) words.at m.answers (λ moment. IsShut m
-    × IsFileImported store m.at m.untouched m.reads m.lacks words moment o end) o end
-IsCarriedOut store m (Base words) o end = IsTimed (IsIdle m) words.at m.answers (λ moment. IsShut m
-    × IsAskedAt store m.at words.transform words.file.now moment (base_request words) o end) o end
-IsCarriedOut store m (Shift words) o end = IsTimed (IsIdle m) words.at m.answers (λ moment. IsShut m
-    × IsAskedAt store m.at words.transform words.file.now moment (shift_request words) o end) o end
-IsCarriedOut store m (Sell words) o end = IsTimed (IsIdle m) words.at m.answers (λ moment. IsShut m
-    × IsAskedAt store m.at words.transform words.file.now moment (request.Sell words.order) o end) o end
+    IsIdle m × IsTimed ⊤ words.at m.answers (λ moment. IsTried words moment o end) o end
+IsCarriedOut store m (Import words) o end = IsShut m × IsTimed m.untouched words.at m.answers
+    (λ moment. IsFileImported store m.at m.untouched m.reads m.lacks words moment o end) o end
+IsCarriedOut store m (Request words) o end = IsShut m × IsTimed m.untouched words.at m.answers
+    (λ moment. IsAskedAt store m.at words.transform words.file.now moment words.request o end) o end
 IsCarriedOut store m (Report words) o end = IsShut m × IsReported store m.at words o end
 IsCarriedOut store m (Meter words) o end = IsIdle m × IsMetered words o end
 IsCarriedOut store m (Quote words) o end = IsIdle m × IsQuoted words o end
 IsCarriedOut store m (Serve words) o end = IsServedTo store m.way m.at m.door m.answers words o end
 IsCarriedOut store m (Selfcheck words) o end = IsIdle m × IsSelfchecked (HasReplies words.transform) o end
-
--- the same, at this moment, by a machine whose clock was read for it
-abbrev pub IsDoneThen : {S D R W : Type 0} → Ghosts S → Machine D R W → Asked → (moment : ℕ) → Outputs → End
-    → Type 0
-IsDoneThen store m (Trial words) moment o end = IsIdle m × IsTried words moment o end
-IsDoneThen store m (Import words) moment o end =
-    IsShut m × IsFileImported store m.at m.untouched m.reads m.lacks words moment o end
-IsDoneThen store m (Base words) moment o end =
-    IsShut m × IsAskedAt store m.at words.transform words.file.now moment (base_request words) o end
-IsDoneThen store m (Shift words) moment o end =
-    IsShut m × IsAskedAt store m.at words.transform words.file.now moment (shift_request words) o end
-IsDoneThen store m (Sell words) moment o end =
-    IsShut m × IsAskedAt store m.at words.transform words.file.now moment (request.Sell words.order) o end
-IsDoneThen store m (Report words) moment o end = IsShut m × IsReported store m.at words o end
-IsDoneThen store m (Meter words) moment o end = IsIdle m × IsMetered words o end
-IsDoneThen store m (Quote words) moment o end = IsIdle m × IsQuoted words o end
-IsDoneThen store m (Serve words) moment o end = IsServedTo store m.way m.at m.door m.answers words o end
-IsDoneThen store m (Selfcheck words) moment o end = IsIdle m × IsSelfchecked (HasReplies words.transform) o end
 
 -- what is said of words that are no command's: help, which goes to the output, or what is wrong with
 -- them, which goes to the error output

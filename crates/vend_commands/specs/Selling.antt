@@ -17,7 +17,6 @@ use Rattle.vend_core.specs.declared.sale.Sale.{Sale}
 use Rattle.vend_commands.specs.Told.{IsTold, Outputs, Takes}
 use Rattle.vend_commands.specs.Visited.{seen_in}
 use Rattle.command_line.specs.Transform.{forward_of}
-use Rattle.command_line.specs.declared.commands.sell.SellWords.{SellWords}
 use Rattle.command_line.specs.declared.transform.Shipped.{Shipped}
 use Rattle.vend_commands.specs.declared.end.End.{End}
 use Rattle.vend_commands.specs.declared.end.End.TheVariants.{Done}
@@ -47,9 +46,9 @@ TellsSale sale o end = IsTold o (receipt_of sale) [] Done end
 
 -- so with the books as the command left them and closed their file, as long as the disk returned what
 -- was written
-abbrev pub EndsSold : {S : Type 0} → Ghosts S → (Closes : Seen → Type 0) → SellWords → (moment : ℕ)
+abbrev pub EndsSold : {S : Type 0} → Ghosts S → (Closes : Seen → Type 0) → Shipped → Order → (moment : ℕ)
     → Office → Outputs → Type 0
-EndsSold {S} store Closes words moment office o =
+EndsSold {S} store Closes transform order moment office o =
     (books : Books S Shipped store) × Closes (seen_in books)
     × (HasCleanDisk (seen_in books).state
-    → HasSold (forward_of words.transform) office words.order moment o (seen_in books))
+    → HasSold (forward_of transform) office order moment o (seen_in books))

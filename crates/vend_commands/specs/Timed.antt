@@ -1,8 +1,6 @@
 -- The moment at which a command is done.
 use Rattle.std.specs.Prelude.{◌≡◌, ⊤, ℕ, ℤ, pos, List, [], ◌∷◌, Option, Some, None}
-use Rattle.command_line.specs.declared.asked.Asked.{Asked}
-use Rattle.command_line.specs.declared.asked.Asked.TheVariants.{Trial, Import, Base, Shift, Sell}
-use Rattle.sts_fields.specs.Moment.{IsMoment, first_moment}
+use Rattle.sts_fields.specs.Moment.{IsMoment}
 use Rattle.vend_commands.specs.Printed.{clock_line}
 use Rattle.vend_commands.specs.Told.{Outputs, IsTold}
 use Rattle.vend_commands.specs.declared.end.End.{End}
@@ -33,18 +31,3 @@ IsDoneAt Idle At o end None = Idle × IsTold o [] clock_line Refused end
 abbrev pub IsTimed : (Idle : Type 0) → Option ℕ → Option (List ℤ) → (ℕ → Type 0) → Outputs → End → Type 0
 IsTimed Idle given answers At o end =
     (moment : Option ℕ) × IsTakenMoment given answers moment × IsDoneAt Idle At o end moment
-
--- the moment that a command may be given, and was or not; none for a command that needs none
-abbrev pub given_moment : Asked → Option (Option ℕ)
-given_moment (Trial words) = Some words.at
-given_moment (Import words) = Some words.at
-given_moment (Base words) = Some words.at
-given_moment (Shift words) = Some words.at
-given_moment (Sell words) = Some words.at
-given_moment _ = None
-
--- The moment of a command that needs one, given or taken from the clock. Without need of one the clock
--- is not read.
-abbrev pub IsMomentFor : Option (Option ℕ) → (answers left : Option (List ℤ)) → Option ℕ → Type 0
-IsMomentFor (Some given) answers left moment = IsTakenMoment given answers moment
-IsMomentFor None answers left moment = (moment ≡ Some first_moment) × (left ≡ answers)

@@ -1,4 +1,4 @@
--- A task at an office in a file: the opening of the file, what is done there, and the close.
+-- A visit to the office in a file: the opening of the file, what is done there, and the close.
 use Rattle.std.specs.Prelude.{◌≡◌, false, []}
 use Rattle.sqlite_trees.specs.declared.store.Store.{Ghosts}
 use Rattle.sqlite_wal.specs.Recovery.{Image}
@@ -10,16 +10,11 @@ use Rattle.command_line.specs.Transform.{forward_of}
 use Rattle.command_line.specs.declared.transform.Shipped.{Shipped}
 use Rattle.vend_core.specs.LifeLaws.{opened}
 use Rattle.vend_core.specs.Office.{Office}
-use Rattle.vend_commands.specs.Exported.{IsExported}
 use Rattle.vend_commands.specs.Places.{Place}
 use Rattle.vend_commands.specs.Printed.{opening_line}
-use Rattle.vend_commands.specs.Served.{IsServedAndTold}
 use Rattle.vend_commands.specs.Told.{Outputs, IsTold}
-use Rattle.vend_commands.specs.Totalled.{IsTotalled}
 use Rattle.vend_commands.specs.declared.end.End.{End}
 use Rattle.vend_commands.specs.declared.end.End.TheVariants.{Refused}
-use Rattle.vend_commands.specs.declared.task.Task.{Task}
-use Rattle.vend_commands.specs.declared.task.Task.TheVariants.{Ask, Total, Export}
 
 -- what is seen of books whose transform is one that ships
 abbrev pub seen_in : {S : Type 0} → {store : Ghosts S} → Books S Shipped store → Seen
@@ -40,18 +35,12 @@ abbrev pub IsOpenedAt : {S : Type 0} → {store : Ghosts S} → Place → Shippe
     → Type 0
 IsOpenedAt place transform books = IsOpened place.image place.opens transform books
 
--- what is done at books that are open
-abbrev pub IsDone : Task → (old new : Seen) → Outputs → End → Type 0
-IsDone (Ask moment request) old new o end = IsServedAndTold moment request old new o end
-IsDone (Total number) old new o end = IsTotalled number old new o end
-IsDone Export old new o end = IsExported old new o end
-
 -- The file is not opened, and that is told, before anything is printed; or books are opened in it,
--- the task is done there, and the file is closed as it was left.
+-- what is to be done is done there, and the file is closed as it was left.
 pub data IsVisited {S : Type 0} (store : Ghosts S) (place : Place) (transform : Shipped)
-    (task : Task) (o : Outputs) (end : End) : Type 0 where
+    (Does : (old new : Seen) → Type 0) (o : Outputs) (end : End) : Type 0 where
   unopened : (fault : OpenFault) → place.fails fault
-      → IsTold o [] (opening_line fault) Refused end → IsVisited store place transform task o end
+      → IsTold o [] (opening_line fault) Refused end → IsVisited store place transform Does o end
   visited : (old new : Books S Shipped store) → IsOpenedAt place transform old
-      → place.finds → IsDone task (seen_in old) (seen_in new) o end
-      → place.closes (seen_in new) → IsVisited store place transform task o end
+      → place.finds → Does (seen_in old) (seen_in new)
+      → place.closes (seen_in new) → IsVisited store place transform Does o end

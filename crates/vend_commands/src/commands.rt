@@ -2,6 +2,8 @@
 pub mod import;
 pub mod meter;
 pub mod quote;
+pub mod report;
+pub mod request;
 pub mod selfcheck;
 pub mod serve;
 pub mod trial;

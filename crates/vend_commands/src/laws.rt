@@ -1,23 +1,24 @@
 ghost use Rattle.std.specs.Prelude.{ℕ, Ok};
 ghost use Rattle.sqlite.specs.State.{HasCleanDisk};
+ghost use Rattle.sts_fields.specs.Text.{Text};
 ghost use Rattle.sts_token.specs.Token.{BlockFunction};
 ghost use Rattle.books.specs.Headline.{RepresentTheLast};
 ghost use Rattle.books.specs.Path.{StandsIn};
 ghost use Rattle.books.specs.declared.books.Books.{Books};
 ghost use Rattle.sqlite_store.specs.declared.store.FileStore.{FileStore as Files};
 ghost use Rattle.command_line.specs.declared.transform.Shipped.{Shipped};
+ghost use Rattle.vend_commands.specs.Asked.{IsAskedAt};
 ghost use Rattle.vend_commands.specs.Closed.{IsClosed};
 ghost use Rattle.vend_commands.specs.Connections.{AreHeld, Service, service};
 ghost use Rattle.vend_commands.specs.Courses.{Course, LiveOn};
 ghost use Rattle.vend_core.specs.Office.{Office};
 ghost use Rattle.vend_core.specs.declared.answer.Answer.TheVariants.{Sold};
+ghost use Rattle.vend_core.specs.declared.request.Order.{Order};
 ghost use Rattle.vend_core.specs.declared.request.Request.TheVariants.{Sell};
 ghost use Rattle.vend_core.specs.declared.sale.Sale.{Sale};
-ghost use Rattle.command_line.specs.declared.commands.sell.SellWords.{SellWords};
 ghost use Rattle.vend_commands.specs.Places.{places_of, way};
 ghost use Rattle.vend_commands.specs.Selling.{EndsSold, TellsSale};
 ghost use Rattle.vend_commands.specs.Served.{TellsReply};
-ghost use Rattle.vend_commands.specs.Tasks.{IsAskedAt};
 ghost use Rattle.vend_commands.specs.Told.{Outputs};
 ghost use Rattle.vend_commands.specs.Visited.{seen_in};
 ghost use Rattle.vend_commands.specs.declared.end.End.{End};
@@ -34,11 +35,12 @@ use vend_core::{history_law, office_law};
 /// crash may leave of them as they are closed. Of a sale nothing is told but the receipt: what is
 /// told of want of memory came before any sale stood.
 pub fn sell_law<H: OfficeFile>()
-    ensures done { (file : H) (words : SellWords) (moment : ℕ) (office : Office) (o : Outputs)
-        → StandsIn (H.image file words.file.now) office
+    ensures done { (file : H) (path : Text) (transform : Shipped) (order : Order) (moment : ℕ) (office : Office)
+        (o : Outputs) → StandsIn (H.image file path) office
         → IsAskedAt ⟦<FileStore<H::Medium> as Store>⟧ (places_of H.Medium.Disk H.Salts.SaltSource H.OfficeFile file)
-        words.transform words.file.now moment (Sell words.order) o Done
-        → EndsSold ⟦<FileStore<H::Medium> as Store>⟧ (IsClosed H.Medium.Disk H.lets_go) words moment office o }
+        transform path moment (Sell order) o Done
+        → EndsSold ⟦<FileStore<H::Medium> as Store>⟧ (IsClosed H.Medium.Disk H.lets_go) transform order
+        moment office o }
     ensures told { (sale : Sale) (o : Outputs) (end : End)
         → TellsReply (Ok (Sold sale)) o end → TellsSale sale o end }
 {

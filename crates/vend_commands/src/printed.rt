@@ -1,7 +1,7 @@
 //! The lines that the program prints (`specs/Printed.antt`). None takes memory.
 ghost use Rattle.std.specs.Prelude.{◌≡◌, ◌≢◌, ℕ, IfOk, map, string_bytes};
 ghost use Rattle.vend_core.specs.RowCause.{cause_text};
-ghost use Rattle.vend_commands.specs.Printed.{added_line, address_text, answer_line, credit_line};
+ghost use Rattle.vend_commands.specs.Printed.{added_line, address_text, answer_line, clock_line, credit_line};
 ghost use Rattle.vend_commands.specs.Printed.{host_text, line_of, opening_line, pair_text};
 ghost use Rattle.vend_commands.specs.Printed.{quote_line, refusal_line, shift_line, token_line};
 ghost use Rattle.vend_commands.specs.Told.{Takes, sink};
@@ -115,6 +115,13 @@ fn pair_text(alloc: Global, one: u8, next: u8) -> Result<String, AllocError>
     ensures { IfOk result (λ text. string_bytes text ≡ pair_text one next) }
 {
     format!(in alloc; "{one}.{next}")
+}
+
+/// Tells that the clock has no moment.
+pub(crate) fn put_no_moment<W: Write>(out: &mut Watched<'_, W>)
+    ensures { Takes (sink W.contents out.old) (sink W.contents out.new) clock_line }
+{
+    put_line(&[b"refused", b"clock"], out);
 }
 
 /// Tells why an office is not opened.

@@ -5,23 +5,20 @@ ghost use Rattle.vend_core.specs.declared.refusal.Refusal.TheVariants.{Memory};
 ghost use Rattle.command_line.specs.Asked.{AskFor};
 ghost use Rattle.vend_commands.specs.Places.{machine, places_of, untold, way};
 ghost use Rattle.vend_commands.specs.Printed.{refusal_line};
-ghost use Rattle.vend_commands.specs.Run.{IsCarriedOut, IsDoneThen, IsExplained, IsProgramRun};
+ghost use Rattle.vend_commands.specs.Run.{IsCarriedOut, IsExplained, IsProgramRun};
 ghost use Rattle.vend_commands.specs.Status.{status_of};
 ghost use Rattle.vend_commands.specs.Told.{IsTold, Takes, outputs, sink, writer};
 ghost use Rattle.vend_commands.specs.Unread.{bad_words_end, bad_words_line};
 ghost use Rattle.command_line.specs.declared.asked.Asked.{Asked};
 ghost use Rattle.vend_commands.specs.declared.end.End.{End};
 
-use crate::clock::moment_for;
 use crate::commands;
 use crate::commands::selfcheck::run_selfcheck;
 use crate::door::Door;
 use crate::end::End;
-use crate::errand::Errand;
 use crate::explanation::Explanation;
 use crate::machine::{MachineFile, MachineTexts};
 use crate::machine_door::MachineDoor;
-use crate::opening::visit;
 use crate::ports::{OfficeFile, Ports, TextFiles};
 use crate::printed::{put_line, put_refusal};
 use crate::watched::Watched;
@@ -34,7 +31,6 @@ use sqlite_trees::store::Store;
 use std::alloc::Global;
 use std::io::Write;
 use std::net::Net;
-use sts_fields::Moment;
 use vend_core::Refusal;
 
 /// Runs the command that some words give, the program's own name left out, and answers the exit
@@ -105,7 +101,7 @@ pub fn run_over<H: OfficeFile, F: TextFiles, C: Clock + Drop, D: Door, N: Net, O
     };
     match parse(alloc, &line) {
         Ok(matches) => match Asked::read(alloc, &matches) {
-            Ok(asked) => answer(alloc, net, ports, &asked, out, err),
+            Ok(asked) => answer(alloc, net, ports, asked, out, err),
             Err(fault) => {
                 leave_all(ports.office, ports.door);
                 refuse(fault, err)
@@ -132,7 +128,7 @@ fn answer<H: OfficeFile, F: TextFiles, C: Clock + Drop, D: Door, N: Net, O: Writ
     alloc: Global,
     net: &N,
     ports: Ports<H, F, C, D>,
-    asked: &Asked,
+    asked: Asked<'_, '_>,
     out: &mut Watched<'_, O>,
     err: &mut Watched<'_, E>,
 ) -> End
@@ -140,77 +136,51 @@ fn answer<H: OfficeFile, F: TextFiles, C: Clock + Drop, D: Door, N: Net, O: Writ
         (places_of H.Medium.Disk H.Salts.SaltSource H.OfficeFile ports.office) (H.leaves ports.office)
         (F.reads ports.texts) (F.lacks ports.texts) (C.answers ports.clock)
         (way D.Door D.Reader.remaining D.Writer.contents) ports.door)
-        asked.now (outputs (sink O.contents out.old) (sink O.contents out.new)
-        (sink E.contents err.old) (sink E.contents err.new)) result }
-{
-    let mut ports = ports;
-    match moment_for(asked, &mut ports.clock) {
-        Some(moment) => answer_at(alloc, net, ports, asked, moment, out, err),
-        None => {
-            leave_all(ports.office, ports.door);
-            put_line(&[b"refused", b"clock"], err);
-            End::Refused
-        }
-    }
-}
-
-// Does what is asked, at this moment.
-fn answer_at<H: OfficeFile, F: TextFiles, C: Clock + Drop, D: Door, N: Net, O: Write, E: Write>(
-    alloc: Global,
-    net: &N,
-    ports: Ports<H, F, C, D>,
-    asked: &Asked,
-    moment: Moment,
-    out: &mut Watched<'_, O>,
-    err: &mut Watched<'_, E>,
-) -> End
-    ensures { IsDoneThen ⟦<FileStore<H::Medium> as Store>⟧ (machine
-        (places_of H.Medium.Disk H.Salts.SaltSource H.OfficeFile ports.office) (H.leaves ports.office)
-        (F.reads ports.texts) (F.lacks ports.texts) (C.answers ports.clock)
-        (way D.Door D.Reader.remaining D.Writer.contents) ports.door)
-        asked.now moment (outputs (sink O.contents out.old) (sink O.contents out.new)
+        asked.entry (outputs (sink O.contents out.old) (sink O.contents out.new)
         (sink E.contents err.old) (sink E.contents err.new)) result }
 {
     let mut clock = ports.clock;
-    let errand = match asked {
+    match asked {
         Asked::Trial(words) => {
             leave_all(ports.office, ports.door);
-            return commands::trial::run(words, alloc, moment, out, err);
+            commands::trial::run(&words, alloc, &mut clock, out, err)
         }
         Asked::Import(words) => {
             ports.door.leave();
-            return commands::import::run(
-                words,
+            commands::import::run(
+                &words,
                 alloc,
                 ports.office,
                 &ports.texts,
-                moment,
+                &mut clock,
                 out,
                 err,
-            );
+            )
         }
-        Asked::Base(words) => Errand::to_move(words, moment),
-        Asked::Shift(words) => Errand::to_shift(words, moment),
-        Asked::Sell(words) => Errand::to_sell(words, moment),
-        Asked::Report(words) => Errand::to_report(words),
+        Asked::Request(words) => {
+            ports.door.leave();
+            commands::request::run(words, alloc, ports.office, &mut clock, out, err)
+        }
+        Asked::Report(words) => {
+            ports.door.leave();
+            commands::report::run(&words, alloc, ports.office, out, err)
+        }
         Asked::Meter(words) => {
             leave_all(ports.office, ports.door);
-            return commands::meter::run(words, out);
+            commands::meter::run(&words, out)
         }
         Asked::Quote(words) => {
             leave_all(ports.office, ports.door);
-            return commands::quote::run(words, out, err);
+            commands::quote::run(&words, out, err)
         }
         Asked::Serve(words) => {
-            return commands::serve::run(words, alloc, ports.office, ports.door, &mut clock, err);
+            commands::serve::run(&words, alloc, ports.office, ports.door, &mut clock, err)
         }
         Asked::Selfcheck(words) => {
             leave_all(ports.office, ports.door);
-            return run_selfcheck(words, alloc, net, out, err);
+            run_selfcheck(&words, alloc, net, out, err)
         }
-    };
-    ports.door.leave();
-    visit(alloc, ports.office, errand, out, err)
+    }
 }
 
 /// Tells why words were not read.

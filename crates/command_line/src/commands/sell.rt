@@ -1,27 +1,14 @@
 ghost use Rattle.std.specs.Prelude.{codes, IfOk};
-ghost use Rattle.command_line.specs.Commands.{SaysSell};
+ghost use Rattle.command_line.specs.Commands.{SaysRequest};
 ghost use Rattle.command_line.specs.Line.{IsDescribed, sell_command};
 ghost use Rattle.command_line.specs.Said.{IsArgument, ReadsWhat, argument_rows, parsed_argument};
 ghost use Rattle.command_line.specs.Values.{SaysRef};
 
 use crate::options::{self, needed, with};
 use crate::said;
-use crate::transform::Shipped;
 use clap::{ArgMatches, Command};
 use std::alloc::{AllocError, Global};
-use sts_fields::Moment;
-use vend_core::{Order, Ref};
-
-/// What `sell` is asked to do: an order, sold from an office.
-#[derive(Clone, Copy)]
-pub struct SellWords<'a> {
-    pub transform: Shipped,
-    /// The file that keeps the office.
-    pub file: &'a str,
-    pub order: Order,
-    /// The machine's clock where it is left out.
-    pub at: Option<Moment>,
-}
+use vend_core::{Order, Ref, Request};
 
 /// `sell --file F --operator O --ref R --meter M --tender C [--at S] [--transform X]`.
 pub(crate) fn describe<'a>(alloc: Global) -> Result<Command<'a>, AllocError>
@@ -42,23 +29,16 @@ pub(crate) fn describe<'a>(alloc: Global) -> Result<Command<'a>, AllocError>
     with(command, options::at(alloc))
 }
 
-impl<'a> SellWords<'a> {
-    pub(crate) fn read(matches: &ArgMatches<'a>) -> Option<SellWords<'a>>
-        ensures { ReadsWhat result (SaysSell (argument_rows matches.now)) }
-    {
-        let order = Order {
-            operator: options::read_operator(matches)?,
-            order_ref: read_ref(matches)?,
-            meter: options::read_meter(matches)?,
-            tender: options::read_tender(matches)?,
-        };
-        Some(SellWords {
-            transform: options::read_transform(matches)?,
-            file: options::read_file(matches)?,
-            order,
-            at: options::read_at(matches)?,
-        })
-    }
+/// The request of `sell`: an order is sold.
+pub(crate) fn read(matches: &ArgMatches) -> Option<Request>
+    ensures { ReadsWhat result (SaysRequest (codes "sell") (argument_rows matches.now)) }
+{
+    Some(Request::Sell(Order {
+        operator: options::read_operator(matches)?,
+        order_ref: read_ref(matches)?,
+        meter: options::read_meter(matches)?,
+        tender: options::read_tender(matches)?,
+    }))
 }
 
 fn read_ref(matches: &ArgMatches) -> Option<Ref>

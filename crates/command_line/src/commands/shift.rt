@@ -1,34 +1,13 @@
 ghost use Rattle.std.specs.Prelude.{codes, IfOk};
-ghost use Rattle.command_line.specs.Commands.{SaysAct, SaysShift};
+ghost use Rattle.command_line.specs.Commands.{SaysRequest};
 ghost use Rattle.command_line.specs.Line.{IsDescribed, shift_command};
-ghost use Rattle.command_line.specs.Said.{IsArgument, ReadsWhat, argument_rows, parsed_argument};
+ghost use Rattle.command_line.specs.Said.{ReadsWhat, argument_rows};
 
 use crate::options::{self, with};
 use crate::said;
-use crate::transform::Shipped;
 use clap::{ArgMatches, Command};
 use std::alloc::{AllocError, Global};
-use sts_fields::Moment;
-use vend_core::Operator;
-
-/// What is done to a shift.
-#[derive(Clone, Copy, Debug, PartialEq, Eq)]
-pub enum Act {
-    Open,
-    Close,
-}
-
-/// What `shift` is asked to do: an operator's shift, opened or closed.
-#[derive(Clone, Copy)]
-pub struct ShiftWords<'a> {
-    pub transform: Shipped,
-    /// The file that keeps the office.
-    pub file: &'a str,
-    pub operator: Operator,
-    /// The machine's clock where it is left out.
-    pub at: Option<Moment>,
-    pub act: Act,
-}
+use vend_core::Request;
 
 /// `shift --file F --operator O [--at S] [--transform X] open|close`.
 pub(crate) fn describe<'a>(alloc: Global) -> Result<Command<'a>, AllocError>
@@ -44,27 +23,14 @@ pub(crate) fn describe<'a>(alloc: Global) -> Result<Command<'a>, AllocError>
     with(command, options::word(alloc, "act", "ACT", act))
 }
 
-impl<'a> ShiftWords<'a> {
-    pub(crate) fn read(matches: &ArgMatches<'a>) -> Option<ShiftWords<'a>>
-        ensures { ReadsWhat result (SaysShift (argument_rows matches.now)) }
-    {
-        Some(ShiftWords {
-            transform: options::read_transform(matches)?,
-            file: options::read_file(matches)?,
-            operator: options::read_operator(matches)?,
-            at: options::read_at(matches)?,
-            act: read_act(matches)?,
-        })
-    }
-}
-
-fn read_act(matches: &ArgMatches) -> Option<Act>
-    ensures { ReadsWhat result (IsArgument SaysAct
-        (parsed_argument (codes "act") (argument_rows matches.now))) }
+/// The request of `shift`: an operator's shift is opened or closed.
+pub(crate) fn read(matches: &ArgMatches) -> Option<Request>
+    ensures { ReadsWhat result (SaysRequest (codes "shift") (argument_rows matches.now)) }
 {
+    let operator = options::read_operator(matches)?;
     match said::text(matches, "act")? {
-        "open" => Some(Act::Open),
-        "close" => Some(Act::Close),
+        "open" => Some(Request::OpenShift(operator)),
+        "close" => Some(Request::CloseShift(operator)),
         _ => None,
     }
 }

@@ -3,16 +3,18 @@ ghost use Rattle.papers.specs.File.{AreFileRecords, Fields};
 ghost use Rattle.papers.specs.Import.{IsReading};
 ghost use Rattle.vend_commands.specs.Imported.{IsFileImported, IsImported, read_fault_line, refusal_of_rows};
 ghost use Rattle.vend_commands.specs.Places.{places_of};
+ghost use Rattle.vend_commands.specs.Timed.{IsTimed};
 ghost use Rattle.vend_commands.specs.Told.{Takes, outputs, sink};
 
+use crate::clock::moment_or_now;
+use crate::commands::request::ask_at;
 use crate::end::End;
-use crate::errand::Errand;
-use crate::opening::visit;
 use crate::ports::{OfficeFile, TextFiles};
-use crate::printed::{put_line, put_refusal};
+use crate::printed::{put_line, put_no_moment, put_refusal};
 use crate::read_fault::ReadFault;
 use crate::watched::Watched;
 use command_line::ImportWords;
+use desk::Clock;
 use papers::{FileKind, RowFault, read_meters, read_tariffs};
 use sqlite::FileStore;
 use sqlite_trees::store::Store;
@@ -21,8 +23,36 @@ use std::io::Write;
 use sts_fields::Moment;
 use vend_core::{Refusal, Request, Rows};
 
-/// Reads the file of rows, adds them to the office, and prints how many were new.
-pub(crate) fn run<H: OfficeFile, F: TextFiles, O: Write, E: Write>(
+/// Reads the file of rows, adds them to the office, at the moment of the words or else of the clock,
+/// and prints how many were new.
+pub(crate) fn run<H: OfficeFile, F: TextFiles, C: Clock, O: Write, E: Write>(
+    words: &ImportWords,
+    alloc: Global,
+    office: H,
+    texts: &F,
+    clock: &mut C,
+    out: &mut Watched<'_, O>,
+    err: &mut Watched<'_, E>,
+) -> End
+    ensures { let o = outputs (sink O.contents out.old) (sink O.contents out.new)
+        (sink E.contents err.old) (sink E.contents err.new) in
+        IsTimed (H.leaves office) words.now.at (C.answers clock.old)
+        (λ moment. IsFileImported ⟦<FileStore<H::Medium> as Store>⟧
+        (places_of H.Medium.Disk H.Salts.SaltSource H.OfficeFile office)
+        (H.leaves office) (F.reads texts.now) (F.lacks texts.now) words.now moment o result) o result }
+{
+    match moment_or_now(words.at, clock) {
+        Some(moment) => import_at(words, alloc, office, texts, moment, out, err),
+        None => {
+            office.leave();
+            put_no_moment(err);
+            End::Refused
+        }
+    }
+}
+
+// Reads the file and adds its rows, at this moment.
+fn import_at<H: OfficeFile, F: TextFiles, O: Write, E: Write>(
     words: &ImportWords,
     alloc: Global,
     office: H,
@@ -64,8 +94,7 @@ fn add<H: OfficeFile, O: Write, E: Write>(
     match rows_of(words, alloc, bytes) {
         Ok(rows) => {
             let request = Request::Import(rows);
-            let errand = Errand::asks(words.transform, words.file, moment, request);
-            visit(alloc, office, errand, out, err)
+            ask_at(alloc, office, words.transform, words.file, moment, request, out, err)
         }
         Err(fault) => {
             office.leave();

@@ -1,21 +1,45 @@
-ghost use Rattle.std.specs.Prelude.{ℕ, List};
+ghost use Rattle.std.specs.Prelude.{⊤, ℕ, List};
 ghost use Rattle.command_line.specs.Transform.{forward_of};
+ghost use Rattle.vend_commands.specs.Timed.{IsTimed};
 ghost use Rattle.vend_commands.specs.Told.{Takes, outputs, sink};
 ghost use Rattle.vend_commands.specs.Trial.{IsTrial};
 ghost use Rattle.vend_commands.specs.Tried.{IsTried, token_lines, trial_fault_line};
 
+use crate::clock::moment_or_now;
 use crate::end::End;
-use crate::printed::{put_line, put_refusal, put_token};
+use crate::printed::{put_line, put_no_moment, put_refusal, put_token};
 use crate::trials::{TrialFault, trial};
 use crate::watched::Watched;
 use command_line::TrialWords;
+use desk::Clock;
 use std::alloc::Global;
 use std::io::Write;
 use sts_fields::Moment;
 use vend_core::Refusal;
 
-/// Sells, and prints each token, then why it stopped.
-pub(crate) fn run<O: Write, E: Write>(
+/// Sells at the moment of the words or else of the clock, and prints each token, then why it stopped.
+pub(crate) fn run<C: Clock, O: Write, E: Write>(
+    words: &TrialWords,
+    alloc: Global,
+    clock: &mut C,
+    out: &mut Watched<'_, O>,
+    err: &mut Watched<'_, E>,
+) -> End
+    ensures { let o = outputs (sink O.contents out.old) (sink O.contents out.new)
+        (sink E.contents err.old) (sink E.contents err.new) in
+        IsTimed ⊤ words.now.at (C.answers clock.old) (λ moment. IsTried words.now moment o result) o result }
+{
+    match moment_or_now(words.at, clock) {
+        Some(moment) => try_at(words, alloc, moment, out, err),
+        None => {
+            put_no_moment(err);
+            End::Refused
+        }
+    }
+}
+
+// Sells at this moment.
+fn try_at<O: Write, E: Write>(
     words: &TrialWords,
     alloc: Global,
     moment: Moment,

@@ -2,10 +2,10 @@ use Rattle.std.proofs.Common.{refl}
 use Rattle.vend_commands.specs.Told.{sink}
 use Rattle.vend_commands.specs.Visited.IsVisited.{unopened, visited}
 use Rattle.vend_commands.proofs.TakeLemmas.{takes_none}
-use Rattle.vend_commands.proofs.opening.visit.Goals as goal
+use Rattle.vend_commands.proofs.commands.request.ask_at.Goals as goal
 
 pub returns-in-Ok : goal.returns-in-Ok
-returns-in-Ok g c = visited c.in-Ok.books c.carry_out-end.new.books c.in-Ok.ensures.opened c.in-Ok.ensures.finds c.carry_out-end.ensures c.close_office.ensures
+returns-in-Ok g c = visited c.in-Ok.books c.ask-end.new.books c.in-Ok.ensures.opened c.in-Ok.ensures.finds c.ask-end.ensures c.close_office.ensures
 
 pub returns-in-Err : goal.returns-in-Err
 returns-in-Err g c = unopened c.in-Err.fault c.in-Err.ensures.fails (takes_none (sink g.O.Write.contents c.args.out.now), c.put_opening.ensures, refl)

@@ -1,0 +1,11 @@
+use Rattle.std.proofs.Common.{refl}
+use Rattle.vend_commands.specs.Told.{sink}
+use Rattle.vend_commands.specs.Visited.IsVisited.{unopened, visited}
+use Rattle.vend_commands.proofs.TakeLemmas.{takes_none}
+use Rattle.vend_commands.proofs.commands.report.run.Goals as goal
+
+pub returns-in-Ok : goal.returns-in-Ok
+returns-in-Ok g c = visited c.in-Ok.books c.print-end.new.books c.in-Ok.ensures.opened c.in-Ok.ensures.finds c.print-end.ensures c.close_office.ensures
+
+pub returns-in-Err : goal.returns-in-Err
+returns-in-Err g c = unopened c.in-Err.fault c.in-Err.ensures.fails (takes_none (sink g.O.Write.contents c.args.out.now), c.put_opening.ensures, refl)

@@ -1,0 +1,84 @@
+ghost use Rattle.std.specs.Prelude.{◌≡◌};
+ghost use Rattle.sts_fields.specs.Moment.{first_moment};
+ghost use Rattle.vend_commands.specs.Places.{places_of};
+ghost use Rattle.vend_commands.specs.Reported.{IsReported, PrintsPaper};
+ghost use Rattle.vend_commands.specs.Told.{outputs, sink};
+ghost use Rattle.vend_commands.specs.Visited.{seen_in};
+
+use crate::end::End;
+use crate::exporting::print_sales;
+use crate::opening::{close_office, open_office};
+use crate::ports::OfficeFile;
+use crate::printed::put_opening;
+use crate::serving::ask;
+use crate::totalling::print_totals;
+use crate::watched::Watched;
+use books::Books;
+use command_line::{Paper, ReportWords, Shipped};
+use sqlite::{Alter, FileStore};
+use sqlite_trees::store::Store;
+use std::alloc::Global;
+use std::io::Write;
+use sts_fields::Moment;
+use vend_core::Request;
+
+/// Opens the office, prints a paper of it, and closes its file; or tells why it is not opened. No
+/// token is written, so any transform serves.
+pub(crate) fn run<H: OfficeFile, O: Write, E: Write>(
+    words: &ReportWords,
+    alloc: Global,
+    office: H,
+    out: &mut Watched<'_, O>,
+    err: &mut Watched<'_, E>,
+) -> End
+    ensures { IsReported ⟦<FileStore<H::Medium> as Store>⟧
+        (places_of H.Medium.Disk H.Salts.SaltSource H.OfficeFile office) words.now
+        (outputs (sink O.contents out.old) (sink O.contents out.new)
+        (sink E.contents err.old) (sink E.contents err.new)) result }
+{
+    let salts = office.salts();
+    match open_office(alloc, office, &salts, words.file, Shipped::Plain) {
+        Ok(mut books) => {
+            let end = print(alloc, &mut books, words.paper, out, err);
+            close_office::<H>(books);
+            end
+        }
+        Err(fault) => {
+            put_opening(fault, err);
+            End::Refused
+        }
+    }
+}
+
+// Prints a paper of books that are open, or tells why not.
+fn print<S: Alter, O: Write, E: Write>(
+    alloc: Global,
+    books: &mut Books<S, Shipped>,
+    paper: Paper,
+    out: &mut Watched<'_, O>,
+    err: &mut Watched<'_, E>,
+) -> End
+    ensures { PrintsPaper paper (seen_in books.old) (seen_in books.new)
+        (outputs (sink O.contents out.old) (sink O.contents out.new)
+        (sink E.contents err.old) (sink E.contents err.new)) result }
+{
+    match paper {
+        Paper::Shift(number) => {
+            let request = Request::ShiftReport(number);
+            ask(alloc, books, first_moment(), request, out, err)
+        }
+        Paper::Receipt(number) => {
+            let request = Request::Reprint(number);
+            ask(alloc, books, first_moment(), request, out, err)
+        }
+        Paper::Totals(number) => print_totals(books, number, out, err),
+        Paper::Sales => print_sales(alloc, books, out, err),
+    }
+}
+
+// The books take a moment with each request; these papers are the same at every moment.
+fn first_moment() -> Moment
+    ensures { result ≡ first_moment }
+{
+    Moment::of_secs(Moment::FIRST).unwrap()
+}

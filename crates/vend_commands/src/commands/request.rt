@@ -1,0 +1,87 @@
+ghost use Rattle.vend_commands.specs.Asked.{IsAskedAt};
+ghost use Rattle.vend_commands.specs.Places.{places_of};
+ghost use Rattle.vend_commands.specs.Timed.{IsTimed};
+ghost use Rattle.vend_commands.specs.Told.{outputs, sink};
+
+use crate::clock::moment_or_now;
+use crate::end::End;
+use crate::opening::{close_office, open_office};
+use crate::ports::OfficeFile;
+use crate::printed::{put_no_moment, put_opening};
+use crate::serving::ask;
+use crate::watched::Watched;
+use command_line::{RequestWords, Shipped};
+use desk::Clock;
+use sqlite::FileStore;
+use sqlite_trees::store::Store;
+use std::alloc::Global;
+use std::io::Write;
+use sts_fields::Moment;
+use vend_core::Request;
+
+/// Makes the request to the office, at the moment of the words or else of the clock, and prints the
+/// answer.
+pub(crate) fn run<H: OfficeFile, C: Clock, O: Write, E: Write>(
+    words: RequestWords<'_>,
+    alloc: Global,
+    office: H,
+    clock: &mut C,
+    out: &mut Watched<'_, O>,
+    err: &mut Watched<'_, E>,
+) -> End
+    ensures { let o = outputs (sink O.contents out.old) (sink O.contents out.new)
+        (sink E.contents err.old) (sink E.contents err.new) in
+        IsTimed (H.leaves office) words.entry.at (C.answers clock.old)
+        (λ moment. IsAskedAt ⟦<FileStore<H::Medium> as Store>⟧
+        (places_of H.Medium.Disk H.Salts.SaltSource H.OfficeFile office)
+        words.entry.transform words.entry.file.now moment words.entry.request o result) o result }
+{
+    match moment_or_now(words.at, clock) {
+        Some(moment) => ask_at(
+            alloc,
+            office,
+            words.transform,
+            words.file,
+            moment,
+            words.request,
+            out,
+            err,
+        ),
+        None => {
+            office.leave();
+            put_no_moment(err);
+            End::Refused
+        }
+    }
+}
+
+/// Opens the office in a file, asks it at a moment, prints the answer, and closes the file; or tells
+/// why the file is not opened. The life of the office ends with the request.
+pub(crate) fn ask_at<H: OfficeFile, O: Write, E: Write>(
+    alloc: Global,
+    office: H,
+    transform: Shipped,
+    file: &str,
+    moment: Moment,
+    request: Request,
+    out: &mut Watched<'_, O>,
+    err: &mut Watched<'_, E>,
+) -> End
+    ensures { IsAskedAt ⟦<FileStore<H::Medium> as Store>⟧
+        (places_of H.Medium.Disk H.Salts.SaltSource H.OfficeFile office)
+        transform file.now moment request (outputs (sink O.contents out.old) (sink O.contents out.new)
+        (sink E.contents err.old) (sink E.contents err.new)) result }
+{
+    let salts = office.salts();
+    match open_office(alloc, office, &salts, file, transform) {
+        Ok(mut books) => {
+            let end = ask(alloc, &mut books, moment, request, out, err);
+            close_office::<H>(books);
+            end
+        }
+        Err(fault) => {
+            put_opening(fault, err);
+            End::Refused
+        }
+    }
+}
