@@ -94,7 +94,16 @@ fn add<H: OfficeFile, O: Write, E: Write>(
     match rows_of(words, alloc, bytes) {
         Ok(rows) => {
             let request = Request::Import(rows);
-            ask_at(alloc, office, words.transform, words.file, moment, request, out, err)
+            ask_at(
+                alloc,
+                office,
+                words.transform,
+                words.file,
+                moment,
+                request,
+                out,
+                err,
+            )
         }
         Err(fault) => {
             office.leave();

@@ -1,9 +1,9 @@
 use Rattle.std.proofs.Common.{refl}
 use Rattle.sqlite.specs.Files.{over_files}
 use Rattle.command_line.specs.declared.asked.Asked.TheVariants as asks
-use Rattle.vend_commands.specs.Places.{machine, places_of, way}
+use Rattle.vend_commands.specs.Places.{loop_of, machine, places_of, way}
 use Rattle.vend_commands.specs.Told.{outputs, sink}
-use Rattle.vend_commands.proofs.RunLemmas.{done_so, selfcheck_done}
+use Rattle.vend_commands.proofs.RunLemmas.{done_so}
 use Rattle.vend_commands.proofs.running.answer.Goals as goal
 
 pub returns-in-Serve : goal.returns-in-Serve
@@ -13,10 +13,10 @@ returns-in-Serve g c =
     let at = places_of g.H.Medium.Disk g.H.Salts.SaltSource H c.args.ports.office in
     let store = over_files {g = g.H.Medium.Disk} in
     let m = machine at (H.leaves c.args.ports.office) (g.F.TextFiles.reads c.args.ports.texts) (g.F.TextFiles.lacks c.args.ports.texts) (g.C.Clock.answers c.args.ports.clock)
-    (way D g.D.Reader.Read.remaining g.D.Writer.Write.contents) c.args.ports.door in
+    (way D g.D.Reader.Read.remaining g.D.Writer.Write.contents) c.args.ports.door (loop_of g.L.Loopback g.L.Stream.Read.remaining g.L.Stream.Write.contents c.args.ports.loopback) in
     let out = sink g.O.Write.contents c.args.out.now in
     let o = outputs out out (sink g.E.Write.contents c.args.err.now) (sink g.E.Write.contents c.run-in-Serve.new.err) in
-    done_so store m c.args.asked (asks.Serve c.in-Serve.words) o c.run-in-Serve.result c.in-Serve.is (refl, c.run-in-Serve.ensures)
+    done_so store m c.args.asked (asks.Serve c.in-Serve.words) o c.run-in-Serve.result c.in-Serve.is (c.leave-in-Serve.ensures, (refl, c.run-in-Serve.ensures))
 
 pub returns-in-Selfcheck : goal.returns-in-Selfcheck
 returns-in-Selfcheck g c =
@@ -25,7 +25,7 @@ returns-in-Selfcheck g c =
     let at = places_of g.H.Medium.Disk g.H.Salts.SaltSource H c.args.ports.office in
     let store = over_files {g = g.H.Medium.Disk} in
     let m = machine at (H.leaves c.args.ports.office) (g.F.TextFiles.reads c.args.ports.texts) (g.F.TextFiles.lacks c.args.ports.texts) (g.C.Clock.answers c.args.ports.clock)
-    (way D g.D.Reader.Read.remaining g.D.Writer.Write.contents) c.args.ports.door in
+    (way D g.D.Reader.Read.remaining g.D.Writer.Write.contents) c.args.ports.door (loop_of g.L.Loopback g.L.Stream.Read.remaining g.L.Stream.Write.contents c.args.ports.loopback) in
     let o = outputs (sink g.O.Write.contents c.args.out.now) (sink g.O.Write.contents c.run_selfcheck.new.out) (sink g.E.Write.contents c.args.err.now) (sink g.E.Write.contents c.run_selfcheck.new.err) in
     done_so store m c.args.asked (asks.Selfcheck c.in-Selfcheck.words) o c.run_selfcheck.result c.in-Selfcheck.is
-    ((c.leave_all-in-Selfcheck.ensures.office, c.leave_all-in-Selfcheck.ensures.door), selfcheck_done o c.run_selfcheck.result _ _ (λ agrees. (agrees.text, agrees.replies)) c.run_selfcheck.ensures)
+    (c.leave-in-Selfcheck.ensures, c.leave-in-Selfcheck-2.ensures, c.run_selfcheck.ensures)
