@@ -101,9 +101,10 @@ fn asks_at_most(
 #[test]
 fn no_more_is_held_than_the_longest_message(rt: HostRuntime) -> Result<(), Fail> {
     let alloc = rt.alloc();
-    asks_at_most(&rt, b"", usize::MAX, 8192)?;
-    asks_at_most(&rt, SALE, usize::MAX, 8192)?;
-    asks_at_most(&rt, SALE, 1, 8192)?;
+    // A first read asks for 1024 bytes, and so does each behind small pieces; 52 do not end the head.
+    asks_at_most(&rt, b"", usize::MAX, 1024)?;
+    asks_at_most(&rt, SALE, usize::MAX, 1024)?;
+    asks_at_most(&rt, SALE, 1, 52 + 1024)?;
     let longest = message(alloc, 8192, 1_048_576)?;
     asks_at_most(&rt, &longest, usize::MAX, 1_056_768)?;
     asks_at_most(&rt, &longest, 8000, 1_056_768)?;
@@ -113,7 +114,7 @@ fn no_more_is_held_than_the_longest_message(rt: HostRuntime) -> Result<(), Fail>
     let no_end = message(alloc, 8196, 0)?;
     asks_at_most(&rt, &no_end, usize::MAX, 8192)?;
     let too_long = message(alloc, 100, 1_048_577)?;
-    asks_at_most(&rt, &too_long, usize::MAX, 8192)
+    asks_at_most(&rt, &too_long, usize::MAX, 1024)
 }
 
 // A read asks for no more than a head or its body still lacks, the replies leave before the next
@@ -127,12 +128,12 @@ fn reads_and_replies_in_turn(rt: HostRuntime) -> Result<(), Fail> {
     }
     let found = noted(alloc, &input, 60)?;
     let expected = [
-        Passed::Read(8192, 60),
+        Passed::Read(1024, 60),
         Passed::Read(57, 57),
         Passed::Sent(261),
-        Passed::Read(8192, 45),
+        Passed::Read(1024, 45),
         Passed::Sent(184),
-        Passed::Read(8189, 0),
+        Passed::Read(1024, 0),
         Passed::Sent(NO_HEAD.len()),
     ];
     assert_eq!(rt; found.as_slice(), expected.as_slice());
