@@ -91,7 +91,7 @@ def cut_errors(folder, words, errors=None):
 
 
 def cut_reports(folder):
-    """The papers of an office with a sale, and what is told of words that are refused."""
+    """The receipt and the reports of an office with a sale, and what is told of words that are refused."""
     file = folder / "papers.db"
     prepare(file)
     same("the sale", run(folder, sell_words(file, "A-1")), Ran(0, RECEIPT, b""))

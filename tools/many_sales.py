@@ -130,5 +130,5 @@ def check_many(folder):
     if query(file, "SELECT count(*) FROM sales;") != [str(SALES + 1)]:
         raise SystemExit("wrong: the sales after many")
     check_many_meters(folder)
-    print(f"many sales: the papers of {SALES} sales and {SHIFTS + 1} shifts, and of each older format; "
+    print(f"many sales: the reports of {SALES} sales and {SHIFTS + 1} shifts, and of each older format; "
           "imports of 10000 meters")
