@@ -4,6 +4,9 @@ use Rattle.sqlite_trees.specs.Tree.{Trees}
 use Rattle.sqlite_trees.specs.declared.store.Store.{Ghosts}
 use Rattle.sqlite.specs.Effect.{Database}
 use Rattle.sqlite.specs.Held.{Held, state}
+use Rattle.sqlite.specs.Steps.{FailsToCommit}
+use Rattle.sqlite.specs.declared.error.Error.{Error}
+use Rattle.one_table.specs.InTransaction.{IsUnderWay}
 use Rattle.one_table.specs.declared.committing.CommitFault.{CommitFault}
 use Rattle.one_table.specs.declared.committing.CommitFault.TheVariants.{Unmade, InDoubt}
 use Rattle.sqlite.specs.State.{State, Survives}
@@ -38,10 +41,27 @@ abbrev pub Risks : {F : Type 0} → (Database → Database → Type 0) → State
 Risks Makes old new (Unmade why) = Survives old new (λ _. ⊥)
 Risks Makes old new (InDoubt e) = Survives old new (LeavesMade Makes old.now)
 
--- where a commit failed, the change was made, so the connection was open
-abbrev pub WasMade : {F : Type 0} → State → CommitFault F → Type 0
-WasMade old (Unmade why) = Unit {0}
-WasMade old (InDoubt e) = IsTrue old.is_open
+-- some connection over this kind of store was so at some time
+abbrev pub HasBeen : {S : Type 0} → Ghosts S → (State → Type 0) → Type 0
+HasBeen {S} g Was = (held : Held S) × Was (state g held)
+
+-- Why a commit failed: the connection was open, and its transaction held the change that had been
+-- made; no fault is forgotten. Then the commit of that failed as `sqlite` says: there was no
+-- memory, or the disk failed more often than before.
+pub record FailsAtCommit (Makes : Database → Database → Type 0) (old held new : State)
+    (error : Error) : Type 0 where
+  pub was_open : IsTrue old.is_open
+  pub makes : Makes old.now held.now
+  pub is_open : IsTrue held.is_open
+  pub inside : IsUnderWay held
+  pub survives : Survives old held (λ _. ⊥)
+  pub fails : FailsToCommit held new error
+
+-- where a commit failed, the change was made before it, and it failed for a cause
+abbrev pub WasMade : {S F : Type 0} → (g : Ghosts S) → (Database → Database → Type 0) → State
+    → State → CommitFault F → Type 0
+WasMade g Makes old new (Unmade why) = Unit {0}
+WasMade g Makes old new (InDoubt e) = HasBeen g (λ held. FailsAtCommit Makes old held new e)
 
 -- what the fault of a change that was not made tells of the database before it
 abbrev pub Tells : {F : Type 0} → (Database → F → Type 0) → Database → CommitFault F → Type 0

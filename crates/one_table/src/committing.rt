@@ -65,7 +65,8 @@ pub fn change_once<S: Alter, C: Change<S>>(
     ensures undone { HasCleanDisk (state S.Store conn.new)
         → OnErr result (IsUndone (state S.Store conn.old) (state S.Store conn.new)) }
     ensures doubted { HasCleanDisk (state S.Store conn.new)
-        → IfErr result (WasMade (state S.Store conn.old)) }
+        → IfErr result (WasMade S.Store (C.makes change.now)
+        (state S.Store conn.old) (state S.Store conn.new)) }
     ensures risks { IfErr result (Risks (C.makes change.now)
         (state S.Store conn.old) (state S.Store conn.new)) }
     ensures crash { Survives (state S.Store conn.old) (state S.Store conn.new)
