@@ -1,14 +1,16 @@
 -- One edit that was made in a transaction, and how the commit ends.
-use Rattle.std.proofs.Common.{◌≡◌, ◌⊎◌, ◌≤◌, ℕ, false, [], IsTrue, Option, None, Some, Ok, Err, Result, sym, ap, subst, ◌∙◌, inl, inr, arith}
+use Rattle.std.proofs.Common.{◌≡◌, ◌⊎◌, ◌≤◌, ℕ, false, [], IsTrue, None, Some, Ok, Err, Result, sym, ap, subst, ◌∙◌, inl, inr, arith}
 use Rattle.std.proofs.lemmas.Bool.{cases_Bool, false≢true}
 use Rattle.sqlite_disk.specs.Disk.{MoreFaults}
 use Rattle.sqlite.specs.Does.{Does}
 use Rattle.sqlite.specs.declared.error.Error.{Error}
 use Rattle.sqlite.specs.Effect.{Database}
+use Rattle.sqlite.specs.Held.{state}
 use Rattle.sqlite.specs.State.{HasCleanDisk, State, Survives, mode_of}
 use Rattle.sqlite.proofs.StateLemmas.{survives_then}
 use Rattle.sqlite_trees.specs.Tree.{Trees}
-use Rattle.one_table.specs.Committing.{HasCommitted, IsUndone, LeavesMade}
+use Rattle.sqlite_trees.specs.declared.store.Store.{Ghosts}
+use Rattle.one_table.specs.Committing.{FailsAtCommit, HasBeen, HasCommitted, IsUndone, LeavesMade}
 use Rattle.vend_core.specs.Decision.Edits.{applied}
 use Rattle.vend_core.specs.Office.{IsOffice, Office}
 use Rattle.vend_core.specs.Law.Store.{Meets}
@@ -50,8 +52,9 @@ module _ (edit : Edit) (prior : ℕ) (old new : State) (tables : HasTables old) 
   nothing_undone undone survives = record { same = same_undone undone; survives = survives }
 
   -- the commit failed, and what an open connection has is what it had
-  pub doubts_edit : IsTrue old.is_open → IsUndone old new → Survives old new (LeavesMade (MakesAsComputed edit prior) old.now) → DoubtsEdit edit old new
-  doubts_edit was_open undone survives = record {
+  pub doubts_edit : {S : Type 0} (g : Ghosts S) (e : Error) → HasBeen g (λ held. FailsAtCommit (MakesAsComputed edit prior) old held new e) → IsUndone old new
+      → Survives old new (LeavesMade (MakesAsComputed edit prior) old.now) → DoubtsEdit (HasBeen g) edit prior old new
+  doubts_edit g e made undone survives = let was_open = made.1.was_open in record {
     was_open = was_open;
     same = same_undone undone;
     survives = record {
@@ -60,8 +63,10 @@ module _ (edit : Edit) (prior : ℕ) (old new : State) (tables : HasTables old) 
       counts = survives.counts;
       limit = survives.limit;
       closes = survives.closes;
-      crash = λ clean trees may. elim (survives.crash clean trees may) [ inl was ↦ inl was | inr made ↦ inr (made.0, (made.1 (tables was_open)).0, made.2) ];
+      crash = λ clean trees may. elim (survives.crash clean trees may) [ inl was ↦ inl was | inr left ↦ inr (left.0, (left.1 (tables was_open)).0, left.2) ];
     };
+    error = e;
+    failed = made;
   }
 
 -- ---- other tables
@@ -78,8 +83,8 @@ edit_others edit old new has = record {
   limit = has.limit;
 }
 
-doubt_others : (edit : Edit) (old new : State) → HasCleanDisk new → DoubtsEdit edit old new → LeavesOthers old new
-doubt_others edit old new clean h = record {
+doubt_others : {Been : (State → Type 0) → Type 0} (edit : Edit) (prior : ℕ) (old new : State) → HasCleanDisk new → DoubtsEdit Been edit prior old new → LeavesOthers old new
+doubt_others edit prior old new clean h = record {
   was_open = λ _. h.was_open;
   schema = λ is_open. ap (λ (d : Database). d.schema) (h.same.now_is is_open);
   now = λ is_open. same_trees old.now.schema old.now.trees new.now.trees (ap (λ (d : Database). d.trees) (h.same.now_is is_open));
@@ -88,11 +93,11 @@ doubt_others edit old new clean h = record {
 }
 
 -- however the commit of an edit ends, it leaves the tables of other names as they were
-pub commits_others : (edit : Edit) (prior : ℕ) (r : Result (Unit {0}) Refusal) (old new : State) → HasCleanDisk new → Commits edit prior r old new → LeavesOthers old new
+pub commits_others : {Been : (State → Type 0) → Type 0} (edit : Edit) (prior : ℕ) (r : Result (Unit {0}) Refusal) (old new : State) → HasCleanDisk new → Commits Been edit prior r old new → LeavesOthers old new
 commits_others edit prior (Ok x) old new clean h = edit_others edit old new h.done
 commits_others edit prior (Err refusal) old new clean h = elim h.failed [
   | inl unmade ↦ nothing_others old new clean unmade.nothing
-  | inr doubted ↦ doubt_others edit old new clean doubted.1
+  | inr doubted ↦ doubt_others edit prior old new clean doubted.1
 ]
 
 -- ---- after reads that changed nothing
@@ -121,14 +126,27 @@ module _ (edit : Edit) (old mid new : State) (clean : HasCleanDisk new) (before 
   pub counted_after : (prior : ℕ) → IsTrue mid.is_open → IsCounted edit prior mid.now → IsCounted edit prior old.now
   counted_after prior is_open told = subst (IsCounted edit prior) (before.same.now_is is_open) told
 
-  doubts_after : DoubtsEdit edit mid new → DoubtsEdit edit old new
-  doubts_after h = record {
+  -- what failed at the commit after the reads failed so after what was before them
+  failed_after : (prior : ℕ) (held : State) (e : Error) → FailsAtCommit (MakesAsComputed edit prior) mid held new e → FailsAtCommit (MakesAsComputed edit prior) old held new e
+  failed_after prior held e h = record {
+    was_open = before.same.was_open h.was_open;
+    makes = subst (λ (db : Database). MakesAsComputed edit prior db held.now) (before.same.now_is h.was_open) h.makes;
+    is_open = h.is_open;
+    inside = h.inside;
+    survives = survives_then old mid held _ _ (λ _. ⊥) (λ _ _ none. none) (λ _ _ none. none) before.survives h.survives;
+    fails = h.fails;
+  }
+
+  doubts_after : {S : Type 0} (g : Ghosts S) (prior : ℕ) → DoubtsEdit (HasBeen g) edit prior mid new → DoubtsEdit (HasBeen g) edit prior old new
+  doubts_after g prior h = record {
     was_open = before.same.was_open h.was_open;
     same = record {
       was_open = λ _. before.same.was_open h.was_open;
       now_is = λ is_open. h.same.now_is is_open ∙ before.same.now_is h.was_open;
     };
     survives = survives_then old mid new _ _ (LeavesMade (MakesEdit edit) old.now) (λ _ _ none. absurd none) (λ _ trees made. leaves_after h.was_open trees made) before.survives h.survives;
+    error = h.error;
+    failed = (h.failed.0, failed_after prior (state g h.failed.0) h.error h.failed.1);
   }
 
   module _ (prior : ℕ) (early : HasCleanDisk mid) (later : mid.faults ≤ new.faults) where
@@ -177,8 +195,8 @@ module _ (edit : Edit) (old mid new : State) (clean : HasCleanDisk new) (before 
         by_state error (λ runs. inr (inr (inr (inl (λ _. subst (λ (db : Database). (o : Office) → IsOffice o → Meets edit o → ¬ HoldsMembers db o) (before.same.now_is runs) (none runs))))))
     cause_after error (inr (inr (inr (inr told)))) = by_state error (λ runs. inr (inr (inr (inr (subst (IsMiscounted edit prior) (before.same.now_is runs) told)))))
 
-  pub fails_after : (prior : ℕ) (refusal : Refusal) → FailsToEdit edit prior mid new refusal → FailsToEdit edit prior old new refusal
-  fails_after prior refusal (inl unmade) =
+  pub fails_after : {S : Type 0} (g : Ghosts S) (prior : ℕ) (refusal : Refusal) → FailsToEdit (HasBeen g) edit prior mid new refusal → FailsToEdit (HasBeen g) edit prior old new refusal
+  fails_after g prior refusal (inl unmade) =
       let early : HasCleanDisk mid = omega (arith, unmade.nothing.survives.clean) in inl (record {
         error = unmade.error;
         answered = unmade.answered;
@@ -186,7 +204,7 @@ module _ (edit : Edit) (old mid new : State) (clean : HasCleanDisk new) (before 
         nothing = nothing_after unmade.nothing;
         failed = λ is. cause_after prior early unmade.nothing.survives.counts unmade.error (unmade.failed is);
       })
-  fails_after prior refusal (inr doubted) = inr (doubted.0, doubts_after doubted.1)
+  fails_after g prior refusal (inr doubted) = inr (doubted.0, doubts_after g prior doubted.1)
 
 -- ---- an office
 
@@ -203,5 +221,5 @@ module _ (edit : Edit) (o : Office) (old new : State) (at : Stores old o) (meets
   }
 
   -- it may be opened again with the office before the edit, or after it
-  pub edit_doubted : HasCleanDisk new → DoubtsEdit edit old new → MayBeLeft new o (applied edit o)
-  edit_doubted clean h = λ trees may. elim (h.survives.crash clean trees may) [ inl was ↦ inl (at.left trees was) | inr made ↦ inr (left_made h.was_open made.0 made.1 trees made.2) ]
+  pub edit_doubted : {Been : (State → Type 0) → Type 0} (prior : ℕ) → HasCleanDisk new → DoubtsEdit Been edit prior old new → MayBeLeft new o (applied edit o)
+  edit_doubted prior clean h = λ trees may. elim (h.survives.crash clean trees may) [ inl was ↦ inl (at.left trees was) | inr made ↦ inr (left_made h.was_open made.0 made.1 trees made.2) ]

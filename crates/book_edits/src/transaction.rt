@@ -3,6 +3,7 @@
 ghost use Rattle.std.specs.Prelude.{◌≡◌, ◌≢◌, Err, false};
 ghost use Rattle.sqlite.specs.State.{HasCleanDisk};
 ghost use Rattle.sqlite.specs.Held.{state};
+ghost use Rattle.one_table.specs.Committing.{HasBeen};
 ghost use Rattle.book_tables.specs.Reading.{HasTables};
 ghost use Rattle.book_edits.specs.Transaction.{Commits};
 
@@ -20,7 +21,8 @@ pub fn commit<S: Alter>(conn: &mut Connection<S>, edit: &Edit, prior: u64) -> Re
     requires { conn.old.in_transaction ≡ false }
     ensures commits { HasCleanDisk (state S.Store conn.new)
         → HasTables (state S.Store conn.old)
-        → Commits edit.now prior result (state S.Store conn.old) (state S.Store conn.new) }
+        → Commits (HasBeen S.Store) edit.now prior result
+        (state S.Store conn.old) (state S.Store conn.new) }
     ensures clean { HasCleanDisk (state S.Store conn.new) → HasCleanDisk (state S.Store conn.old) }
     ensures never_stopped { result ≢ Err Refusal.Stopped }
     ensures outside { conn.new.in_transaction ≡ false }

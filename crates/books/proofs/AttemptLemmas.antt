@@ -101,11 +101,11 @@ module _ (forward : BlockFunction) (o : Office) (at : Stamped) (change : Change)
       is_applied = ap (office_after o) is_decision ∙ ap (λ (e : Option Edit). option_map_or (λ edit. applied edit o) e o) some
 
       module _ (mid : State) (held : Stores mid o) (meets : Meets edit o) (office : IsOffice (applied edit o)) where
-        pub committed_ends : (prior : ℕ) → Commits edit prior (Ok tt) mid new.state → new.next_number ≡ length (applied edit o).sales + 1 → ServingEnds forward o at (Ok change.answer) new
+        pub committed_ends : {Been : (State → Type 0) → Type 0} (prior : ℕ) → Commits Been edit prior (Ok tt) mid new.state → new.next_number ≡ length (applied edit o).sales + 1 → ServingEnds forward o at (Ok change.answer) new
         committed_ends prior commits next =
             inl (replies, subst (λ (p : Office). HoldsOffice p new) (sym is_applied) (record { at = edit_held edit o mid new.state held meets office commits.done; next = next }))
 
-        pub failed_ends : (prior : ℕ) (refusal : Refusal) → HasCleanDisk new.state → Commits edit prior (Err refusal) mid new.state → new.next_number ≡ length o.sales + 1 → ServingEnds forward o at (Err refusal) new
+        pub failed_ends : {Been : (State → Type 0) → Type 0} (prior : ℕ) (refusal : Refusal) → HasCleanDisk new.state → Commits Been edit prior (Err refusal) mid new.state → new.next_number ≡ length o.sales + 1 → ServingEnds forward o at (Err refusal) new
         failed_ends prior refusal clean commits next = elim commits.failed [
           | inl unmade ↦
               (let here = still_held o mid new.state clean held unmade.nothing in
@@ -113,5 +113,5 @@ module _ (forward : BlockFunction) (o : Office) (at : Stamped) (change : Change)
                 | inl memory ↦ inr (inl (ap (λ r. Err r) memory, record { at = here; next = next }))
                 | inr failed ↦ inr (inr (ap (λ r. Err r) failed, λ trees may. inl (here.left trees may), next))
               ])
-          | inr (failed, doubted) ↦ inr (inr (ap (λ r. Err r) failed, subst (MayBeLeft new.state o) (sym is_applied) (edit_doubted edit o mid new.state held meets office clean doubted), next))
+          | inr (failed, doubted) ↦ inr (inr (ap (λ r. Err r) failed, subst (MayBeLeft new.state o) (sym is_applied) (edit_doubted edit o mid new.state held meets office prior clean doubted), next))
         ]

@@ -9,6 +9,7 @@ use Rattle.vend_core.specs.Law.Life.{IsLife, Life, MayLeave}
 use Rattle.vend_core.specs.Law.LifeLaws.{IsRunning}
 use Rattle.vend_core.specs.Office.{IsOffice, Office}
 use Rattle.book_tables.specs.Reading.{HasTables}
+use Rattle.book_edits.specs.Transaction.{HasBeen}
 pub use Rattle.book_states.specs.Stores.{RecoversTo, StoreStandsFor, Stores}
 use Rattle.books.specs.declared.books.Books.{Books}
 
@@ -18,6 +19,8 @@ pub record Seen : Type 1 where
   pub forward : BlockFunction
   pub stopped : Bool
   pub next_number : ℕ
+  -- what is said of a connection is true of some connection over the same store, at some time
+  pub been : (State → Type 0) → Type 0
 
 abbrev pub seen : {S : Type 0} → {T : Type 0} → (g : Ghosts S) → (T → BlockFunction) → Books S T g
     → Seen
@@ -26,6 +29,7 @@ seen g forwards books = record {
   forward = forwards books.transform;
   stopped = books.stopped;
   next_number = books.next_number;
+  been = HasBeen g;
 }
 
 -- Books that are not stopped have the office's tables, as long as the disk returns what was

@@ -49,7 +49,7 @@ FailsToServe at old new refusal =
     × RefusesUnchanged at old.next_number old.state new.state refusal)
     ⊎ ((edit : Edit) × IsDecidedFor at old edit
     × ((prior : ℕ) × IsPriorRead at old.next_number old.state prior
-    × FailsToEdit edit prior old.state new.state refusal))
+    × FailsToEdit old.been edit prior old.state new.state refusal))
 
 -- the office served the request, and the books hold the office after it; or no memory was found,
 -- and they hold the office from before; or the store failed, and may be opened again with either,

@@ -40,7 +40,7 @@ returns-in-Err-InDoubt-clause-commits g c clean tables =
     let old = state g.S.Store c.args.conn.now in
     let new = state g.S.Store c.change_once.new.conn in
     let outside : IsTrue c.is_autocommit-settled.result = search rules in
-    let was_open = rw c.in-Err-InDoubt.field-0-is at c.in-Err-InDoubt.ensures.doubted clean in
+    let made = rw c.in-Err-InDoubt.field-0-is at c.in-Err-InDoubt.ensures.doubted clean in
     let survives = rw c.in-Err-InDoubt.field-0-is at c.in-Err-InDoubt.ensures.risks in
-    let doubts = doubts_edit c.args.edit.now c.args.prior old new tables (c.is_autocommit-settled.ensures.settled outside) was_open (c.in-Err-InDoubt.ensures.undone clean) survives in
+    let doubts = doubts_edit c.args.edit.now c.args.prior old new tables (c.is_autocommit-settled.ensures.settled outside) g.S.Store _ made (c.in-Err-InDoubt.ensures.undone clean) survives in
     record { done = tt; counted = tt; failed = inr (refl, doubts) }

@@ -124,7 +124,7 @@ returns-in_err-commit-clause-failures g c clean tables =
       c.in-Some.is,
     ) in
     let prior = c.in_ok-change.field-0.prior in
-    rw same (inr (c.in-Some.edit, decided, (prior, c.in_ok-change.ensures.prior early, fails_after c.in-Some.edit old mid new clean nothing prior c.in_err-commit.field-0.0 commits.failed)))
+    rw same (inr (c.in-Some.edit, decided, (prior, c.in_ok-change.ensures.prior early, fails_after c.in-Some.edit old mid new clean nothing g.S.Store prior c.in_err-commit.field-0.0 commits.failed)))
 
 pub returns-clause-granted : goal.returns-clause-granted
 returns-clause-granted g c clean tables =
