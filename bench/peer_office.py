@@ -39,13 +39,22 @@ def in_one_line(text):
     return " ".join(text.replace("\\\n", " ").split())
 
 
+def read_beginnings():
+    """What each macro of that source puts in front of the rest of a text."""
+    parts = SOURCE.read_text().split("macro_rules! ")[1:]
+    return {part.split()[0]: part.split('"')[1] for part in parts}
+
+
 def read_texts():
     """The texts of the program's statements, by the names that its source gives them."""
+    beginnings = read_beginnings()
     texts = {}
     for part in read_source():
-        name, is_text, rest = part.partition(": &str")
+        name, is_text, rest = part.partition(": &str =")
         if is_text:
-            texts[name] = in_one_line(rest.split('"')[1])
+            macro, text = rest.split('"')[:2]
+            beginning = beginnings.get(macro.strip().removesuffix("!("), "")
+            texts[name] = in_one_line(beginning + text)
     return texts
 
 

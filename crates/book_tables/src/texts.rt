@@ -1,5 +1,22 @@
 //! The texts of the fixed statements on the office's tables.
 
+// A query of all columns of sales but the month, which the moment tells.
+macro_rules! select_sale {
+    ($rest:literal) => {
+        concat!(
+            "SELECT number, moment, shift, operator, ref, meter, base, tid, rnd, tenths, price, \
+            tender, digits",
+            $rest
+        )
+    };
+}
+
+macro_rules! select_shift {
+    ($rest:literal) => {
+        concat!("SELECT number, operator, opened, closed FROM shifts", $rest)
+    };
+}
+
 /// What defines each of the tables, in the order in which they are made.
 pub(crate) const TABLES: [&str; 11] = [
     "CREATE TABLE about (id INTEGER PRIMARY KEY, format INTEGER NOT NULL) STRICT",
@@ -50,22 +67,18 @@ pub(crate) const FORMAT_SET: &str = "UPDATE about SET format = 4 WHERE id = 1";
 
 pub(crate) const FORMAT: &str = "SELECT id, format FROM about LIMIT 2";
 
-pub(crate) const SALE_NUMBERED: &str =
-    "SELECT number, moment, shift, operator, ref, meter, base, tid, rnd, tenths, price, tender, \
-    digits FROM sales WHERE number = ?1";
+pub(crate) const SALE_NUMBERED: &str = select_sale!(" FROM sales WHERE number = ?1");
 
-pub(crate) const SALE_OF_REF: &str =
-    "SELECT number, moment, shift, operator, ref, meter, base, tid, rnd, tenths, price, tender, \
-    digits FROM sales WHERE operator = ?1 AND ref = ?2";
+pub(crate) const SALE_OF_REF: &str = select_sale!(" FROM sales WHERE operator = ?1 AND ref = ?2");
 
 pub(crate) const LAST_SALE_NUMBER: &str = "SELECT number FROM sales ORDER BY number DESC LIMIT 1";
 
-pub(crate) const SHIFT_NUMBERED: &str =
-    "SELECT number, operator, opened, closed FROM shifts WHERE number = ?1";
+pub(crate) const SHIFT_NUMBERED: &str = select_shift!(" WHERE number = ?1");
 
 // At most one row passes; while a shift is open, it is found from the end.
-pub(crate) const OPEN_SHIFT: &str = "SELECT number, operator, opened, closed FROM shifts \
-    WHERE operator = ?1 AND closed IS NULL ORDER BY number DESC LIMIT 1";
+pub(crate) const OPEN_SHIFT: &str = select_shift!(
+    " WHERE operator = ?1 AND closed IS NULL ORDER BY number DESC LIMIT 1"
+);
 
 pub(crate) const LAST_SHIFT_NUMBER: &str = "SELECT number FROM shifts ORDER BY number DESC LIMIT 1";
 
@@ -96,21 +109,21 @@ pub(crate) const NEW_STEP: &str =
 
 pub(crate) const TARIFF_SET: &str = "UPDATE meters SET tariff = ?2 WHERE meter = ?1";
 
-pub(crate) const SALES_AFTER: &str =
-    "SELECT number, moment, shift, operator, ref, meter, base, tid, rnd, tenths, price, tender, \
-    digits FROM sales WHERE number > ?1 ORDER BY number LIMIT ?2";
+pub(crate) const SALES_AFTER: &str = select_sale!(
+    " FROM sales WHERE number > ?1 ORDER BY number LIMIT ?2"
+);
 
-// The same with the month, which a sale tells by its moment.
-pub(crate) const BOOKED_SALES_AFTER: &str =
-    "SELECT number, moment, shift, operator, ref, meter, base, tid, rnd, tenths, price, tender, \
-    digits, month FROM sales WHERE number > ?1 ORDER BY number LIMIT ?2";
+// The same with the month.
+pub(crate) const BOOKED_SALES_AFTER: &str = select_sale!(
+    ", month FROM sales WHERE number > ?1 ORDER BY number LIMIT ?2"
+);
 
 pub(crate) const FIRST_SALE_NUMBER: &str = "SELECT number FROM sales ORDER BY number LIMIT 1";
 
 // No index serves it: it walks all sales.
-pub(crate) const SALES_OF_SHIFT: &str =
-    "SELECT number, moment, shift, operator, ref, meter, base, tid, rnd, tenths, price, tender, \
-    digits FROM sales WHERE shift = ?1 ORDER BY number";
+pub(crate) const SALES_OF_SHIFT: &str = select_sale!(
+    " FROM sales WHERE shift = ?1 ORDER BY number"
+);
 
 pub(crate) const LAST_ID: &str = "SELECT tid FROM last_ids WHERE meter = ?1 AND base = ?2";
 

@@ -108,6 +108,11 @@ unfolding IsNotRun
 not_run_left sql params old new e (inl h) = inl h.1
 not_run_left sql params old new e (inr h) = inr h.3
 
+-- a connection that failed runs no text
+pub failed_not_run : (sql : List ℕ) (params : Row) (old new : State) (e : Error) → Fails old new ⊥ e → IsNotRun old new sql params e
+unfolding IsNotRun
+failed_not_run sql params old new e h = inr h
+
 pub not_run_fails : (sql : List ℕ) (params : Row) (old new : State) (e : Error) → IsNotRun old new sql params e → FailsToQuery sql params old new e
 unfolding FailsToQuery
 not_run_fails sql params old new e h = inl h

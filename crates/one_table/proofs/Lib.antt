@@ -1,4 +1,5 @@
 pub mod AnswerLemmas
+pub mod NoTextLemmas
 pub mod ReadsOnlyLemmas
 pub mod TakenLemmas
 pub mod ExprLemmas

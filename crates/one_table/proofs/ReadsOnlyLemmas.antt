@@ -5,12 +5,12 @@ use Rattle.sqlite_schema.specs.declared.command.Returning.{Returning}
 use Rattle.sqlite.specs.Clock.{timed}
 use Rattle.sqlite.specs.Given.{IsPlain}
 use Rattle.sqlite.specs.declared.error.Error.{Error}
-use Rattle.sqlite.specs.State.{CommitsShowing, FailsToQuery, HasCleanDisk, IsNotRun, IsUnchanged, Shown, ShowsRows, State, Survives}
+use Rattle.sqlite.specs.State.{CommitsShowing, Fails, FailsToQuery, HasCleanDisk, IsNotRun, IsUnchanged, Shown, ShowsRows, State, Survives}
 use Rattle.sqlite.proofs.InsideLemmas.{unchanged_keeps}
 use Rattle.one_table.specs.Answer.{IsLeft, OnlyAsks}
 use Rattle.one_table.specs.InTransaction.{FailsToShow, IsUnderWay, KeepsTransaction, StaysInside}
 use Rattle.one_table.specs.ReadsOnly.{ReadsInside, ReadsOnly}
-use Rattle.one_table.proofs.AnswerLemmas.{HasAsked, asks_survives, fails_left, has_asked, not_run_fails, not_run_left, shown_open, shown_same}
+use Rattle.one_table.proofs.AnswerLemmas.{HasAsked, asks_survives, failed_not_run, fails_left, has_asked, not_run_fails, not_run_left, shown_open, shown_same}
 use Rattle.one_table.proofs.ChangeLemmas.{keeps_inside}
 
 module _ {K : State → Type 0} {old new : State} where
@@ -72,6 +72,11 @@ module _ (sql : List ℕ) (params : Row) (old new : State) where
     faults = λ clean asks. not_run_fails sql params old new e (fails clean params);
     survives = λ asks. survives;
   }
+
+  -- it is not run, since the connection fails before
+  pub not_open : (e : Error) → (HasCleanDisk new → Fails old new ⊥ e) → (old.in_transaction ≡ false → new.in_transaction ≡ false) → Survives old new (λ _. ⊥)
+      → ReadsOnly {T = List Row} (OnlyAsks sql) IsUnchanged (FailsToQuery sql params) old new (Err e)
+  not_open e fails = not_compiled e (λ clean ps. failed_not_run sql ps old new e (fails clean))
 
   -- it runs where it was compiled
   pub asked : {V : Type 0} (items : V → List Row) (text : List ℕ) (mid : State) (r : Result V Error) → (HasCleanDisk mid → (text ≡ sql) × IsUnchanged old mid) → Survives old mid (λ _. ⊥)

@@ -1,12 +1,13 @@
-ghost use Rattle.std.specs.Prelude.{◌≡◌, false, IsTrue, OnOk, OnErr};
-ghost use Rattle.sqlite.specs.State.{HasCleanDisk, IsUnchanged, Survives};
+ghost use Rattle.std.specs.Prelude.{◌≡◌, false, IsTrue, IfErr, OnOk, OnErr};
+ghost use Rattle.sqlite.specs.State.{Fails, HasCleanDisk, IsUnchanged, Survives};
 ghost use Rattle.sqlite.specs.Held.{state};
 ghost use Rattle.one_table.specs.Answer.{IsLeft};
 
 use sqlite::{Alter, Connection, Error};
 
-// It reads no table, so any open connection takes it.
-const NOTHING: &str = "SELECT 1";
+// The text of no statement: any open connection takes it, whatever its tables, and it has nothing
+// to copy.
+const NOTHING: &str = "";
 
 /// Tests that a connection is open, which its schema does not tell: of a connection that is shut
 /// each table seems to be missing.
@@ -20,6 +21,8 @@ pub fn test_open<S: Alter>(conn: &mut Connection<S>) -> Result<(), Error>
         → OnOk result (IsUnchanged (state S.Store conn.old) (state S.Store conn.new)) }
     ensures kept { HasCleanDisk (state S.Store conn.new)
         → OnErr result (IsLeft (state S.Store conn.old) (state S.Store conn.new)) }
+    ensures faults { HasCleanDisk (state S.Store conn.new)
+        → IfErr result (Fails (state S.Store conn.old) (state S.Store conn.new) ⊥) }
     ensures mode { conn.old.in_transaction ≡ false → conn.new.in_transaction ≡ false }
     ensures survives { Survives (state S.Store conn.old) (state S.Store conn.new) (λ _. ⊥) }
 {

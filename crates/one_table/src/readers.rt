@@ -9,14 +9,15 @@ ghost use Rattle.one_table.specs.ReadFaults.{OnlyWhere};
 ghost use Rattle.one_table.specs.ReadsOnly.{ReadsInside, ReadsOnly};
 
 use crate::from_row::FromRow;
+use crate::probing::test_open;
 use crate::read_fault::ReadFault;
 use crate::writing::show;
 use sqlite::types::ValueRef;
 use sqlite::{Alter, Connection, Error, Row, Transaction};
 use std::alloc::Global;
 
-/// All rows of an answer. The text is compiled first, so that it runs only on a connection that
-/// is open.
+/// All rows of an answer. The connection is tested first: nothing is known of the tables of one
+/// that is shut, under which a text might be a write.
 fn answer<S: Alter>(
     conn: &mut Connection<S>,
     sql: &str,
@@ -30,8 +31,8 @@ fn answer<S: Alter>(
         (FailsToQuery sql.now (bound params.now))
         (state S.Store conn.old) (state S.Store conn.new) result }
 {
-    let statement = conn.prepare(sql)?;
-    statement.query_all(conn, params)
+    test_open(conn)?;
+    conn.query_all(sql, params)
 }
 
 /// What the first row of an answer stands for: for a text that answers at most one row, as one
