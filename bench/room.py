@@ -70,18 +70,22 @@ class Room:
                 stack.enter_context(server)
             yield [stack.enter_context(Client(server)) for server in servers]
 
-    def check_alike(self, ours, theirs, number, message):
-        """Two clients have to reprint a sale in the same bytes, and to write the same receipt for a
+    def check_alike(self, number, message, ours, *others):
+        """All clients have to reprint a sale in the same bytes, and to write the same receipt for a
         new sale, but for what its moment changes."""
-        if number and ours.ask(reprint(number)) != theirs.ask(reprint(number)):
-            raise SystemExit(f"{ours.ask(reprint(number))} is not {theirs.ask(reprint(number))}")
-        mine, other = (json.loads(client.ask(message).partition(b"\r\n\r\n")[2])
-                       for client in (ours, theirs))
-        if abs(mine["moment"] - other["moment"]) > 2:
-            raise SystemExit(f"{mine} and {other} are at different moments")
-        if [mine[name] for name in mine if name not in CHANGING] != [
-                other[name] for name in other if name not in CHANGING]:
-            raise SystemExit(f"{mine} is not {other}")
+        if number:
+            own, *replies = (client.ask(reprint(number)) for client in (ours, *others))
+            for reply in replies:
+                if reply != own:
+                    raise SystemExit(f"{own} is not {reply}")
+        mine, *replies = (json.loads(client.ask(message).partition(b"\r\n\r\n")[2])
+                          for client in (ours, *others))
+        for other in replies:
+            if abs(mine["moment"] - other["moment"]) > 2:
+                raise SystemExit(f"{mine} and {other} are at different moments")
+            if [mine[name] for name in mine if name not in CHANGING] != [
+                    other[name] for name in other if name not in CHANGING]:
+                raise SystemExit(f"{mine} is not {other}")
 
     def ref(self):
         self.refs += 1

@@ -1,7 +1,7 @@
 -- The table of a router, endpoint by endpoint, and the one route that a target leads to.
 use Rattle.std.proofs.Common.{◌≡◌, ◌≢◌, ℕ, ◌+◌, ◌<◌, List, [], ◌++◌, get_or, take, inl, inr, false, Result, Ok, Err, Some, refl, ap, sym, ◌∙◌, arith}
-use Rattle.std.specs.List.{fold}
-use Rattle.std.specs.Prelude.{codes, decimal, is_err}
+use Rattle.std.specs.List.{after_first, before_first, fold}
+use Rattle.std.specs.Prelude.{decimal, is_err}
 use Rattle.std.proofs.lemmas.List.{append_cancel_left, append_cancel_right}
 use Rattle.std.proofs.lemmas.List.Sums.{fold_more}
 use Rattle.matchit.specs.Route.{Scan, parse_route}
@@ -11,10 +11,10 @@ use Rattle.conversation.specs.declared.message.method.Method.{Method}
 use Rattle.desk.specs.declared.desk_fault.DeskFault.{DeskFault}
 use Rattle.desk.specs.declared.desk_fault.DeskFault.TheVariants as faults
 use Rattle.desk.specs.declared.route.endpoint.Endpoint.{Endpoint}
-use Rattle.desk.specs.declared.route.endpoint.Endpoint.TheVariants.{Tariffs}
+use Rattle.desk.specs.declared.route.endpoint.Endpoint.TheVariants.{Tariffs, TariffSteps, MeterTariff, MeterBase, Shift, Sale, SaleReceipt}
 use Rattle.desk.specs.declared.route.Route.{Route}
 use Rattle.desk.specs.declared.route.Route.TheVariants.{AddTariff, AddSteps, AddMeter, SetTariff, MoveBase, OpenShift, CloseShift, ShiftReport, Sell, Reprint, Receipt, ImportMeters, ImportTariffs}
-use Rattle.desk.specs.route.Endpoint.{Table, endpoints, endpoint_method, pattern_of, with_endpoint, with_pattern}
+use Rattle.desk.specs.route.Endpoint.{Table, closes, endpoints, endpoint_method, filled, opens, pattern_of, with_endpoint, with_pattern}
 use Rattle.desk.specs.route.Route.{Finds, IsRouted, LeadsTo, Names, endpoint_of}
 use Rattle.desk.proofs.ParameterLemmas.{same_number}
 
@@ -45,32 +45,34 @@ pub one_endpoint : (target : List ℕ) (a b : Endpoint) → Finds target a → F
 one_endpoint target a b one other =
     let e : Some a ≡ Some b = sym one.found ∙ other.found in cc
 
--- what stands between a front and an end is one
-same_between : (target front end x y : List ℕ) → target ≡ (front ++ x) ++ end
-    → target ≡ (front ++ y) ++ end → x ≡ y
-same_between target front end x y one other =
-    append_cancel_left front x y (append_cancel_right (front ++ x) (front ++ y) end (sym one ∙ other))
+-- the value of a parameter is one
+same_filled : (pattern target x y : List ℕ) → target ≡ filled pattern x → target ≡ filled pattern y
+    → x ≡ y
+same_filled pattern target x y one other =
+    let front = before_first opens pattern in
+    append_cancel_left front x y
+    (append_cancel_right (front ++ x) (front ++ y) (after_first closes pattern) (sym one ∙ other))
 
 -- a target is that of one route
 same_route : (target : List ℕ) (a b : Route) → endpoint_of a ≡ endpoint_of b → Names target a
     → Names target b → a ≡ b
 same_route target AddTariff AddTariff e m n = refl
 same_route target (AddSteps x) (AddSteps y) e m n =
-    ap AddSteps (same_between target (codes "/tariffs/") (codes "/steps") x y m.0 n.0)
+    ap AddSteps (same_filled (pattern_of TariffSteps) target x y m.0 n.0)
 same_route target AddMeter AddMeter e m n = refl
 same_route target (SetTariff x) (SetTariff y) e m n =
-    ap SetTariff (same_between target (codes "/meters/") (codes "/tariff") x y m.0 n.0)
+    ap SetTariff (same_filled (pattern_of MeterTariff) target x y m.0 n.0)
 same_route target (MoveBase x) (MoveBase y) e m n =
-    ap MoveBase (same_between target (codes "/meters/") (codes "/base") x y m.0 n.0)
+    ap MoveBase (same_filled (pattern_of MeterBase) target x y m.0 n.0)
 same_route target OpenShift OpenShift e m n = refl
 same_route target CloseShift CloseShift e m n = refl
 same_route target (ShiftReport x) (ShiftReport y) e m n =
-    ap ShiftReport (same_number x y (omega (arith, m.1.most)) n.1 (append_cancel_left (codes "/shifts/") (decimal x) (decimal y) (sym m.0 ∙ n.0)))
+    ap ShiftReport (same_number x y (omega (arith, m.1.most)) n.1 (same_filled (pattern_of Shift) target (decimal x) (decimal y) m.0 n.0))
 same_route target Sell Sell e m n = refl
 same_route target (Reprint x) (Reprint y) e m n =
-    ap Reprint (same_number x y (omega (arith, m.1.most)) n.1 (append_cancel_left (codes "/sales/") (decimal x) (decimal y) (sym m.0 ∙ n.0)))
+    ap Reprint (same_number x y (omega (arith, m.1.most)) n.1 (same_filled (pattern_of Sale) target (decimal x) (decimal y) m.0 n.0))
 same_route target (Receipt x) (Receipt y) e m n =
-    ap Receipt (same_number x y (omega (arith, m.1.most)) n.1 (same_between target (codes "/sales/") (codes "/receipt") (decimal x) (decimal y) m.0 n.0))
+    ap Receipt (same_number x y (omega (arith, m.1.most)) n.1 (same_filled (pattern_of SaleReceipt) target (decimal x) (decimal y) m.0 n.0))
 same_route target ImportMeters ImportMeters e m n = refl
 same_route target ImportTariffs ImportTariffs e m n = refl
 same_route target a b e m n = absurd (cc)

@@ -1,7 +1,7 @@
 -- The endpoints of the desk: the method and the pattern of each, and the table that targets are
 -- matched with.
-use Rattle.std.specs.Prelude.{ℕ, List, [], ◌∷◌, Result, Ok, Err, codes}
-use Rattle.std.specs.List.{fold}
+use Rattle.std.specs.Prelude.{◌<◌, ◌++◌, ℕ, Bool, List, [], ◌∷◌, Result, Ok, Err, codes, eqb, length}
+use Rattle.std.specs.List.{after_first, before_first, fold, position_or_len}
 use Rattle.matchit.specs.Order.{placed}
 use Rattle.matchit.specs.Route.{Scan, parse_route}
 use Rattle.matchit.specs.Router.{RouteOf, route_from}
@@ -43,6 +43,22 @@ pattern_of Sale = codes "/sales/{number}"
 pattern_of SaleReceipt = codes "/sales/{number}/receipt"
 pattern_of MeterImports = codes "/imports/meters"
 pattern_of TariffImports = codes "/imports/tariffs"
+
+-- the braces around the name of a parameter
+abbrev pub opens : ℕ → Bool
+opens byte = eqb byte 123
+
+abbrev pub closes : ℕ → Bool
+closes byte = eqb byte 125
+
+-- the pattern has a parameter
+abbrev pub HasParameter : List ℕ → Type 0
+HasParameter pattern = (position_or_len opens pattern < length pattern)
+    × (position_or_len closes pattern < length pattern)
+
+-- the target of a pattern with this value for its parameter
+abbrev pub filled : List ℕ → List ℕ → List ℕ
+filled pattern value = (before_first opens pattern ++ value) ++ after_first closes pattern
 
 -- all endpoints, in the order in which their patterns are inserted
 abbrev pub endpoints : List Endpoint

@@ -1,5 +1,5 @@
 -- The routes that targets lead to.
-use Rattle.std.specs.Prelude.{◌≡◌, ◌≢◌, ℕ, ◌≤◌, List, ◌++◌, Some, option_map, Result, Ok, Err, IsUtf8, codes, decimal, ⊤}
+use Rattle.std.specs.Prelude.{◌≡◌, ◌≢◌, ℕ, ◌≤◌, List, Some, option_map, Result, Ok, Err, IsUtf8, decimal, ⊤}
 use Rattle.matchit.specs.Router.{RouteOf}
 use Rattle.matchit.specs.Seek.{first}
 use Rattle.vend_core.specs.Name.{IsMeterNo, IsName}
@@ -10,7 +10,7 @@ use Rattle.desk.specs.declared.route.endpoint.Endpoint.{Endpoint}
 use Rattle.desk.specs.declared.route.endpoint.Endpoint.TheVariants.{Tariffs, TariffSteps, Meters, MeterTariff, MeterBase, Shifts, ShiftClosing, Shift, Sales, Sale, SaleReceipt, MeterImports, TariffImports}
 use Rattle.desk.specs.declared.route.Route.{Route}
 use Rattle.desk.specs.declared.route.Route.TheVariants.{AddTariff, AddSteps, AddMeter, SetTariff, MoveBase, OpenShift, CloseShift, ShiftReport, Sell, Reprint, Receipt, ImportMeters, ImportTariffs}
-use Rattle.desk.specs.route.Endpoint.{endpoint_method, table}
+use Rattle.desk.specs.route.Endpoint.{endpoint_method, filled, pattern_of, table}
 
 -- the endpoint that a route is asked at
 abbrev pub endpoint_of : Route → Endpoint
@@ -43,21 +43,19 @@ pub record Finds (target : List ℕ) (endpoint : Endpoint) : Type 0 where
 -- meter's number, or a number without leading zeros. A route whose pattern has none names nothing.
 abbrev pub Names : List ℕ → Route → Type 0
 Names target AddTariff = ⊤
-Names target (AddSteps tariff) =
-    (target ≡ (codes "/tariffs/" ++ tariff) ++ codes "/steps") × IsName tariff
+Names target (AddSteps tariff) = (target ≡ filled (pattern_of TariffSteps) tariff) × IsName tariff
 Names target AddMeter = ⊤
-Names target (SetTariff meter) =
-    (target ≡ (codes "/meters/" ++ meter) ++ codes "/tariff") × IsMeterNo meter
-Names target (MoveBase meter) =
-    (target ≡ (codes "/meters/" ++ meter) ++ codes "/base") × IsMeterNo meter
+Names target (SetTariff meter) = (target ≡ filled (pattern_of MeterTariff) meter) × IsMeterNo meter
+Names target (MoveBase meter) = (target ≡ filled (pattern_of MeterBase) meter) × IsMeterNo meter
 Names target OpenShift = ⊤
 Names target CloseShift = ⊤
 Names target (ShiftReport number) =
-    (target ≡ codes "/shifts/" ++ decimal number) × IsTargetNumber number
+    (target ≡ filled (pattern_of Shift) (decimal number)) × IsTargetNumber number
 Names target Sell = ⊤
-Names target (Reprint number) = (target ≡ codes "/sales/" ++ decimal number) × IsTargetNumber number
+Names target (Reprint number) =
+    (target ≡ filled (pattern_of Sale) (decimal number)) × IsTargetNumber number
 Names target (Receipt number) =
-    (target ≡ (codes "/sales/" ++ decimal number) ++ codes "/receipt") × IsTargetNumber number
+    (target ≡ filled (pattern_of SaleReceipt) (decimal number)) × IsTargetNumber number
 Names target ImportMeters = ⊤
 Names target ImportTariffs = ⊤
 

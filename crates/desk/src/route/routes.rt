@@ -10,7 +10,7 @@ ghost use Rattle.desk.specs.declared.route.Route.{Route};
 use crate::desk_fault::DeskFault;
 use crate::route::Route;
 use crate::route::endpoint::Endpoint;
-use crate::route::parameter::{meter_between, number_after, number_between, tariff_between};
+use crate::route::parameter::{meter_at, number_at, tariff_at};
 use conversation::Method;
 use matchit::Router;
 use std::alloc::{AllocError, Global};
@@ -103,22 +103,16 @@ fn read_route(endpoint: Endpoint, target: &[u8]) -> Option<Route>
 {
     match endpoint {
         Endpoint::Tariffs => Some(Route::AddTariff),
-        Endpoint::TariffSteps => {
-            tariff_between(target, b"/tariffs/", b"/steps").map(Route::AddSteps)
-        }
+        Endpoint::TariffSteps => tariff_at(endpoint, target).map(Route::AddSteps),
         Endpoint::Meters => Some(Route::AddMeter),
-        Endpoint::MeterTariff => {
-            meter_between(target, b"/meters/", b"/tariff").map(Route::SetTariff)
-        }
-        Endpoint::MeterBase => meter_between(target, b"/meters/", b"/base").map(Route::MoveBase),
+        Endpoint::MeterTariff => meter_at(endpoint, target).map(Route::SetTariff),
+        Endpoint::MeterBase => meter_at(endpoint, target).map(Route::MoveBase),
         Endpoint::Shifts => Some(Route::OpenShift),
         Endpoint::ShiftClosing => Some(Route::CloseShift),
-        Endpoint::Shift => number_after(target, b"/shifts/").map(Route::ShiftReport),
+        Endpoint::Shift => number_at(endpoint, target).map(Route::ShiftReport),
         Endpoint::Sales => Some(Route::Sell),
-        Endpoint::Sale => number_after(target, b"/sales/").map(Route::Reprint),
-        Endpoint::SaleReceipt => {
-            number_between(target, b"/sales/", b"/receipt").map(Route::Receipt)
-        }
+        Endpoint::Sale => number_at(endpoint, target).map(Route::Reprint),
+        Endpoint::SaleReceipt => number_at(endpoint, target).map(Route::Receipt),
         Endpoint::MeterImports => Some(Route::ImportMeters),
         Endpoint::TariffImports => Some(Route::ImportTariffs),
     }
