@@ -76,6 +76,7 @@ fn served_all(
             texts: messages,
             next: 0,
         },
+        loopback: rt,
     };
     let line = format!(in rt.alloc();
         "serve --file office.db --listen 127.0.0.1:80 --connections {}",
@@ -88,7 +89,6 @@ fn served_all(
     };
     let end = run_over(
         rt.alloc(),
-        rt,
         ports,
         &words_of(rt, line.as_str())?,
         &mut Watched::new(&mut out),

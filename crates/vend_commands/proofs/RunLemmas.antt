@@ -48,6 +48,7 @@ use Rattle.command_line.specs.declared.commands.report.Paper.TheVariants as pape
 use Rattle.command_line.specs.declared.commands.serve.ServeWords.{ServeWords}
 use Rattle.vend_commands.specs.declared.end.End.TheVariants as how
 use Rattle.command_line.specs.declared.transform.Shipped.{Shipped}
+use Rattle.vend_commands.specs.declared.selfcheck_fault.SelfcheckFault.{SelfcheckFault}
 use Rattle.vend_commands.specs.declared.trials.TrialFault.{TrialFault}
 use Rattle.vend_commands.specs.declared.end.End.{End}
 
@@ -56,9 +57,9 @@ pub done_so : {S D R W : Type 0} (store : Ghosts S) (m : Machine D R W) (asked s
 done_so store m asked same o end is done = subst (λ a. IsCarriedOut store m a o end) (sym is) done
 
 -- what a selfcheck found is told, by less than it found
-pub selfcheck_done : (o : Outputs) (end : End) (Agrees Has : Type 0) → (Agrees → Has) → IsSelfchecked Agrees o end → IsSelfchecked Has o end
-selfcheck_done o end Agrees Has less (agreed is told) = agreed (less is) told
-selfcheck_done o end Agrees Has less (failed fault told) = failed fault told
+pub selfcheck_done : (o : Outputs) (end : End) (Agrees Has : Type 0) (Disagrees Told : SelfcheckFault → Type 0) → (Agrees → Has) → ((fault : SelfcheckFault) → Disagrees fault → Told fault) → IsSelfchecked Agrees Disagrees o end → IsSelfchecked Has Told o end
+selfcheck_done o end Agrees Has Disagrees Told less fewer (agreed is told) = agreed (less is) told
+selfcheck_done o end Agrees Has Disagrees Told less fewer (failed fault why told) = failed fault (fewer fault why) told
 
 -- what `clap` says of words is a fault of theirs, or there was no room
 pub told_by_clap : {S D R W : Type 0} (store : Ghosts S) (m : Machine D R W) (error : Error) (words : List Text) (Says : Error → Text → Type 0) (o : Outputs) (end : End) → HasKind (faults_in words) error
@@ -145,9 +146,9 @@ answer_ends store m (asks.Meter words) o end (idle, done) = told_ends o _ _ how.
 answer_ends store m (asks.Quote words) o end (idle, done) =
     let bought = purchase_of words.steps words.prior words.tender in
     told_ends o _ _ (quote_end bought) end (quote_low bought) done
-answer_ends store m (asks.Serve words) o end done = serving_ends store m.way m.at m.door m.answers words o.err_old o.err_new end done.1
-answer_ends store m (asks.Selfcheck words) o end (idle, agreed has told) = told_ends o _ _ how.Done end (omega arith) told
-answer_ends store m (asks.Selfcheck words) o end (idle, failed fault told) = told_ends o _ _ how.Refused end (omega arith) told
+answer_ends store m (asks.Serve words) o end (left, done) = serving_ends store m.way m.at m.door m.answers words o.err_old o.err_new end done.1
+answer_ends store m (asks.Selfcheck words) o end (untouched, shut, agreed has told) = told_ends o _ _ how.Done end (omega arith) told
+answer_ends store m (asks.Selfcheck words) o end (untouched, shut, failed fault why told) = told_ends o _ _ how.Refused end (omega arith) told
 
 -- words that ask for something never end as bad words
 run_ends : {S D R W : Type 0} (store : Ghosts S) (m : Machine D R W) (words : List Text) (o : Outputs) (end : End) (asked : Asked) → AskFor words asked → IsProgramRun store m words o end → exit_status_of end ≤ 1

@@ -103,10 +103,10 @@ answer_same store m (asks.Request words) o end (shut, done) = timed_same m.untou
 answer_same store m (asks.Report words) o end (shut, done) = visit_same store _ _ _ o end (λ old new printed. paper_same words.paper old new o end printed) done
 answer_same store m (asks.Meter words) o end (idle, done) = told_same o _ _ _ end done
 answer_same store m (asks.Quote words) o end (idle, done) = told_same o _ _ _ end done
-answer_same store m (asks.Serve words) o end done =
+answer_same store m (asks.Serve words) o end (left, done) =
     record { out = ap (λ s. s.name) done.0; err = serving_same store m.way m.at m.door m.answers words o.err_old o.err_new end done.1 }
-answer_same store m (asks.Selfcheck words) o end (idle, agreed has told) = told_same o _ _ _ end told
-answer_same store m (asks.Selfcheck words) o end (idle, failed fault told) = told_same o _ _ _ end told
+answer_same store m (asks.Selfcheck words) o end (untouched, shut, agreed has told) = told_same o _ _ _ end told
+answer_same store m (asks.Selfcheck words) o end (untouched, shut, failed fault why told) = told_same o _ _ _ end told
 
 explained_same : (kind : ErrorKind) (text : Text) (o : Outputs) (end : End) → IsExplained kind text o end → AreSame o
 explained_same OutOfMemory text o end none = absurd none

@@ -11,7 +11,7 @@ use Rattle.papers.specs.declared.fault.TextFault.{TextFault}
 use Rattle.papers.specs.declared.fault.TextFault.TheVariants.{Memory, Write}
 use Rattle.sts_fields.specs.Text.{Text}
 use Rattle.vend_commands.specs.Printed.{token_line}
-use Rattle.vend_commands.specs.Told.{Held, IsTaken, Sink, Takes}
+use Rattle.vend_commands.specs.Told.{Held, IsPutOn, IsTaken, Sink, Takes}
 use Rattle.vend_commands.specs.Tried.{token_lines}
 
 -- ---- nothing, and one text more
@@ -59,6 +59,31 @@ written (Ok u) false old new text whole is put = put
 written (Err Memory) failed old new text whole is put = absurd (whole refl)
 written (Err Write) true old new text whole is put = put
 written (Err Write) false old new text whole is put = cc
+
+-- ---- a text that is put once there is enough of it
+
+-- a piece that comes behind what was put and what is not written yet
+pub puts_more : (a b c : Sink) (front unwritten left piece back whole : Text) → Takes a b front → whole ≡ (front ++ unwritten) ++ (piece ++ back) → IsPutOn b c unwritten left piece
+    → (next : Text) × Takes a c next × (whole ≡ (next ++ left) ++ back)
+puts_more a b c front unwritten left piece back whole p is (written, q, apart) = (
+  front ++ written,
+  takes_next a b c front written p q,
+  is ∙ sym (append_assoc (front ++ unwritten) piece back)
+      ∙ ap (λ l. l ++ back) (append_assoc front unwritten piece ∙ ap (λ l. front ++ l) apart ∙ sym (append_assoc front written left)),
+)
+
+-- what is not written yet and a piece behind it, both put
+pub puts_all : (a b c : Sink) (first piece unwritten left : Text) → first ≡ unwritten → Takes a b first → Takes b c piece → left ≡ [] → IsPutOn a c unwritten left piece
+puts_all a b c first piece unwritten left is p q none =
+    (first ++ piece, takes_next a b c first piece p q, rw (none, is) (sym (append-nil (unwritten ++ piece))))
+
+-- the last piece, and then what was not written
+pub puts_last : (a b c d : Sink) (front unwritten left piece last whole : Text) → Takes a b front → whole ≡ (front ++ unwritten) ++ piece → IsPutOn b c unwritten left piece
+    → last ≡ left → Takes c d last → Takes a d whole
+puts_last a b c d front unwritten left piece last whole p is (written, q, apart) so r =
+    takes_as a d ((front ++ written) ++ last) whole
+    (ap (λ l. (front ++ written) ++ l) so ∙ append_assoc front written left ∙ ap (λ l. front ++ l) (sym apart) ∙ sym (append_assoc front unwritten piece) ∙ sym is)
+    (takes_next a c d (front ++ written) last (takes_next a b c front written p q) r)
 
 -- ---- words on a line
 

@@ -14,10 +14,12 @@ use Rattle.vend_commands.specs.Connections.{AreHeld, AreServed, IsHeld, IsUnheld
 use Rattle.vend_commands.specs.Listening.{IsDeaf, IsServing}
 use Rattle.vend_commands.specs.Listening.IsDeaf.{no_listener, no_room as deaf_for_room, no_text, not_told}
 use Rattle.vend_commands.specs.Listening.IsServing.{unheard, unopened, was_open}
-use Rattle.vend_commands.specs.Places.{Place, Way, machine, untold_place, untold_way}
+use Rattle.vend_commands.specs.Places.{Loop, Place, Way, machine, untold_loop, untold_place, untold_way}
 use Rattle.vend_commands.specs.Run.{IsCarriedOut, IsProgramRun}
 use Rattle.vend_commands.specs.Run.IsProgramRun.{answered, bad_word, explained, no_room}
+use Rattle.vend_commands.specs.Selfchecked.{HasReplies}
 use Rattle.vend_commands.specs.Told.{Outputs, Sink}
+use Rattle.vend_commands.proofs.RunLemmas.{selfcheck_done}
 use Rattle.vend_commands.specs.Imported.{AreAdded, IsFileImported}
 use Rattle.vend_commands.specs.Timed.{IsTimed}
 use Rattle.vend_commands.specs.Visited.{IsVisited}
@@ -126,21 +128,22 @@ module _ {S D R W : Type 0} (store : Ghosts S) (way : Way D R W) (at : Text → 
         ends = were.ends;
       })
 
-  module _ (untouched : Type 0) (reads : Text → List ℕ → Type 0) (lacks : Text → ReadFault → Type 0) (answers : Option (List ℤ)) where
-    carried_bare : (asked : Asked) (o : Outputs) (end : End) → IsCarriedOut store (machine at untouched reads lacks answers way door) asked o end → IsCarriedOut store (machine (λ path. bare_place (at path)) ⊤ reads lacks answers untold_way tt) asked o end
-    carried_bare (asks.Trial words) o end (idle, done) = ((tt, tt), done)
-    carried_bare (asks.Import words) o end (shut, done) = (tt, timed_bare untouched words.at answers _ _ o end (λ moment imported. imported_bare store at untouched reads lacks words moment o end imported) done)
-    carried_bare (asks.Request words) o end (shut, done) = (tt, timed_bare untouched words.at answers _ _ o end (λ moment asked. visited_bare store (at words.file.now) words.transform _ o end asked) done)
-    carried_bare (asks.Report words) o end (shut, done) = (tt, visited_bare store (at words.file.now) Plain _ o end done)
-    carried_bare (asks.Meter words) o end (idle, done) = ((tt, tt), done)
-    carried_bare (asks.Quote words) o end (idle, done) = ((tt, tt), done)
-    carried_bare (asks.Serve words) o end done = (done.0, serving_bare answers words o.err_old o.err_new end done.1)
-    carried_bare (asks.Selfcheck words) o end (idle, done) = ((tt, tt), done)
+  module _ (untouched : Type 0) (reads : Text → List ℕ → Type 0) (lacks : Text → ReadFault → Type 0) (answers : Option (List ℤ)) (loop : Loop)
+      (less : (transform : Shipped) → loop.agrees transform → HasReplies transform) where
+    carried_bare : (asked : Asked) (o : Outputs) (end : End) → IsCarriedOut store (machine at untouched reads lacks answers way door loop) asked o end → IsCarriedOut store (machine (λ path. bare_place (at path)) ⊤ reads lacks answers untold_way tt untold_loop) asked o end
+    carried_bare (asks.Trial words) o end (idle, done) = ((tt, (tt, tt)), done)
+    carried_bare (asks.Import words) o end (left, done) = ((tt, tt), timed_bare untouched words.at answers _ _ o end (λ moment imported. imported_bare store at untouched reads lacks words moment o end imported) done)
+    carried_bare (asks.Request words) o end (left, done) = ((tt, tt), timed_bare untouched words.at answers _ _ o end (λ moment asked. visited_bare store (at words.file.now) words.transform _ o end asked) done)
+    carried_bare (asks.Report words) o end (left, done) = ((tt, tt), visited_bare store (at words.file.now) Plain _ o end done)
+    carried_bare (asks.Meter words) o end (idle, done) = ((tt, (tt, tt)), done)
+    carried_bare (asks.Quote words) o end (idle, done) = ((tt, (tt, tt)), done)
+    carried_bare (asks.Serve words) o end (left, done) = (tt, (done.0, serving_bare answers words o.err_old o.err_new end done.1))
+    carried_bare (asks.Selfcheck words) o end (left, shut, done) = (tt, tt, selfcheck_done o end _ _ _ _ (less words.transform) (λ fault why. tt) done)
 
     -- a run of the program, of which nothing is told but that
-    pub run_bare : (words : List Text) (o : Outputs) (end : End) → IsProgramRun store (machine at untouched reads lacks answers way door) words o end
-        → IsProgramRun store (machine (λ path. bare_place (at path)) ⊤ reads lacks answers untold_way tt) words o end
+    pub run_bare : (words : List Text) (o : Outputs) (end : End) → IsProgramRun store (machine at untouched reads lacks answers way door loop) words o end
+        → IsProgramRun store (machine (λ path. bare_place (at path)) ⊤ reads lacks answers untold_way tt untold_loop) words o end
     run_bare words o end (answered asked for done) = answered asked for (carried_bare asked o end done)
-    run_bare words o end (bad_word idle no_fault none told) = bad_word (tt, tt) no_fault none told
-    run_bare words o end (explained idle kind text among some says) = explained (tt, tt) kind text among some says
-    run_bare words o end (no_room idle told) = no_room (tt, tt) told
+    run_bare words o end (bad_word idle no_fault none told) = bad_word (tt, (tt, tt)) no_fault none told
+    run_bare words o end (explained idle kind text among some says) = explained (tt, (tt, tt)) kind text among some says
+    run_bare words o end (no_room idle told) = no_room (tt, (tt, tt)) told

@@ -17,6 +17,7 @@ pub mod Reported
 pub mod Run
 pub mod Selfchecked
 pub mod Selling
+pub mod Sent
 pub mod Served
 pub mod Status
 pub mod Timed

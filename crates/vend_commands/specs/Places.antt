@@ -1,22 +1,28 @@
 -- What a command has of the machine beside its outputs.
 use Rattle.std.specs.Prelude.{◌≡◌, ◌⊎◌, ℕ, ℤ, ⊤, List, Option, None}
+use Rattle.sqlite.specs.Steps.{over_memory}
 use Rattle.sqlite_disk.specs.declared.Disk as disk
 use Rattle.sqlite_disk.specs.declared.Files.{Files}
 use Rattle.sqlite_wal.specs.Recovery.{Image}
-use Rattle.books.specs.Keeps.{Seen}
+use Rattle.books.specs.Keeps.{Seen, seen}
 use Rattle.books.specs.Path.{AreTakenFrom, RefusesFiles}
 use Rattle.book_opening.specs.declared.fault.OpenFault.{OpenFault}
 use Rattle.book_opening.specs.declared.fault.OpenFault.TheVariants.{Store}
 use Rattle.books.specs.declared.refused_files.RefusedFiles.{RefusedFiles}
 use Rattle.sts_fields.specs.Text.{Text}
+use Rattle.command_line.specs.Transform.{forward_of}
 use Rattle.command_line.specs.declared.address.Address.{Address}
+use Rattle.command_line.specs.declared.transform.Shipped.{Shipped}
 use Rattle.vend_commands.specs.Closed.{IsClosed}
 use Rattle.vend_commands.specs.Opened.{OpensIn}
+use Rattle.vend_commands.specs.Selfchecked.{AgreesOver, Disagrees, HasReplies}
 use Rattle.vend_commands.specs.Told.{Held}
 use Rattle.vend_commands.specs.declared.door.Door as doors
+use Rattle.vend_commands.specs.declared.loopback.Loopback as loopback
 use Rattle.vend_commands.specs.declared.ports.OfficeFile as file
 use Rattle.vend_commands.specs.declared.ports.SaltSource as source
 use Rattle.vend_commands.specs.declared.read_fault.ReadFault.{ReadFault}
+use Rattle.vend_commands.specs.declared.selfcheck_fault.SelfcheckFault.{SelfcheckFault}
 
 -- No office was opened: no files were found at its path, or two were, and there was no salt for a
 -- new log, or the office in them was refused. Then these are taken from what the refusal gave back,
@@ -71,8 +77,24 @@ way of remaining contents = record {
   contents = contents;
 }
 
+-- What the machine's connection with itself tells of `selfcheck`: that it was left, that the
+-- replies over it agreed, and why not.
+pub record Loop : Type 1 where
+  pub leaves : Type 0
+  pub agrees : Shipped → Type 0
+  pub disagrees : Shipped → SelfcheckFault → Type 0
+
+abbrev pub loop_of : {N S : Type 0} → loopback.Ghosts N S → (remaining contents : S → Held) → N
+    → Loop
+loop_of of remaining contents net = record {
+  leaves = of.leaves net;
+  agrees = λ transform. AgreesOver of remaining contents net (forward_of transform);
+  disagrees = λ transform fault. Disagrees of remaining contents net (forward_of transform)
+      (seen over_memory forward_of) fault;
+}
+
 -- the files that keep offices and that none of them was found, the files that are read, the answers
--- of the clock, and the door
+-- of the clock, the door, and the connection with itself
 pub record Machine (D R W : Type 0) : Type 1 where
   pub at : Text → Place
   pub untouched : Type 0
@@ -81,6 +103,7 @@ pub record Machine (D R W : Type 0) : Type 1 where
   pub answers : Option (List ℤ)
   pub way : Way D R W
   pub door : D
+  pub loop : Loop
 
 -- what keeps offices has a file at each path
 abbrev pub places_of : {H D S : Type 0} → (disk : disk.Ghosts D) → source.Ghosts S
@@ -99,14 +122,18 @@ places_of {H} {D} {S} disk salts of office path = record {
 abbrev pub IsShut : {D R W : Type 0} → Machine D R W → Type 0
 IsShut m = m.way.leaves m.door
 
+-- nor was the machine connected with itself
+abbrev pub IsOffline : {D R W : Type 0} → Machine D R W → Type 0
+IsOffline m = IsShut m × m.loop.leaves
+
 -- nor was a file of an office found
 abbrev pub IsIdle : {D R W : Type 0} → Machine D R W → Type 0
-IsIdle m = m.untouched × IsShut m
+IsIdle m = m.untouched × IsOffline m
 
 abbrev pub machine : {D R W : Type 0} → (Text → Place) → (untouched : Type 0)
     → (Text → List ℕ → Type 0)
-    → (Text → ReadFault → Type 0) → Option (List ℤ) → Way D R W → D → Machine D R W
-machine at untouched reads lacks answers way door = record {
+    → (Text → ReadFault → Type 0) → Option (List ℤ) → Way D R W → D → Loop → Machine D R W
+machine at untouched reads lacks answers way door loop = record {
   at = at;
   untouched = untouched;
   reads = reads;
@@ -114,6 +141,7 @@ machine at untouched reads lacks answers way door = record {
   answers = answers;
   way = way;
   door = door;
+  loop = loop;
 }
 
 -- a door of which nothing is told but the bytes of each connection
@@ -128,6 +156,10 @@ untold_way = record {
   remaining = λ unread. unread;
   contents = λ held. held;
 }
+
+-- a connection of which nothing is told but that there are replies over memory
+abbrev pub untold_loop : Loop
+untold_loop = record { leaves = ⊤; agrees = HasReplies; disagrees = λ transform fault. ⊤ }
 
 -- a file of which nothing is told but what it holds, and how an office is opened there and closed
 abbrev pub untold_place : Image → (opens closes : Seen → Type 0) → Place
@@ -144,4 +176,4 @@ untold_place image opens closes = record {
 abbrev pub untold : {D : Type 0} → disk.Ghosts D → Image → Machine ⊤ Held Held
 untold disk image = machine
     (λ path. untold_place image (OpensIn disk image) (IsClosed disk (λ log db. ⊤))) ⊤
-    (λ path bytes. ⊤) (λ path fault. ⊤) None untold_way tt
+    (λ path bytes. ⊤) (λ path fault. ⊤) None untold_way tt untold_loop

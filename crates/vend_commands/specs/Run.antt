@@ -12,11 +12,11 @@ use Rattle.vend_commands.specs.Asked.{IsAskedAt}
 use Rattle.vend_commands.specs.Imported.{IsFileImported}
 use Rattle.vend_commands.specs.Listening.{IsServedTo}
 use Rattle.vend_commands.specs.Metered.{IsMetered}
-use Rattle.vend_commands.specs.Places.{IsIdle, IsShut, Machine}
+use Rattle.vend_commands.specs.Places.{IsIdle, IsOffline, IsShut, Machine}
 use Rattle.vend_commands.specs.Printed.{bad_word_line, refusal_line}
 use Rattle.vend_commands.specs.Quoted.{IsQuoted}
 use Rattle.vend_commands.specs.Reported.{IsReported}
-use Rattle.vend_commands.specs.Selfchecked.{HasReplies, IsSelfchecked}
+use Rattle.vend_commands.specs.Selfchecked.{IsSelfchecked}
 use Rattle.vend_commands.specs.Timed.{IsTimed}
 use Rattle.vend_commands.specs.Told.{Outputs, IsTold}
 use Rattle.vend_commands.specs.Tried.{IsTried}
@@ -26,21 +26,22 @@ use Rattle.vend_commands.specs.declared.end.End.{End}
 use Rattle.vend_commands.specs.declared.end.End.TheVariants.{Done, Refused, BadWords}
 
 -- What is asked for is done, and nothing of the machine is used beside: where no office is needed
--- none is found, and only `serve` has the door.
+-- none is found, only `serve` has the door, and only `selfcheck` connects the machine with itself.
 abbrev pub IsCarriedOut : {S D R W : Type 0} → Ghosts S → Machine D R W → Asked → Outputs → End
     → Type 0
 IsCarriedOut store m (Trial words) o end =
     IsIdle m × IsTimed ⊤ words.at m.answers (λ moment. IsTried words moment o end) o end
-IsCarriedOut store m (Import words) o end = IsShut m × IsTimed m.untouched words.at m.answers
+IsCarriedOut store m (Import words) o end = IsOffline m × IsTimed m.untouched words.at m.answers
     (λ moment. IsFileImported store m.at m.untouched m.reads m.lacks words moment o end) o end
-IsCarriedOut store m (Request words) o end = IsShut m × IsTimed m.untouched words.at m.answers
+IsCarriedOut store m (Request words) o end = IsOffline m × IsTimed m.untouched words.at m.answers
     (λ moment. IsAskedAt store m.at words.transform words.file.now moment words.request o end) o end
-IsCarriedOut store m (Report words) o end = IsShut m × IsReported store m.at words o end
+IsCarriedOut store m (Report words) o end = IsOffline m × IsReported store m.at words o end
 IsCarriedOut store m (Meter words) o end = IsIdle m × IsMetered words o end
 IsCarriedOut store m (Quote words) o end = IsIdle m × IsQuoted words o end
-IsCarriedOut store m (Serve words) o end = IsServedTo store m.way m.at m.door m.answers words o end
-IsCarriedOut store m (Selfcheck words) o end =
-    IsIdle m × IsSelfchecked (HasReplies words.transform) o end
+IsCarriedOut store m (Serve words) o end =
+    m.loop.leaves × IsServedTo store m.way m.at m.door m.answers words o end
+IsCarriedOut store m (Selfcheck words) o end = m.untouched × IsShut m
+    × IsSelfchecked (m.loop.agrees words.transform) (m.loop.disagrees words.transform) o end
 
 -- what is said of words that are no command's: help, which goes to the output, or what is wrong
 -- with them, which goes to the error output

@@ -1,7 +1,8 @@
 -- What `selfcheck` does: the desk answers two messages over memory, and the replies over a
--- connection are compared with those.
-use Rattle.std.specs.Prelude.{◌≡◌, ℕ, pos, List, [], ◌∷◌, ◌++◌, Some, None, Ok, codes}
-use Rattle.std.specs.Io.KnownBytes.{Appends}
+-- connection of the machine with itself are compared with those.
+use Rattle.std.specs.Prelude.{◌≡◌, ◌⊎◌, ⊤, ℕ, pos, List, [], ◌∷◌, ◌++◌, Contains, Option, Some, None, Ok, Err, codes}
+use Rattle.books.specs.Asking.{ReplyAt}
+use Rattle.books.specs.Keeps.{Seen}
 use Rattle.desk.specs.Answering.{answers_by, life_serves, message_refusal_of}
 use Rattle.conversation.specs.Exchanges.{Timed}
 use Rattle.desk.specs.reply.Text.{line_end}
@@ -15,15 +16,18 @@ use Rattle.vend_core.specs.Law.Life.{Life}
 use Rattle.vend_core.specs.Law.LifeLaws.{extended_by, opened}
 use Rattle.vend_core.specs.Office.{empty_office}
 use Rattle.vend_core.specs.declared.decision.answer.Answer.{Answer}
-use Rattle.vend_core.specs.declared.decision.refusal.Refusal.TheVariants as refusals
+use Rattle.vend_core.specs.declared.decision.refusal.Refusal.{Refusal}
+use Rattle.vend_core.specs.declared.decision.refusal.Refusal.TheVariants as refusal
 use Rattle.vend_core.specs.declared.decision.request.Request.{Request}
 use Rattle.vend_core.specs.declared.decision.request.Request.TheVariants.{AddTariff, AddMeter, OpenShift}
 use Rattle.vend_core.specs.declared.decision.request.Stamped.{Stamped}
 use Rattle.vend_commands.specs.Printed.{net_line, opening_line, refusal_line, selfcheck_line}
+use Rattle.vend_commands.specs.Sent.{IsSent}
 use Rattle.vend_commands.specs.Told.{Held, IsTold, Outputs}
 use Rattle.command_line.specs.Transform.{forward_of}
 use Rattle.vend_commands.specs.declared.end.End.{End}
 use Rattle.vend_commands.specs.declared.end.End.TheVariants.{Done, Refused as IsRefused}
+use Rattle.vend_commands.specs.declared.loopback.Loopback as loopback
 use Rattle.vend_commands.specs.declared.selfcheck_fault.SelfcheckFault.{SelfcheckFault}
 use Rattle.vend_commands.specs.declared.selfcheck_fault.SelfcheckFault.TheVariants.{Net, Unopened, Refused}
 use Rattle.command_line.specs.declared.transform.Shipped.{Shipped}
@@ -62,11 +66,24 @@ AreGranted [] old new = new ≡ old
 AreGranted (request ∷ requests) old new =
     (mid : Life) × IsGranted request old mid × AreGranted requests mid new
 
--- the life of an empty office that was prepared to sell to a meter
+-- what prepares an office to sell to a meter
+abbrev pub preparing : List Request
+preparing = add_flat ∷ add_selfcheck_meter ∷ open_selfcheck_shift ∷ []
+
+-- the life of an empty office that was prepared so
 abbrev pub IsPrepared : BlockFunction → Life → Type 0
-IsPrepared forward life =
-    AreGranted (add_flat ∷ add_selfcheck_meter ∷ open_selfcheck_shift ∷ [])
-    (opened forward empty_office) life
+IsPrepared forward life = AreGranted preparing (opened forward empty_office) life
+
+-- Books refused one of these requests so.
+abbrev pub IsUngranted : {B : Type 0} → (B → Seen) → Refusal → Type 0
+IsUngranted {B} see refusal = (request : Request) × Contains preparing request
+    × (old : B) × (new : B) × ReplyAt clock_moment request (Err refusal) (see old) (see new)
+
+-- why no office was prepared: none was opened, or there was no room for a tariff, or books refused
+abbrev pub IsUnprepared : {B : Type 0} → (B → Seen) → SelfcheckFault → Type 0
+IsUnprepared see Net = ⊥
+IsUnprepared see (Unopened fault) = ⊤
+IsUnprepared see (Refused why) = (why ≡ refusal.Memory) ⊎ IsUngranted see why
 
 -- ---- the conversation
 
@@ -77,12 +94,26 @@ messages = codes "POST /sales HTTP/1.1" ++ line_end ++ codes "Host: d" ++ line_e
     ++ codes "{\"meter\":\"12345678903\",\"operator\":\"ann\",\"ref\":\"A-1\",\"tender\":10}"
     ++ codes "GET /sales/1/receipt HTTP/1.1" ++ line_end ++ codes "Host: d" ++ line_end ++ line_end
 
--- all that was read was answered from this life on, and what is written now is the replies
-abbrev pub IsAnsweredFrom : Life → (unread held holds : Held) → Type 0
-IsAnsweredFrom life unread held holds =
-    (after : Timed Life) × (left : Held)
+-- the desk held a conversation from this life on, at the moment of the clock, and it ended so
+abbrev pub Converses : Life → (unread held holds : Held) → conversation.End → Type 0
+Converses life unread held holds end = (after : Timed Life) × (left : Held)
     × IsRun (answers_by life_serves) message_refusal_of (life, Some (pos clock_moment ∷ [])) after
-    unread left held holds Closed
+    unread left held holds end
+
+-- all that was read was answered, and what is written now is the replies
+abbrev pub IsAnsweredFrom : Life → (unread held holds : Held) → Type 0
+IsAnsweredFrom life unread held holds = Converses life unread held holds Closed
+
+-- what is told of a conversation over memory that ended so, where all there is room for is written;
+-- and of one over a connection
+abbrev pub fault_in_memory : conversation.End → Option SelfcheckFault
+fault_in_memory Closed = None
+fault_in_memory WriteFault = Some (Refused refusal.Memory)
+fault_in_memory end = Some Net
+
+abbrev pub fault_over_net : conversation.End → Option SelfcheckFault
+fault_over_net Closed = None
+fault_over_net end = Some Net
 
 -- the text is the replies of an office that was prepared to these messages
 abbrev pub AreReplies : BlockFunction → Text → Type 0
@@ -90,27 +121,53 @@ AreReplies forward text =
     (life : Life) × IsPrepared forward life
     × IsAnsweredFrom life (Some messages) (Some []) (Some text)
 
--- the messages were written on this stream, and nothing more
-abbrev pub MessagesAreSent : {S : Type 0} → (contents : S → Held) → S → Type 0
-MessagesAreSent {S} contents stream =
-    (fresh : S) × Appends (contents fresh) (contents stream) messages
+-- why there are none: no office was prepared, or there is no room for the desk, or the conversation
+-- was cut
+pub data HasNoReplies {B : Type 0} (see : B → Seen) (forward : BlockFunction)
+    (fault : SelfcheckFault) : Type 0 where
+  no_office : IsUnprepared see fault → HasNoReplies see forward fault
+  no_desk : fault ≡ Refused refusal.Memory → HasNoReplies see forward fault
+  cut_off : (life : Life) → IsPrepared forward life → (holds : Held) (end : conversation.End)
+      → Converses life (Some messages) (Some []) holds end → fault_in_memory end ≡ Some fault
+      → HasNoReplies see forward fault
 
--- the desk of an office so prepared answered all that came on one stream, and wrote that on another
-abbrev pub IsAnsweredOver : {S : Type 0} → (remaining contents : S → Held) → BlockFunction → Type 0
-IsAnsweredOver {S} remaining contents forward =
-    (life : Life) × IsPrepared forward life × (reader old new : S)
-    × IsAnsweredFrom life (remaining reader) (contents old) (contents new)
+module _ {N S : Type 0} (of : loopback.Ghosts N S) (remaining contents : S → Held) (net : N)
+    (forward : BlockFunction) where
+  -- A connection was had, on which the messages were sent and nothing more, and the desk of an
+  -- office so prepared held its conversation over the other end, which ended so. What it wrote
+  -- comes back on this stream.
+  pub record ConversesOver (near : S) (end : conversation.End) : Type 0 where
+    pub reader : S
+    pub writer : S
+    pub written : S
+    pub connects : of.connects net messages near reader writer
+    pub sent : IsSent contents messages near
+    pub life : Life
+    pub prepared : IsPrepared forward life
+    pub converses : Converses life (remaining reader) (contents writer) (contents written) end
 
--- The messages were sent on a stream of this kind, and the desk answered over such streams; all
--- that came back, where that is known, was exactly the replies that it writes over memory.
-pub record AgreesOver {S : Type 0} (remaining contents : S → Held)
-    (forward : BlockFunction) : Type 0 where
-  pub text : Text
-  pub replies : AreReplies forward text
-  pub stream : S
-  pub sent : MessagesAreSent contents stream
-  pub answered : IsAnsweredOver remaining contents forward
-  pub received : IsAll (remaining stream) text
+  -- it answered all, and what came back, where that is known, was exactly the replies that it
+  -- writes over memory
+  pub record AgreesOver : Type 0 where
+    pub text : Text
+    pub replies : AreReplies forward text
+    pub near : S
+    pub answered : ConversesOver near Closed
+    pub received : IsAll (remaining near) text
+
+  -- why it is not told that it did: there are no replies over memory, or no office was prepared for
+  -- the connection; or there was no room for the desk or for what came back; or no connection could
+  -- be had; or the conversation over it was cut; or it answered all, and what came back was
+  -- something else or was not read to its end
+  pub data Disagrees {B : Type 0} (see : B → Seen) (fault : SelfcheckFault) : Type 0 where
+    in_memory : HasNoReplies see forward fault → Disagrees see fault
+    unprepared : IsUnprepared see fault → Disagrees see fault
+    no_room : fault ≡ Refused refusal.Memory → Disagrees see fault
+    unconnected : of.lacks net → fault ≡ Net → Disagrees see fault
+    cut : (near : S) (end : conversation.End) → ConversesOver near end
+        → fault_over_net end ≡ Some fault → Disagrees see fault
+    unlike : (text : Text) → AreReplies forward text → (near : S) → ConversesOver near Closed
+        → fault ≡ Net → Disagrees see fault
 
 -- there are such replies
 abbrev pub HasReplies : Shipped → Type 0
@@ -118,20 +175,15 @@ HasReplies transform = (text : Text) × AreReplies (forward_of transform) text
 
 -- ---- what is told
 
--- what is told of a conversation over memory that ended so before all was answered: where a write
--- failed there was no room, since all that there is room for is taken; and where the desk itself
--- found no memory the replies are others
-abbrev pub fault_in_memory : conversation.End → SelfcheckFault
-fault_in_memory WriteFault = Refused refusals.Memory
-fault_in_memory end = Net
-
 abbrev pub selfcheck_fault_line : SelfcheckFault → Text
 selfcheck_fault_line Net = net_line
 selfcheck_fault_line (Unopened fault) = opening_line fault
 selfcheck_fault_line (Refused refusal) = refusal_line refusal
 
--- the same replies came over a stream, and that is told; or why they did not
-pub data IsSelfchecked (Agrees : Type 0) (o : Outputs) (end : End) : Type 0 where
-  agreed : Agrees → IsTold o selfcheck_line [] Done end → IsSelfchecked Agrees o end
-  failed : (fault : SelfcheckFault) → IsTold o [] (selfcheck_fault_line fault) IsRefused end
-      → IsSelfchecked Agrees o end
+-- the same replies came over a connection, and that is told; or why they did not
+pub data IsSelfchecked (Agrees : Type 0) (Disagrees : SelfcheckFault → Type 0) (o : Outputs)
+    (end : End) : Type 0 where
+  agreed : Agrees → IsTold o selfcheck_line [] Done end → IsSelfchecked Agrees Disagrees o end
+  failed : (fault : SelfcheckFault) → Disagrees fault
+      → IsTold o [] (selfcheck_fault_line fault) IsRefused end
+      → IsSelfchecked Agrees Disagrees o end

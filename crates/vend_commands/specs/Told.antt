@@ -1,5 +1,5 @@
 -- What a command leaves on its output and its error output.
-use Rattle.std.specs.Prelude.{◌≡◌, ℕ, ◌<◌, Bool, true, false, List, length, take, Option}
+use Rattle.std.specs.Prelude.{◌≡◌, ℕ, ◌<◌, Bool, true, false, List, ◌++◌, length, take, Option}
 use Rattle.std.specs.Io.KnownBytes.{Appends, Keeps}
 use Rattle.sts_fields.specs.Text.{Text}
 use Rattle.vend_commands.specs.declared.end.End.{End}
@@ -42,6 +42,12 @@ IsTaken true false old new text = ⊥
 pub record Takes (old new : Sink) (text : Text) : Type 0 where
   pub same : new.name ≡ old.name
   pub taken : IsTaken old.failed new.failed old.held new.held text
+
+-- A piece came behind the part of a text that is not written yet. Of the two so much was given to
+-- the writer, and that is left.
+abbrev pub IsPutOn : (old new : Sink) → (unwritten left piece : Text) → Type 0
+IsPutOn old new unwritten left piece =
+    (written : Text) × Takes old new written × (unwritten ++ piece ≡ written ++ left)
 
 -- the output and the error output before a command, and after it
 pub record Outputs : Type 0 where

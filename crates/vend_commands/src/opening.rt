@@ -1,6 +1,6 @@
 //! An office in a file: how it is opened, and closed.
 
-ghost use Rattle.std.specs.Prelude.{IfErr, IfOk};
+ghost use Rattle.std.specs.Prelude.{◌≡◌, IfErr, IfOk};
 ghost use Rattle.vend_commands.specs.Closed.{IsClosed};
 ghost use Rattle.vend_commands.specs.Opened.{OpensIn};
 ghost use Rattle.vend_commands.specs.Places.{places_of};
@@ -12,6 +12,20 @@ use command_line::Shipped;
 use sqlite::{FileStore, Options};
 use sqlite_disk::Files;
 use std::alloc::Global;
+
+// So many pages of a file are kept in memory. Their room is cleared at each opening: that of the
+// toolchain's 2000 takes as long as all else that a command does with a small file.
+const CACHE_PAGES: usize = 256;
+
+/// How the files of an office are opened, with this salt for a new log.
+pub(crate) fn options_of(salt: u64) -> Options
+    ensures { result.seed ≡ salt }
+{
+    Options {
+        cache_pages: CACHE_PAGES,
+        ..Options::new(salt)
+    }
+}
 
 /// Opens the office at a path, or begins one where there is no file.
 ///
@@ -39,7 +53,7 @@ pub(crate) fn open_office<H: OfficeFile>(
     let Some(salt) = salts.draw() else {
         return Err(OpenFault::Store);
     };
-    match Books::open_files(alloc, Files { log, db }, Options::new(salt), transform) {
+    match Books::open_files(alloc, Files { log, db }, options_of(salt), transform) {
         Ok(books) => Ok(books),
         Err((fault, refused)) => {
             let files = refused.into_files();

@@ -9,6 +9,7 @@ ghost use Rattle.book_opening.specs.declared.fault.OpenFault.{OpenFault};
 ghost use Rattle.vend_commands.specs.declared.read_fault.ReadFault.{ReadFault};
 
 use crate::door::Door;
+use crate::loopback::Loopback;
 use crate::read_fault::ReadFault;
 use books::OpenFault;
 use sqlite_disk::Disk;
@@ -85,12 +86,14 @@ pub trait TextFiles: Drop {
         ensures lacks { IfErr result (lacks self.now path.now) };
 }
 
-/// The ports of one run. A command uses up what it needs and leaves the rest: the file of an office
-/// and the door by a call that takes them, whose fact no other call gives.
+/// The ports of one run. A command uses up what it needs and leaves the rest: the file of an
+/// office, the door and the connection with itself by a call that takes them, whose fact no other
+/// call gives.
 #[derive(Drop)]
-pub struct Ports<H: OfficeFile, F: TextFiles, C, D: Door> {
+pub struct Ports<H: OfficeFile, F: TextFiles, C, D: Door, L: Loopback> {
     pub office: H,
     pub texts: F,
     pub clock: C,
     pub door: D,
+    pub loopback: L,
 }

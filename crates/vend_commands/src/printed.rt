@@ -4,9 +4,10 @@ ghost use Rattle.vend_core.specs.Decision.RowCauses.{cause_text};
 ghost use Rattle.vend_commands.specs.Printed.{added_line, address_text, answer_line, clock_line, credit_line};
 ghost use Rattle.vend_commands.specs.Printed.{host_text, line_of, opening_line, pair_text};
 ghost use Rattle.vend_commands.specs.Printed.{quote_line, refusal_line, shift_line, token_line};
-ghost use Rattle.vend_commands.specs.Told.{Takes, sink};
+ghost use Rattle.vend_commands.specs.Told.{IsPutOn, Takes, sink};
 
 use crate::watched::Watched;
+use arrayvec::ArrayVec;
 use books::OpenFault;
 use command_line::Address;
 use itoa::Buffer;
@@ -16,18 +17,40 @@ use std::io::Write;
 use tariff::Buy;
 use vend_core::{Refusal, RowCause};
 
-/// Prints words on a line of their own, with a space between them.
+// Room for any line that the program prints: a longer one would only take more than one write.
+const LINE_ROOM: usize = 128;
+
+/// Prints words on a line of their own, with a space between them: by one write, where the writer
+/// takes it whole, so that the lines of programs that share a log stay whole.
 pub(crate) fn put_line<W: Write>(words: &[&[u8]], out: &mut Watched<'_, W>)
     ensures { Takes (sink W.contents out.old) (sink W.contents out.new)
         (line_of (map (λ word. word.now) words.now)) }
 {
+    let mut line = ArrayVec::new();
     let mut separator: &[u8] = b"";
     for word in words {
-        out.put(separator);
-        out.put(word);
+        add(separator, &mut line, out);
+        add(word, &mut line, out);
         separator = b" ";
     }
-    out.put(b"\n");
+    add(b"\n", &mut line, out);
+    out.put(&line);
+}
+
+// Adds a piece to the part of a line that is not written yet. Where there is no room for it, that
+// part and the piece are written.
+fn add<W: Write>(piece: &[u8], line: &mut ArrayVec<u8, LINE_ROOM>, out: &mut Watched<'_, W>)
+    ensures { IsPutOn (sink W.contents out.old) (sink W.contents out.new)
+        line.old.items line.new.items piece.now }
+{
+    match line.try_extend_from_slice(piece) {
+        Ok(()) => {}
+        Err(_) => {
+            out.put(line);
+            line.clear();
+            out.put(piece);
+        }
+    }
 }
 
 /// Prints a token.

@@ -10,6 +10,7 @@ ghost use Rattle.vend_commands.specs.Places.{IsUnreopened};
 ghost use Rattle.vend_commands.specs.Reopened.{IsNextLife, IsNextOf};
 ghost use Rattle.vend_commands.specs.Visited.{seen_in};
 
+use crate::opening::options_of;
 use crate::ports::{OfficeFile, SaltSource};
 use books::{Books, OpenFault, opening_law};
 use command_line::Shipped;
@@ -35,7 +36,7 @@ pub(crate) fn open_again<H: OfficeFile>(
     let Some(salt) = salts.draw() else {
         return Err(OpenFault::Store);
     };
-    reopen(alloc, Options::new(salt), books, transform)
+    reopen(alloc, options_of(salt), books, transform)
 }
 
 /// Opens the office of some books again, in the same files. It finds what they may have left.

@@ -3,7 +3,7 @@ ghost use Rattle.sqlite_wal.specs.Files.{image_at};
 ghost use Rattle.sts_fields.specs.Text.{Text};
 ghost use Rattle.vend_core.specs.declared.decision.refusal.Refusal.TheVariants.{Memory};
 ghost use Rattle.command_line.specs.Asked.{AskFor};
-ghost use Rattle.vend_commands.specs.Places.{machine, places_of, untold, way};
+ghost use Rattle.vend_commands.specs.Places.{loop_of, machine, places_of, untold, way};
 ghost use Rattle.vend_commands.specs.Printed.{refusal_line};
 ghost use Rattle.vend_commands.specs.Run.{IsCarriedOut, IsExplained, IsProgramRun};
 ghost use Rattle.vend_commands.specs.Status.{status_of};
@@ -17,6 +17,7 @@ use crate::commands::selfcheck::run_selfcheck;
 use crate::door::Door;
 use crate::end::End;
 use crate::explanation::Explanation;
+use crate::loopback::Loopback;
 use crate::machine::{MachineFile, MachineTexts};
 use crate::machine_door::MachineDoor;
 use crate::ports::{OfficeFile, Ports, TextFiles};
@@ -30,7 +31,6 @@ use sqlite_disk::Disk;
 use sqlite_trees::store::Store;
 use std::alloc::Global;
 use std::io::Write;
-use std::net::Net;
 use vend_core::Refusal;
 
 /// Runs the command that some words give, the program's own name left out, and answers the exit
@@ -61,10 +61,11 @@ pub fn run<B: Start, O: Write, E: Write>(
         texts: MachineTexts { rt },
         clock: MachineClock::new(rt),
         door: MachineDoor::new(rt),
+        loopback: rt,
     };
     let mut out = Watched::new(out);
     let mut err = Watched::new(err);
-    let end = run_over(rt.alloc(), rt, ports, words, &mut out, &mut err);
+    let end = run_over(rt.alloc(), ports, words, &mut out, &mut err);
     status(end, out.has_failed())
 }
 
@@ -79,10 +80,17 @@ pub fn status(end: End, failed: bool) -> u8
 }
 
 /// Does what the words ask for with what some ports give, or says why not.
-pub fn run_over<H: OfficeFile, F: TextFiles, C: Clock + Drop, D: Door, N: Net, O: Write, E: Write>(
+pub fn run_over<
+    H: OfficeFile,
+    F: TextFiles,
+    C: Clock + Drop,
+    D: Door,
+    L: Loopback,
+    O: Write,
+    E: Write,
+>(
     alloc: Global,
-    net: &N,
-    ports: Ports<H, F, C, D>,
+    ports: Ports<H, F, C, D, L>,
     words: &[&str],
     out: &mut Watched<'_, O>,
     err: &mut Watched<'_, E>,
@@ -91,45 +99,55 @@ pub fn run_over<H: OfficeFile, F: TextFiles, C: Clock + Drop, D: Door, N: Net, O
         (places_of H.Medium.Disk H.Salts.SaltSource H.OfficeFile ports.office)
         (H.leaves ports.office)
         (F.reads ports.texts) (F.lacks ports.texts) (C.answers ports.clock)
-        (way D.Door D.Reader.remaining D.Writer.contents) ports.door)
+        (way D.Door D.Reader.remaining D.Writer.contents) ports.door
+        (loop_of L.Loopback L.Stream.remaining L.Stream.contents ports.loopback))
         (map (λ w. w.now) words.now)
         (outputs (sink O.contents out.old) (sink O.contents out.new)
         (sink E.contents err.old) (sink E.contents err.new)) result }
 {
     let Ok(line) = meant(alloc, words) else {
-        leave_all(ports.office, ports.door);
+        leave_all(ports.office, ports.door, ports.loopback);
         put_refusal(Refusal::Memory, err);
         return End::Refused;
     };
     match parse(alloc, &line) {
         Ok(matches) => match Asked::read(alloc, &matches) {
-            Ok(asked) => answer(alloc, net, ports, asked, out, err),
+            Ok(asked) => answer(alloc, ports, asked, out, err),
             Err(fault) => {
-                leave_all(ports.office, ports.door);
+                leave_all(ports.office, ports.door, ports.loopback);
                 refuse(fault, err)
             }
         },
         Err(error) => {
-            leave_all(ports.office, ports.door);
+            leave_all(ports.office, ports.door, ports.loopback);
             explain(alloc, &error, out, err)
         }
     }
 }
 
 // Uses nothing of the machine.
-fn leave_all<H: OfficeFile, D: Door>(office: H, door: D)
+fn leave_all<H: OfficeFile, D: Door, L: Loopback>(office: H, door: D, loopback: L)
     ensures office { H.leaves office }
     ensures door { D.leaves door }
+    ensures loopback { L.leaves loopback }
 {
     office.leave();
+    go_offline(door, loopback);
+}
+
+// Has nobody connect.
+fn go_offline<D: Door, L: Loopback>(door: D, loopback: L)
+    ensures door { D.leaves door }
+    ensures loopback { L.leaves loopback }
+{
     door.leave();
+    loopback.leave();
 }
 
 // Does what is asked.
-fn answer<H: OfficeFile, F: TextFiles, C: Clock + Drop, D: Door, N: Net, O: Write, E: Write>(
+fn answer<H: OfficeFile, F: TextFiles, C: Clock + Drop, D: Door, L: Loopback, O: Write, E: Write>(
     alloc: Global,
-    net: &N,
-    ports: Ports<H, F, C, D>,
+    ports: Ports<H, F, C, D, L>,
     asked: Asked<'_, '_>,
     out: &mut Watched<'_, O>,
     err: &mut Watched<'_, E>,
@@ -138,18 +156,19 @@ fn answer<H: OfficeFile, F: TextFiles, C: Clock + Drop, D: Door, N: Net, O: Writ
         (places_of H.Medium.Disk H.Salts.SaltSource H.OfficeFile ports.office)
         (H.leaves ports.office)
         (F.reads ports.texts) (F.lacks ports.texts) (C.answers ports.clock)
-        (way D.Door D.Reader.remaining D.Writer.contents) ports.door)
+        (way D.Door D.Reader.remaining D.Writer.contents) ports.door
+        (loop_of L.Loopback L.Stream.remaining L.Stream.contents ports.loopback))
         asked.entry (outputs (sink O.contents out.old) (sink O.contents out.new)
         (sink E.contents err.old) (sink E.contents err.new)) result }
 {
     let mut clock = ports.clock;
     match asked {
         Asked::Trial(words) => {
-            leave_all(ports.office, ports.door);
+            leave_all(ports.office, ports.door, ports.loopback);
             commands::trial::run(&words, alloc, &mut clock, out, err)
         }
         Asked::Import(words) => {
-            ports.door.leave();
+            go_offline(ports.door, ports.loopback);
             commands::import::run(
                 &words,
                 alloc,
@@ -161,27 +180,29 @@ fn answer<H: OfficeFile, F: TextFiles, C: Clock + Drop, D: Door, N: Net, O: Writ
             )
         }
         Asked::Request(words) => {
-            ports.door.leave();
+            go_offline(ports.door, ports.loopback);
             commands::request::run(words, alloc, ports.office, &mut clock, out, err)
         }
         Asked::Report(words) => {
-            ports.door.leave();
+            go_offline(ports.door, ports.loopback);
             commands::report::run(&words, alloc, ports.office, out, err)
         }
         Asked::Meter(words) => {
-            leave_all(ports.office, ports.door);
+            leave_all(ports.office, ports.door, ports.loopback);
             commands::meter::run(&words, out)
         }
         Asked::Quote(words) => {
-            leave_all(ports.office, ports.door);
+            leave_all(ports.office, ports.door, ports.loopback);
             commands::quote::run(&words, out, err)
         }
         Asked::Serve(words) => {
+            ports.loopback.leave();
             commands::serve::run(&words, alloc, ports.office, ports.door, &mut clock, err)
         }
         Asked::Selfcheck(words) => {
-            leave_all(ports.office, ports.door);
-            run_selfcheck(&words, alloc, net, out, err)
+            ports.office.leave();
+            ports.door.leave();
+            run_selfcheck(&words, alloc, ports.loopback, out, err)
         }
     }
 }

@@ -1,23 +1,25 @@
 //! A conversation of this machine with itself: what the desk writes over a connection, beside what
 //! it writes over memory.
 
-ghost use Rattle.std.specs.Prelude.{◌≡◌, ◌↔◌, true, IfErr, IfOk, IfSome, OnOk};
+ghost use Rattle.std.specs.Prelude.{◌≡◌, ◌⊎◌, ◌↔◌, true, IfErr, IfOk, IfSome, OnOk};
 ghost use Rattle.sqlite.specs.Steps.{over_memory};
+ghost use Rattle.conversation.specs.declared.end.End.TheVariants.{Closed};
 ghost use Rattle.vend_core.specs.Law.Life.{Life};
 ghost use Rattle.vend_core.specs.declared.decision.refusal.Refusal.TheVariants.{Memory};
 ghost use Rattle.books.specs.Keeps.{Represents, seen};
-ghost use Rattle.vend_commands.specs.Selfchecked.{AgreesOver, IsAnsweredFrom, AreReplies};
-ghost use Rattle.vend_commands.specs.Selfchecked.{IsAnsweredOver, MessagesAreSent, fault_in_memory};
+ghost use Rattle.vend_commands.specs.Selfchecked.{AgreesOver, AreReplies, Converses, ConversesOver};
+ghost use Rattle.vend_commands.specs.Selfchecked.{Disagrees, HasNoReplies, fault_in_memory};
+ghost use Rattle.vend_commands.specs.Selfchecked.{fault_over_net};
 
+use crate::loopback::Loopback;
 use crate::prepared::{NOW, prepare};
 use crate::selfcheck_fault::SelfcheckFault;
 use books::Books;
 use desk::{Desk, End, Script};
 use sqlite::MemStore;
-use std::alloc::Global;
+use std::alloc::{AllocError, Global};
 use std::io;
 use std::io::{ErrorKind, Read, Write};
-use std::net::{Net, OpenListener, OpenStream, Shutdown, TcpListener, TcpStream};
 use sts_token::BlockTransform;
 use vend_core::Refusal;
 
@@ -30,17 +32,25 @@ const MESSAGES: &[u8] = b"POST /sales HTTP/1.1\r\nHost: d\r\nContent-Length: 64\
 /// itself. Both offices are in memory and begin alike.
 ///
 /// # Errors
-/// `Net` where the replies are not the same.
-pub(crate) fn selfcheck<N: Net, T: BlockTransform + Copy + Drop>(
+/// `Net` where the replies are not the same, or do not come; and `Unopened` and `Refused`.
+pub(crate) fn selfcheck<L: Loopback, T: BlockTransform + Copy + Drop>(
     alloc: Global,
-    net: &N,
+    loopback: L,
     transform: T,
 ) -> Result<(), SelfcheckFault>
-    ensures { OnOk result (AgreesOver N.Stream.remaining N.Stream.contents
-        (T.forwards transform)) }
+    ensures agrees { OnOk result (AgreesOver L.Loopback L.Stream.remaining L.Stream.contents
+        loopback (T.forwards transform)) }
+    ensures disagrees { IfErr result (Disagrees L.Loopback L.Stream.remaining L.Stream.contents
+        loopback (T.forwards transform) (seen over_memory T.forwards)) }
 {
-    let replies = replies_over_memory(alloc, transform)?;
-    let mut stream = replies_over_net(alloc, net, transform)?;
+    let replies = match replies_over_memory(alloc, transform) {
+        Ok(replies) => replies,
+        Err(fault) => return Err(fault),
+    };
+    let mut stream = match replies_over_net(alloc, loopback, transform) {
+        Ok(stream) => stream,
+        Err(fault) => return Err(fault),
+    };
     match gives_exactly(alloc, &mut stream, &replies) {
         Ok(true) => Ok(()),
         Ok(false) => Err(SelfcheckFault::Net),
@@ -49,86 +59,101 @@ pub(crate) fn selfcheck<N: Net, T: BlockTransform + Copy + Drop>(
 }
 
 /// The replies to the messages over memory.
+///
+/// # Errors
+/// `Net` where the conversation is cut; and `Unopened` and `Refused`.
 pub fn replies_over_memory<T: BlockTransform + Drop>(
     alloc: Global,
     transform: T,
 ) -> Result<Vec<u8>, SelfcheckFault>
-    ensures { IfOk result (λ replies. AreReplies (T.forwards transform) replies.items) }
+    ensures replies { IfOk result (λ replies. AreReplies (T.forwards transform) replies.items) }
+    ensures none { IfErr result (HasNoReplies (seen over_memory T.forwards)
+        (T.forwards transform)) }
 {
-    let mut books = prepare(alloc, transform)?;
-    let desk = make_desk(alloc)?;
+    let mut books = match prepare(alloc, transform) {
+        Ok(books) => books,
+        Err(fault) => return Err(fault),
+    };
     let mut reader = MESSAGES;
     let mut replies = Vec::new(alloc);
-    match answer(alloc, &desk, &mut reader, &mut replies, &mut books) {
-        Ok(()) => Ok(replies),
-        Err(end) => Err(fault_in_memory(end)),
+    let Ok(end) = answer(alloc, &mut reader, &mut replies, &mut books) else {
+        return Err(SelfcheckFault::Refused(Refusal::Memory));
+    };
+    match fault_in_memory(end) {
+        None => Ok(replies),
+        Some(fault) => Err(fault),
     }
 }
 
 // The stream on which the replies to the messages come, over a connection that has ended.
-fn replies_over_net<N: Net, T: BlockTransform + Drop>(
+fn replies_over_net<L: Loopback, T: BlockTransform + Drop>(
     alloc: Global,
-    net: &N,
+    loopback: L,
     transform: T,
-) -> Result<N::Stream, SelfcheckFault>
-    ensures sent { IfOk result (MessagesAreSent N.Stream.contents) }
-    ensures answered { OnOk result (IsAnsweredOver N.Stream.remaining N.Stream.contents
-        (T.forwards transform)) }
+) -> Result<L::Stream, SelfcheckFault>
+    ensures answered { IfOk result (λ near. ConversesOver L.Loopback L.Stream.remaining
+        L.Stream.contents loopback (T.forwards transform) near Closed) }
+    ensures disagrees { IfErr result (Disagrees L.Loopback L.Stream.remaining L.Stream.contents
+        loopback (T.forwards transform) (seen over_memory T.forwards)) }
 {
-    let mut books = prepare(alloc, transform)?;
-    let desk = make_desk(alloc)?;
-    let (near, mut reader) = match connection(net) {
+    let mut books = match prepare(alloc, transform) {
+        Ok(books) => books,
+        Err(fault) => return Err(fault),
+    };
+    let (near, mut reader, mut writer) = match loopback.connect(MESSAGES) {
         Ok(ends) => ends,
         Err(error) => return Err(fault_of(&error)),
     };
-    let mut writer = reader.try_clone().map_err(|error| fault_of(&error))?;
-    match answer(alloc, &desk, &mut reader, &mut writer, &mut books) {
-        Ok(()) => Ok(near),
-        Err(_) => Err(SelfcheckFault::Net),
+    let Ok(end) = answer(alloc, &mut reader, &mut writer, &mut books) else {
+        return Err(SelfcheckFault::Refused(Refusal::Memory));
+    };
+    match fault_over_net(end) {
+        None => Ok(near),
+        Some(fault) => Err(fault),
     }
 }
 
-// The two ends of a connection. The messages, and no more, were written at the first.
-fn connection<N: Net>(net: &N) -> io::Result<(N::Stream, N::Stream)>
-    ensures { IfOk result (λ ends. MessagesAreSent N.Stream.contents ends.0) }
-{
-    let listener = TcpListener::bind(net, "127.0.0.1:0")?;
-    let mut near = TcpStream::connect(net, listener.local_addr()?)?;
-    near.write_all(MESSAGES)?;
-    near.shutdown(Shutdown::Write)?;
-    let (far, _) = listener.accept()?;
-    // Else each reply but the first waits for the one before to be acknowledged.
-    far.set_nodelay(true)?;
-    Ok((near, far))
-}
-
-// A desk, where there is room for one.
-fn make_desk(alloc: Global) -> Result<Desk, SelfcheckFault>
-    ensures { IfErr result (λ fault. fault ≡ SelfcheckFault.Refused Memory) }
-{
-    match Desk::new(alloc) {
-        Ok(desk) => Ok(desk),
-        Err(_) => Err(SelfcheckFault::Refused(Refusal::Memory)),
-    }
-}
-
-// Has the desk answer a reader to its end, or tells how the conversation ended before. The clock
+// Has the desk hold a conversation with a reader and a writer, and tells how it ended. The clock
 // stands still.
 fn answer<T: BlockTransform, R: Read, W: Write>(
     alloc: Global,
-    desk: &Desk,
     reader: &mut R,
     writer: &mut W,
     books: &mut Books<MemStore, T>,
-) -> Result<(), End>
-    ensures { OnOk result ((life : Life) → Represents life (seen over_memory T.forwards books.old)
-        → IsAnsweredFrom life (R.remaining reader.old)
-        (W.contents writer.old) (W.contents writer.new)) }
+) -> Result<End, AllocError>
+    ensures { IfOk result (λ end. (life : Life)
+        → Represents life (seen over_memory T.forwards books.old)
+        → Converses life (R.remaining reader.old)
+        (W.contents writer.old) (W.contents writer.new) end) }
 {
+    let Ok(desk) = Desk::new(alloc) else {
+        return Err(AllocError);
+    };
     let mut clock = Script::new(NOW, &[]);
-    match desk.run(alloc, reader, writer, books, &mut clock) {
-        End::Closed => Ok(()),
-        end => Err(end),
+    Ok(desk.run(alloc, reader, writer, books, &mut clock))
+}
+
+// What is told of a conversation over memory that ended so. Where a write failed there was no room:
+// a vector takes all that there is room for.
+fn fault_in_memory(end: End) -> Option<SelfcheckFault>
+    ensures { result ≡ fault_in_memory end }
+{
+    match end {
+        End::Closed => None,
+        End::WriteFault => Some(SelfcheckFault::Refused(Refusal::Memory)),
+        End::BadMessage | End::ReadFault | End::Memory => Some(SelfcheckFault::Net),
+    }
+}
+
+// What is told of one over a connection.
+fn fault_over_net(end: End) -> Option<SelfcheckFault>
+    ensures { result ≡ fault_over_net end }
+{
+    match end {
+        End::Closed => None,
+        End::BadMessage | End::ReadFault | End::WriteFault | End::Memory => Some(
+            SelfcheckFault::Net,
+        ),
     }
 }
 
@@ -142,19 +167,10 @@ pub fn gives_exactly<R: Read>(alloc: Global, reader: &mut R, text: &[u8]) -> io:
     Ok(bytes.as_slice() == text)
 }
 
-// What is told of a conversation over memory that ended before all was answered.
-fn fault_in_memory(end: End) -> SelfcheckFault
-    ensures { result ≡ fault_in_memory end }
+// Why a connection gave no more, or none was had.
+fn fault_of(error: &io::Error) -> SelfcheckFault
+    ensures { (result ≡ SelfcheckFault.Net) ⊎ (result ≡ SelfcheckFault.Refused Memory) }
 {
-    match end {
-        // A vector takes all that there is room for.
-        End::WriteFault => SelfcheckFault::Refused(Refusal::Memory),
-        End::Closed | End::BadMessage | End::ReadFault | End::Memory => SelfcheckFault::Net,
-    }
-}
-
-// Why a connection gave no more.
-fn fault_of(error: &io::Error) -> SelfcheckFault {
     match error.kind() {
         ErrorKind::OutOfMemory => SelfcheckFault::Refused(Refusal::Memory),
         _ => SelfcheckFault::Net,

@@ -1,9 +1,12 @@
-ghost use Rattle.std.specs.Prelude.{OnOk};
+ghost use Rattle.sqlite.specs.Steps.{over_memory};
+ghost use Rattle.books.specs.Keeps.{seen};
 ghost use Rattle.command_line.specs.Transform.{forward_of};
-ghost use Rattle.vend_commands.specs.Selfchecked.{AgreesOver, IsSelfchecked, selfcheck_fault_line};
+ghost use Rattle.vend_commands.specs.Selfchecked.{AgreesOver, Disagrees, IsSelfchecked};
+ghost use Rattle.vend_commands.specs.Selfchecked.{selfcheck_fault_line};
 ghost use Rattle.vend_commands.specs.Told.{Takes, outputs, sink};
 
 use crate::end::End;
+use crate::loopback::Loopback;
 use crate::printed::{put_line, put_opening, put_refusal};
 use crate::selfcheck::selfcheck;
 use crate::selfcheck_fault::SelfcheckFault;
@@ -11,22 +14,23 @@ use crate::watched::Watched;
 use command_line::SelfcheckWords;
 use std::alloc::Global;
 use std::io::Write;
-use std::net::Net;
 
 /// Prints that the same replies came over a connection, or tells why they did not.
-pub fn run_selfcheck<N: Net, O: Write, E: Write>(
+pub fn run_selfcheck<L: Loopback, O: Write, E: Write>(
     words: &SelfcheckWords,
     alloc: Global,
-    net: &N,
+    loopback: L,
     out: &mut Watched<'_, O>,
     err: &mut Watched<'_, E>,
 ) -> End
-    ensures { IsSelfchecked (AgreesOver N.Stream.remaining N.Stream.contents
+    ensures { IsSelfchecked (AgreesOver L.Loopback L.Stream.remaining L.Stream.contents loopback
         (forward_of words.now.transform))
+        (Disagrees L.Loopback L.Stream.remaining L.Stream.contents loopback
+        (forward_of words.now.transform) (seen over_memory forward_of))
         (outputs (sink O.contents out.old) (sink O.contents out.new)
         (sink E.contents err.old) (sink E.contents err.new)) result }
 {
-    match selfcheck(alloc, net, words.transform) {
+    match selfcheck(alloc, loopback, words.transform) {
         Ok(()) => {
             put_line(&[b"selfcheck", b"ok"], out);
             End::Done

@@ -1,9 +1,9 @@
 use Rattle.std.proofs.Common.{refl}
 use Rattle.sqlite.specs.Files.{over_files}
 use Rattle.command_line.specs.declared.asked.Asked.TheVariants as asks
-use Rattle.vend_commands.specs.Places.{machine, places_of, way}
+use Rattle.vend_commands.specs.Places.{loop_of, machine, places_of, way}
 use Rattle.vend_commands.specs.Told.{outputs, sink}
-use Rattle.vend_commands.proofs.RunLemmas.{done_so, selfcheck_done}
+use Rattle.vend_commands.proofs.RunLemmas.{done_so}
 use Rattle.vend_commands.proofs.TakeLemmas.{takes_none}
 use Rattle.vend_commands.proofs.running.answer.Goals as goal
 
@@ -14,10 +14,10 @@ returns-in-Serve g c =
     let at = places_of g.H.Medium.Disk g.H.Salts.SaltSource H c.args.ports.office in
     let store = over_files {g = g.H.Medium.Disk} in
     let m = machine at (H.leaves c.args.ports.office) (g.F.TextFiles.reads c.args.ports.texts) (g.F.TextFiles.lacks c.args.ports.texts) (g.C.Clock.answers c.args.ports.clock)
-    (way D g.D.Reader.Read.remaining g.D.Writer.Write.contents) c.args.ports.door in
+    (way D g.D.Reader.Read.remaining g.D.Writer.Write.contents) c.args.ports.door (loop_of g.L.Loopback g.L.Stream.Read.remaining g.L.Stream.Write.contents c.args.ports.loopback) in
     let out = sink g.O.Write.contents c.args.out.now in
     let o = outputs out out (sink g.E.Write.contents c.args.err.now) (sink g.E.Write.contents c.run-in-Serve.new.err) in
-    done_so store m c.args.asked (asks.Serve c.in-Serve.words) o c.run-in-Serve.result c.in-Serve.is (refl, c.run-in-Serve.ensures)
+    done_so store m c.args.asked (asks.Serve c.in-Serve.words) o c.run-in-Serve.result c.in-Serve.is (c.leave.ensures, (refl, c.run-in-Serve.ensures))
 
 pub returns-in-Report : goal.returns-in-Report
 returns-in-Report g c =
@@ -26,9 +26,9 @@ returns-in-Report g c =
     let at = places_of g.H.Medium.Disk g.H.Salts.SaltSource H c.args.ports.office in
     let store = over_files {g = g.H.Medium.Disk} in
     let m = machine at (H.leaves c.args.ports.office) (g.F.TextFiles.reads c.args.ports.texts) (g.F.TextFiles.lacks c.args.ports.texts) (g.C.Clock.answers c.args.ports.clock)
-    (way D g.D.Reader.Read.remaining g.D.Writer.Write.contents) c.args.ports.door in
+    (way D g.D.Reader.Read.remaining g.D.Writer.Write.contents) c.args.ports.door (loop_of g.L.Loopback g.L.Stream.Read.remaining g.L.Stream.Write.contents c.args.ports.loopback) in
     let o = outputs (sink g.O.Write.contents c.args.out.now) (sink g.O.Write.contents c.run-in-Report.new.out) (sink g.E.Write.contents c.args.err.now) (sink g.E.Write.contents c.run-in-Report.new.err) in
-    done_so store m c.args.asked (asks.Report c.in-Report.words) o c.run-in-Report.result c.in-Report.is (c.leave-in-Report.ensures, c.run-in-Report.ensures)
+    done_so store m c.args.asked (asks.Report c.in-Report.words) o c.run-in-Report.result c.in-Report.is ((c.go_offline-in-Report.ensures.door, c.go_offline-in-Report.ensures.loopback), c.run-in-Report.ensures)
 
 pub returns-in-Meter : goal.returns-in-Meter
 returns-in-Meter g c =
@@ -37,11 +37,11 @@ returns-in-Meter g c =
     let at = places_of g.H.Medium.Disk g.H.Salts.SaltSource H c.args.ports.office in
     let store = over_files {g = g.H.Medium.Disk} in
     let m = machine at (H.leaves c.args.ports.office) (g.F.TextFiles.reads c.args.ports.texts) (g.F.TextFiles.lacks c.args.ports.texts) (g.C.Clock.answers c.args.ports.clock)
-    (way D g.D.Reader.Read.remaining g.D.Writer.Write.contents) c.args.ports.door in
+    (way D g.D.Reader.Read.remaining g.D.Writer.Write.contents) c.args.ports.door (loop_of g.L.Loopback g.L.Stream.Read.remaining g.L.Stream.Write.contents c.args.ports.loopback) in
     let err = sink g.E.Write.contents c.args.err.now in
     let o = outputs (sink g.O.Write.contents c.args.out.now) (sink g.O.Write.contents c.run-in-Meter.new.out) err err in
     done_so store m c.args.asked (asks.Meter c.in-Meter.words) o c.run-in-Meter.result c.in-Meter.is
-    ((c.leave_all-in-Meter.ensures.office, c.leave_all-in-Meter.ensures.door), (c.run-in-Meter.ensures.told, takes_none err, c.run-in-Meter.ensures.end))
+    ((c.leave_all-in-Meter.ensures.office, (c.leave_all-in-Meter.ensures.door, c.leave_all-in-Meter.ensures.loopback)), (c.run-in-Meter.ensures.told, takes_none err, c.run-in-Meter.ensures.end))
 
 pub returns : goal.returns
 returns g c =
@@ -50,7 +50,7 @@ returns g c =
     let at = places_of g.H.Medium.Disk g.H.Salts.SaltSource H c.args.ports.office in
     let store = over_files {g = g.H.Medium.Disk} in
     let m = machine at (H.leaves c.args.ports.office) (g.F.TextFiles.reads c.args.ports.texts) (g.F.TextFiles.lacks c.args.ports.texts) (g.C.Clock.answers c.args.ports.clock)
-    (way D g.D.Reader.Read.remaining g.D.Writer.Write.contents) c.args.ports.door in
+    (way D g.D.Reader.Read.remaining g.D.Writer.Write.contents) c.args.ports.door (loop_of g.L.Loopback g.L.Stream.Read.remaining g.L.Stream.Write.contents c.args.ports.loopback) in
     let o = outputs (sink g.O.Write.contents c.args.out.now) (sink g.O.Write.contents c.run_selfcheck.new.out) (sink g.E.Write.contents c.args.err.now) (sink g.E.Write.contents c.run_selfcheck.new.err) in
     done_so store m c.args.asked (asks.Selfcheck c.in-Selfcheck.words) o c.run_selfcheck.result c.in-Selfcheck.is
-    ((c.leave_all-in-Selfcheck.ensures.office, c.leave_all-in-Selfcheck.ensures.door), selfcheck_done o c.run_selfcheck.result _ _ (λ agrees. (agrees.text, agrees.replies)) c.run_selfcheck.ensures)
+    (c.leave-in-Selfcheck.ensures, c.leave-in-Selfcheck-2.ensures, c.run_selfcheck.ensures)

@@ -24,7 +24,7 @@ returns-clause-run g c =
           (sink_after g.O.Write.contents out.result ran.new.out _ (search rules) same.out)
           (sink_before g.E.Write.contents err.result c.args.err.now err.ensures.held err.ensures.sound)
           (sink_after g.E.Write.contents err.result ran.new.err _ (search rules) same.err)
-          (run_bare _ _ _ _ _ _ _ _ _ _ ran.result ran.ensures),
+          (run_bare _ _ _ _ _ _ _ _ _ (λ transform agrees. (agrees.text, agrees.replies)) _ _ ran.result ran.ensures),
       c.status.ensures ∙ ap (status_of ran.result) c.has_failed.ensures,
     )
 

@@ -5,7 +5,7 @@ use Rattle.vend_commands.proofs.TakeLemmas.{takes_none}
 use Rattle.vend_commands.proofs.commands.selfcheck.run_selfcheck.Goals as goal
 
 pub returns-in-Err : goal.returns-in-Err
-returns-in-Err g c = failed c.in-Err.fault (takes_none (sink g.O.Write.contents c.args.out.now), c.put_selfcheck_fault.ensures, refl)
+returns-in-Err g c = failed c.in-Err.fault c.in-Err.ensures.disagrees (takes_none (sink g.O.Write.contents c.args.out.now), c.put_selfcheck_fault.ensures, refl)
 
 pub returns-in-Ok : goal.returns-in-Ok
-returns-in-Ok g c = agreed c.in-Ok.ensures (c.put_line.ensures, takes_none (sink g.E.Write.contents c.args.err.now), refl)
+returns-in-Ok g c = agreed c.in-Ok.ensures.agrees (c.put_line.ensures, takes_none (sink g.E.Write.contents c.args.err.now), refl)
