@@ -6,18 +6,16 @@
 #![tactic(auto)]
 
 #[cfg(test)]
-mod calendar;
-#[cfg(test)]
-mod fields;
+mod faults;
 #[cfg(test)]
 mod meter;
 #[cfg(test)]
 mod office;
 #[cfg(test)]
+mod rules;
+#[cfg(test)]
 mod tariffs;
 #[cfg(test)]
 mod texts;
-#[cfg(test)]
-mod token_reading;
 #[cfg(test)]
 mod tokens;

@@ -2,9 +2,11 @@
 
 use crate::tokens::draw;
 use sim_meter::{Answer, Meter};
+use std::ops::Range;
+use std::process::Abort;
 use std::test::Fail;
 use sts_fields::Amount;
-use sts_token::{Demo, Fields, Plain, TokenFault, write};
+use sts_token::{BlockTransform, Demo, Fields, Plain, TokenFault, write};
 
 const KEY: u64 = 0x0123_4567_89AB_CDEF;
 
@@ -21,67 +23,68 @@ fn token(tid: u32, amount: Amount) -> [u8; 20] {
     )
 }
 
+// It has no clause, so that the proof of a test does not carry what the meter promises.
+fn enter<T: BlockTransform>(meter: &mut Meter<T>, digits: &[u8]) -> Answer {
+    meter.enter(digits)
+}
+
+// Enters the tokens of these identifiers, of which each is taken.
+fn takes_each<T: BlockTransform>(
+    rt: &impl Abort,
+    meter: &mut Meter<T>,
+    tids: Range<u32>,
+    amount: Amount,
+) {
+    for tid in tids {
+        let answer = enter(meter, &token(tid, amount));
+        assert_eq!(rt; answer, Answer::Accepted(amount), "{tid}");
+    }
+}
+
+// A token's answer, and the credit after it.
+fn answers<T: BlockTransform>(
+    rt: &impl Abort,
+    meter: &mut Meter<T>,
+    digits: &[u8],
+    answer: Answer,
+    credit: u64,
+) {
+    assert_eq!(rt; enter(meter, digits), answer, "{digits:?}");
+    assert_eq!(rt; meter.credit(), credit, "{digits:?}");
+}
+
 #[test]
 fn forgets_the_least_of_fifty(rt: HostRuntime) -> Result<(), Fail> {
     let amount = Amount::of_tenths(16_384).ok_or("representable")?;
+    let taken = Answer::Accepted(amount);
     let mut full = Meter::new(Plain, KEY);
+    takes_each(&rt, &mut full, 100..150, amount);
+    answers(&rt, &mut full, &token(50, amount), Answer::Old, 819_200);
+    answers(&rt, &mut full, &token(149, amount), Answer::Used, 819_200);
+    answers(&rt, &mut full, &token(0, amount), Answer::Old, 819_200);
     let mut nearly = Meter::new(Plain, KEY);
-    for tid in 100..150 {
-        assert_eq!(rt;
-            full.enter(&token(tid, amount)),
-            Answer::Accepted(amount),
-            "{tid}"
-        );
-    }
-    for tid in 100..149 {
-        assert_eq!(rt;
-            nearly.enter(&token(tid, amount)),
-            Answer::Accepted(amount),
-            "{tid}"
-        );
-    }
-    assert_eq!(rt; full.credit(), 819_200);
-    assert_eq!(rt; full.enter(&token(50, amount)), Answer::Old);
-    assert_eq!(rt; full.enter(&token(149, amount)), Answer::Used);
-    assert_eq!(rt; full.enter(&token(0, amount)), Answer::Old);
-    assert_eq!(rt; full.credit(), 819_200);
-    assert_eq!(rt; nearly.enter(&token(50, amount)), Answer::Accepted(amount));
-    assert_eq!(rt; nearly.enter(&token(50, amount)), Answer::Used);
-    assert_eq!(rt; nearly.enter(&token(49, amount)), Answer::Old);
-    assert_eq!(rt; nearly.credit(), 819_200);
+    takes_each(&rt, &mut nearly, 100..149, amount);
+    answers(&rt, &mut nearly, &token(50, amount), taken, 819_200);
+    answers(&rt, &mut nearly, &token(50, amount), Answer::Used, 819_200);
+    answers(&rt, &mut nearly, &token(49, amount), Answer::Old, 819_200);
     Ok(())
 }
 
 #[test]
 fn takes_a_token_once(rt: HostRuntime) -> Result<(), Fail> {
-    let amount = Amount::of_tenths(1).ok_or("representable")?;
+    let taken = Answer::Accepted(Amount::of_tenths(1).ok_or("representable")?);
     let mut meter = Meter::new(Plain, 0);
     assert_eq!(rt; meter.credit(), 0);
-    assert_eq!(rt;
-        meter.enter(b"00144115200960832043"),
-        Answer::Accepted(amount)
-    );
-    assert_eq!(rt;
-        meter.enter(b"00072057602627981690"),
-        Answer::Accepted(amount)
-    );
-    assert_eq!(rt; meter.enter(b"00072057602627981690"), Answer::Used);
-    assert_eq!(rt;
-        meter.enter(b"00072057602627981691"),
-        Answer::Refused(TokenFault::BadCheck)
-    );
-    assert_eq!(rt;
-        meter.enter(b""),
-        Answer::Refused(TokenFault::NotTwentyDigits)
-    );
-    assert_eq!(rt; meter.credit(), 2);
+    answers(&rt, &mut meter, b"00144115200960832043", taken, 1);
+    answers(&rt, &mut meter, b"00072057602627981690", taken, 2);
+    answers(&rt, &mut meter, b"00072057602627981690", Answer::Used, 2);
+    let bad = Answer::Refused(TokenFault::BadCheck);
+    answers(&rt, &mut meter, b"00072057602627981691", bad, 2);
+    let no_digits = Answer::Refused(TokenFault::NotTwentyDigits);
+    answers(&rt, &mut meter, b"", no_digits, 2);
     meter.clear();
     assert_eq!(rt; meter.credit(), 2);
-    assert_eq!(rt;
-        meter.enter(b"00072057602627981690"),
-        Answer::Accepted(amount)
-    );
-    assert_eq!(rt; meter.credit(), 3);
+    answers(&rt, &mut meter, b"00072057602627981690", taken, 3);
     Ok(())
 }
 
@@ -163,7 +166,7 @@ fn answers_as_fifty_places_in_no_order(rt: HostRuntime) -> Result<(), Fail> {
         drawn = draw(drawn);
         // A hundred identifiers at a time, which rise by one in four entries.
         let tid = entry / 4 + (drawn % 100) as u32;
-        let answer = meter.enter(&token(tid, amount));
+        let answer = enter(&mut meter, &token(tid, amount));
         assert_eq!(rt; answer, plain.enter(tid, amount), "{entry}: {tid}");
         assert_eq!(rt; meter.credit(), plain.credit, "{entry}");
         let which = match answer {

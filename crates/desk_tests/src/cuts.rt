@@ -1,9 +1,9 @@
 //! A sale and the call for its receipt, 159 bytes, over books: cut after any byte, in pieces, by a
 //! reader that fails, and to a writer that fails. Each time over an office of its own, so that it
 //! has to sell anew.
-use crate::inputs::first;
 use crate::prepared::{NO_HEAD, PRINTED, RECEIPT, SALE, SOLD, hold, prepared};
 use crate::streams::{Asking, Counting, Failing, Full, Pieces};
+use crate::texts::first;
 use desk::End;
 use std::alloc::{AllocError, Global};
 use std::cell::Cell;
@@ -63,7 +63,7 @@ fn each_beginning(
 ) -> Result<(), Fail> {
     let alloc = rt.alloc();
     for count in 0..=159_usize {
-        let mut books = prepared(alloc).ok_or("no office")?;
+        let mut books = prepared(alloc)?;
         let mut reader = Pieces {
             rest: first(input, count),
             size,
@@ -100,7 +100,7 @@ fn two_pieces_cut_after_any_byte(rt: HostRuntime) -> Result<(), Fail> {
     let input = joined(alloc, SALE, RECEIPT)?;
     let replies = joined(alloc, SOLD, PRINTED)?;
     for cut in 0..=159_usize {
-        let mut books = prepared(alloc).ok_or("no office")?;
+        let mut books = prepared(alloc)?;
         let front = first(&input, cut);
         let back = input.get(front.len()..).unwrap_or(b"");
         let mut reader = front.chain(back);
@@ -129,7 +129,7 @@ fn a_long_conversation_byte_by_byte(rt: HostRuntime) -> Result<(), Fail> {
         fails: false,
     };
     let mut text = Vec::new(alloc);
-    let mut books = prepared(alloc).ok_or("no office")?;
+    let mut books = prepared(alloc)?;
     let end = hold(alloc, &mut books, &mut reader, &mut text).ok_or("no desk")?;
     assert_eq!(rt; text, replies);
     assert_eq!(rt; end, End::Closed);
@@ -142,7 +142,7 @@ fn a_writer_that_takes_nothing(rt: HostRuntime) -> Result<(), Fail> {
     let alloc = rt.alloc();
     let input = joined(alloc, SALE, RECEIPT)?;
     let mut reader = input.as_slice();
-    let mut books = prepared(alloc).ok_or("no office")?;
+    let mut books = prepared(alloc)?;
     let end = hold(alloc, &mut books, &mut reader, &mut Full).ok_or("no desk")?;
     assert_eq!(rt; end, End::WriteFault);
     assert_eq!(rt; books.next_number(), 2);
@@ -156,7 +156,7 @@ fn pieces_of_any_length_and_a_writer_that_fails(rt: HostRuntime) -> Result<(), F
     let input = joined(alloc, SALE, RECEIPT)?;
     let replies = joined(alloc, SOLD, PRINTED)?;
     for room in 0..=445_usize {
-        let mut books = prepared(alloc).ok_or("no office")?;
+        let mut books = prepared(alloc)?;
         let mut reader = Pieces {
             rest: &input,
             size: room.saturating_add(1),
@@ -202,7 +202,7 @@ fn a_reply_leaves_before_more_is_asked_for(rt: HostRuntime) -> Result<(), Fail> 
         greedy: false,
     };
     let mut writer = Counting { written: &written };
-    let mut books = prepared(alloc).ok_or("no office")?;
+    let mut books = prepared(alloc)?;
     let end = hold(alloc, &mut books, &mut reader, &mut writer).ok_or("no desk")?;
     assert_eq!(rt; end, End::BadMessage);
     assert_eq!(rt; (reader.late, reader.greedy), (false, false));

@@ -2,28 +2,18 @@
 //!
 //! Messages as they are written, cut anywhere, and with each fault; bodies, routes and replies; and
 //! whole conversations, with an office in memory or in a file too, beside the office over plain
-//! lists. What is expected was worked out by hand, from `docs/DESK.md` and `docs/OFFICE.md`.
-//! Messages at their limits are in `tools/check_desk`.
+//! lists. What is expected was worked out by hand, from `docs/DESK.md` and `docs/OFFICE.md`, or
+//! computed by `tools/oracle`. Messages at their limits are in `tools/check_desk`.
 #![tactic(auto)]
 
-#[cfg(test)]
-mod answers;
-#[cfg(test)]
-mod asked;
 #[cfg(test)]
 mod bodies;
 #[cfg(test)]
 mod cuts;
 #[cfg(test)]
-mod faults;
-#[cfg(test)]
-mod inputs;
-#[cfg(test)]
-mod later;
+mod lists;
 #[cfg(test)]
 mod messages;
-#[cfg(test)]
-mod moments;
 #[cfg(test)]
 mod offices;
 #[cfg(test)]
@@ -36,3 +26,5 @@ mod replies;
 mod routes;
 #[cfg(test)]
 mod streams;
+#[cfg(test)]
+mod texts;

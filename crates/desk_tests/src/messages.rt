@@ -1,16 +1,82 @@
-//! Messages cut after every byte, blank lines, and what a message says of its body and its end.
-use crate::inputs::first;
-use crate::prepared::SALE;
-use desk::{Method, Next, Received, next_of};
+//! Messages cut after every byte, what a message says of its body and end, and messages that are
+//! refused.
 
-fn get(target: &[u8], closes: bool, len: usize) -> Next<'_> {
-    Next::Whole(Received {
-        method: Method::Get,
-        target,
-        body: b"",
-        closes,
-        len,
-    })
+use crate::prepared::SALE;
+use crate::texts::{bytes, first};
+use desk::{Method, Next, Received, next_of};
+use std::alloc::Global;
+use std::test::Fail;
+
+// What each text begins with, and the text: a whole message by its method, target, body, whether it
+// closes the conversation, and its length. `texts` says how the texts are written.
+fn messages() -> &'static str {
+    "\
+Get,/sales/1/receipt,,false,42 = GET /sales/1/receipt HTTP/1.1~Host: d~~GET / HTTP/1.0~~
+Get,/,,true,18 = GET / HTTP/1.0~~
+NeedHead =\u{20}
+Get,/a,,false,28 = ~|GET /a HTTP/1.1|hOsT: d||
+NeedHead = ~|~
+Get,/,,true,46 = GET / HTTP/1.1~Host: d~Connection: close~~
+Get,/,,true,49 = GET / HTTP/1.1~connection: \t CLOSE ~Host: d~~
+Get,/,,true,61 = GET / HTTP/1.1~Host: d~Connection: x~Connection: Close~~
+Get,/,,false,51 = GET / HTTP/1.1~Host: d~Connection: keep-alive~~
+Get,/,,false,49 = GET / HTTP/1.1~Host: d~Connection: close, x~~
+Get,/,,true,36 = GET / HTTP/1.0~Host: d~Host: e~~
+NeedBody(64) = POST / HTTP/1.1~Host: d~Content-Length: 0064~~
+NeedBody(7) = POST / HTTP/1.1~Host: d~CONTENT-LENGTH: \t7 \t~~
+NeedBody(12) = GET / HTTP/1.1~Host: d~Content-Length:12~~
+NeedBody(1) = POST / HTTP/1.0~Content-Length: 000000000000000000000000000001~~
+Post,/,,false,47 = POST / HTTP/1.1~Host: d~Content-Length: 0~~
+Refused(Head) = \x01
+Refused(Head) = GET  / HTTP/1.1~
+Refused(Head) = GET / HTTP/2.0~
+Refused(Head) = GET /^ HTTP/1.1~
+Refused(Head) = GET / HTTP/1.1~Host: d~X: a~ b~~
+Refused(Head) = GET / HTTP/1.1~Host : d~~
+Refused(Head) = GET / HTTP/1.1~Host: d~X: a\0b~~
+Refused(Head) = GET /\0 HTTP/1.1~Host: d~~
+Refused(Head) = GET / HTTP/1.1~Host: d~X: a$b~~
+Refused(Head) = GET / HTTP/1.1$Host: d$$
+Refused(Method) = PUT / HTTP/1.1~~
+Refused(Method) = HEAD / HTTP/1.0~~
+Refused(Method) = get / HTTP/1.1~Host: d~~
+Refused(Host) = GET / HTTP/1.1~~
+Refused(Host) = GET / HTTP/1.1~Host: d~Host: d~~
+Refused(Coding) = POST / HTTP/1.1~Host: d~transfer-encoding: chunked~Content-Length: x~~
+Refused(Coding) = POST / HTTP/1.0~Transfer-Encoding:~~
+Refused(Length) = POST / HTTP/1.0~Content-Length: 1~content-length: 1~~
+Refused(Length) = POST / HTTP/1.0~Content-Length: ~~
+Refused(Length) = POST / HTTP/1.0~Content-Length: +1~~
+Refused(Length) = POST / HTTP/1.0~Content-Length: 1 2~~
+Refused(Length) = POST / HTTP/1.0~Content-Length: 1, 1~~
+Refused(Body) = POST / HTTP/1.0~Content-Length: 99999999999999999999999999~~
+"
+}
+
+fn named(alloc: Global, next: Next<'_>) -> Result<String, Fail> {
+    match next {
+        Next::Whole(message) => {
+            let (method, closes, len) = (message.method, message.closes, message.len);
+            let (target, body) = (
+                str::from_utf8(message.target)?,
+                str::from_utf8(message.body)?,
+            );
+            Ok(format!(in alloc; "{method:?},{target},{body},{closes},{len}")?)
+        }
+        other => Ok(format!(in alloc; "{other:?}")?),
+    }
+}
+
+#[test]
+fn what_each_message_says(rt: HostRuntime) -> Result<(), Fail> {
+    for line in messages().lines() {
+        let (wanted, text) = line.split_once(" = ").ok_or("no message")?;
+        let text = bytes(rt.alloc(), text)?;
+        let found = named(rt.alloc(), next_of(&text))?;
+        assert_eq!(rt; found.as_str(), wanted, "{line}");
+    }
+    assert_eq!(rt; messages().lines().count(), 39);
+    Ok(())
 }
 
 #[test]
@@ -32,85 +98,4 @@ fn a_sale_cut_after_every_byte(rt: HostRuntime) {
             assert_eq!(rt; next, Next::NeedBody(117 - cut), "{cut}");
         }
     }
-}
-
-#[test]
-fn what_follows_is_left(rt: HostRuntime) {
-    let two = b"GET /sales/1/receipt HTTP/1.1\r\nHost: d\r\n\r\nGET / HTTP/1.0\r\n\r\n";
-    assert_eq!(rt; next_of(two), get(b"/sales/1/receipt", false, 42));
-    assert_eq!(rt; next_of(&two[42..]), get(b"/", true, 18));
-    assert_eq!(rt; next_of(b""), Next::NeedHead);
-}
-
-#[test]
-fn blank_lines_before_a_head_and_bare_line_feeds(rt: HostRuntime) {
-    assert_eq!(rt;
-        next_of(b"\r\n\nGET /a HTTP/1.1\nhOsT: d\n\n"),
-        get(b"/a", false, 28)
-    );
-    assert_eq!(rt; next_of(b"\r\n\n\r\n"), Next::NeedHead);
-}
-
-#[test]
-fn what_closes_the_conversation(rt: HostRuntime) {
-    let rows: [(&[u8], bool); 6] = [
-        (
-            b"GET / HTTP/1.1\r\nHost: d\r\nConnection: close\r\n\r\n",
-            true,
-        ),
-        (
-            b"GET / HTTP/1.1\r\nconnection: \t CLOSE \r\nHost: d\r\n\r\n",
-            true,
-        ),
-        (
-            b"GET / HTTP/1.1\r\nHost: d\r\nConnection: x\r\nConnection: Close\r\n\r\n",
-            true,
-        ),
-        (
-            b"GET / HTTP/1.1\r\nHost: d\r\nConnection: keep-alive\r\n\r\n",
-            false,
-        ),
-        (
-            b"GET / HTTP/1.1\r\nHost: d\r\nConnection: close, x\r\n\r\n",
-            false,
-        ),
-        (b"GET / HTTP/1.0\r\nHost: d\r\nHost: e\r\n\r\n", true),
-    ];
-    for (text, closes) in rows {
-        assert_eq!(rt; next_of(text), get(b"/", closes, text.len()));
-    }
-}
-
-#[test]
-fn lengths_are_numbers(rt: HostRuntime) {
-    let rows: [(&[u8], usize); 4] = [
-        (
-            b"POST / HTTP/1.1\r\nHost: d\r\nContent-Length: 0064\r\n\r\n",
-            64,
-        ),
-        (
-            b"POST / HTTP/1.1\r\nHost: d\r\nCONTENT-LENGTH: \t7 \t\r\n\r\n",
-            7,
-        ),
-        (
-            b"GET / HTTP/1.1\r\nHost: d\r\nContent-Length:12\r\n\r\n",
-            12,
-        ),
-        (
-            b"POST / HTTP/1.0\r\nContent-Length: 000000000000000000000000000001\r\n\r\n",
-            1,
-        ),
-    ];
-    for (text, missing) in rows {
-        assert_eq!(rt; next_of(text), Next::NeedBody(missing));
-    }
-    let text = b"POST / HTTP/1.1\r\nHost: d\r\nContent-Length: 0\r\n\r\n";
-    let empty = Received {
-        method: Method::Post,
-        target: b"/",
-        body: b"",
-        closes: false,
-        len: text.len(),
-    };
-    assert_eq!(rt; next_of(text), Next::Whole(empty));
 }

@@ -1,19 +1,22 @@
-//! The office at the desk, in memory and over a file: the list of `asks` as the messages of one
-//! conversation, each fault of the desk, and each message that is refused.
+//! The office at the desk, in memory and over a file: the rows of `lists`, and the office over
+//! plain lists beside it.
 
-use crate::asked::{json, message, reply_bytes};
+use crate::lists::answers::answers;
+use crate::lists::asks::asks;
+use crate::lists::later::{again, later};
+use crate::lists::talks::{after_asks, with_clocks};
+use crate::texts::{bytes, message, reply};
 use books::Books;
 use desk::{Desk, End, Script};
-use office_testing::asks::{Ask, Wanted, asks, is_wanted, request};
 use office_testing::both::{Both, agree, in_memory};
 use office_testing::in_file::{Life, live, remove};
-use office_testing::values::{FIRST_DAY, stamped};
+use office_testing::plain::answer;
 use sqlite::Alter;
 use std::alloc::Global;
 use std::process::Abort;
 use std::test::Fail;
 use sts_token::{BlockTransform, Plain};
-use vend_core::{Lists, Reply, Request};
+use vend_core::Lists;
 
 // What a conversation came to: its end, and what was written.
 #[derive(Drop)]
@@ -39,304 +42,151 @@ fn talk<S: Alter, T: BlockTransform>(
     Ok(Told { end, text })
 }
 
-// All messages of a list.
-fn messages(alloc: Global, asks: &[(i64, Ask, Wanted)]) -> Result<Vec<u8>, Fail> {
-    let mut input = Vec::new(alloc);
-    for (_, ask, _) in asks {
-        input.extend_from_slice(message(alloc, *ask)?.as_bytes())?;
+// What a conversation is made of, and what it has to come to.
+#[derive(Drop)]
+struct Held {
+    moments: Vec<i64>,
+    input: Vec<u8>,
+    output: Vec<u8>,
+}
+
+fn nothing(alloc: Global) -> Held {
+    Held {
+        moments: Vec::new(alloc),
+        input: Vec::new(alloc),
+        output: Vec::new(alloc),
     }
-    Ok(input)
 }
 
-// The moments of a list.
-fn moments(alloc: Global, asks: &[(i64, Ask, Wanted)]) -> Result<Vec<i64>, Fail> {
-    let mut moments = Vec::new(alloc);
-    for (seconds, _, _) in asks {
-        moments.push(*seconds)?;
-    }
-    Ok(moments)
+fn add_moment(held: &mut Held, text: &str) -> Result<(), Fail> {
+    let seconds: u32 = text.parse()?;
+    held.moments.push(i64::from(seconds))?;
+    Ok(())
 }
 
-/// The reply of the lists, with the nibble of the next sale's number.
-pub(crate) fn listed<T: BlockTransform>(
-    lists: &mut Lists<T>,
-    seconds: i64,
-    request: Request,
-) -> Result<Reply, Fail> {
-    let nibble = (lists.sales().len().saturating_add(1) % 16) as u8;
-    let at = stamped(seconds, nibble, request)?;
-    Ok(lists.serve(&at))
-}
-
-// What follows the reply at the beginning of a text. It is the one that the lists give, and that is
-// wanted.
-fn after_reply<'text, T: BlockTransform>(
-    rt: &(impl Abort + AllocGlobal),
-    lists: &mut Lists<T>,
-    (seconds, ask, wanted): (i64, Ask, Wanted),
-    text: &'text [u8],
-) -> Result<&'text [u8], Fail> {
-    let reply = listed(lists, seconds, request(rt.alloc(), ask)?)?;
-    assert!(rt; is_wanted(wanted, &reply), "{reply:?}");
-    let bytes = reply_bytes(rt.alloc(), matches!(ask, Ask::Receipt(_)), &reply)?;
-    assert!(rt; text.starts_with(&bytes), "{reply:?}");
-    Ok(text.get(bytes.len()..).unwrap_or(b""))
-}
-
-/// A list in one conversation.
-pub(crate) fn converse<S: Alter, T: BlockTransform>(
-    rt: &(impl Abort + AllocGlobal),
-    both: &mut Both<S, T>,
-    asks: &[(i64, Ask, Wanted)],
-) -> Result<(), Fail> {
-    let alloc = rt.alloc();
-    let input = messages(alloc, asks)?;
-    let told = talk(alloc, &mut both.books, &input, &moments(alloc, asks)?)?;
-    assert_eq!(rt; told.end, End::Closed);
-    let mut rest = told.text.as_slice();
-    for asked in asks {
-        rest = after_reply(rt, &mut both.lists, *asked, rest)?;
-    }
-    assert!(rt; rest.is_empty());
-    agree(both)
-}
-
-const PAPERS: &[u8] = b"GET /sales/1 HTTP/1.1\r\nHost: d\r\n\r\n\
-    GET /sales/1/receipt HTTP/1.1\r\nHost: d\r\n\r\n\
-    GET /shifts/1 HTTP/1.1\r\nHost: d\r\n\r\n";
-
-// What the list leaves of the first sale and of the first shift, to the byte.
-const WRITTEN: &[u8] = b"HTTP/1.1 200 OK\r\nContent-Type: application/json\r\n\
-    Content-Length: 189\r\n\r\n\
-    {\"base\":2014,\"change\":0,\"meter\":\"12345678903\",\"moment\":1388534430,\"number\":1,\
-    \"operator\":\"ann\",\"price\":10,\"ref\":\"A-1\",\"shift\":1,\"tender\":10,\"tenths\":1,\"tid\":2,\
-    \"token\":\"00072057602627981690\"}\
-    HTTP/1.1 200 OK\r\nContent-Type: text/plain\r\nContent-Length: 118\r\n\r\n\
-    SALE 1\nMETER 12345678903\nTIME 2014-01-01T00:00:30Z\nKWH 0.1\nPRICE 10\nTENDER 10\n\
-    CHANGE 0\nTOKEN 0007 2057 6026 2798 1690\n\
-    HTTP/1.1 200 OK\r\nContent-Type: text/plain\r\nContent-Length: 407\r\n\r\n\
-    SHIFT 1 ann\nOPENED 2014-01-01T00:00:30Z\nCLOSED 2014-01-01T00:00:30Z\n\
-    \x20        1 12345678903        1        10        10         0\n\
-    \x20        2 10000000009       10       100       100         0\n\
-    \x20        3 12345678903       10       100       100         0\n\
-    \x20        4 12345678903      495      5000      5000         0\n\
-    \x20        5 12345678903       10       100       100         0\n\
-    SALES 5\nTENTHS 526\nCASH 5310\n";
-
-const CLOSES: &str = "Connection: close\r\n";
-
-// A moment and a message, what the reply says, and the end.
-type Fault = (
-    i64,
-    &'static [u8],
-    &'static str,
-    &'static str,
-    &'static str,
-    End,
-);
-
-// Each fault of the desk, each message that is refused, and files that are no imports.
-static FAULTS: [Fault; 14] = [
-    (
-        FIRST_DAY,
-        b"GET /nowhere HTTP/1.1\r\nHost: d\r\n\r\n",
-        "404 Not Found",
-        "",
-        "{\"error\":\"NoRoute\"}",
-        End::Closed,
-    ),
-    (
-        FIRST_DAY,
-        b"GET /sales/0 HTTP/1.1\r\nHost: d\r\n\r\n",
-        "404 Not Found",
-        "",
-        "{\"error\":\"NoRoute\"}",
-        End::Closed,
-    ),
-    (
-        FIRST_DAY,
-        b"GET /sales HTTP/1.1\r\nHost: d\r\n\r\n",
-        "405 Method Not Allowed",
-        "Allow: POST\r\n",
-        "{\"error\":\"Method\"}",
-        End::Closed,
-    ),
-    (
-        FIRST_DAY,
-        b"POST /sales/1 HTTP/1.1\r\nHost: d\r\n\r\n",
-        "405 Method Not Allowed",
-        "Allow: GET\r\n",
-        "{\"error\":\"Method\"}",
-        End::Closed,
-    ),
-    (
-        FIRST_DAY,
-        b"GET /meters/12345678903/base HTTP/1.1\r\nHost: d\r\n\r\n",
-        "405 Method Not Allowed",
-        "Allow: POST\r\n",
-        "{\"error\":\"Method\"}",
-        End::Closed,
-    ),
-    (
-        FIRST_DAY,
-        b"GET /tariffs/flat/steps HTTP/1.1\r\nHost: d\r\n\r\n",
-        "405 Method Not Allowed",
-        "Allow: POST\r\n",
-        "{\"error\":\"Method\"}",
-        End::Closed,
-    ),
-    (
-        725_846_399,
-        b"GET /sales/1 HTTP/1.1\r\nHost: d\r\n\r\n",
-        "503 Service Unavailable",
-        "",
-        "{\"error\":\"Clock\"}",
-        End::Closed,
-    ),
-    (
-        4_102_444_800,
-        b"POST /sales HTTP/1.1\r\nHost: d\r\nContent-Length: 2\r\n\r\n{}",
-        "503 Service Unavailable",
-        "",
-        "{\"error\":\"Clock\"}",
-        End::Closed,
-    ),
-    (
-        FIRST_DAY,
-        b"POST /sales HTTP/1.1\r\nHost: d\r\nContent-Length: 2\r\n\r\n{}",
-        "422 Unprocessable Entity",
-        "",
-        "{\"error\":\"Body\"}",
-        End::Closed,
-    ),
-    (
-        FIRST_DAY,
-        b"POST /imports/meters HTTP/1.1\r\nHost: d\r\n\r\n",
-        "422 Unprocessable Entity",
-        "",
-        "{\"cause\":\"Header\",\"error\":\"ImportRow\",\"refusal\":14,\"row\":0}",
-        End::Closed,
-    ),
-    (
-        FIRST_DAY,
-        b"POST /imports/tariffs HTTP/1.1\r\nHost: d\r\nContent-Length: 15\r\n\r\nname,steps\nday\n",
-        "422 Unprocessable Entity",
-        "",
-        "{\"cause\":\"Columns\",\"error\":\"ImportRow\",\"refusal\":14,\"row\":1}",
-        End::Closed,
-    ),
-    (
-        FIRST_DAY,
-        b"POST /imports/tariffs HTTP/1.1\r\nHost: d\r\nContent-Length: 18\r\n\r\nname,steps\nday,60\n",
-        "422 Unprocessable Entity",
-        "",
-        "{\"cause\":\"Field 2\",\"error\":\"ImportRow\",\"refusal\":14,\"row\":1}",
-        End::Closed,
-    ),
-    (
-        FIRST_DAY,
-        b"GET /sales/6 HTTP/1.0\r\n\r\nGET /sales/1 HTTP/1.0\r\n\r\n",
-        "404 Not Found",
-        CLOSES,
-        "{\"error\":\"NoSale\",\"refusal\":12}",
-        End::Closed,
-    ),
-    (
-        FIRST_DAY,
-        b"GET /sales/1 HTTP/1.1\r\n\r\n",
-        "400 Bad Request",
-        CLOSES,
-        "{\"error\":\"Host\"}",
-        End::BadMessage,
-    ),
-];
-
-// It has no clause: a proof takes much longer over a list that it knows item by item.
-fn faults() -> &'static [Fault] {
-    &FAULTS
-}
-
-// A conversation comes to this text and this end.
+// It has this end, named as in the program, and this output.
 fn comes_to<S: Alter, T: BlockTransform>(
     rt: &(impl Abort + AllocGlobal),
     books: &mut Books<S, T>,
-    seconds: i64,
-    input: &[u8],
-    text: &[u8],
-    end: End,
+    held: &Held,
+    end: &str,
 ) -> Result<(), Fail> {
-    let told = talk(rt.alloc(), books, input, &[seconds])?;
-    assert_eq!(rt; told.text.as_slice(), text);
-    assert_eq!(rt; told.end, end);
+    let told = talk(rt.alloc(), books, &held.input, &held.moments)?;
+    let written = str::from_utf8(&told.text)?;
+    assert!(rt; told.text == held.output, "{written}");
+    let named = format!(in rt.alloc(); "{:?}", told.end)?;
+    assert_eq!(rt; named.as_str(), end);
     Ok(())
 }
 
-fn come_to<S: Alter, T: BlockTransform>(
+// Adds a row of one conversation. If it has a request, the lists have to reply what it says.
+fn add_row<T: BlockTransform>(
+    rt: &(impl Abort + AllocGlobal),
+    lists: &mut Lists<T>,
+    row: &str,
+    held: &mut Held,
+) -> Result<(), Fail> {
+    let mut lines = row.lines();
+    let line = lines.next().unwrap_or("");
+    let (moment, request) = line.split_once(' ').unwrap_or((line, ""));
+    add_moment(held, moment)?;
+    if !request.is_empty() {
+        let wanted = lines.next().unwrap_or("").strip_prefix("  ");
+        let told = answer(rt.alloc(), lists, line)?;
+        assert_eq!(rt; Some(told.as_str()), wanted, "{line}");
+    }
+    let sent = message(rt.alloc(), lines.next().unwrap_or(""))?;
+    held.input.extend_from_slice(&sent)?;
+    let told = reply(rt.alloc(), lines.next().unwrap_or(""))?;
+    held.output.extend_from_slice(&told)?;
+    Ok(())
+}
+
+// A row that is a conversation.
+fn row_comes_to<S: Alter, T: BlockTransform>(
     rt: &(impl Abort + AllocGlobal),
     books: &mut Books<S, T>,
-    faults: &[Fault],
+    row: &str,
 ) -> Result<(), Fail> {
-    for (seconds, input, status, fields, body, end) in faults {
-        let text = json(rt.alloc(), status, fields, body)?;
-        comes_to(rt, books, *seconds, input, &text, *end)?;
+    let alloc = rt.alloc();
+    let mut held = nothing(alloc);
+    let mut lines = row.lines();
+    let (end, moments) = lines
+        .next()
+        .unwrap_or("")
+        .split_once(' ')
+        .ok_or("no moment")?;
+    for moment in moments.split(' ') {
+        add_moment(&mut held, moment)?;
+    }
+    held.input = bytes(alloc, lines.next().unwrap_or(""))?;
+    for line in lines {
+        held.output.extend_from_slice(&reply(alloc, line)?)?;
+    }
+    comes_to(rt, books, &held, end)
+}
+
+// What a list says.
+fn hold<S: Alter, T: BlockTransform>(
+    rt: &(impl Abort + AllocGlobal),
+    both: &mut Both<S, T>,
+    list: &str,
+) -> Result<(), Fail> {
+    let (end, rows) = list.split_once('\n').ok_or("no end")?;
+    let mut held = nothing(rt.alloc());
+    for row in rows.split("> ").skip(1) {
+        if end == "Each" {
+            row_comes_to(rt, &mut both.books, row)?;
+        } else {
+            add_row(rt, &mut both.lists, row, &mut held)?;
+        }
+    }
+    if end == "Each" {
+        return Ok(());
+    }
+    comes_to(rt, &mut both.books, &held, end)
+}
+
+#[test]
+fn lists_at_a_desk_in_memory(rt: HostRuntime) -> Result<(), Fail> {
+    for (first, next) in [(asks(), after_asks()), (later(), again())] {
+        let mut both = in_memory(rt.alloc())?;
+        for list in [first, next] {
+            hold(&rt, &mut both, list)?;
+            agree(&mut both)?;
+        }
+    }
+    for list in [answers(), with_clocks()] {
+        hold(&rt, &mut in_memory(rt.alloc())?, list)?;
     }
     Ok(())
 }
 
-// After the list: what it left, and what is no request changes nothing.
-fn converse_on<S: Alter, T: BlockTransform>(
-    rt: &(impl Abort + AllocGlobal),
-    both: &mut Both<S, T>,
-) -> Result<(), Fail> {
-    let books = &mut both.books;
-    comes_to(rt, books, FIRST_DAY, PAPERS, WRITTEN, End::Closed)?;
-    come_to(rt, books, faults())?;
-    comes_to(rt, books, FIRST_DAY, b"", b"", End::Closed)?;
-    agree(both)
-}
-
-#[test]
-fn the_list_at_a_desk_in_memory(rt: HostRuntime) -> Result<(), Fail> {
-    let mut both = in_memory(rt.alloc())?;
-    converse(&rt, &mut both, asks())?;
-    converse_on(&rt, &mut both)
-}
-
-/// A life in which a list is one conversation.
+// A life in which a list is held.
 #[derive(Drop)]
-pub(crate) struct Conversation<'a, A> {
-    pub(crate) rt: &'a A,
-    pub(crate) asks: &'static [(i64, Ask, Wanted)],
+struct Conversation<'a, A> {
+    rt: &'a A,
+    list: &'static str,
 }
 
 impl<T: BlockTransform, A: Abort + AllocGlobal> Life<T, ()> for Conversation<'_, A> {
     fn live<S: Alter>(self, both: &mut Both<S, T>) -> Result<(), Fail> {
-        converse(self.rt, both, self.asks)
+        hold(self.rt, both, self.list)?;
+        agree(both)
     }
 }
 
-// The life after it.
-#[derive(Drop)]
-struct NextConversation<'a, A> {
-    rt: &'a A,
-}
-
-impl<T: BlockTransform, A: Abort + AllocGlobal> Life<T, ()> for NextConversation<'_, A> {
-    fn live<S: Alter>(self, both: &mut Both<S, T>) -> Result<(), Fail> {
-        converse_on(self.rt, both)
-    }
-}
-
+// The office is opened again between two lists.
 #[test]
-fn the_list_at_a_desk_over_a_file(rt: HostRuntime) -> Result<(), Fail> {
+fn lists_at_a_desk_over_a_file(rt: HostRuntime) -> Result<(), Fail> {
     let path = "desk.db";
-    remove(rt.alloc(), &rt, path)?;
-    let lists = Lists::new(rt.alloc(), Plain);
-    let first = Conversation {
-        rt: &rt,
-        asks: asks(),
-    };
-    let (lists, ()) = live(&rt, path, Plain, lists, first)?;
-    let _ = live(&rt, path, Plain, lists, NextConversation { rt: &rt })?;
+    for (first, next) in [(asks(), after_asks()), (later(), again())] {
+        remove(rt.alloc(), &rt, path)?;
+        let mut lists = Lists::new(rt.alloc(), Plain);
+        for list in [first, next] {
+            let (left, ()) = live(&rt, path, Plain, lists, Conversation { rt: &rt, list })?;
+            lists = left;
+        }
+    }
     remove(rt.alloc(), &rt, path)
 }

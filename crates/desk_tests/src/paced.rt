@@ -56,7 +56,7 @@ fn noted(alloc: Global, input: &[u8], size: usize) -> Result<Vec<Passed>, Fail> 
         line: Untold,
         passed: Vec::new(alloc),
     };
-    let mut books = prepared(alloc).ok_or("no office")?;
+    let mut books = prepared(alloc)?;
     let _ = hold_over(alloc, &mut line, &mut books, &mut reader, &mut text).ok_or("no desk")?;
     Ok(line.passed)
 }
@@ -101,7 +101,7 @@ fn asks_at_most(
 #[test]
 fn no_more_is_held_than_the_longest_message(rt: HostRuntime) -> Result<(), Fail> {
     let alloc = rt.alloc();
-    // A first read asks for 1024 bytes, and so does each behind small pieces; 52 do not end the head.
+    // A first read asks for 1024 bytes, and so does each behind small pieces; 52 do not end a head.
     asks_at_most(&rt, b"", usize::MAX, 1024)?;
     asks_at_most(&rt, SALE, usize::MAX, 1024)?;
     asks_at_most(&rt, SALE, 1, 52 + 1024)?;

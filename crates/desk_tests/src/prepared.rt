@@ -1,16 +1,14 @@
 //! An office in memory that can sell to a meter, messages to it, and what is written for them.
 use books::Books;
 use desk::{Desk, End, Line, Script};
+use office_testing::both::serve;
+use office_testing::lines::stamped_of;
+use office_testing::values::FIRST_DAY;
 use sqlite::MemStore;
 use std::alloc::Global;
 use std::io::{Read, Write};
-use sts_fields::Base;
+use std::test::Fail;
 use sts_token::Plain;
-use tariff::Steps;
-use vend_core::{Meter, MeterNo, Moment, Operator, Request, TariffName};
-
-// 2014-01-01T00:00:30Z
-const NOW: i64 = 1_388_534_430;
 
 /// A sale, with a body of 64 bytes: a head of 53 bytes, and 117 in all.
 pub(crate) const SALE: &[u8] = b"POST /sales HTTP/1.1\r\nHost: d\r\nContent-Length: 64\r\n\r\n\
@@ -36,42 +34,21 @@ pub(crate) const PRINTED: &[u8] =
 pub(crate) const NO_HEAD: &[u8] = b"HTTP/1.1 400 Bad Request\r\nContent-Type: application/json\r\n\
     Content-Length: 16\r\nConnection: close\r\n\r\n{\"error\":\"Head\"}";
 
-// What the office answers to a request, which has to be granted.
-fn granted(books: &mut Books<MemStore, Plain>, request: Request) -> Option<()> {
-    match books.ask(Moment::of_secs(NOW)?, request) {
-        Ok(_) => Some(()),
-        Err(_) => None,
+fn office() -> &'static str {
+    "\
+1388534430 add-tariff flat :100
+1388534430 add-meter 12345678903 2014 flat 0000000000000000
+1388534430 open-shift ann
+"
+}
+
+/// An office in memory that can sell to a meter, with ann's open shift.
+pub(crate) fn prepared(alloc: Global) -> Result<Books<MemStore, Plain>, Fail> {
+    let mut books = Books::in_memory(alloc, Plain)?;
+    for line in office().lines() {
+        let _ = serve(&mut books, &stamped_of(alloc, 0, line)?)?;
     }
-}
-
-fn flat() -> Option<TariffName> {
-    TariffName::read(b"flat")
-}
-
-fn add_tariff(alloc: Global) -> Option<Request> {
-    Some(Request::AddTariff(flat()?, Steps::of_text(alloc, b":100").ok()?))
-}
-
-fn add_meter() -> Option<Request> {
-    let meter = Meter {
-        base: Base::Y2014,
-        tariff: flat()?,
-        key: 0,
-    };
-    Some(Request::AddMeter(MeterNo::read(b"12345678903")?, meter))
-}
-
-fn open_shift() -> Option<Request> {
-    Some(Request::OpenShift(Operator::read(b"ann")?))
-}
-
-/// An office in memory that can sell to a meter.
-pub(crate) fn prepared(alloc: Global) -> Option<Books<MemStore, Plain>> {
-    let mut books = Books::in_memory(alloc, Plain).ok()?;
-    granted(&mut books, add_tariff(alloc)?)?;
-    granted(&mut books, add_meter()?)?;
-    granted(&mut books, open_shift()?)?;
-    Some(books)
+    Ok(books)
 }
 
 /// How the conversation with it ends, whose clock stands still. It has no clause, so that the proof
@@ -83,7 +60,7 @@ pub(crate) fn hold<R: Read, W: Write>(
     writer: &mut W,
 ) -> Option<End> {
     let desk = Desk::new(alloc).ok()?;
-    let mut clock = Script::new(NOW, &[]);
+    let mut clock = Script::new(FIRST_DAY, &[]);
     Some(desk.run(alloc, reader, writer, books, &mut clock))
 }
 
@@ -96,6 +73,6 @@ pub(crate) fn hold_over<L: Line<R, W>, R: Read, W: Write>(
     writer: &mut W,
 ) -> Option<End> {
     let desk = Desk::new(alloc).ok()?;
-    let mut clock = Script::new(NOW, &[]);
+    let mut clock = Script::new(FIRST_DAY, &[]);
     Some(desk.run_over(alloc, line, reader, writer, books, &mut clock))
 }

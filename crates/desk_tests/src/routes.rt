@@ -1,168 +1,103 @@
 //! Which route a target and a method stand for.
+
+use crate::texts::bytes;
 use desk::{DeskFault, Endpoint, Method, Route, Routes};
 use std::test::Fail;
 use vend_core::{MeterNo, TariffName};
 
-fn meter() -> Result<MeterNo, Fail> {
-    Ok(MeterNo::read(b"12345678903").ok_or("a meter")?)
+// Each a target behind its method, and its route.
+fn targets() -> &'static str {
+    "\
+POST /tariffs = add-tariff
+POST /tariffs/flat/steps = add-steps flat
+POST /tariffs/steps/steps = add-steps steps
+POST /tariffs/abcdefghijklmnopqrstuvwxyz-01234/steps = add-steps abcdefghijklmnopqrstuvwxyz-01234
+POST /meters = add-meter
+POST /meters/12345678903/tariff = set-tariff 12345678903
+POST /meters/12345678903/base = move-base 12345678903
+POST /shifts = open-shift
+POST /shifts/close = close-shift
+GET /shifts/1 = report 1
+GET /shifts/1000000000 = report 1000000000
+POST /sales = sell
+GET /sales/9 = reprint 9
+GET /sales/999999999 = reprint 999999999
+GET /sales/10/receipt = receipt 10
+GET /sales/1000000000/receipt = receipt 1000000000
+POST /imports/meters = import-meters
+POST /imports/tariffs = import-tariffs
+"
 }
 
-fn tariff(name: &[u8]) -> Result<TariffName, Fail> {
-    Ok(TariffName::read(name).ok_or("a tariff")?)
+fn route(text: &str) -> Result<Route, Fail> {
+    let (word, value) = text.split_once(' ').unwrap_or((text, ""));
+    Ok(match word {
+        "add-tariff" => Route::AddTariff,
+        "add-steps" => Route::AddSteps(TariffName::read(value.as_bytes()).ok_or("a tariff")?),
+        "add-meter" => Route::AddMeter,
+        "set-tariff" => Route::SetTariff(meter(value)?),
+        "move-base" => Route::MoveBase(meter(value)?),
+        "open-shift" => Route::OpenShift,
+        "close-shift" => Route::CloseShift,
+        "report" => Route::ShiftReport(value.parse()?),
+        "sell" => Route::Sell,
+        "reprint" => Route::Reprint(value.parse()?),
+        "receipt" => Route::Receipt(value.parse()?),
+        "import-meters" => Route::ImportMeters,
+        "import-tariffs" => Route::ImportTariffs,
+        _ => return Err(Fail::new(format_args!("no route: {text}"))),
+    })
+}
+
+fn meter(text: &str) -> Result<MeterNo, Fail> {
+    Ok(MeterNo::read(text.as_bytes()).ok_or("a meter")?)
+}
+
+// Targets that are no routes, each behind a `>`. `texts` says how they are written.
+fn no_targets() -> &'static str {
+    ">>/>*>tariffs>/tariffs/>//tariffs>/Tariffs>/tariffs?>/tariffs^>http://d/tariffs>/tariffs/flat\
+    >/tariffs/flat/>/tariffs/flat/step>/tariffs/flat/steps/>/tariffs//steps>/tariffs/flat_1/steps\
+    >/tariffs/fl%61t/steps>/tariffs/fl\u{e4}t/steps>/tariffs/a/b/steps\
+    >/tariffs/abcdefghijklmnopqrstuvwxyz-012345/steps>/meters/12345678904/tariff\
+    >/meters/1234567890/tariff>/meters/012345678903/tariff>/meters/%312345678903/tariff\
+    >/meters//tariff>/meters/12345678903>/meters/12345678904/base>/meters//base\
+    >/meters/12345678903/bases>/meters/12345678903/base/>/shifts/closed>/shifts/0>/shifts/01\
+    >/shifts/+1>/shifts/-1>/shifts/1.0>/shifts/%31>/shifts/>/shifts/1/>/sales/1000000001\
+    >/sales/18446744073709551617>/sales/00000000001>/sales/1/receipts>/sales/0/receipt\
+    >/imports/sales"
 }
 
 #[test]
 fn each_route(rt: HostRuntime) -> Result<(), Fail> {
     let routes = Routes::new(rt.alloc())?;
-    let rows: [(&[u8], Method, Method, Route); 18] = [
-        (b"/tariffs", Method::Post, Method::Get, Route::AddTariff),
-        (
-            b"/tariffs/flat/steps",
-            Method::Post,
-            Method::Get,
-            Route::AddSteps(tariff(b"flat")?),
-        ),
-        (
-            b"/tariffs/steps/steps",
-            Method::Post,
-            Method::Get,
-            Route::AddSteps(tariff(b"steps")?),
-        ),
-        (
-            b"/tariffs/abcdefghijklmnopqrstuvwxyz-01234/steps",
-            Method::Post,
-            Method::Get,
-            Route::AddSteps(tariff(b"abcdefghijklmnopqrstuvwxyz-01234")?),
-        ),
-        (b"/meters", Method::Post, Method::Get, Route::AddMeter),
-        (
-            b"/meters/12345678903/tariff",
-            Method::Post,
-            Method::Get,
-            Route::SetTariff(meter()?),
-        ),
-        (
-            b"/meters/12345678903/base",
-            Method::Post,
-            Method::Get,
-            Route::MoveBase(meter()?),
-        ),
-        (b"/shifts", Method::Post, Method::Get, Route::OpenShift),
-        (
-            b"/shifts/close",
-            Method::Post,
-            Method::Get,
-            Route::CloseShift,
-        ),
-        (
-            b"/shifts/1",
-            Method::Get,
-            Method::Post,
-            Route::ShiftReport(1),
-        ),
-        (
-            b"/shifts/1000000000",
-            Method::Get,
-            Method::Post,
-            Route::ShiftReport(1_000_000_000),
-        ),
-        (b"/sales", Method::Post, Method::Get, Route::Sell),
-        (b"/sales/9", Method::Get, Method::Post, Route::Reprint(9)),
-        (
-            b"/sales/999999999",
-            Method::Get,
-            Method::Post,
-            Route::Reprint(999_999_999),
-        ),
-        (
-            b"/sales/10/receipt",
-            Method::Get,
-            Method::Post,
-            Route::Receipt(10),
-        ),
-        (
-            b"/sales/1000000000/receipt",
-            Method::Get,
-            Method::Post,
-            Route::Receipt(1_000_000_000),
-        ),
-        (
-            b"/imports/meters",
-            Method::Post,
-            Method::Get,
-            Route::ImportMeters,
-        ),
-        (
-            b"/imports/tariffs",
-            Method::Post,
-            Method::Get,
-            Route::ImportTariffs,
-        ),
-    ];
-    for (target, own, other, route) in rows {
-        assert_eq!(rt; routes.route_of(target, own), Ok(route), "{target:?}");
+    for line in targets().lines() {
+        let (asked, wanted) = line.split_once(" = ").ok_or("no route")?;
+        let (method, target) = asked.split_once(' ').ok_or("no target")?;
+        let (own, other) = if method == "GET" {
+            (Method::Get, Method::Post)
+        } else {
+            (Method::Post, Method::Get)
+        };
+        let target = target.as_bytes();
+        assert_eq!(rt; routes.route_of(target, own), Ok(route(wanted)?), "{line}");
         let fault = Err(DeskFault::Method(own));
-        assert_eq!(rt; routes.route_of(target, other), fault, "{target:?}");
+        assert_eq!(rt; routes.route_of(target, other), fault, "{line}");
     }
+    assert_eq!(rt; targets().lines().count(), 18);
     Ok(())
 }
 
 #[test]
 fn no_route(rt: HostRuntime) -> Result<(), Fail> {
     let routes = Routes::new(rt.alloc())?;
-    let targets: [&[u8]; 45] = [
-        b"",
-        b"/",
-        b"*",
-        b"tariffs",
-        b"/tariffs/",
-        b"//tariffs",
-        b"/Tariffs",
-        b"/tariffs?",
-        b"/tariffs\xff",
-        b"http://d/tariffs",
-        b"/tariffs/flat",
-        b"/tariffs/flat/",
-        b"/tariffs/flat/step",
-        b"/tariffs/flat/steps/",
-        b"/tariffs//steps",
-        b"/tariffs/flat_1/steps",
-        b"/tariffs/fl%61t/steps",
-        b"/tariffs/fl\xc3\xa4t/steps",
-        b"/tariffs/a/b/steps",
-        b"/tariffs/abcdefghijklmnopqrstuvwxyz-012345/steps",
-        b"/meters/12345678904/tariff",
-        b"/meters/1234567890/tariff",
-        b"/meters/012345678903/tariff",
-        b"/meters/%312345678903/tariff",
-        b"/meters//tariff",
-        b"/meters/12345678903",
-        b"/meters/12345678904/base",
-        b"/meters//base",
-        b"/meters/12345678903/bases",
-        b"/meters/12345678903/base/",
-        b"/shifts/closed",
-        b"/shifts/0",
-        b"/shifts/01",
-        b"/shifts/+1",
-        b"/shifts/-1",
-        b"/shifts/1.0",
-        b"/shifts/%31",
-        b"/shifts/",
-        b"/shifts/1/",
-        b"/sales/1000000001",
-        b"/sales/18446744073709551617",
-        b"/sales/00000000001",
-        b"/sales/1/receipts",
-        b"/sales/0/receipt",
-        b"/imports/sales",
-    ];
-    for target in targets {
+    for text in no_targets().split('>').skip(1) {
+        let target = bytes(rt.alloc(), text)?;
         for method in [Method::Get, Method::Post] {
-            let found = routes.route_of(target, method);
-            assert_eq!(rt; found, Err(DeskFault::NoRoute), "{target:?}");
+            let found = routes.route_of(&target, method);
+            assert_eq!(rt; found, Err(DeskFault::NoRoute), "{text}");
         }
     }
+    assert_eq!(rt; no_targets().split('>').count(), 46);
     Ok(())
 }
 

@@ -1,8 +1,8 @@
 //! Both offices, the one in tables over a file.
 
 use crate::both::{Both, stop};
-use books::{Books, OpenFault};
-use sqlite::{Alter, Connection, Error, FileFrom, FileStore, Unknown};
+use books::Books;
+use sqlite::{Alter, Connection, Error, Unknown};
 use std::alloc::Global;
 use std::fs;
 use std::rt::Files;
@@ -10,26 +10,11 @@ use std::test::Fail;
 use sts_token::BlockTransform;
 use vend_core::Lists;
 
-type InFile<T> = Both<FileStore<FileFrom<Unknown>>, T>;
-
 /// What is done in a life of both offices, which comes to an `R`.
 ///
 /// It is over any store: a test that names the store of a file itself takes minutes to prove.
 pub trait Life<T: BlockTransform, R> {
     fn live<S: Alter>(self, both: &mut Both<S, T>) -> Result<R, Fail>;
-}
-
-// The office of a file, beside the lists that an earlier life left.
-fn open<T: BlockTransform + Drop>(
-    host: &HostRuntime,
-    path: &str,
-    transform: T,
-    lists: Lists<T>,
-) -> Result<InFile<T>, OpenFault> {
-    Ok(Both {
-        books: Books::open_path(host, path, Unknown, transform)?,
-        lists,
-    })
 }
 
 /// Changes the tables by these statements, if there are any.
@@ -40,13 +25,51 @@ pub fn change_tables<S: Alter>(conn: &mut Connection<S>, sql: &str) -> Result<()
     conn.execute_batch(sql)
 }
 
-// What stays is in the file, which is changed by these statements, and in the lists.
-fn close<T: BlockTransform + Drop>(both: InFile<T>, sql: &str) -> Result<Lists<T>, Fail> {
-    let Both { books, lists } = both;
-    let mut conn = books.into_connection();
-    change_tables(&mut conn, sql)?;
-    conn.close()?;
-    Ok(lists)
+// How a life ends.
+#[derive(Clone, Copy)]
+enum Ending<'a> {
+    /// The tables are changed by these statements, and the file is closed.
+    Closed(&'a str),
+    /// As a program that stops: the log is not copied into the database.
+    Stopped,
+}
+
+// The lists and the result of a life, and the connection that is left to close, if it is not to end
+// as a program that stops. So it ends where a comparison failed.
+fn live_on<S: Alter + Drop, T: BlockTransform + Drop, R: Drop, L: Life<T, R> + Drop>(
+    books: Books<S, T>,
+    lists: Lists<T>,
+    life: L,
+    ending: Ending<'_>,
+) -> Result<(Lists<T>, R, Option<Connection<S>>), Fail> {
+    let mut both = Both { books, lists };
+    let result = life.live(&mut both);
+    match (result, ending) {
+        (Ok(result), Ending::Closed(sql)) => {
+            let Both { books, lists } = both;
+            let mut conn = books.into_connection();
+            change_tables(&mut conn, sql)?;
+            Ok((lists, result, Some(conn)))
+        }
+        (result, _) => Ok((stop(both), result?, None)),
+    }
+}
+
+// This alone names the store of a file.
+fn live_until<T: BlockTransform + Drop, R: Drop, L: Life<T, R> + Drop>(
+    host: &HostRuntime,
+    path: &str,
+    transform: T,
+    lists: Lists<T>,
+    life: L,
+    ending: Ending<'_>,
+) -> Result<(Lists<T>, R), Fail> {
+    let books = Books::open_path(host, path, Unknown, transform)?;
+    let (lists, result, left) = live_on(books, lists, life, ending)?;
+    if let Some(conn) = left {
+        conn.close()?;
+    }
+    Ok((lists, result))
 }
 
 /// A life of the office of a file, beside the lists that an earlier life left. The file is closed
@@ -58,7 +81,7 @@ pub fn live<T: BlockTransform + Drop, R: Drop, L: Life<T, R> + Drop>(
     lists: Lists<T>,
     life: L,
 ) -> Result<(Lists<T>, R), Fail> {
-    live_and_change(host, path, transform, lists, life, "")
+    live_until(host, path, transform, lists, life, Ending::Closed(""))
 }
 
 /// The same; at the end the tables are changed by these statements.
@@ -70,14 +93,7 @@ pub fn live_and_change<T: BlockTransform + Drop, R: Drop, L: Life<T, R> + Drop>(
     life: L,
     sql: &str,
 ) -> Result<(Lists<T>, R), Fail> {
-    let mut both = open(host, path, transform, lists)?;
-    match life.live(&mut both) {
-        Ok(result) => Ok((close(both, sql)?, result)),
-        Err(fail) => {
-            let _ = stop(both);
-            Err(fail)
-        }
-    }
+    live_until(host, path, transform, lists, life, Ending::Closed(sql))
 }
 
 /// A life that ends as a program that stops: the log is not copied into the database.
@@ -88,10 +104,7 @@ pub fn live_and_stop<T: BlockTransform + Drop, R: Drop, L: Life<T, R> + Drop>(
     lists: Lists<T>,
     life: L,
 ) -> Result<(Lists<T>, R), Fail> {
-    let mut both = open(host, path, transform, lists)?;
-    let result = life.live(&mut both);
-    let lists = stop(both);
-    Ok((lists, result?))
+    live_until(host, path, transform, lists, life, Ending::Stopped)
 }
 
 /// Removes a database and its log, where they are.

@@ -1,38 +1,49 @@
 //! The sales export.
 use crate::texts::examples::first_sale;
-use papers::sales_csv;
+use crate::texts::printed::put_export;
+use std::alloc::Global;
+use std::process::Abort;
 use std::test::Fail;
 use vend_core::Sale;
 
-const HEADER: &str =
-    "number,moment,shift,operator,ref,meter,base,tid,tenths,price,tender,change,token\n";
+fn header() -> &'static str {
+    "number,moment,shift,operator,ref,meter,base,tid,tenths,price,tender,change,token\n"
+}
 
-const RECORD: &str = "1,1388534430,1,ann,A-1,12345678903,2014,2,1,10,10,0,00072057602627981690\n";
+fn record() -> &'static str {
+    "1,1388534430,1,ann,A-1,12345678903,2014,2,1,10,10,0,00072057602627981690\n"
+}
 
-#[test]
-fn exports(rt: HostRuntime) -> Result<(), Fail> {
-    let sales = [first_sale()?];
-    let both = format!(in rt.alloc(); "{HEADER}{RECORD}")?;
-    for (sales, header, text) in [
-        (&sales[..], true, both.as_str()),
-        (&sales[..], false, RECORD),
-        (&sales[..0], true, HEADER),
-        (&sales[..0], false, ""),
-    ] {
-        let mut out = Vec::new(rt.alloc());
-        assert_eq!(rt; sales_csv(rt.alloc(), sales, header, &mut out), Ok(()));
-        assert_eq!(rt; out.as_slice(), text.as_bytes());
+// So many sales, which are the same.
+fn sales(alloc: Global, count: usize) -> Result<Vec<Sale>, Fail> {
+    Ok(vec![in alloc; first_sale()?; count]?)
+}
+
+// Their export, behind the header or without it.
+fn has_export(rt: &(impl Abort + AllocGlobal), count: usize, has_header: bool) -> Result<(), Fail> {
+    let mut out = Vec::new(rt.alloc());
+    let sales = sales(rt.alloc(), count)?;
+    assert_eq!(rt;
+        put_export(rt.alloc(), &sales, has_header, &mut out),
+        Ok(())
+    );
+    let mut text = Vec::new(rt.alloc());
+    if has_header {
+        text.extend_from_slice(header().as_bytes())?;
     }
+    for _ in 0..count {
+        text.extend_from_slice(record().as_bytes())?;
+    }
+    assert!(rt; out == text, "{count}");
     Ok(())
 }
 
 #[test]
-fn a_long_export(rt: HostRuntime) -> Result<(), Fail> {
-    let sales: Vec<Sale> = vec![in rt.alloc(); first_sale()?; 2003]?;
-    let mut out = Vec::new(rt.alloc());
-    assert_eq!(rt; sales_csv(rt.alloc(), &sales, true, &mut out), Ok(()));
-    assert_eq!(rt; out.len(), HEADER.len() + 2003 * RECORD.len());
-    assert_eq!(rt; out[out.len() - RECORD.len()..], *RECORD.as_bytes());
+fn exports(rt: HostRuntime) -> Result<(), Fail> {
+    for count in [0, 1, 2003] {
+        has_export(&rt, count, true)?;
+        has_export(&rt, count, false)?;
+    }
     Ok(())
 }
 
@@ -47,7 +58,7 @@ fn an_export_for_others(rt: HostRuntime) -> Result<(), Fail> {
         })?;
     }
     assert_eq!(rt;
-        sales_csv(rt.alloc(), &sales, true, &mut rt.stdout()),
+        put_export(rt.alloc(), &sales, true, &mut rt.stdout()),
         Ok(())
     );
     Ok(())

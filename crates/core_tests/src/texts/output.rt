@@ -1,8 +1,11 @@
 //! Writers that take a part of what they are given, and then fail.
 use crate::texts::examples::{first_sale, first_shift};
-use papers::{TextFault, receipt, receipt_text, sales_csv, shift_text};
+use crate::texts::printed::{put_export, put_receipt, put_report, receipt_of};
+use papers::TextFault;
 use std::io::{self, Write};
+use std::process::Abort;
 use std::test::Fail;
+use vend_core::Sale;
 
 // Takes so many bytes, at most three a call, and then fails.
 #[derive(Drop)]
@@ -27,18 +30,30 @@ impl Write for Failing {
     }
 }
 
+// What is taken where a writer fails after so many bytes, which are all or not.
+fn takes_a_part(
+    rt: &(impl Abort + AllocGlobal),
+    sale: &Sale,
+    text: &[u8],
+    room: usize,
+) -> Result<(), Fail> {
+    let taken = Vec::new(rt.alloc());
+    let mut out = Failing { taken, room };
+    let is_whole = put_receipt(rt.alloc(), sale, &mut out).is_ok();
+    assert!(rt; is_whole == (room == text.len()), "after {room} bytes");
+    assert!(rt;
+        Some(out.taken.as_slice()) == text.get(..room),
+        "after {room} bytes"
+    );
+    Ok(())
+}
+
 #[test]
 fn a_writer_fails_after_some_bytes(rt: HostRuntime) -> Result<(), Fail> {
     let sale = first_sale()?;
-    let text = receipt(rt.alloc(), &sale)?;
+    let text = receipt_of(rt.alloc(), &sale)?;
     for room in 0..=text.len() {
-        let mut out = Failing {
-            taken: Vec::new(rt.alloc()),
-            room,
-        };
-        let written = receipt_text(rt.alloc(), &sale, &mut out);
-        assert_eq!(rt; written.is_ok(), room == text.len(), "after {room} bytes");
-        assert_eq!(rt; out.taken.as_slice(), &text[..room], "after {room} bytes");
+        takes_a_part(&rt, &sale, &text, room)?;
     }
     Ok(())
 }
@@ -47,19 +62,18 @@ fn a_writer_fails_after_some_bytes(rt: HostRuntime) -> Result<(), Fail> {
 #[test]
 fn a_writer_takes_no_byte(rt: HostRuntime) -> Result<(), Fail> {
     let mut room = [b'.'; 6];
-    let sales = [first_sale()?];
+    let sales: Vec<Sale> = vec![in rt.alloc(); first_sale()?; 1]?;
     let mut out = &mut room[..5];
     assert_eq!(rt;
-        sales_csv(rt.alloc(), &sales, false, &mut out),
+        put_export(rt.alloc(), &sales, false, &mut out),
         Err(TextFault::Write)
     );
-    assert_eq!(rt; room, *b"1,138.");
-    let shift = first_shift(None)?;
+    assert!(rt; room == *b"1,138.");
     let mut out = &mut room[..5];
     assert_eq!(rt;
-        shift_text(rt.alloc(), &shift, &sales, &mut out),
+        put_report(rt.alloc(), &first_shift(None)?, &sales, &mut out),
         Err(TextFault::Write)
     );
-    assert_eq!(rt; room, *b"SHIFT.");
+    assert!(rt; room == *b"SHIFT.");
     Ok(())
 }

@@ -1,35 +1,47 @@
 //! The receipt.
 use crate::texts::examples::{first_sale, large_sale};
-use papers::{receipt, receipt_text};
+use crate::texts::printed::{before, is_paper, put_receipt, receipt_of};
+use std::process::Abort;
 use std::test::Fail;
+use vend_core::Sale;
+
+fn first() -> &'static str {
+    "\
+SALE 1
+METER 12345678903
+TIME 2014-01-01T00:00:30Z
+KWH 0.1
+PRICE 10
+TENDER 10
+CHANGE 0
+TOKEN 0007 2057 6026 2798 1690
+"
+}
+
+fn large() -> &'static str {
+    "\
+SALE 1000000000
+METER 12345678903
+TIME 2014-01-01T00:00:30Z
+KWH 1638.4
+PRICE 163840
+TENDER 163880
+CHANGE 40
+TOKEN 0007 2057 6026 2798 1690
+"
+}
+
+fn has_receipt(rt: &(impl Abort + AllocGlobal), sale: &Sale, text: &str) -> Result<(), Fail> {
+    let paper = receipt_of(rt.alloc(), sale)?;
+    let mut out = before(rt.alloc())?;
+    assert_eq!(rt; put_receipt(rt.alloc(), sale, &mut out), Ok(()));
+    is_paper(rt, &paper, &out, text);
+    Ok(())
+}
 
 #[test]
 fn receipts(rt: HostRuntime) -> Result<(), Fail> {
-    let first = b"SALE 1\n\
-        METER 12345678903\n\
-        TIME 2014-01-01T00:00:30Z\n\
-        KWH 0.1\n\
-        PRICE 10\n\
-        TENDER 10\n\
-        CHANGE 0\n\
-        TOKEN 0007 2057 6026 2798 1690\n"
-        .as_slice();
-    let large = b"SALE 1000000000\n\
-        METER 12345678903\n\
-        TIME 2014-01-01T00:00:30Z\n\
-        KWH 1638.4\n\
-        PRICE 163840\n\
-        TENDER 163880\n\
-        CHANGE 40\n\
-        TOKEN 0007 2057 6026 2798 1690\n"
-        .as_slice();
-    assert_eq!(rt; first.len(), 118);
-    for (sale, text) in [(first_sale()?, first), (large_sale()?, large)] {
-        assert_eq!(rt; receipt(rt.alloc(), &sale)?.as_slice(), text);
-        let mut out = Vec::from_slice(rt.alloc(), b"before\n")?;
-        assert_eq!(rt; receipt_text(rt.alloc(), &sale, &mut out), Ok(()));
-        assert_eq!(rt; out[..7], *b"before\n".as_slice());
-        assert_eq!(rt; out[7..], *text);
-    }
-    Ok(())
+    assert_eq!(rt; first().len(), 118);
+    has_receipt(&rt, &first_sale()?, first())?;
+    has_receipt(&rt, &large_sale()?, large())
 }
