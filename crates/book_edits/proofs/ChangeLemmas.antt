@@ -24,7 +24,7 @@ use Rattle.vend_core.specs.declared.office.shift.Shift.{Shift}
 use Rattle.book_tables.specs.Edited.{edited, is_sale}
 use Rattle.book_tables.specs.Failing.{FailsToMergeAll, FailsToWriteAll}
 use Rattle.book_tables.specs.Holds.{HasOffice, HoldsMembers, table_names}
-use Rattle.book_tables.specs.Reading.{HasTables}
+use Rattle.book_tables.specs.Reading.{HasAllTables}
 use Rattle.book_tables.specs.Rows.{Rows, present_format}
 use Rattle.book_tables.specs.Stands.{AreMembersOf}
 use Rattle.book_tables.specs.Writing.{AddsMeter, AddsShift, AddsSold, AddsSteps, AddsTariff, ClosesShift, FindsNoFalseRow, IsNextNumber, IsOfNone, MayAddSold, MovesBase, SetsTariff, WritesOnly, totals_names}
@@ -217,13 +217,13 @@ on_ok (Err e) f p = tt
 -- ---- inside one transaction
 
 -- the office's tables are still there
-pub still_has : (rows : List Row) (old mid : State) → MakesRows rows old.now mid.now → Shows old mid mid.now old.committed true → HasTables old → HasTables mid
+pub still_has : (rows : List Row) (old mid : State) → MakesRows rows old.now mid.now → Shows old mid mid.now old.committed true → HasAllTables old → HasAllTables mid
 still_has rows old mid makes inside has = λ _. subst HasOffice (sym makes.schema) (has inside.was_open)
 
 -- ---- an edit
 
 -- what the statement of an edit did is what the edit makes, and what is told of it is as computed
-pub made_by : {A E P : Type 0} (r : Result A E) (found edit : Edit) (prior : ℕ) (old new : State) → found ≡ edit → (HasTables old → OnOk r P) → (P → MakesEdit edit old.now new.now × IsCounted edit prior old.now)
+pub made_by : {A E P : Type 0} (r : Result A E) (found edit : Edit) (prior : ℕ) (old new : State) → found ≡ edit → (HasAllTables old → OnOk r P) → (P → MakesEdit edit old.now new.now × IsCounted edit prior old.now)
     → OnOk r (MakesAsComputed found prior old.now new.now)
 made_by (Ok x) found edit prior old new is did makes = λ has. subst (λ (e : Edit). MakesEdit e old.now new.now × IsCounted e prior old.now) (sym is) (makes (did (λ _. has)))
 made_by (Err e) found edit prior old new is did makes = tt
@@ -231,7 +231,7 @@ made_by (Err e) found edit prior old new is did makes = tt
 -- ---- why an edit is not made
 
 -- where its tables are there
-pub told_where : {A : Type 0} (edit : Edit) (prior : ℕ) (old new : State) (r : Result A TableError) → (HasTables old → IfErr r (FailsToMake edit prior old new)) → IfErr r (λ e. HasTables old → FailsToMake edit prior old new e)
+pub told_where : {A : Type 0} (edit : Edit) (prior : ℕ) (old new : State) (r : Result A TableError) → (HasAllTables old → IfErr r (FailsToMake edit prior old new)) → IfErr r (λ e. HasAllTables old → FailsToMake edit prior old new e)
 told_where edit prior old new (Ok x) told = tt
 told_where edit prior old new (Err e) told = told
 

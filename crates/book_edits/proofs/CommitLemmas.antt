@@ -21,7 +21,7 @@ use Rattle.book_tables.specs.Failing.{IsRefused}
 use Rattle.book_tables.specs.Holds.{HoldsMembers}
 use Rattle.book_tables.specs.declared.error.TableError.{TableError}
 use Rattle.book_tables.specs.declared.error.TableError.TheVariants as table
-use Rattle.book_tables.specs.Reading.{HasTables}
+use Rattle.book_tables.specs.Reading.{HasAllTables}
 use Rattle.book_states.specs.Changing.{IsCounted, IsMiscounted, MakesAsComputed, MakesEdit}
 use Rattle.book_states.specs.Failing.{EditHasFailed}
 use Rattle.book_states.specs.Stores.{Stores, RecoversTo}
@@ -30,7 +30,7 @@ use Rattle.book_states.specs.Same.{ChangesNothing, IsSame}
 use Rattle.book_edits.specs.Transaction.{Commits, DoubtsEdit, FailsToEdit, HasEdit, MayBeLeft}
 use Rattle.book_states.proofs.OthersLemmas.{nothing_others, same_trees}
 
-module _ (edit : Edit) (prior : ℕ) (old new : State) (tables : HasTables old) (settled : IsTrue old.is_open → old.now ≡ old.committed) where
+module _ (edit : Edit) (prior : ℕ) (old new : State) (tables : HasAllTables old) (settled : IsTrue old.is_open → old.now ≡ old.committed) where
   -- an open connection has the database, which is committed, and so a crash leaves no other
   pub has_edit : (db : Database) → MakesAsComputed edit prior old.now db → HasCommitted db old new
       → (IsTrue new.is_open → (trees : Trees) → new.may_leave trees → trees ≡ new.committed.trees) → new.step_limit ≡ old.step_limit → HasEdit edit old new

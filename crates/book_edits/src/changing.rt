@@ -1,7 +1,7 @@
 //! What an edit does to the tables.
 
 ghost use Rattle.std.specs.Prelude.{⊤};
-ghost use Rattle.book_tables.specs.Reading.{HasTables};
+ghost use Rattle.book_tables.specs.Reading.{HasAllTables};
 ghost use Rattle.book_states.specs.Changing.{MakesAsComputed};
 ghost use Rattle.book_states.specs.Failing.{FailsToMake};
 
@@ -35,7 +35,7 @@ impl<S: Alter> Change<S> for Editing<'_> {
     ghost tells = { λ _ _ _. ⊤ };
 
     ghost fails = { λ change old new error.
-        HasTables old → FailsToMake change.edit.now change.prior old new error };
+        HasAllTables old → FailsToMake change.edit.now change.prior old new error };
 
     fn make(&self, tx: &mut Transaction<'_, S>) -> Result<(), TableError> {
         members_law();

@@ -4,7 +4,7 @@ ghost use Rattle.std.specs.Prelude.{◌≡◌, ◌≢◌, Err, false};
 ghost use Rattle.sqlite.specs.State.{HasCleanDisk};
 ghost use Rattle.sqlite.specs.Held.{state};
 ghost use Rattle.one_table.specs.Committing.{HasBeen};
-ghost use Rattle.book_tables.specs.Reading.{HasTables};
+ghost use Rattle.book_tables.specs.Reading.{HasAllTables};
 ghost use Rattle.book_edits.specs.Transaction.{Commits};
 
 use crate::changing::Editing;
@@ -20,7 +20,7 @@ use vend_core::{Edit, Refusal};
 pub fn commit<S: Alter>(conn: &mut Connection<S>, edit: &Edit, prior: u64) -> Result<(), Refusal>
     requires { conn.old.in_transaction ≡ false }
     ensures commits { HasCleanDisk (state S.Store conn.new)
-        → HasTables (state S.Store conn.old)
+        → HasAllTables (state S.Store conn.old)
         → Commits (HasBeen S.Store) edit.now prior result
         (state S.Store conn.old) (state S.Store conn.new) }
     ensures clean { HasCleanDisk (state S.Store conn.new) → HasCleanDisk (state S.Store conn.old) }

@@ -23,7 +23,7 @@ use Rattle.vend_core.specs.declared.office.sale.Sale.{Sale}
 use Rattle.vend_core.specs.declared.office.shift.Shift.{Shift}
 use Rattle.book_tables.specs.Found.{meters_numbered}
 use Rattle.book_tables.specs.Holds.{Holds, HoldsMembers}
-use Rattle.book_tables.specs.Reading.{AreOfOffice, FailsToRead, HasTableRows, HasTables, OnlyReads}
+use Rattle.book_tables.specs.Reading.{AreOfOffice, FailsToRead, HasTableRows, HasAllTables, OnlyReads}
 use Rattle.book_tables.specs.Kept.{Kept, meters_kept, shifts_kept, tariffs_kept}
 use Rattle.book_tables.proofs.OfficeTableLemmas.{IsInOffice, has_table_rows, meters_in, shifts_in, tariffs_in}
 use Rattle.book_tables.specs.Rows.{Rows}
@@ -33,7 +33,7 @@ use Rattle.book_tables.specs.declared.error.TableError.TheVariants.{RowOfNoOffic
 use Rattle.book_states.specs.Members.{HasMembers}
 use Rattle.book_facts.proofs.PassedLemmas.{HasPassed, clean_before, earlier, tables_after}
 
-pub tables_of : (s : State) (o : Office) → HasMembers s o → HasTables s
+pub tables_of : (s : State) (o : Office) → HasMembers s o → HasAllTables s
 tables_of s o members is_open = (members is_open).1.has
 
 -- the first that passes, where what passes is one element or none
@@ -74,7 +74,7 @@ told_there None y some = absurd (false≢true (sym some))
 told_there (Some x) y some = refl
 
 -- reads leave an open connection its members
-pub members_after : (o : Office) {old mid new : State} → HasMembers old o → HasPassed old mid → (HasTables mid → Survives mid new (λ _. ⊥)) → HasCleanDisk new → HasMembers mid o
+pub members_after : (o : Office) {old mid new : State} → HasMembers old o → HasPassed old mid → (HasAllTables mid → Survives mid new (λ _. ⊥)) → HasCleanDisk new → HasMembers mid o
 members_after o {old} {mid} {new} members before survives clean is_open =
     let so_far = earlier old mid new before survives (tables_of old o members) clean in
     subst (λ (db : Database). HoldsMembers db o) (sym so_far.now_is) (members (sym so_far.is_open ∙ is_open))
@@ -127,7 +127,7 @@ office_told_of (Ok x) o office members before this clean in_office f given = off
 office_told_of (Err e) o office members before this clean in_office f given = tt
 
 -- what was read, and is that of no office
-pub of_no_office : {T : Type 0} {x : T} {old new : State} → OnlyReads IsUnchanged old new (Ok x) → HasCleanDisk new → HasTables old → ((o : Office) → IsOffice o → HasMembers old o → ⊥) → FailsToRead old new RowOfNoOffice
+pub of_no_office : {T : Type 0} {x : T} {old new : State} → OnlyReads IsUnchanged old new (Ok x) → HasCleanDisk new → HasAllTables old → ((o : Office) → IsOffice o → HasMembers old o → ⊥) → FailsToRead old new RowOfNoOffice
 of_no_office this clean has none = (λ rows held of_office. none of_office.0 of_office.1 (λ _. (rows, held, of_office.2)), this.same clean has)
 
 -- ---- a account

@@ -11,7 +11,7 @@ use Rattle.sqlite.proofs.StateLemmas.{survives_then}
 use Rattle.one_table.specs.Answer.{IsLeft}
 use Rattle.one_table.specs.Reading.{FailsPlainly}
 use Rattle.book_tables.specs.Holds.{HasOffice, Holds}
-use Rattle.book_tables.specs.Reading.{FailsToRead, HasTables, OnlyReads}
+use Rattle.book_tables.specs.Reading.{FailsToRead, HasAllTables, OnlyReads}
 use Rattle.book_tables.specs.declared.error.TableError.{TableError}
 use Rattle.book_tables.specs.declared.error.TableError.TheVariants as table
 use Rattle.book_states.specs.Same.{IsSame}
@@ -99,8 +99,8 @@ same_if old new as_was = record { was_open = λ is_open. sym as_was.is_open ∙ 
 
 -- reads so far, none of which failed
 pub record HasPassed (old now : State) : Type 0 where
-  pub survives : HasTables old → Survives old now (λ _. ⊥)
-  pub same : HasCleanDisk now → HasTables old → IsUntouched old now
+  pub survives : HasAllTables old → Survives old now (λ _. ⊥)
+  pub same : HasCleanDisk now → HasAllTables old → IsUntouched old now
   pub mode : old.in_transaction ≡ false → now.in_transaction ≡ false
   pub shut : now.is_clean ≡ false → now.is_open ≡ false
 
@@ -119,12 +119,12 @@ passed {T} {x} {old} {new} this shut = record { survives = this.survives; same =
 clean_if_open : (s : State) → (s.is_clean ≡ false → s.is_open ≡ false) → IsTrue s.is_open → HasCleanDisk s
 clean_if_open s shut is_open = no_doubt s.is_clean (true_from_ne_false s.is_clean (λ dirty. both_ways s.is_open (shut dirty) is_open))
 
-pub tables_after : {old mid : State} → HasPassed old mid → HasTables old → HasTables mid
+pub tables_after : {old mid : State} → HasPassed old mid → HasAllTables old → HasAllTables mid
 tables_after {old} {mid} before has is_open =
     let same = before.same (clean_if_open mid before.shut is_open) has in
     subst (λ (db : Database). HasOffice db.schema) (sym same.now_is) (has (sym same.is_open ∙ is_open))
 
-module _ (old mid new : State) (before : HasPassed old mid) (survives : HasTables mid → Survives mid new (λ _. ⊥)) (has : HasTables old) where
+module _ (old mid new : State) (before : HasPassed old mid) (survives : HasAllTables mid → Survives mid new (λ _. ⊥)) (has : HasAllTables old) where
   survives_after : Survives old new (λ _. ⊥)
   survives_after = survives_then old mid new _ _ (λ _. ⊥) (λ _ db none. none) (λ _ db none. none) (before.survives has) (survives (tables_after before has))
 
@@ -133,7 +133,7 @@ module _ (old mid new : State) (before : HasPassed old mid) (survives : HasTable
   earlier clean = before.same (omega (arith, (survives (tables_after before has)).clean, clean)) has
 
 -- a disk that is clean after a read was clean before it
-pub clean_before : {old mid new : State} → HasPassed old mid → (HasTables mid → Survives mid new (λ _. ⊥)) → HasTables old → HasCleanDisk new → HasCleanDisk mid
+pub clean_before : {old mid new : State} → HasPassed old mid → (HasAllTables mid → Survives mid new (λ _. ⊥)) → HasAllTables old → HasCleanDisk new → HasCleanDisk mid
 clean_before before survives has clean = omega (arith, (survives (tables_after before has)).clean, clean)
 
 pub passed_after : {T : Type 0} {x : T} {old mid new : State} → HasPassed old mid → OnlyReads IsUnchanged mid new (Ok x) → (new.is_clean ≡ false → new.is_open ≡ false) → HasPassed old new
@@ -162,11 +162,11 @@ read_after {T} {r = Err e} {old} {mid} {new} before this = record {
 }
 
 -- a failure for which a read that succeeded gives a reason
-pub stops_on : {T U : Type 0} {x : T} {old new : State} (e : TableError) → OnlyReads IsUnchanged old new (Ok x) → (HasCleanDisk new → HasTables old → FailsToRead old new e) → OnlyReads {T = U} IsUnchanged old new (Err e)
+pub stops_on : {T U : Type 0} {x : T} {old new : State} (e : TableError) → OnlyReads IsUnchanged old new (Ok x) → (HasCleanDisk new → HasAllTables old → FailsToRead old new e) → OnlyReads {T = U} IsUnchanged old new (Err e)
 stops_on e this why = record { same = λ _ _. tt; kept = λ clean has. inl (this.same clean has); mode = this.mode; faults = why; survives = this.survives }
 
 -- what the reads leave
-pub passed_same : {old now : State} → HasPassed old now → HasCleanDisk now → HasTables old → IsSame old now
+pub passed_same : {old now : State} → HasPassed old now → HasCleanDisk now → HasAllTables old → IsSame old now
 passed_same {old} {now} before clean has = same_if old now (before.same clean has)
 
 pub passed_reads : {T : Type 0} {x : T} {old now : State} → HasPassed old now → OnlyReads IsSame old now (Ok x)

@@ -6,7 +6,7 @@ ghost use Rattle.sqlite.specs.Held.{state};
 ghost use Rattle.vend_core.specs.Decision.{decision};
 ghost use Rattle.vend_core.specs.Decision.Facts.{AreFacts, IsUnlessMemory};
 ghost use Rattle.vend_core.specs.Office.{Office};
-ghost use Rattle.book_tables.specs.Reading.{HasTables};
+ghost use Rattle.book_tables.specs.Reading.{HasAllTables};
 ghost use Rattle.book_states.specs.Failing.{IsPriorRead, RefusesUnchanged, prior_of_account};
 ghost use Rattle.book_states.specs.Stores.{Stores};
 ghost use Rattle.book_states.specs.Same.{ChangesNothing};
@@ -36,10 +36,10 @@ pub fn decision_of<S: Alter, T: BlockTransform>(
         → (o : Office) → Stores (state S.Store conn.old) o → next_number ≡ length o.sales + 1
         → IsDecided (T.forwards transform.now) o at.now (change_in result) }
     ensures nothing { HasCleanDisk (state S.Store conn.new)
-        → HasTables (state S.Store conn.old)
+        → HasAllTables (state S.Store conn.old)
         → ChangesNothing (state S.Store conn.old) (state S.Store conn.new) }
     ensures failures { HasCleanDisk (state S.Store conn.new)
-        → HasTables (state S.Store conn.old)
+        → HasAllTables (state S.Store conn.old)
         → IfErr result (RefusesUnchanged at.now next_number
         (state S.Store conn.old) (state S.Store conn.new)) }
     ensures prior { HasCleanDisk (state S.Store conn.new)

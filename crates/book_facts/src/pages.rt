@@ -5,7 +5,7 @@ ghost use Rattle.sqlite.specs.State.{HasCleanDisk};
 ghost use Rattle.sqlite.specs.Held.{state};
 ghost use Rattle.vend_core.specs.Office.{Office};
 ghost use Rattle.vend_core.specs.Law.Store.{sales_above};
-ghost use Rattle.book_tables.specs.Reading.{HasTables};
+ghost use Rattle.book_tables.specs.Reading.{HasAllTables};
 ghost use Rattle.book_states.specs.Failing.{IsToldOfRead};
 ghost use Rattle.book_states.specs.Stores.{Stores};
 ghost use Rattle.book_states.specs.Same.{ChangesNothing};
@@ -31,11 +31,11 @@ pub fn page<S: Alter>(
         → (o : Office) → Stores (state S.Store conn.old) o
         → IfOk result (λ sales. sales.items ≡ sales_above o number limit) }
     ensures nothing { HasCleanDisk (state S.Store conn.new)
-        → HasTables (state S.Store conn.old)
+        → HasAllTables (state S.Store conn.old)
         → ChangesNothing (state S.Store conn.old) (state S.Store conn.new) }
     ensures clean { HasCleanDisk (state S.Store conn.new) → HasCleanDisk (state S.Store conn.old) }
     ensures failures { HasCleanDisk (state S.Store conn.new)
-        → HasTables (state S.Store conn.old)
+        → HasAllTables (state S.Store conn.old)
         → IfErr result (λ refusal. IsToldOfRead refusal
         (state S.Store conn.old) (state S.Store conn.new)) }
     ensures refusals { IfErr result (λ refusal.

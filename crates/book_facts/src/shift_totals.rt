@@ -4,7 +4,7 @@ ghost use Rattle.std.specs.Prelude.{◌≡◌, ◌⊎◌, false, Err, None, Some
 ghost use Rattle.sqlite.specs.Held.{state};
 ghost use Rattle.sqlite.specs.State.{HasCleanDisk};
 ghost use Rattle.vend_core.specs.Office.{Office};
-ghost use Rattle.book_tables.specs.Reading.{HasTables};
+ghost use Rattle.book_tables.specs.Reading.{HasAllTables};
 ghost use Rattle.book_states.specs.Failing.{IsToldOfRead};
 ghost use Rattle.book_states.specs.Stores.{Stores};
 ghost use Rattle.book_states.specs.Same.{ChangesNothing};
@@ -29,11 +29,11 @@ pub fn totals<S: Alter>(conn: &mut Connection<S>, number: u32) -> Result<Totals,
         → (o : Office) → Stores (state S.Store conn.old) o
         → result ≡ Err Refusal.NoSuchShift → shift_totals o number ≡ None }
     ensures nothing { HasCleanDisk (state S.Store conn.new)
-        → HasTables (state S.Store conn.old)
+        → HasAllTables (state S.Store conn.old)
         → ChangesNothing (state S.Store conn.old) (state S.Store conn.new) }
     ensures clean { HasCleanDisk (state S.Store conn.new) → HasCleanDisk (state S.Store conn.old) }
     ensures failures { HasCleanDisk (state S.Store conn.new)
-        → HasTables (state S.Store conn.old)
+        → HasAllTables (state S.Store conn.old)
         → IfErr result (λ refusal. (refusal ≡ Refusal.NoSuchShift) ⊎ IsToldOfRead refusal
         (state S.Store conn.old) (state S.Store conn.new)) }
     ensures refusals { IfErr result (λ refusal. (refusal ≡ Refusal.NoSuchShift)

@@ -4,28 +4,28 @@ use Rattle.sqlite.specs.State.{HasCleanDisk, State, Survives}
 use Rattle.sqlite.specs.declared.error.Error.{Error}
 use Rattle.sqlite_trees.specs.Tree.{Trees}
 use Rattle.one_table.specs.Committing.{LeavesMade}
-use Rattle.book_tables.specs.Making.{Brings, HasFormatTables, TellsOf}
+use Rattle.book_tables.specs.Making.{BringsInside, IsSoundOfFormat, TellsOf}
 use Rattle.book_tables.specs.Rows.{present_format}
 use Rattle.book_tables.specs.declared.error.TableError.{TableError}
 use Rattle.book_tables.specs.declared.error.TableError.TheVariants as table
-use Rattle.book_opening.specs.Opening.{BringsSound, LeavesBrought, TellsNoOffice, fault_of_table}
+use Rattle.book_opening.specs.Opening.{BringsSound, LeavesBrought, FaultFitsDatabase, fault_of_table}
 use Rattle.book_opening.specs.declared.fault.OpenFault.{OpenFault}
 use Rattle.book_opening.specs.declared.fault.OpenFault.TheVariants.{Store, Memory}
 
 module _ (from : ℕ) (old new : State) where
   -- what is made inside a transaction
-  pub brought_inside : {A E : Type 0} (r : Result A E) → (HasFormatTables from old → OnOk r (Brings from old new)) → OnOk r (BringsSound from old.now new.now)
+  pub brought_inside : {A E : Type 0} (r : Result A E) → (IsSoundOfFormat from old → OnOk r (BringsInside from old new)) → OnOk r (BringsSound from old.now new.now)
   brought_inside (Ok a) made = λ sound has. (made (λ _. (sound, has))).brings
   brought_inside (Err e) made = tt
 
   -- a row that is no office's shows that the database stands for none
-  pub tells_no_office : IsTrue old.is_open → HasFormatTables from old → (e : TableError) (fault : OpenFault) → ((why : Error) → e ≡ table.Database why → (fault ≡ Store) ⊎ (fault ≡ Memory)) → fault ≡ fault_of_table e → TellsOf from old.now e
-      → TellsNoOffice old fault
+  pub tells_no_office : IsTrue old.is_open → IsSoundOfFormat from old → (e : TableError) (fault : OpenFault) → ((why : Error) → e ≡ table.Database why → (fault ≡ Store) ⊎ (fault ≡ Memory)) → fault ≡ fault_of_table e → TellsOf from old.now e
+      → FaultFitsDatabase old fault
   tells_no_office is_open has (table.Database why) fault kind is told = elim (kind why refl) [ inl e ↦ rw e tt | inr e ↦ rw e tt ]
   tells_no_office is_open has table.RowOfNoOffice fault kind is told = rw is (let it = has is_open in (is_open, told it.0 it.1))
 
   -- what a crash leaves of the change is the office in the present format
-  pub leaves_brought : from < present_format → (HasCleanDisk old → IsTrue old.is_open) → HasFormatTables from old → Survives old new (LeavesMade (BringsSound from) old.now) → Survives old new (LeavesBrought old)
+  pub leaves_brought : from < present_format → (HasCleanDisk old → IsTrue old.is_open) → IsSoundOfFormat from old → Survives old new (LeavesMade (BringsSound from) old.now) → Survives old new (LeavesBrought old)
   leaves_brought known opens has s = record {
     clean = s.clean;
     shield = s.shield;

@@ -12,9 +12,9 @@ use Rattle.book_tables.specs.Holds.{HasOffice, HasOfficeOf, HoldsMembers, Stands
 use Rattle.book_tables.specs.Format.{HasFormat, TellsFormat}
 use Rattle.book_states.specs.Stores.{RecoversTo, StoreStandsFor}
 use Rattle.book_tables.specs.Making.{BringsOffice}
-use Rattle.book_tables.specs.Reading.{HasTables}
+use Rattle.book_tables.specs.Reading.{HasAllTables}
 use Rattle.book_tables.specs.Rows.{present_format}
-use Rattle.book_opening.specs.Opening.{BringsAny, BringsTold, EndsOpening, HasSoundDatabase, HasTablesOf, IsBrought, IsNextSale, LeavesBrought, LeavesRefused, LooksAt, OpensAs, OpensAt, Refuses, ShowsNoOffice, TellsNoOffice}
+use Rattle.book_opening.specs.Opening.{BringsOlder, BringsTold, EndsOpening, HasSoundDatabase, HasTablesOfFormat, IsBrought, IsNextSale, LeavesBrought, LeavesRefused, LooksAt, OpensAs, OpensAt, Refuses, FaultFitsStore, FaultFitsDatabase}
 use Rattle.book_states.specs.Same.{IsSame}
 use Rattle.book_opening.specs.declared.fault.OpenFault.{OpenFault}
 use Rattle.book_opening.specs.declared.fault.OpenFault.TheVariants.{NotAnOffice, Store, Memory}
@@ -61,12 +61,12 @@ module _ (old new : State) (clean : HasCleanDisk new) (survives : Survives old n
   )
 
   -- a fault that is true of the database is true of the store
-  pub told_of_store : (fault : OpenFault) → TellsNoOffice old fault → ShowsNoOffice old fault
+  pub told_of_store : (fault : OpenFault) → FaultFitsDatabase old fault → FaultFitsStore old fault
   told_of_store NotAnOffice told = λ o at. told.1 o (at.now told.0)
   told_of_store Store told = tt
   told_of_store Memory told = tt
 
-  pub refuses_by : (fault : OpenFault) → IsSame old new → TellsNoOffice old fault → Refuses old new fault
+  pub refuses_by : (fault : OpenFault) → IsSame old new → FaultFitsDatabase old fault → Refuses old new fault
   refuses_by fault same told = record { told = told_of_store fault told; same = same; kept = stands_still same }
 
 -- an opening after a look that left all as it was, and showed that the connection is open
@@ -83,7 +83,7 @@ module _ (old mid new : State) (same : HasCleanDisk mid → IsUnchanged old mid)
   pub survives_after : Survives old new (LeavesBrought old)
   survives_after = survives_then old mid new (λ _. ⊥) (LeavesBrought mid) (LeavesBrought old) (λ _ _ none. absurd none) (λ clean trees begun.
       let it = look clean in
-      (it.0.was_open, subst (λ (db : Database). LeavesMade BringsAny db trees) it.0.now_is begun.1)) one two
+      (it.0.was_open, subst (λ (db : Database). LeavesMade BringsOlder db trees) it.0.now_is begun.1)) one two
 
   pub brought_after : (from : ℕ) → HasCleanDisk new → IsBrought from mid new → IsBrought from old new
   brought_after from clean h = let it = look clean in record {
@@ -113,7 +113,7 @@ module _ (old mid new : State) (same : HasCleanDisk mid → IsUnchanged old mid)
   risks_after fault risk = survives_then old mid new (λ _. ⊥) (LeavesRefused mid fault) (LeavesRefused old fault) (λ _ _ none. absurd none) (refused fault) one risk
     where
       refused : (fault : OpenFault) → HasCleanDisk new → (trees : Trees) → LeavesRefused mid fault trees → LeavesRefused old fault trees
-      refused Store clean trees begun = (let it = look clean in (it.0.was_open, subst (λ (db : Database). LeavesMade BringsAny db trees) it.0.now_is begun.1))
+      refused Store clean trees begun = (let it = look clean in (it.0.was_open, subst (λ (db : Database). LeavesMade BringsOlder db trees) it.0.now_is begun.1))
       refused Memory clean trees none = none
       refused NotAnOffice clean trees none = none
 
@@ -121,7 +121,7 @@ module _ (old mid new : State) (same : HasCleanDisk mid → IsUnchanged old mid)
 
 module _ (old new : State) where
   -- nothing has changed, and it is refused
-  pub refuses_nothing : (fault : OpenFault) → (HasCleanDisk new → IsSame old new) → Survives old new (λ _. ⊥) → (HasCleanDisk new → ShowsNoOffice old fault) → EndsOpening old new (Err fault)
+  pub refuses_nothing : (fault : OpenFault) → (HasCleanDisk new → IsSame old new) → Survives old new (λ _. ⊥) → (HasCleanDisk new → FaultFitsStore old fault) → EndsOpening old new (Err fault)
   refuses_nothing fault same survives told = record {
     opens = λ _. tt;
     finds = λ _. tt;
@@ -137,12 +137,12 @@ module _ (old new : State) where
   refuses_tested fault (Err x) is kind same survives =
       subst (λ (f : OpenFault). EndsOpening old new (Err f)) (sym is) (refuses_nothing fault same survives (λ _. shows kind))
     where
-      shows : (fault ≡ Store) ⊎ (fault ≡ Memory) → ShowsNoOffice old fault
+      shows : (fault ≡ Store) ⊎ (fault ≡ Memory) → FaultFitsStore old fault
       shows (inl e) = rw e tt
       shows (inr e) = rw e tt
 
   -- the tables of the present format were found
-  pub ends_found : (r : Result ℕ OpenFault) → HasTables old → HasSoundDatabase old → (IsTrue old.is_open → old.now ≡ old.committed)
+  pub ends_found : (r : Result ℕ OpenFault) → HasAllTables old → HasSoundDatabase old → (IsTrue old.is_open → old.now ≡ old.committed)
       → LooksAt present_format (λ next. HasFormat old.now present_format × IsNextSale old next) old new r → EndsOpening old new r
   ends_found (Ok next) has sound settled looks = record {
     opens = λ clean o at.
@@ -163,7 +163,7 @@ module _ (old new : State) where
       refuses_nothing fault (λ clean. left_same old new settled (looks.kept clean has)) (looks.survives has) (λ clean. looks.other clean has sound)
 
   -- a look at the tables of an older format failed
-  pub ends_looked : {T : Type 0} {Says : T → Type 0} (n : ℕ) (fault : OpenFault) (r : Result ℕ OpenFault) → IsErrAnd r (λ x. x ≡ fault) → HasTablesOf n old → HasSoundDatabase old → (IsTrue old.is_open → old.now ≡ old.committed)
+  pub ends_looked : {T : Type 0} {Says : T → Type 0} (n : ℕ) (fault : OpenFault) (r : Result ℕ OpenFault) → IsErrAnd r (λ x. x ≡ fault) → HasTablesOfFormat n old → HasSoundDatabase old → (IsTrue old.is_open → old.now ≡ old.committed)
       → LooksAt n Says old new (Err fault) → EndsOpening old new r
   ends_looked n fault (Ok x) is has sound settled looks = absurd is
   ends_looked n fault (Err x) is has sound settled looks =
@@ -180,7 +180,7 @@ module _ (old new : State) where
   }
 
   -- it was not
-  pub ends_unbrought : (fault : OpenFault) (r : Result ℕ OpenFault) → IsErrAnd r (λ x. x ≡ fault) → (HasCleanDisk new → TellsNoOffice old fault) → (HasCleanDisk new → IsSame old new) → Survives old new (LeavesBrought old)
+  pub ends_unbrought : (fault : OpenFault) (r : Result ℕ OpenFault) → IsErrAnd r (λ x. x ≡ fault) → (HasCleanDisk new → FaultFitsDatabase old fault) → (HasCleanDisk new → IsSame old new) → Survives old new (LeavesBrought old)
       → Survives old new (LeavesRefused old fault) → EndsOpening old new r
   ends_unbrought fault (Ok x) is told same survives risks = absurd is
   ends_unbrought fault (Err x) is told same survives risks = subst (λ (f : OpenFault). EndsOpening old new (Err f)) (sym is) (record {

@@ -17,13 +17,13 @@ use Rattle.book_tables.specs.Format.{HasFormat, IsFormatOf}
 use Rattle.book_tables.specs.Holds.{HasOfficeOf, HoldsMembersOf, HoldsOf, HoldsRows, IsKept, StandsFor}
 use Rattle.book_tables.specs.Kept.{Kept, about_kept, kept, sales_kept}
 use Rattle.book_tables.proofs.HoldsLemmas.{held_as, of_upto}
-use Rattle.book_tables.specs.Making.{HasFormatTables}
+use Rattle.book_tables.specs.Making.{IsSoundOfFormat}
 use Rattle.book_tables.specs.Reading.{FailsToReadOf, HasTable, TableHolds}
 use Rattle.book_tables.specs.Rows.{Rows, present_format}
 use Rattle.book_tables.specs.declared.error.TableError.{TableError}
 use Rattle.book_tables.specs.declared.error.TableError.TheVariants as table
 use Rattle.book_states.specs.Stores.{StoreStandsFor}
-use Rattle.book_opening.specs.Opening.{HasSoundDatabase, HasTablesOf, ShowsNoOffice, fault_of_table}
+use Rattle.book_opening.specs.Opening.{HasSoundDatabase, HasTablesOfFormat, FaultFitsStore, fault_of_table}
 use Rattle.book_states.specs.Same.{IsSame}
 use Rattle.book_opening.specs.declared.fault.OpenFault.{OpenFault}
 use Rattle.book_opening.specs.declared.fault.OpenFault.TheVariants.{NotAnOffice, Store, Memory}
@@ -51,7 +51,7 @@ stands_after old new o clean same survives at = record {
 
 -- the tables of a format, by each
 module _ (n : ℕ) (k : Kept) (listed : Member kept k) (came : k.since ≤ n) where
-  pub has_kept : (s : State) → HasTablesOf n s → HasTable k s
+  pub has_kept : (s : State) → HasTablesOfFormat n s → HasTable k s
   has_kept s has runs = of_upto (IsKept s.now.schema) n k kept listed (le-leb k.since n came) (has runs).tables
 
   rows_kept : (db : Database) (rows : Rows) → HoldsOf n n db rows → TableHolds k db rows
@@ -59,8 +59,8 @@ module _ (n : ℕ) (k : Kept) (listed : Member kept k) (came : k.since ≤ n) wh
       (of_upto (IsKept db.schema) n k kept listed (le-leb k.since n came) held.has.tables, (n, of_upto (HoldsRows db n rows) n k kept listed (le-leb k.since n came) held.are))
 
   -- a read that failed shows that there is no office, where its fault says so
-  pub shows_fault : (old new : State) → n ≤ present_format → HasTablesOf n old → (e : TableError) (fault : OpenFault) → ((why : Error) → e ≡ table.Database why → (fault ≡ Store) ⊎ (fault ≡ Memory)) → fault ≡ fault_of_table e
-      → FailsToReadOf (TableHolds k) old new e → ShowsNoOffice old fault
+  pub shows_fault : (old new : State) → n ≤ present_format → HasTablesOfFormat n old → (e : TableError) (fault : OpenFault) → ((why : Error) → e ≡ table.Database why → (fault ≡ Store) ⊎ (fault ≡ Memory)) → fault ≡ fault_of_table e
+      → FailsToReadOf (TableHolds k) old new e → FaultFitsStore old fault
   shows_fault old new known tables (table.Database why) fault kind is fails = elim (kind why refl) [ inl e ↦ rw e tt | inr e ↦ rw e tt ]
   shows_fault old new known tables table.RowOfNoOffice fault kind is fails =
       rw is (λ o at.
@@ -93,21 +93,21 @@ pub another_format : (n : ℕ) (found : Option ℕ) → option_eq nat_eq found (
 another_format n found other is = let same : nat_eq n n ≡ false = subst (λ (o : Option ℕ). option_eq nat_eq o (Some n) ≡ false) is other in absurd (let e : n ≢ n = grind (arith, nat_tests) in e refl)
 
 -- a fault that names the file is true of the store as it was before a look
-pub shown_before : (old mid : State) (fault : OpenFault) → ((o : Office) → StoreStandsFor old o → StoreStandsFor mid o) → ShowsNoOffice mid fault → ShowsNoOffice old fault
+pub shown_before : (old mid : State) (fault : OpenFault) → ((o : Office) → StoreStandsFor old o → StoreStandsFor mid o) → FaultFitsStore mid fault → FaultFitsStore old fault
 shown_before old mid NotAnOffice after none = λ o at. none o (after o at)
 shown_before old mid Store after none = tt
 shown_before old mid Memory after none = tt
 
 -- a store that is not clean shows as shut, so the tables are there after a look, whatever the disk
 -- did
-pub tables_after : (n : ℕ) (old mid : State) → (mid.is_clean ≡ false → mid.is_open ≡ false) → (HasCleanDisk mid → IsUnchanged old mid) → HasTablesOf n old → HasTablesOf n mid
+pub tables_after : (n : ℕ) (old mid : State) → (mid.is_clean ≡ false → mid.is_open ≡ false) → (HasCleanDisk mid → IsUnchanged old mid) → HasTablesOfFormat n old → HasTablesOfFormat n mid
 tables_after n old mid shut same has = λ is_open. elim (cases_Bool mid.is_clean) [
   | inl is ↦ (let it = same (no_doubt mid.is_clean is) in subst (λ (db : Database). HasOfficeOf n db.schema) (sym it.0.now_is) (has it.0.was_open))
   | inr dirty ↦ absurd (both_ways mid.is_open (shut dirty) is_open)
 ]
 
 -- and so is its sound database
-pub format_after : (n : ℕ) (old mid : State) → (mid.is_clean ≡ false → mid.is_open ≡ false) → (HasCleanDisk mid → IsUnchanged old mid) → HasFormatTables n old → HasFormatTables n mid
+pub format_after : (n : ℕ) (old mid : State) → (mid.is_clean ≡ false → mid.is_open ≡ false) → (HasCleanDisk mid → IsUnchanged old mid) → IsSoundOfFormat n old → IsSoundOfFormat n mid
 format_after n old mid shut same has = λ is_open. elim (cases_Bool mid.is_clean) [
   | inl is ↦ (let it = same (no_doubt mid.is_clean is) in subst (λ (db : Database). IsDatabase db × HasOfficeOf n db.schema) (sym it.0.now_is) (has it.0.was_open))
   | inr dirty ↦ absurd (both_ways mid.is_open (shut dirty) is_open)
@@ -133,5 +133,5 @@ module _ (old mid new : State) (same : HasCleanDisk mid → IsUnchanged old mid)
   pub left_both : {A E : Type 0} (r : Result A E) → HasCleanDisk new → OnErr r (IsLeft mid new) → OnErr r (IsLeft old new)
   left_both r clean h = on_err_weaker r (left_after old mid new (same (clean_between clean))) h
 
-  pub shown_both : {A : Type 0} (r : Result A OpenFault) → HasCleanDisk new → IfErr r (ShowsNoOffice mid) → IfErr r (ShowsNoOffice old)
-  shown_both r clean h = IfErr-weaker r (ShowsNoOffice mid) (ShowsNoOffice old) (λ fault. shown_before old mid fault (λ o. stands_between o clean)) h
+  pub shown_both : {A : Type 0} (r : Result A OpenFault) → HasCleanDisk new → IfErr r (FaultFitsStore mid) → IfErr r (FaultFitsStore old)
+  shown_both r clean h = IfErr-weaker r (FaultFitsStore mid) (FaultFitsStore old) (λ fault. shown_before old mid fault (λ o. stands_between o clean)) h

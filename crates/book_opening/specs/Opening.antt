@@ -22,8 +22,8 @@ use Rattle.book_opening.specs.declared.fault.OpenFault.TheVariants.{NotAnOffice,
 
 -- The tables of a format were brought to the present one, in place of none or of those of an older
 -- format.
-abbrev pub BringsAny : Database → Database → Type 0
-BringsAny old new = (from : ℕ) × (from < present_format) × BringsOffice from old new
+abbrev pub BringsOlder : Database → Database → Type 0
+BringsOlder old new = (from : ℕ) × (from < present_format) × BringsOffice from old new
 
 -- they were brought to it, and had told their format
 abbrev pub BringsTold : Database → Database → Type 0
@@ -63,35 +63,35 @@ fault_of_table (table.Database e) = fault_of e
 fault_of_table table.RowOfNoOffice = NotAnOffice
 
 -- a fault that names the file is answered only where the store stands for no office
-abbrev pub ShowsNoOffice : State → OpenFault → Type 0
-ShowsNoOffice s NotAnOffice = (o : Office) → ¬ StoreStandsFor s o
-ShowsNoOffice s Store = Unit {0}
-ShowsNoOffice s Memory = Unit {0}
+abbrev pub FaultFitsStore : State → OpenFault → Type 0
+FaultFitsStore s NotAnOffice = (o : Office) → ¬ StoreStandsFor s o
+FaultFitsStore s Store = Unit {0}
+FaultFitsStore s Memory = Unit {0}
 
 -- the same, by the database of a connection that was open
-abbrev pub TellsNoOffice : State → OpenFault → Type 0
-TellsNoOffice s NotAnOffice = IsTrue s.is_open × ((o : Office) → ¬ StandsFor s.now o)
-TellsNoOffice s Store = Unit {0}
-TellsNoOffice s Memory = Unit {0}
+abbrev pub FaultFitsDatabase : State → OpenFault → Type 0
+FaultFitsDatabase s NotAnOffice = IsTrue s.is_open × ((o : Office) → ¬ StandsFor s.now o)
+FaultFitsDatabase s Store = Unit {0}
+FaultFitsDatabase s Memory = Unit {0}
 
 -- of the office that the store stands for, this is the number of the next sale
 abbrev pub IsNextSale : State → ℕ → Type 0
 IsNextSale s next = (o : Office) → StoreStandsFor s o → next ≡ length o.sales + 1
 
 -- while the connection is open, it has the tables of a format
-abbrev pub HasTablesOf : ℕ → State → Type 0
-HasTablesOf n s = IsTrue s.is_open → HasOfficeOf n s.now.schema
+abbrev pub HasTablesOfFormat : ℕ → State → Type 0
+HasTablesOfFormat n s = IsTrue s.is_open → HasOfficeOf n s.now.schema
 
 -- The tables of a format were only looked at, where they are there: this holds of what was found,
 -- and a fault that names the file is true of it.
 pub record LooksAt {T : Type 0} (n : ℕ) (Says : T → Type 0) (old new : State)
     (result : Result T OpenFault) : Type 0 where
-  pub finds : HasCleanDisk new → HasTablesOf n old → HasSoundDatabase old → IfOk result Says
-  pub same : HasCleanDisk new → HasTablesOf n old → OnOk result (IsUnchanged old new)
-  pub kept : HasCleanDisk new → HasTablesOf n old → OnErr result (IsLeft old new)
-  pub other : HasCleanDisk new → HasTablesOf n old → HasSoundDatabase old
-      → IfErr result (ShowsNoOffice old)
-  pub survives : HasTablesOf n old → Survives old new (λ _. ⊥)
+  pub finds : HasCleanDisk new → HasTablesOfFormat n old → HasSoundDatabase old → IfOk result Says
+  pub same : HasCleanDisk new → HasTablesOfFormat n old → OnOk result (IsUnchanged old new)
+  pub kept : HasCleanDisk new → HasTablesOfFormat n old → OnErr result (IsLeft old new)
+  pub other : HasCleanDisk new → HasTablesOfFormat n old → HasSoundDatabase old
+      → IfErr result (FaultFitsStore old)
+  pub survives : HasTablesOfFormat n old → Survives old new (λ _. ⊥)
 
 -- The office that the store stood for is held now, and this is the number of its next sale.
 abbrev pub OpensAt : State → State → ℕ → Type 0
@@ -101,13 +101,13 @@ OpensAt old new next =
 -- A fault that names the file is true of it. A connection that is still open has what it had, and
 -- what the store stood for it still stands for.
 pub record Refuses (old new : State) (fault : OpenFault) : Type 0 where
-  pub told : ShowsNoOffice old fault
+  pub told : FaultFitsStore old fault
   pub same : IsSame old new
   pub kept : (o : Office) → StoreStandsFor old o → StoreStandsFor new o
 
 -- what a crash may leave of an opening, beside what it left before
 abbrev pub LeavesBrought : State → Trees → Type 0
-LeavesBrought old trees = IsTrue old.is_open × LeavesMade BringsAny old.now trees
+LeavesBrought old trees = IsTrue old.is_open × LeavesMade BringsOlder old.now trees
 
 -- a refusal leaves nothing new but after Store, where the commit may have been carried out
 abbrev pub LeavesRefused : State → OpenFault → Trees → Type 0

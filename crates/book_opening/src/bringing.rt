@@ -3,9 +3,9 @@
 ghost use Rattle.std.specs.Prelude.{⊤, ◌≡◌, ◌<◌, false, IsTrue, IfErr, OnErr, OnOk};
 ghost use Rattle.sqlite.specs.State.{HasCleanDisk, Survives};
 ghost use Rattle.sqlite.specs.Held.{state};
-ghost use Rattle.book_tables.specs.Making.{HasFormatTables, TellsOf};
+ghost use Rattle.book_tables.specs.Making.{IsSoundOfFormat, TellsOf};
 ghost use Rattle.book_tables.specs.Rows.{present_format};
-ghost use Rattle.book_opening.specs.Opening.{BringsSound, IsBrought, LeavesBrought, LeavesRefused, TellsNoOffice};
+ghost use Rattle.book_opening.specs.Opening.{BringsSound, IsBrought, LeavesBrought, LeavesRefused, FaultFitsDatabase};
 ghost use Rattle.book_states.specs.Same.{IsSame};
 
 use crate::fault::OpenFault;
@@ -48,21 +48,21 @@ pub(crate) fn bring_office<S: Alter>(
     requires outside { conn.old.in_transaction ≡ false }
     requires older { from < present_format }
     ensures brought { HasCleanDisk (state S.Store conn.new)
-        → HasFormatTables from (state S.Store conn.old)
+        → IsSoundOfFormat from (state S.Store conn.old)
         → OnOk result (IsBrought from (state S.Store conn.old) (state S.Store conn.new)) }
     ensures told { HasCleanDisk (state S.Store conn.new)
-        → IsTrue (state S.Store conn.old).is_open → HasFormatTables from (state S.Store conn.old)
-        → IfErr result (TellsNoOffice (state S.Store conn.old)) }
+        → IsTrue (state S.Store conn.old).is_open → IsSoundOfFormat from (state S.Store conn.old)
+        → IfErr result (FaultFitsDatabase (state S.Store conn.old)) }
     ensures undone { HasCleanDisk (state S.Store conn.new)
         → OnErr result (IsSame (state S.Store conn.old) (state S.Store conn.new)) }
     ensures survives { (HasCleanDisk (state S.Store conn.old)
         → IsTrue (state S.Store conn.old).is_open)
-        → HasFormatTables from (state S.Store conn.old)
+        → IsSoundOfFormat from (state S.Store conn.old)
         → Survives (state S.Store conn.old) (state S.Store conn.new)
         (LeavesBrought (state S.Store conn.old)) }
     ensures risks { (HasCleanDisk (state S.Store conn.old)
         → IsTrue (state S.Store conn.old).is_open)
-        → HasFormatTables from (state S.Store conn.old)
+        → IsSoundOfFormat from (state S.Store conn.old)
         → IfErr result (λ fault. Survives (state S.Store conn.old) (state S.Store conn.new)
         (LeavesRefused (state S.Store conn.old) fault)) }
     ensures mode { conn.new.in_transaction ≡ false }

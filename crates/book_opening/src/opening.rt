@@ -5,7 +5,7 @@ ghost use Rattle.sqlite.specs.State.{HasCleanDisk, IsUnchanged, Survives};
 ghost use Rattle.sqlite.specs.Held.{state};
 ghost use Rattle.one_table.specs.Answer.{IsLeft};
 ghost use Rattle.book_tables.specs.Format.{HasFormat};
-ghost use Rattle.book_tables.specs.Making.{HasFormatTables};
+ghost use Rattle.book_tables.specs.Making.{IsSoundOfFormat};
 ghost use Rattle.book_tables.specs.Rows.{present_format};
 ghost use Rattle.book_opening.specs.Opening.{EndsOpening, IsNextSale, LooksAt, fault_of, fault_of_table};
 
@@ -116,7 +116,7 @@ fn next_of_none<S: Alter>(alloc: Global, conn: &mut Connection<S>) -> Result<u64
     requires outside { conn.old.in_transaction ≡ false }
     ensures ends { (HasCleanDisk (state S.Store conn.old)
         → IsTrue (state S.Store conn.old).is_open)
-        → HasFormatTables 0 (state S.Store conn.old)
+        → IsSoundOfFormat 0 (state S.Store conn.old)
         → EndsOpening (state S.Store conn.old) (state S.Store conn.new) result }
     ensures mode { conn.new.in_transaction ≡ false }
 {
@@ -135,7 +135,7 @@ fn next_of_older<S: Alter>(
     requires older { from < present_format }
     ensures ends { (HasCleanDisk (state S.Store conn.old)
         → IsTrue (state S.Store conn.old).is_open)
-        → HasFormatTables from (state S.Store conn.old)
+        → IsSoundOfFormat from (state S.Store conn.old)
         → EndsOpening (state S.Store conn.old) (state S.Store conn.new) result }
     ensures mode { conn.new.in_transaction ≡ false }
 {

@@ -13,7 +13,7 @@ use Rattle.vend_core.specs.declared.decision.refusal.Refusal.{Refusal}
 use Rattle.vend_core.specs.declared.decision.refusal.Refusal.TheVariants.{Store}
 use Rattle.vend_core.specs.declared.decision.request.Stamped.{Stamped}
 use Rattle.book_tables.specs.Failing.{IsRefused}
-use Rattle.book_tables.specs.Reading.{FailsToRead, HasTables}
+use Rattle.book_tables.specs.Reading.{FailsToRead, HasAllTables}
 use Rattle.book_tables.specs.declared.error.TableError.{TableError}
 use Rattle.book_tables.specs.declared.error.TableError.TheVariants.{Database, RowOfNoOffice}
 use Rattle.book_states.specs.Failing.{EditHasFailed, FailsToMake, HasFailed, RefusesUnchanged, IsToldOfRead, WereRead, refusal_for}
@@ -69,5 +69,5 @@ module _ {S : Type 0} (g : Ghosts S) (edit : Edit) (prior : ℕ) (old left : Hel
   by_cause e is (inr (inl none)) = inr (inr (inr (inl none)))
   by_cause e is (inr (inr told)) = inr (inr (inr (inr told)))
 
-  pub edit_failed : (e : TableError) → refusal_for e ≡ Store → HasTables (state g old) → (HasTables (state g begun) → FailsToMake edit prior (state g begun) (state g left) e) → EditHasFailed edit prior e (state g old) new
+  pub edit_failed : (e : TableError) → refusal_for e ≡ Store → HasAllTables (state g old) → (HasAllTables (state g begun) → FailsToMake edit prior (state g begun) (state g left) e) → EditHasFailed edit prior e (state g old) new
   edit_failed e is has why = by_cause e is (why has)

@@ -8,7 +8,7 @@ use Rattle.sqlite_schema.specs.declared.schema.Table.{Table}
 use Rattle.sqlite_trees.specs.Tree.{Trees}
 use Rattle.sqlite_trees.proofs.ListLemmas.{all_of}
 use Rattle.book_tables.specs.Holds.{HasOffice, table_names}
-use Rattle.book_tables.specs.Reading.{HasTables}
+use Rattle.book_tables.specs.Reading.{HasAllTables}
 use Rattle.book_tables.specs.Writing.{IsOfNone}
 use Rattle.book_states.specs.Others.{LeavesOthers, SameOthers}
 use Rattle.book_states.specs.Same.{ChangesNothing}
@@ -61,5 +61,5 @@ nothing_others old new clean h = record {
 -- ---- the office's own tables
 
 -- they are still there
-pub tables_stay : (old new : State) → LeavesOthers old new → HasTables old → HasTables new
+pub tables_stay : (old new : State) → LeavesOthers old new → HasAllTables old → HasAllTables new
 tables_stay old new h has is_open = subst HasOffice (sym (h.schema is_open)) (has (h.was_open is_open))

@@ -6,15 +6,15 @@ use Rattle.sqlite_trees.specs.Tree.{Trees}
 use Rattle.sqlite_trees.proofs.Doubt.{no_doubt}
 use Rattle.one_table.specs.Answer.{IsLeft}
 use Rattle.vend_core.specs.Office.{Office}
-use Rattle.book_tables.specs.Reading.{HasTables}
+use Rattle.book_tables.specs.Reading.{HasAllTables}
 use Rattle.book_states.specs.Stores.{Stores}
 use Rattle.book_states.specs.Same.{ChangesNothing, IsSame}
 
-pub has_tables : (o : Office) (s : State) → Stores s o → HasTables s
+pub has_tables : (o : Office) (s : State) → Stores s o → HasAllTables s
 has_tables o s at is_open = (at.members is_open).1.has
 
 -- a disk that returned something else is no base to read the tables on: the store shows as shut
-pub clean_before : (old new : State) (P : Trees → Type 0) → (old.is_clean ≡ false → old.is_open ≡ false) → (HasTables old → Survives old new P) → HasCleanDisk new → HasCleanDisk old
+pub clean_before : (old new : State) (P : Trees → Type 0) → (old.is_clean ≡ false → old.is_open ≡ false) → (HasAllTables old → Survives old new P) → HasCleanDisk new → HasCleanDisk old
 clean_before old new P shut survives clean = elim (cases_Bool old.is_clean) [
   | inl sure ↦ no_doubt old.is_clean sure
   | inr dirty ↦ let early = survives (λ is_open. absurd (false≢true (sym (shut dirty) ∙ is_open))) in omega (arith, early.clean)

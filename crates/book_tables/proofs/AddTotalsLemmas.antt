@@ -17,7 +17,7 @@ use Rattle.vend_core.specs.Law.Store.{MeetsNewSale}
 use Rattle.vend_core.specs.declared.decision.change.Edit.TheVariants.{AddSale}
 use Rattle.vend_core.specs.declared.office.sale.Sale.{Sale}
 use Rattle.book_tables.specs.Holds.{HasOffice, HoldsMembers, HoldsOf}
-use Rattle.book_tables.specs.Reading.{HasTables}
+use Rattle.book_tables.specs.Reading.{HasAllTables}
 use Rattle.book_tables.specs.Rows.{Rows, present_format}
 use Rattle.book_tables.specs.Stands.{AreMembersOf, AreTotalsOf, sales_in_month, sales_in_shift, sales_under, tenths_of, totals_of}
 use Rattle.book_tables.specs.Writing.{AddsSale, AddsTenths, AddsToShift, AreSaleTotals, FitColumns, IsNextNumber, IsOfNone, MayAddSold, MayAddTenths, MayAddToShift, MayAddTotals, SetsLastId, TellsSold, TellsTotals, WritesOnly, totals_names, with_totals_of}
@@ -44,7 +44,7 @@ only_then names a b apart old mid new first second = record {
     there tree none = subst (λ (s : Schema). IsOfNone s b tree) (sym first.schema) (apart old.now.schema tree none).1
 
 -- the office's tables are still there
-pub tables_stay : (names : List (List ℕ)) (old mid : State) → WritesOnly names old mid → HasTables old → HasTables mid
+pub tables_stay : (names : List (List ℕ)) (old mid : State) → WritesOnly names old mid → HasAllTables old → HasAllTables mid
 tables_stay names old mid only has runs = subst HasOffice (sym only.schema) (has only.inside.was_open)
 
 -- ---- the totals of a sale

@@ -19,7 +19,7 @@ use Rattle.book_tables.specs.Format.{HasFormat, TellsFormat}
 use Rattle.book_tables.specs.Holds.{HasOffice, HasOfficeOf, HoldsMembers, HoldsOf, StandsFor, rows_in}
 use Rattle.book_tables.specs.Kept.{Kept, about_kept, bases_kept, kept, kept_names, last_ids_kept, meters_kept, month_tenths_kept, sales_kept, shift_totals_kept}
 use Rattle.book_tables.specs.Looking.{ShowMeters, ShowSales, ShowsRows, ShowsRowsOf}
-use Rattle.book_tables.specs.Making.{Brings, MakesMissing, TellsOf, TellsPresent, rows_upto}
+use Rattle.book_tables.specs.Making.{BringsInside, MakesMissing, TellsOf, TellsPresent, rows_upto}
 use Rattle.book_tables.specs.Rows.{DatedStepRow, Rows, present_format}
 use Rattle.book_tables.specs.Stands.{AreDatedApart, AreMembersOf, AreTotalsOf, HasDatedStep}
 use Rattle.book_tables.specs.Writing.{WritesOnly, is_under, totals_names, with_totals_of}
@@ -148,7 +148,7 @@ totals_among s tree none = (none.1.1.0, (none.1.1.1.0, (none.1.1.1.1.0, tt)))
 -- what is brought, by what is made of the office's rows
 brings : (from : ℕ) → from ≤ present_format → 1 ≤ from → (old mid new : State) → StaysInside old mid → MakesMissing from old.now mid.now
     → (ks : List Kept) → AllByRecursion (MayChange from) ks → WritesOnly (kept_names ks) mid new → ((o : Office) (rows : Rows) → IsOffice o → HoldsOf from from old.now rows → AreMembersOf rows o → HoldsOf present_format from mid.now (rows_upto from rows) → HoldsMembers new.now o)
-    → (TellsFormat from old.now → HasFormat new.now present_format) → ShowsRowsOf from old.now → Brings from old new
+    → (TellsFormat from old.now → HasFormat new.now present_format) → ShowsRowsOf from old.now → BringsInside from old new
 brings from known some old mid new inside made ks may only members told shows = record {
   inside = stays_then old mid new inside only.inside;
   brings = record {
@@ -164,7 +164,7 @@ brings from known some old mid new inside made ks may only members told shows = 
 }
 
 -- from format 3
-pub brings_third : (old mid new : State) → StaysInside old mid → MakesMissing 3 old.now mid.now → ShowsRows old.now → TellsPresent 3 mid new → Brings 3 old new
+pub brings_third : (old mid new : State) → StaysInside old mid → MakesMissing 3 old.now mid.now → ShowsRows old.now → TellsPresent 3 mid new → BringsInside 3 old new
 brings_third old mid new inside made shows tells =
     brings 3 (omega arith) (omega arith) old mid new inside made from_third (about_may 3, tt) tells.only (λ o rows office held are here.
     (record rows { dated_steps = [] }, tells.rows (rows_upto 3 rows) here, members_brought rows rows rows.bases o are (held.of_format.dated_steps (omega arith)) (IsPermutation-refl rows.bases) are.totals)) (λ told. tells.tells (made.tells told)) shows
@@ -173,7 +173,7 @@ brings_third old mid new inside made shows tells =
 pub awaits_bases : (rows : Rows) (o : Office) → IsOffice o → AreMembersOf rows o → AwaitsBases rows (rows_upto 2 rows)
 awaits_bases rows o office are = record { office = (o, office, are); same = refl; none = refl }
 
-pub brings_second : (old mid filled new : State) → StaysInside old mid → MakesMissing 2 old.now mid.now → ShowsRows old.now → FillsBases mid filled → TellsPresent 2 filled new → Brings 2 old new
+pub brings_second : (old mid filled new : State) → StaysInside old mid → MakesMissing 2 old.now mid.now → ShowsRows old.now → FillsBases mid filled → TellsPresent 2 filled new → BringsInside 2 old new
 brings_second old mid filled new inside made shows fills tells =
     let filling = only_among _ (kept_names from_second) (bases_among []) mid filled (fills.others.only made.beside.sound) in
     let only = only_both (kept_names from_second) mid filled new filling (only_among _ (kept_names from_second) (about_among (bases_kept ∷ [])) filled new tells.only) in
@@ -195,7 +195,7 @@ awaits_totals rows o office are = record {
 pub awaits_later : (rows totals : Rows) (o : Office) → IsOffice o → AreMembersOf rows o → AwaitsBases rows (with_totals_of totals (rows_upto 1 rows))
 awaits_later rows totals o office are = record { office = (o, office, are); same = refl; none = refl }
 
-pub brings_with_totals : (old mid totalled filled new : State) → StaysInside old mid → MakesMissing 1 old.now mid.now → ShowsRows old.now → FillsTotals mid totalled → FillsBases totalled filled → TellsPresent 1 filled new → Brings 1 old new
+pub brings_with_totals : (old mid totalled filled new : State) → StaysInside old mid → MakesMissing 1 old.now mid.now → ShowsRows old.now → FillsTotals mid totalled → FillsBases totalled filled → TellsPresent 1 filled new → BringsInside 1 old new
 brings_with_totals old mid totalled filled new inside made shows totals fills tells =
     let names = kept_names from_first in
     let totalling = totals.others.only made.beside.sound in

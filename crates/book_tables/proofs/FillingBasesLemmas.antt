@@ -8,7 +8,7 @@ use Rattle.sqlite_keyed.proofs.ListLemmas.{map-map}
 use Rattle.sts_fields.specs.declared.base.Base.{Base}
 use Rattle.vend_core.specs.declared.office.meter.Meter.{Meter}
 use Rattle.one_table.specs.InTransaction.{IsUnderWay}
-use Rattle.book_tables.specs.Filling.{AwaitsBases, FillsBases, LeavesOthers}
+use Rattle.book_tables.specs.Filling.{AwaitsBases, FillsBases, KeepsAllBut}
 use Rattle.book_tables.specs.Holds.{AreStoredRows, HoldsOf, rows_in}
 use Rattle.book_tables.specs.Kept.{meters_kept}
 use Rattle.book_tables.specs.Reading.{TableHolds, meter_row}
@@ -31,7 +31,7 @@ meters_there told db rows full held same =
 
 -- these bases stand after those that were there
 pub record BasesSome (found : List MeterRow) (old new : State) : Type 0 where
-  pub others : LeavesOthers bases_name old new
+  pub others : KeepsAllBut bases_name old new
   pub rows : (told : ℕ) (rows : Rows) → HoldsOf present_format told old.now rows → HoldsOf present_format told new.now (record rows { bases = rows.bases ++ map row_of found })
 
 pub bases_none : (old mid : State) → IsUnderWay old → IsUnchanged old mid → BasesSome [] old mid

@@ -15,10 +15,10 @@ use Rattle.one_table.specs.InTransaction.{IsUnderWay}
 use Rattle.vend_core.specs.Office.Lookup.{greatest_of}
 use Rattle.vend_core.specs.Office.{AreNumbered, greatest_count}
 use Rattle.vend_core.specs.declared.office.sale.Sale.{Sale}
-use Rattle.book_tables.specs.Filling.{FillsTotals, FollowsTotals, HasTotalsUpto, LeavesOthers, TotalsPage, TotalsSale, TotalsUpto}
+use Rattle.book_tables.specs.Filling.{FillsTotals, FollowsTotals, HasTotalsUpto, KeepsAllBut, TotalsPage, TotalsSale, TotalsUpto}
 use Rattle.book_tables.specs.Holds.{HasOffice, HoldsOf}
 use Rattle.book_tables.specs.Kept.{last_ids_kept, sales_kept}
-use Rattle.book_tables.specs.Reading.{AreOfOffice, HasTableRows, HasTables, TableHolds}
+use Rattle.book_tables.specs.Reading.{AreOfOffice, HasTableRows, HasAllTables, TableHolds}
 use Rattle.book_tables.specs.Rows.{Rows, present_format, sale_row}
 use Rattle.book_tables.specs.Stands.{AreTotalsOf, sales_under}
 use Rattle.book_tables.specs.Values.{IsTid}
@@ -45,7 +45,7 @@ only_read names old mid new same only = record {
 pub held_after : (told : ℕ) (rows : Rows) (old mid : State) → IsUnchanged old mid → HoldsOf present_format told old.now rows → HoldsOf present_format told mid.now rows
 held_after told rows old mid same held = subst (λ (d : Database). HoldsOf present_format told d rows) (sym same.0.now_is) held
 
-pub tables_after : (old mid : State) → IsUnchanged old mid → HasTables old → HasTables mid
+pub tables_after : (old mid : State) → IsUnchanged old mid → HasAllTables old → HasAllTables mid
 tables_after old mid same has runs = subst (λ (d : Database). HasOffice d.schema) (sym same.0.now_is) (has same.0.was_open)
 
 -- ---- a sale
@@ -99,7 +99,7 @@ totals_sale greatest s found last shown old mid new same given then tells = reco
 
 -- ---- several steps, one after another
 
-pub leaves_read : (names : List (List ℕ)) (old mid : State) → IsUnderWay old → IsUnchanged old mid → LeavesOthers names old mid
+pub leaves_read : (names : List (List ℕ)) (old mid : State) → IsUnderWay old → IsUnchanged old mid → KeepsAllBut names old mid
 leaves_read names old mid way same =
     let schema = ap (λ (d : Database). d.schema) same.0.now_is in
     let trees = ap (λ (d : Database). d.trees) same.0.now_is in
@@ -115,16 +115,16 @@ leaves_read names old mid way same =
       };
     }
 
-pub leaves_then : (names : List (List ℕ)) (old mid new : State) → LeavesOthers names old mid → WritesOnly names mid new → LeavesOthers names old new
+pub leaves_then : (names : List (List ℕ)) (old mid new : State) → KeepsAllBut names old mid → WritesOnly names mid new → KeepsAllBut names old new
 leaves_then names old mid new first second = record { schema = second.schema ∙ first.schema; only = λ sound. only_both names old mid new (first.only sound) second }
 
-pub leaves_both : (names : List (List ℕ)) (old mid new : State) → LeavesOthers names old mid → LeavesOthers names mid new → LeavesOthers names old new
+pub leaves_both : (names : List (List ℕ)) (old mid new : State) → KeepsAllBut names old mid → KeepsAllBut names mid new → KeepsAllBut names old new
 leaves_both names old mid new first second = record {
   schema = second.schema ∙ first.schema;
   only = λ sound. let one = first.only sound in only_both names old mid new one (second.only one.sound);
 }
 
-pub tables_left : (names : List (List ℕ)) (old mid : State) → IsTrue old.is_open → LeavesOthers names old mid → HasTables old → HasTables mid
+pub tables_left : (names : List (List ℕ)) (old mid : State) → IsTrue old.is_open → KeepsAllBut names old mid → HasAllTables old → HasAllTables mid
 tables_left names old mid runs left has _ = subst HasOffice (sym left.schema) (has runs)
 
 -- ---- the sales after a number
@@ -194,7 +194,7 @@ module _ (page : List Sale) (done : ℕ) (full : Rows) (it : IsPageOf page done 
 
 -- the totals of the sales before a page and of so many of it
 pub record TotalsSome (page : List Sale) (done i : ℕ) (old new : State) : Type 0 where
-  pub others : LeavesOthers totals_names old new
+  pub others : KeepsAllBut totals_names old new
   pub rows : (told : ℕ) (rows full : Rows) → HoldsOf present_format told old.now rows → HasTotalsUpto done full rows → IsPageOf page done full
       → (totals : Rows) × HoldsOf present_format told new.now (with_totals_of totals rows) × HasTotalsUpto (done + i) full (with_totals_of totals rows)
 

@@ -15,7 +15,7 @@ use Rattle.one_table.specs.Place.{Has}
 use Rattle.one_table.specs.Standing.{place_in, tree_in}
 use Rattle.book_tables.specs.Holds.{IsKept}
 use Rattle.book_tables.specs.Kept.{Kept}
-use Rattle.book_tables.specs.Reading.{AreOfOffice, FailsToReadOf, FailsToShow, HasTable, HasTableRows, IsShown, ReadsTable, ShowsRecord, TableHolds}
+use Rattle.book_tables.specs.Reading.{AreOfOffice, FailsToReadOf, FailsToShowRow, HasTable, HasTableRows, IsShown, ReadsTable, ShowsRecord, TableHolds}
 use Rattle.book_tables.specs.Rows.{Rows}
 use Rattle.book_tables.specs.declared.error.TableError.{TableError}
 use Rattle.one_table.specs.ReadsOnly.{ReadsOnly}
@@ -92,9 +92,9 @@ module _ {M : Type 0} {k : Kept} {sql : List ℕ} {params : Row} {shown : M → 
 
   -- why it fails
   pub fails : {A : Type 0} (old new : State) → HasTable k old → (r : Result A TableError) (values : Row) → values ≡ params
-      → IfErr r (FailsToShow (ShowsRecord shown keeps) sql values old new) → IfErr r (FailsToReadOf (TableHolds k) old new)
+      → IfErr r (FailsToShowRow (ShowsRecord shown keeps) sql values old new) → IfErr r (FailsToReadOf (TableHolds k) old new)
   fails old new has = read.fails l.asks k l.stands (ShowsRecord shown keeps) old new has (all_readable old)
 
   -- what it leaves of the tables
-  pub reads : {A : Type 0} (old new : State) (r : Result A TableError) (values : Row) → values ≡ params → ReadsOnly (OnlyAsks sql) IsUnchanged (FailsToShow (ShowsRecord shown keeps) sql values) old new r → ReadsTable k old new r
+  pub reads : {A : Type 0} (old new : State) (r : Result A TableError) (values : Row) → values ≡ params → ReadsOnly (OnlyAsks sql) IsUnchanged (FailsToShowRow (ShowsRecord shown keeps) sql values) old new r → ReadsTable k old new r
   reads old new r values are this = read_where r (only_asks old) this (λ clean has. fails old new has r values are (this.faults clean (only_asks old has)))

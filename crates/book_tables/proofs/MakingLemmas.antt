@@ -35,7 +35,7 @@ use Rattle.one_table.proofs.MakingLemmas.{all_grow}
 use Rattle.book_tables.specs.Edited.{no_rows}
 use Rattle.book_tables.specs.Holds.{AreStoredRows, HasOffice, HasOfficeOf, HoldsMembers, HoldsOf, HoldsRows, IsKept, rows_in, table_names}
 use Rattle.book_tables.specs.Kept.{Kept, about_kept, kept, kept_names, kept_tables, kept_texts, later, meters_kept, sales_kept, upto}
-use Rattle.book_tables.specs.Making.{AreLeft, Brings, LeavesBeside, MakesMissing, TellsOf, TellsPresent, rows_upto, told_names}
+use Rattle.book_tables.specs.Making.{AreLeft, BringsInside, LeavesBeside, MakesMissing, TellsOf, TellsPresent, rows_upto, told_names}
 use Rattle.book_tables.specs.Rows.{Rows, about_rows, number, present_format}
 use Rattle.book_tables.specs.Tables.{about_table}
 use Rattle.book_tables.specs.Writing.{IsOfNone, WritesOnly}
@@ -276,7 +276,7 @@ module _ (n : ℕ) (a : Database) (had : HasOfficeOf n a.schema) (old new : Stat
   }
 
 -- where there was nothing, it is the empty office
-pub brings_first : (old mid new : State) → StaysInside old mid → MakesMissing 0 old.now mid.now → TellsPresent 0 mid new → Brings 0 old new
+pub brings_first : (old mid new : State) → StaysInside old mid → MakesMissing 0 old.now mid.now → TellsPresent 0 mid new → BringsInside 0 old new
 brings_first old mid new inside made tells =
     let none : HoldsOf 0 0 old.now no_rows = record { has = made.had; are = tt; of_format = record { bases = λ _. refl; dated_steps = λ _. refl } } in
     let held = made.rows no_rows none in

@@ -6,7 +6,7 @@ use Rattle.sqlite_schema.specs.declared.schema.Schema.{Schema}
 use Rattle.one_table.proofs.ReadsOnlyLemmas.{read_where}
 use Rattle.book_tables.specs.Holds.{HasOffice, Holds, HoldsOf, HoldsRows, IsKept}
 use Rattle.book_tables.specs.Kept.{Kept, about_kept, bases_kept, dated_steps_kept, last_ids_kept, meters_kept, month_tenths_kept, sales_kept, shift_totals_kept, shifts_kept, steps_kept, tariffs_kept}
-use Rattle.book_tables.specs.Reading.{FailsToRead, FailsToReadOf, HasRows, HasTable, HasTableRows, HasTables, OnlyReads, ReadsTable, TableHolds}
+use Rattle.book_tables.specs.Reading.{FailsToRead, FailsToReadOf, HasRows, HasTable, HasTableRows, HasAllTables, OnlyReads, ReadsTable, TableHolds}
 use Rattle.book_tables.specs.Rows.{Rows, present_format}
 use Rattle.book_tables.specs.declared.error.TableError.{TableError}
 use Rattle.book_tables.specs.declared.error.TableError.TheVariants.{Database as Failed, RowOfNoOffice}
@@ -53,7 +53,7 @@ module _ {k : Kept} (in_office : IsInOffice k) where
   pub table_holds : (db : Database) (rows : Rows) → Holds db rows → TableHolds k db rows
   table_holds db rows held = (in_office.there db.schema held.has, (present_format, in_office.holds present_format db rows held))
 
-  pub has_table : (s : State) → HasTables s → HasTable k s
+  pub has_table : (s : State) → HasAllTables s → HasTable k s
   has_table s has runs = in_office.there s.now.schema (has runs)
 
   pub has_table_rows : (s : State) (rows : Rows) → HasRows s rows → HasTableRows k s rows

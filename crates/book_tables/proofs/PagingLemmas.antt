@@ -14,7 +14,7 @@ use Rattle.one_table.specs.Answer.{OnlyAsks}
 use Rattle.one_table.specs.ReadsOnly.{ReadsInside}
 use Rattle.one_table.proofs.HiddenLemmas.{all_hidden}
 use Rattle.book_tables.specs.Kept.{Kept, meters_kept}
-use Rattle.book_tables.specs.Reading.{AreOfOffice, FailsToShow, ReadsTableInside, ShowsRecord, meter_row}
+use Rattle.book_tables.specs.Reading.{AreOfOffice, FailsToShowRow, ReadsTableInside, ShowsRecord, meter_row}
 use Rattle.book_tables.specs.Rows.{Rows, meter_columns, shown_meter}
 use Rattle.book_tables.specs.Tables.{meters_table}
 use Rattle.book_tables.specs.declared.error.TableError.{TableError}
@@ -58,7 +58,7 @@ module _ {K : State → Type 0} {old new : State} where
 
 -- a text that lists records of a table
 module _ {M : Type 0} {k : Kept} {sql : List ℕ} {params : Row} {shown : M → Row} {keeps : M → Type 0} {IsFound : Rows → List M → Type 0} (l : Lists k sql params shown keeps IsFound) where
-  pub reads_inside : {A : Type 0} (old new : State) (r : Result A TableError) (values : Row) → values ≡ params → ReadsInside (OnlyAsks sql) (FailsToShow (ShowsRecord shown keeps) sql values) old new r → ReadsTableInside k old new r
+  pub reads_inside : {A : Type 0} (old new : State) (r : Result A TableError) (values : Row) → values ≡ params → ReadsInside (OnlyAsks sql) (FailsToShowRow (ShowsRecord shown keeps) sql values) old new r → ReadsTableInside k old new r
   reads_inside old new r values are this = inside_where r (only_asks l old) this (λ clean has. fails l old new has r values are (this.faults clean (only_asks l old has)))
 
 -- ---- a text that finds one record at most

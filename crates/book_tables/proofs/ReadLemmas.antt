@@ -23,7 +23,7 @@ use Rattle.one_table.proofs.ListedLemmas.{answered, begun, is_plain}
 use Rattle.one_table.proofs.UnderstandLemmas.{selects}
 use Rattle.book_tables.specs.Holds.{IsKept}
 use Rattle.book_tables.specs.Kept.{Kept}
-use Rattle.book_tables.specs.Reading.{AreOfOffice, FailsToReadOf, FailsToShow, HasTable, HasTableRows, IsShown, TableHolds, told}
+use Rattle.book_tables.specs.Reading.{AreOfOffice, FailsToReadOf, FailsToShowRow, HasTable, HasTableRows, IsShown, TableHolds, told}
 use Rattle.book_tables.specs.Rows.{Rows}
 use Rattle.book_tables.specs.declared.error.TableError.{TableError}
 
@@ -105,7 +105,7 @@ module _ {table : ℕ → Table} {query : ℕ → Query} {names : List Name} {sq
   -- why it fails, where the rows of an office can all be read
   pub fails : {A : Type 0} (IsReadable : Row → Type 0) (old new : State) → HasTable k old
       → ((rows : Rows) → TableHolds k old.now rows → AreOfOffice rows → (found : List Row) → IsAnswer (asked old.now.schema) old.now.trees params found → All IsReadable found)
-      → (r : Result A TableError) (values : Row) → values ≡ params → IfErr r (FailsToShow IsReadable sql values old new) → IfErr r (FailsToReadOf (TableHolds k) old new)
+      → (r : Result A TableError) (values : Row) → values ≡ params → IfErr r (FailsToShowRow IsReadable sql values old new) → IfErr r (FailsToReadOf (TableHolds k) old new)
   fails IsReadable old new has all (Ok x) values are none = none
   fails IsReadable old new has all (Err e) values are (why, is, answer) =
       subst (FailsToReadOf (TableHolds k) old new) (sym is) (said IsReadable old new has all why (subst (λ ps. FailsToAnswer IsReadable sql ps old new why) are answer))

@@ -11,7 +11,7 @@ use Rattle.one_table.specs.Upserting.{Merging}
 use Rattle.one_table.specs.declared.read_fault.ReadFault.{ReadFault}
 use Rattle.one_table.specs.declared.read_fault.ReadFault.TheVariants as fault
 use Rattle.one_table.proofs.ChangeLemmas.{transaction_off}
-use Rattle.book_tables.specs.Reading.{FailsToMerge, FailsToStore, HasTables, told}
+use Rattle.book_tables.specs.Reading.{FailsToMerge, FailsToStore, HasAllTables, told}
 use Rattle.book_tables.specs.Writing.{MergesTables}
 use Rattle.book_tables.specs.declared.error.TableError.{TableError}
 use Rattle.book_tables.specs.declared.error.TableError.TheVariants.{Database, RowOfNoOffice}
@@ -45,7 +45,7 @@ false_row t m params at IsReadable fault.TooMuch (Err x) is fails known = absurd
 
 -- what is left of the tables where a write that answers something fails, and why it does
 pub merge_off : {T : Type 0} {Makes : T → State → State → Type 0} {old new : State} (e : TableError) (r : Result T TableError) → IsErrAnd r (λ x. x ≡ e) → (HasCleanDisk new → IsUnderWay old → KeepsCommit old new) → Survives old new (λ _. ⊥)
-    → (HasCleanDisk new → IsUnderWay old → HasTables old → FailsToMerge old new e) → MergesTables Makes old new r
+    → (HasCleanDisk new → IsUnderWay old → HasAllTables old → FailsToMerge old new e) → MergesTables Makes old new r
 merge_off e (Ok x) is kept survives fails = absurd is
 merge_off {old = old} {new = new} e (Err x) is kept survives fails = record {
   made = λ clean way has. tt;

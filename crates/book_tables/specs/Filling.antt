@@ -14,7 +14,7 @@ use Rattle.book_tables.specs.Writing.{WritesOnly, totals_names, with_totals_of}
 
 -- what is left where only the tables of these names may have other rows: where nothing was written
 -- the database is sound if it was
-pub record LeavesOthers (names : List (List ℕ)) (old new : State) : Type 0 where
+pub record KeepsAllBut (names : List (List ℕ)) (old new : State) : Type 0 where
   pub schema : new.now.schema ≡ old.now.schema
   pub only : IsDatabase old.now → WritesOnly names old new
 
@@ -49,7 +49,7 @@ HasSomeTotals number format rows = (full : Rows) × HasTotalsUpto number full ro
 
 -- the totals are those up to the second number, where they were those up to the first
 pub record TotalsUpto (from to : ℕ) (old new : State) : Type 0 where
-  pub others : LeavesOthers totals_names old new
+  pub others : KeepsAllBut totals_names old new
   pub rows : (told : ℕ) (rows full : Rows) → HoldsOf present_format told old.now rows
       → HasTotalsUpto from full rows
       → (totals : Rows) × HoldsOf present_format told new.now (with_totals_of totals rows)
@@ -65,7 +65,7 @@ pub record TotalsPage (from to : ℕ) (old new : State) : Type 0 where
 
 -- the totals are those of all sales, where there were none
 pub record FillsTotals (old new : State) : Type 0 where
-  pub others : LeavesOthers totals_names old new
+  pub others : KeepsAllBut totals_names old new
   pub rows : (told : ℕ) (rows full : Rows) → HoldsOf present_format told old.now rows
       → HasTotalsUpto 0 full rows
       → (totals : Rows) × HoldsOf present_format told new.now (with_totals_of totals rows)
@@ -89,7 +89,7 @@ base_row r = (r.0, r.1.base)
 
 -- each meter's present base is the one that it had, each once and in any order, where no base was
 pub record FillsBases (old new : State) : Type 0 where
-  pub others : LeavesOthers (codes "meter_bases" ∷ []) old new
+  pub others : KeepsAllBut (codes "meter_bases" ∷ []) old new
   pub rows : (told : ℕ) (rows full : Rows) → HoldsOf present_format told old.now rows
       → AwaitsBases full rows
       → (bases : List (List ℕ × Base)) × IsPermutation (map base_row full.meters) bases

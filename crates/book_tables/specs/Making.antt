@@ -19,8 +19,8 @@ use Rattle.book_tables.specs.declared.error.TableError.TheVariants as fails
 use Rattle.book_tables.specs.Writing.{IsOfNone, WritesOnly}
 
 -- while the connection is open, its database is sound and has the tables of a format
-abbrev pub HasFormatTables : ℕ → State → Type 0
-HasFormatTables n s = IsTrue s.is_open → IsDatabase s.now × HasOfficeOf n s.now.schema
+abbrev pub IsSoundOfFormat : ℕ → State → Type 0
+IsSoundOfFormat n s = IsTrue s.is_open → IsDatabase s.now × HasOfficeOf n s.now.schema
 
 -- the rows of the tables of a format, and none of those that it lacks
 abbrev pub rows_upto : ℕ → Rows → Rows
@@ -87,6 +87,6 @@ TellsOf from old fails.RowOfNoOffice =
     IsDatabase old → HasOfficeOf from old.schema → (o : Office) → ¬ StandsFor old o
 
 -- The same inside a transaction: the connection is in it, and nothing is committed.
-pub record Brings (from : ℕ) (old new : State) : Type 0 where
+pub record BringsInside (from : ℕ) (old new : State) : Type 0 where
   pub inside : Shows old new new.now old.committed true
   pub brings : BringsOffice from old.now new.now

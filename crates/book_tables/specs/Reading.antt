@@ -92,8 +92,8 @@ meter_row m = record { number = m.0; meter = m.1 }
 -- ---- all tables
 
 -- the same of the tables of the present format
-abbrev pub HasTables : State → Type 0
-HasTables s = IsTrue s.is_open → HasOffice s.now.schema
+abbrev pub HasAllTables : State → Type 0
+HasAllTables s = IsTrue s.is_open → HasOffice s.now.schema
 
 abbrev pub HasRows : State → Rows → Type 0
 HasRows s rows = IsTrue s.is_open → Holds s.now rows
@@ -103,7 +103,7 @@ FailsToRead old new e = FailsToReadOf Holds old new e
 
 abbrev pub OnlyReads : {T : Type 0} → (State → State → Type 0) → State → State
     → Result T TableError → Type 0
-OnlyReads Same old new result = ReadsOnly HasTables Same FailsToRead old new result
+OnlyReads Same old new result = ReadsOnly HasAllTables Same FailsToRead old new result
 
 -- ---- writes
 
@@ -138,6 +138,6 @@ module _ {T : Type 0} (shown : T → Row) (keeps : T → Type 0) where
   ShowsRecord row = (x : T) × IsShown row x
 
 -- it is told of a fault of the reader
-abbrev pub FailsToShow : (Row → Type 0) → List ℕ → Row → State → State → TableError → Type 0
-FailsToShow IsReadable sql params old new e =
+abbrev pub FailsToShowRow : (Row → Type 0) → List ℕ → Row → State → State → TableError → Type 0
+FailsToShowRow IsReadable sql params old new e =
     (why : ReadFault) × (e ≡ told why) × FailsToAnswer IsReadable sql params old new why

@@ -23,7 +23,7 @@ use Rattle.vend_core.specs.declared.office.sale.Sale.{Sale}
 use Rattle.vend_core.specs.declared.office.shift.Shift.{Shift}
 use Rattle.book_tables.specs.Edited.{edited, row_with_base, row_with_tariff, shift_closed}
 use Rattle.book_tables.specs.Holds.{Holds, HoldsMembers, HoldsOf}
-use Rattle.book_tables.specs.Reading.{FailsToMerge, FailsToStore, HasTables}
+use Rattle.book_tables.specs.Reading.{FailsToMerge, FailsToStore, HasAllTables}
 use Rattle.book_tables.specs.Rows.{DatedStepRow, Rows, StepRow, present_format}
 use Rattle.book_tables.specs.Stands.{AreMembersOf, AreRowsOf, AreTotalsOf, sales_in_month, sales_in_shift, sales_under, tenths_of, totals_of}
 use Rattle.book_tables.specs.Values.{AreTotalsValues, IsTid, IsTotal}
@@ -36,17 +36,17 @@ use Rattle.book_tables.specs.declared.totals.Totals.{Totals}
 -- what it leaves, like any statement; and why it fails.
 pub record WritesTables (Makes : State → State → Type 0) (old new : State)
     (result : Result (Unit {0}) TableError) : Type 0 where
-  pub made : HasCleanDisk new → HasTables old → OnOk result (Makes old new)
+  pub made : HasCleanDisk new → HasAllTables old → OnOk result (Makes old new)
   pub transaction : KeepsTransaction old new result
-  pub refused : HasCleanDisk new → HasTables old → IfErr result (FailsToStore old new)
+  pub refused : HasCleanDisk new → HasAllTables old → IfErr result (FailsToStore old new)
 
 -- The same of a write that answers something of the rows, while its transaction is under way: one
 -- that has ended would let it run.
 pub record MergesTables {T : Type 0} (Makes : T → State → State → Type 0) (old new : State)
     (result : Result T TableError) : Type 0 where
-  pub made : HasCleanDisk new → IsUnderWay old → HasTables old → IfOk result (λ x. Makes x old new)
+  pub made : HasCleanDisk new → IsUnderWay old → HasAllTables old → IfOk result (λ x. Makes x old new)
   pub transaction : KeepsTransaction old new result
-  pub refused : HasCleanDisk new → IsUnderWay old → HasTables old
+  pub refused : HasCleanDisk new → IsUnderWay old → HasAllTables old
       → IfErr result (FailsToMerge old new)
 
 -- where the tables hold rows of which this is known, and `about` tells this format, none is told to

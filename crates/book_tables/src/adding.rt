@@ -5,7 +5,7 @@ ghost use Rattle.sqlite.specs.State.{HasCleanDisk};
 ghost use Rattle.sqlite.specs.Held.{state};
 ghost use Rattle.one_table.specs.InTransaction.{IsUnderWay, KeepsTransaction};
 ghost use Rattle.book_tables.specs.Failing.{FailsToWriteAll};
-ghost use Rattle.book_tables.specs.Reading.{HasTables};
+ghost use Rattle.book_tables.specs.Reading.{HasAllTables};
 ghost use Rattle.book_tables.specs.Writing.{AddsMeter, AddsMeterRow, AddsName, AddsSale, AddsShift, AddsStep, AddsTariff, WritesTables};
 
 use crate::bases::add_base;
@@ -75,12 +75,12 @@ pub fn add_meter<S: Alter>(
 ) -> Result<(), TableError>
     ensures same_reference { tx.new.conn.ghost_name ≡ tx.old.conn.ghost_name }
     ensures added { HasCleanDisk (state S.Store tx.new.conn.now)
-        → HasTables (state S.Store tx.old.conn.now)
+        → HasAllTables (state S.Store tx.old.conn.now)
         → OnOk result (AddsMeter number.now meter.now
         (state S.Store tx.old.conn.now) (state S.Store tx.new.conn.now)) }
     ensures refused { HasCleanDisk (state S.Store tx.new.conn.now)
         → IsUnderWay (state S.Store tx.old.conn.now)
-        → HasTables (state S.Store tx.old.conn.now)
+        → HasAllTables (state S.Store tx.old.conn.now)
         → IfErr result (FailsToWriteAll
         (state S.Store tx.old.conn.now) (state S.Store tx.new.conn.now)) }
     ensures transaction { KeepsTransaction
@@ -135,12 +135,12 @@ pub fn add_tariff<S: Alter>(
     requires { length steps.now ≤ 8 }
     ensures same_reference { tx.new.conn.ghost_name ≡ tx.old.conn.ghost_name }
     ensures added { HasCleanDisk (state S.Store tx.new.conn.now)
-        → HasTables (state S.Store tx.old.conn.now)
+        → HasAllTables (state S.Store tx.old.conn.now)
         → OnOk result (AddsTariff name.now steps.now
         (state S.Store tx.old.conn.now) (state S.Store tx.new.conn.now)) }
     ensures refused { HasCleanDisk (state S.Store tx.new.conn.now)
         → IsUnderWay (state S.Store tx.old.conn.now)
-        → HasTables (state S.Store tx.old.conn.now)
+        → HasAllTables (state S.Store tx.old.conn.now)
         → IfErr result (FailsToWriteAll
         (state S.Store tx.old.conn.now) (state S.Store tx.new.conn.now)) }
     ensures transaction { KeepsTransaction

@@ -5,7 +5,7 @@ ghost use Rattle.sqlite.specs.State.{HasCleanDisk};
 ghost use Rattle.sqlite.specs.Held.{state};
 ghost use Rattle.one_table.specs.InTransaction.{IsUnderWay, KeepsTransaction};
 ghost use Rattle.book_tables.specs.Failing.{FailsToWriteAll};
-ghost use Rattle.book_tables.specs.Reading.{HasTables};
+ghost use Rattle.book_tables.specs.Reading.{HasAllTables};
 ghost use Rattle.book_tables.specs.Writing.{AddsBase, MovesBase, SetsBase, WritesTables};
 
 use crate::error::TableError;
@@ -62,12 +62,12 @@ pub fn move_base<S: Alter>(
 ) -> Result<(), TableError>
     ensures same_reference { tx.new.conn.ghost_name ≡ tx.old.conn.ghost_name }
     ensures moved { HasCleanDisk (state S.Store tx.new.conn.now)
-        → HasTables (state S.Store tx.old.conn.now)
+        → HasAllTables (state S.Store tx.old.conn.now)
         → OnOk result (MovesBase number.now base
         (state S.Store tx.old.conn.now) (state S.Store tx.new.conn.now)) }
     ensures refused { HasCleanDisk (state S.Store tx.new.conn.now)
         → IsUnderWay (state S.Store tx.old.conn.now)
-        → HasTables (state S.Store tx.old.conn.now)
+        → HasAllTables (state S.Store tx.old.conn.now)
         → IfErr result (FailsToWriteAll
         (state S.Store tx.old.conn.now) (state S.Store tx.new.conn.now)) }
     ensures transaction { KeepsTransaction

@@ -9,7 +9,7 @@ ghost use Rattle.vend_core.specs.Office.{IsOffice, Office};
 ghost use Rattle.one_table.specs.InTransaction.{IsUnderWay, KeepsTransaction};
 ghost use Rattle.book_tables.specs.Failing.{FailsToWriteAll};
 ghost use Rattle.book_tables.specs.Kept.{dated_steps_kept};
-ghost use Rattle.book_tables.specs.Reading.{HasTableRows, HasTables, IsFirstDay, ReadsTable};
+ghost use Rattle.book_tables.specs.Reading.{HasTableRows, HasAllTables, IsFirstDay, ReadsTable};
 ghost use Rattle.book_tables.specs.Rows.{Rows, shown_number};
 ghost use Rattle.book_tables.specs.Stands.{AreMembersOf};
 ghost use Rattle.book_tables.specs.Writing.{AddsDatedStep, AddsSteps, WritesTables};
@@ -156,12 +156,12 @@ pub fn add_steps<S: Alter>(
     requires { length steps.now ≤ 8 }
     ensures same_reference { tx.new.conn.ghost_name ≡ tx.old.conn.ghost_name }
     ensures added { HasCleanDisk (state S.Store tx.new.conn.now)
-        → HasTables (state S.Store tx.old.conn.now)
+        → HasAllTables (state S.Store tx.old.conn.now)
         → OnOk result (AddsSteps name.now day steps.now
         (state S.Store tx.old.conn.now) (state S.Store tx.new.conn.now)) }
     ensures refused { HasCleanDisk (state S.Store tx.new.conn.now)
         → IsUnderWay (state S.Store tx.old.conn.now)
-        → HasTables (state S.Store tx.old.conn.now)
+        → HasAllTables (state S.Store tx.old.conn.now)
         → 1 ≤ length steps.now → IfErr result (FailsToWriteAll
         (state S.Store tx.old.conn.now) (state S.Store tx.new.conn.now)) }
     ensures transaction { KeepsTransaction

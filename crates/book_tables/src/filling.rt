@@ -9,7 +9,7 @@ ghost use Rattle.book_tables.specs.Filling.{AwaitsSomeBases, FillsBases, FillsTo
 ghost use Rattle.book_tables.specs.Holds.{rows_in};
 ghost use Rattle.book_tables.specs.Kept.{sales_kept};
 ghost use Rattle.book_tables.specs.Looking.{ShowMeters, ShowSales, ShowsUpto};
-ghost use Rattle.book_tables.specs.Reading.{HasTable, HasTables};
+ghost use Rattle.book_tables.specs.Reading.{HasTable, HasAllTables};
 ghost use Rattle.book_tables.specs.Writing.{FindsNoFalseRow};
 
 use crate::bases::add_base;
@@ -41,7 +41,7 @@ fn total_sale<S: Alter>(
     ensures same_reference { tx.new.conn.ghost_name ≡ tx.old.conn.ghost_name }
     ensures adds { HasCleanDisk (state S.Store tx.new.conn.now)
         → IsUnderWay (state S.Store tx.old.conn.now)
-        → HasTables (state S.Store tx.old.conn.now)
+        → HasAllTables (state S.Store tx.old.conn.now)
         → OnOk result (TotalsSale sale.now
         (state S.Store tx.old.conn.now) (state S.Store tx.new.conn.now)) }
     ensures transaction { KeepsTransaction
@@ -65,7 +65,7 @@ fn total_page<S: Alter>(
     ensures same_reference { tx.new.conn.ghost_name ≡ tx.old.conn.ghost_name }
     ensures adds { HasCleanDisk (state S.Store tx.new.conn.now)
         → IsUnderWay (state S.Store tx.old.conn.now)
-        → HasTables (state S.Store tx.old.conn.now)
+        → HasAllTables (state S.Store tx.old.conn.now)
         → IfOk result (λ last. TotalsPage done last
         (state S.Store tx.old.conn.now) (state S.Store tx.new.conn.now)) }
     ensures shows { HasCleanDisk (state S.Store tx.new.conn.now)
@@ -98,12 +98,12 @@ pub(crate) fn fill_totals<S: Alter>(
     ensures same_reference { tx.new.conn.ghost_name ≡ tx.old.conn.ghost_name }
     ensures fills { HasCleanDisk (state S.Store tx.new.conn.now)
         → IsUnderWay (state S.Store tx.old.conn.now)
-        → HasTables (state S.Store tx.old.conn.now)
+        → HasAllTables (state S.Store tx.old.conn.now)
         → OnOk result (FillsTotals
         (state S.Store tx.old.conn.now) (state S.Store tx.new.conn.now)) }
     ensures shows { HasCleanDisk (state S.Store tx.new.conn.now)
         → IsUnderWay (state S.Store tx.old.conn.now)
-        → HasTables (state S.Store tx.old.conn.now)
+        → HasAllTables (state S.Store tx.old.conn.now)
         → IsDatabase (state S.Store tx.old.conn.now).now
         → OnOk result (ShowSales (rows_in (state S.Store tx.old.conn.now).now (codes "sales"))) }
     ensures transaction { KeepsTransaction
@@ -135,11 +135,11 @@ pub(crate) fn fill_bases<S: Alter>(
     ensures same_reference { tx.new.conn.ghost_name ≡ tx.old.conn.ghost_name }
     ensures fills { HasCleanDisk (state S.Store tx.new.conn.now)
         → IsUnderWay (state S.Store tx.old.conn.now)
-        → HasTables (state S.Store tx.old.conn.now)
+        → HasAllTables (state S.Store tx.old.conn.now)
         → OnOk result (FillsBases
         (state S.Store tx.old.conn.now) (state S.Store tx.new.conn.now)) }
     ensures shows { HasCleanDisk (state S.Store tx.new.conn.now)
-        → HasTables (state S.Store tx.old.conn.now)
+        → HasAllTables (state S.Store tx.old.conn.now)
         → OnOk result (ShowMeters (rows_in (state S.Store tx.old.conn.now).now (codes "meters"))) }
     ensures transaction { KeepsTransaction
         (state S.Store tx.old.conn.now) (state S.Store tx.new.conn.now) result }

@@ -6,7 +6,7 @@ ghost use Rattle.sqlite.specs.State.{HasCleanDisk, IsUnchanged};
 ghost use Rattle.sqlite.specs.Held.{state};
 ghost use Rattle.one_table.specs.Answer.{GivesAll, OnlyAsks};
 ghost use Rattle.one_table.specs.ReadsOnly.{ReadsOnly};
-ghost use Rattle.book_tables.specs.Reading.{FailsToShow, IsShown, ShowsRecord};
+ghost use Rattle.book_tables.specs.Reading.{FailsToShowRow, IsShown, ShowsRecord};
 
 use crate::error::TableError;
 use crate::shown::{Record, Shown};
@@ -36,7 +36,7 @@ pub(crate) fn all_records<S: Alter, T: Record + Drop>(
         → IfOk result (λ found. GivesAll (IsShown T.Record.shown T.Record.keeps) sql.now
         (bound params.now) (state S.Store conn.old) (state S.Store conn.new) found.items) }
     ensures reads { ReadsOnly (OnlyAsks sql.now) IsUnchanged
-        (FailsToShow (ShowsRecord T.Record.shown T.Record.keeps) sql.now (bound params.now))
+        (FailsToShowRow (ShowsRecord T.Record.shown T.Record.keeps) sql.now (bound params.now))
         (state S.Store conn.old) (state S.Store conn.new) result }
 {
     let shown: Vec<Shown<T>> = read_rows(alloc, conn, sql, params)?;

@@ -4,7 +4,7 @@ ghost use Rattle.std.specs.Prelude.{◌≡◌, ◌≢◌, ◌<◌, ℕ, suc, IfE
 ghost use Rattle.sqlite.specs.State.{HasCleanDisk};
 ghost use Rattle.sqlite.specs.Held.{state};
 ghost use Rattle.one_table.specs.InTransaction.{KeepsTransaction, StaysInside};
-ghost use Rattle.book_tables.specs.Making.{Brings, HasFormatTables, MakesMissing, TellsOf, TellsPresent};
+ghost use Rattle.book_tables.specs.Making.{BringsInside, IsSoundOfFormat, MakesMissing, TellsOf, TellsPresent};
 ghost use Rattle.book_tables.specs.Rows.{present_format};
 ghost use Rattle.book_tables.specs.Writing.{WritesTables};
 
@@ -24,7 +24,7 @@ fn make_missing<S: Alter>(tx: &mut Transaction<'_, S>, from: u32) -> Result<(), 
     requires { from < present_format }
     ensures same_reference { tx.new.conn.ghost_name ≡ tx.old.conn.ghost_name }
     ensures made { HasCleanDisk (state S.Store tx.new.conn.now)
-        → HasFormatTables from (state S.Store tx.old.conn.now)
+        → IsSoundOfFormat from (state S.Store tx.old.conn.now)
         → OnOk result (MakesMissing from
         (state S.Store tx.old.conn.now).now (state S.Store tx.new.conn.now).now) }
     ensures database { IfErr result (λ e. e ≢ TableError.RowOfNoOffice) }
@@ -53,8 +53,8 @@ fn tell_first<S: Alter>(tx: &mut Transaction<'_, S>) -> Result<(), TableError>
 fn begin<S: Alter>(tx: &mut Transaction<'_, S>) -> Result<(), TableError>
     ensures same_reference { tx.new.conn.ghost_name ≡ tx.old.conn.ghost_name }
     ensures brings { HasCleanDisk (state S.Store tx.new.conn.now)
-        → HasFormatTables 0 (state S.Store tx.old.conn.now)
-        → OnOk result (Brings 0
+        → IsSoundOfFormat 0 (state S.Store tx.old.conn.now)
+        → OnOk result (BringsInside 0
         (state S.Store tx.old.conn.now) (state S.Store tx.new.conn.now)) }
     ensures told { HasCleanDisk (state S.Store tx.new.conn.now)
         → IfErr result (TellsOf 0 (state S.Store tx.old.conn.now).now) }
@@ -79,8 +79,8 @@ fn tell_present<S: Alter>(tx: &mut Transaction<'_, S>) -> Result<(), TableError>
 fn bring_first<S: Alter>(alloc: Global, tx: &mut Transaction<'_, S>) -> Result<(), TableError>
     ensures same_reference { tx.new.conn.ghost_name ≡ tx.old.conn.ghost_name }
     ensures brings { HasCleanDisk (state S.Store tx.new.conn.now)
-        → HasFormatTables 1 (state S.Store tx.old.conn.now)
-        → OnOk result (Brings 1
+        → IsSoundOfFormat 1 (state S.Store tx.old.conn.now)
+        → OnOk result (BringsInside 1
         (state S.Store tx.old.conn.now) (state S.Store tx.new.conn.now)) }
     ensures told { HasCleanDisk (state S.Store tx.new.conn.now)
         → IfErr result (TellsOf 1 (state S.Store tx.old.conn.now).now) }
@@ -97,8 +97,8 @@ fn bring_first<S: Alter>(alloc: Global, tx: &mut Transaction<'_, S>) -> Result<(
 fn bring_second<S: Alter>(alloc: Global, tx: &mut Transaction<'_, S>) -> Result<(), TableError>
     ensures same_reference { tx.new.conn.ghost_name ≡ tx.old.conn.ghost_name }
     ensures brings { HasCleanDisk (state S.Store tx.new.conn.now)
-        → HasFormatTables 2 (state S.Store tx.old.conn.now)
-        → OnOk result (Brings 2
+        → IsSoundOfFormat 2 (state S.Store tx.old.conn.now)
+        → OnOk result (BringsInside 2
         (state S.Store tx.old.conn.now) (state S.Store tx.new.conn.now)) }
     ensures told { HasCleanDisk (state S.Store tx.new.conn.now)
         → IfErr result (TellsOf 2 (state S.Store tx.old.conn.now).now) }
@@ -115,8 +115,8 @@ fn bring_second<S: Alter>(alloc: Global, tx: &mut Transaction<'_, S>) -> Result<
 fn bring_third<S: Alter>(alloc: Global, tx: &mut Transaction<'_, S>) -> Result<(), TableError>
     ensures same_reference { tx.new.conn.ghost_name ≡ tx.old.conn.ghost_name }
     ensures brings { HasCleanDisk (state S.Store tx.new.conn.now)
-        → HasFormatTables 3 (state S.Store tx.old.conn.now)
-        → OnOk result (Brings 3
+        → IsSoundOfFormat 3 (state S.Store tx.old.conn.now)
+        → OnOk result (BringsInside 3
         (state S.Store tx.old.conn.now) (state S.Store tx.new.conn.now)) }
     ensures told { HasCleanDisk (state S.Store tx.new.conn.now)
         → IfErr result (TellsOf 3 (state S.Store tx.old.conn.now).now) }
@@ -146,8 +146,8 @@ pub fn bring<S: Alter>(
     requires { from < present_format }
     ensures same_reference { tx.new.conn.ghost_name ≡ tx.old.conn.ghost_name }
     ensures brings { HasCleanDisk (state S.Store tx.new.conn.now)
-        → HasFormatTables from (state S.Store tx.old.conn.now)
-        → OnOk result (Brings from
+        → IsSoundOfFormat from (state S.Store tx.old.conn.now)
+        → OnOk result (BringsInside from
         (state S.Store tx.old.conn.now) (state S.Store tx.new.conn.now)) }
     ensures told { HasCleanDisk (state S.Store tx.new.conn.now)
         → IfErr result (TellsOf from (state S.Store tx.old.conn.now).now) }

@@ -13,7 +13,7 @@ ghost use Rattle.one_table.specs.ReadsOnly.{ReadsInside};
 ghost use Rattle.book_tables.specs.Kept.{last_ids_kept, meters_kept, sales_kept};
 ghost use Rattle.book_tables.specs.Holds.{rows_in};
 ghost use Rattle.book_tables.specs.Looking.{ShowMeters, ShowsPage, StartsFrom1};
-ghost use Rattle.book_tables.specs.Reading.{FailsToShow, HasTable, IsShown, ReadsTableInside, SaysOfTable, ShowsRecord, meter_row};
+ghost use Rattle.book_tables.specs.Reading.{FailsToShowRow, HasTable, IsShown, ReadsTableInside, SaysOfTable, ShowsRecord, meter_row};
 ghost use Rattle.book_tables.specs.Rows.{meter_columns};
 ghost use Rattle.book_tables.specs.Stands.{sales_under};
 ghost use Rattle.book_tables.specs.Values.{AreMeterValues};
@@ -75,7 +75,7 @@ fn records_inside<S: Alter, T: Record + Drop>(
         (bound params.now) (state S.Store tx.old.conn.now) (state S.Store tx.new.conn.now)
         found.items) }
     ensures reads { ReadsInside (OnlyAsks sql.now)
-        (FailsToShow (ShowsRecord T.Record.shown T.Record.keeps) sql.now (bound params.now))
+        (FailsToShowRow (ShowsRecord T.Record.shown T.Record.keeps) sql.now (bound params.now))
         (state S.Store tx.old.conn.now) (state S.Store tx.new.conn.now) result }
     ensures transaction { KeepsTransaction
         (state S.Store tx.old.conn.now) (state S.Store tx.new.conn.now) result }

@@ -8,7 +8,7 @@ ghost use Rattle.sqlite.specs.Held.{state};
 ghost use Rattle.one_table.specs.Answer.{GivesFirst, OnlyAsks};
 ghost use Rattle.one_table.specs.ReadsOnly.{ReadsOnly};
 ghost use Rattle.book_tables.specs.ReadBack.{ReadsBack};
-ghost use Rattle.book_tables.specs.Reading.{FailsToShow, IsShown, ShowsRecord};
+ghost use Rattle.book_tables.specs.Reading.{FailsToShowRow, IsShown, ShowsRecord};
 
 use crate::error::TableError;
 use one_table::{FromRow, ReadFault, read_row};
@@ -57,7 +57,7 @@ pub(crate) fn first_record<S: Alter, T: Record>(
         → IfOk result (GivesFirst (IsShown T.Record.shown T.Record.keeps) sql.now (bound params.now)
         (state S.Store conn.old) (state S.Store conn.new)) }
     ensures reads { ReadsOnly (OnlyAsks sql.now) IsUnchanged
-        (FailsToShow (ShowsRecord T.Record.shown T.Record.keeps) sql.now (bound params.now))
+        (FailsToShowRow (ShowsRecord T.Record.shown T.Record.keeps) sql.now (bound params.now))
         (state S.Store conn.old) (state S.Store conn.new) result }
 {
     let found: Option<Shown<T>> = read_row(conn, sql, params)?;

@@ -7,7 +7,7 @@ ghost use Rattle.sqlite.specs.State.{HasCleanDisk};
 ghost use Rattle.sts_fields.specs.Calendar.{month_at};
 ghost use Rattle.one_table.specs.InTransaction.{IsUnderWay, KeepsTransaction};
 ghost use Rattle.book_tables.specs.Failing.{FailsToMergeAll};
-ghost use Rattle.book_tables.specs.Reading.{HasTables};
+ghost use Rattle.book_tables.specs.Reading.{HasAllTables};
 ghost use Rattle.book_tables.specs.Writing.{AddsTenths, AddsToShift, FindsNoFalseRow, MayAddSold, MayAddTenths, MayAddToShift, MayAddTotals, MaySetLastId, MergesTables, SetsLastId, TellsSold, TellsTotals};
 
 use crate::adding::add_sale;
@@ -105,12 +105,12 @@ pub fn add_totals<S: Alter>(
     ensures same_reference { tx.new.conn.ghost_name ≡ tx.old.conn.ghost_name }
     ensures adds { HasCleanDisk (state S.Store tx.new.conn.now)
         → IsUnderWay (state S.Store tx.old.conn.now)
-        → HasTables (state S.Store tx.old.conn.now)
+        → HasAllTables (state S.Store tx.old.conn.now)
         → IfOk result (λ shown. TellsTotals sale.now last shown
         (state S.Store tx.old.conn.now) (state S.Store tx.new.conn.now)) }
     ensures refused { HasCleanDisk (state S.Store tx.new.conn.now)
         → IsUnderWay (state S.Store tx.old.conn.now)
-        → HasTables (state S.Store tx.old.conn.now)
+        → HasAllTables (state S.Store tx.old.conn.now)
         → IfErr result (FailsToMergeAll
         (state S.Store tx.old.conn.now) (state S.Store tx.new.conn.now)) }
     ensures transaction { KeepsTransaction
@@ -142,12 +142,12 @@ pub fn add_sold<S: Alter>(
     ensures same_reference { tx.new.conn.ghost_name ≡ tx.old.conn.ghost_name }
     ensures adds { HasCleanDisk (state S.Store tx.new.conn.now)
         → IsUnderWay (state S.Store tx.old.conn.now)
-        → HasTables (state S.Store tx.old.conn.now)
+        → HasAllTables (state S.Store tx.old.conn.now)
         → IfOk result (λ shown. TellsSold sale.now shown
         (state S.Store tx.old.conn.now) (state S.Store tx.new.conn.now)) }
     ensures refused { HasCleanDisk (state S.Store tx.new.conn.now)
         → IsUnderWay (state S.Store tx.old.conn.now)
-        → HasTables (state S.Store tx.old.conn.now)
+        → HasAllTables (state S.Store tx.old.conn.now)
         → IfErr result (FailsToMergeAll
         (state S.Store tx.old.conn.now) (state S.Store tx.new.conn.now)) }
     ensures transaction { KeepsTransaction

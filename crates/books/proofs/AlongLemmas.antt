@@ -14,7 +14,7 @@ use Rattle.vend_core.specs.declared.decision.refusal.Refusal.{Refusal}
 use Rattle.vend_core.specs.declared.decision.refusal.Refusal.TheVariants.{Store, Stopped}
 use Rattle.vend_core.specs.declared.decision.request.Stamped.{Stamped}
 use Rattle.books.specs.Asking.{AreServedInTurn, Replies}
-use Rattle.books.specs.Keeps.{HaveTables, Represents, Seen}
+use Rattle.books.specs.Keeps.{BooksHaveTables, Represents, Seen}
 use Rattle.book_states.specs.Others.{LeavesOthers}
 use Rattle.books.specs.Stopping.{StopAtFailure}
 use Rattle.book_states.proofs.OthersLemmas.{others_same, others_then}
@@ -23,8 +23,8 @@ use Rattle.book_states.proofs.OthersLemmas.{others_same, others_then}
 pub record HaveServed (old new : Seen) (ats : List Stamped) (replies : List (Result Answer Refusal)) : Type 0 where
   pub count : length replies ≡ length ats
   pub keeps : (life : Life) → Represents life old → Represents (extended_along life ats replies) new
-  pub tables : HaveTables old → HaveTables new
-  pub others : HasCleanDisk new.state → HaveTables old → LeavesOthers old.state new.state
+  pub tables : BooksHaveTables old → BooksHaveTables new
+  pub others : HasCleanDisk new.state → BooksHaveTables old → LeavesOthers old.state new.state
   pub clean : HasCleanDisk new.state → HasCleanDisk old.state
   pub stops : StopAtFailure old.stopped replies new.stopped
 
@@ -84,7 +84,7 @@ stops_more old mid new replies reply stops last then = record {
 
 pub served_more : (old mid new : Seen) (ats : List Stamped) (replies : List (Result Answer Refusal)) (at : Stamped) (reply : Result Answer Refusal) → HaveServed old mid ats replies
     → ((life : Life) → length ats ≡ length replies → extended_by (extended_along life ats replies) at reply ≡ extended_along life (ats ++ at ∷ []) (replies ++ reply ∷ []))
-    → ((life : Life) → Represents life mid → Represents (extended_by life at reply) new) → (HaveTables mid → HaveTables new) → (HasCleanDisk new.state → HaveTables mid → LeavesOthers mid.state new.state)
+    → ((life : Life) → Represents life mid → Represents (extended_by life at reply) new) → (BooksHaveTables mid → BooksHaveTables new) → (HasCleanDisk new.state → BooksHaveTables mid → LeavesOthers mid.state new.state)
     → (HasCleanDisk new.state → HasCleanDisk mid.state) → (reply ≡ Err Stopped) ↔ (mid.stopped ≡ true) → (new.stopped ≡ true) ↔ ((reply ≡ Err Store) ⊎ (reply ≡ Err Stopped))
     → HaveServed old new (ats ++ at ∷ []) (replies ++ reply ∷ [])
 served_more old mid new ats replies at reply so_far law keeps tables others clean last stops = record {

@@ -7,7 +7,7 @@ use Rattle.vend_core.specs.Law.Life.{MayLeave}
 use Rattle.vend_core.specs.Law.LifeLaws.{IsRunning, opened}
 use Rattle.vend_core.specs.Office.{Office}
 use Rattle.book_tables.specs.Holds.{HasOffice}
-use Rattle.book_tables.specs.Reading.{HasTables}
+use Rattle.book_tables.specs.Reading.{HasAllTables}
 use Rattle.book_states.specs.Stores.{Stores}
 use Rattle.books.specs.Keeps.{IsRepresented, Seen}
 use Rattle.book_opening.specs.Opening.{OpensAs}
@@ -24,5 +24,5 @@ keeps_opened forward o books running leaves same at = record {
 }
 
 -- what is opened has the office's tables
-pub opened_tables : (old new : State) → OpensAs old new → HasTables new
+pub opened_tables : (old new : State) → OpensAs old new → HasAllTables new
 opened_tables old new h = λ _. elim h.now [ inl brought ↦ brought.2.has | inr found ↦ subst (λ (db : Database). HasOffice db.schema) (sym found.2) found.0 ]

@@ -8,7 +8,7 @@ use Rattle.vend_core.specs.declared.decision.refusal.Refusal.{Refusal}
 use Rattle.vend_core.specs.declared.decision.refusal.Refusal.TheVariants.{Store, Stopped}
 use Rattle.vend_core.specs.declared.decision.request.Request.{Request}
 use Rattle.vend_core.specs.declared.decision.request.Stamped.{Stamped}
-use Rattle.books.specs.Keeps.{HaveTables, Represents, Seen}
+use Rattle.books.specs.Keeps.{BooksHaveTables, Represents, Seen}
 use Rattle.book_states.specs.Others.{LeavesOthers}
 use Rattle.books.specs.Serving.{FailsToServe, ServesGranted}
 
@@ -23,12 +23,12 @@ pub record IsAsked (moment : ℕ) (request : Request) (books : Seen) (at : Stamp
 -- commits nothing. They answer as stopped exactly where they were, and are stopped after a failure.
 pub record Replies (at : Stamped) (reply : Result Answer Refusal) (old new : Seen) : Type 0 where
   pub keeps : (life : Life) → Represents life old → Represents (extended_by life at reply) new
-  pub tables : HaveTables old → HaveTables new
-  pub others : HasCleanDisk new.state → HaveTables old → LeavesOthers old.state new.state
+  pub tables : BooksHaveTables old → BooksHaveTables new
+  pub others : HasCleanDisk new.state → BooksHaveTables old → LeavesOthers old.state new.state
   pub clean : HasCleanDisk new.state → HasCleanDisk old.state
-  pub granted : HasCleanDisk new.state → HaveTables old → old.stopped ≡ false
+  pub granted : HasCleanDisk new.state → BooksHaveTables old → old.stopped ≡ false
       → OnOk reply (ServesGranted at old new)
-  pub failures : HasCleanDisk new.state → HaveTables old → old.stopped ≡ false
+  pub failures : HasCleanDisk new.state → BooksHaveTables old → old.stopped ≡ false
       → IfErr reply (FailsToServe at old new)
   pub stopped : (reply ≡ Err Stopped) ↔ (old.stopped ≡ true)
   pub stops : (new.stopped ≡ true) ↔ ((reply ≡ Err Store) ⊎ (reply ≡ Err Stopped))

@@ -8,7 +8,7 @@ use Rattle.sts_token.specs.Token.{BlockFunction}
 use Rattle.vend_core.specs.Law.Life.{IsLife, Life, MayLeave}
 use Rattle.vend_core.specs.Law.LifeLaws.{IsRunning}
 use Rattle.vend_core.specs.Office.{IsOffice, Office}
-use Rattle.book_tables.specs.Reading.{HasTables}
+use Rattle.book_tables.specs.Reading.{HasAllTables}
 use Rattle.book_edits.specs.Transaction.{HasBeen}
 pub use Rattle.book_states.specs.Stores.{RecoversTo, StoreStandsFor, Stores}
 use Rattle.books.specs.declared.books.Books.{Books}
@@ -34,8 +34,8 @@ seen g forwards books = record {
 
 -- Books that are not stopped have the office's tables, as long as the disk returns what was
 -- written. Nothing is said of the rows: they may be those of no office.
-abbrev pub HaveTables : Seen → Type 0
-HaveTables books = HasCleanDisk books.state → books.stopped ≡ false → HasTables books.state
+abbrev pub BooksHaveTables : Seen → Type 0
+BooksHaveTables books = HasCleanDisk books.state → books.stopped ≡ false → HasAllTables books.state
 
 -- this is the number of the office's next sale, or one too small
 abbrev pub IsNextOrOneBefore : Office → ℕ → Type 0

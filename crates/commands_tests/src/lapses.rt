@@ -11,7 +11,7 @@ use crate::support::{Failing, words_of};
 use desk::Script;
 use std::fs;
 use std::test::Fail;
-use vend_commands::{End, Ports, Watched, run_over};
+use vend_commands::{CommandEnd, Ports, Watched, run_over};
 
 // Each message comes on two connections, as from a till that asks again.
 const MESSAGES: &[&str] = &[
@@ -43,7 +43,7 @@ const TOTALS: &str = "\nSALES 1\nTENTHS 1\nCASH 10\n";
 /// What came of a run: its end, what it told, and all that its connections were sent.
 #[derive(Debug, Drop)]
 struct Outcome {
-    end: End,
+    end: CommandEnd,
     errors: String,
     replies: String,
 }
@@ -123,13 +123,13 @@ fn count_in(text: &str, part: &str) -> usize {
 // Whether a request met the failure. Each that was asked for again has its one right reply.
 fn has_failed(ran: &Outcome) -> Result<bool, Fail> {
     let replies = ran.replies.as_str();
-    if ran.end == End::Refused && ran.errors.as_str() == "open 3 Store\n" && replies.is_empty() {
+    if ran.end == CommandEnd::Refused && ran.errors.as_str() == "open 3 Store\n" && replies.is_empty() {
         return Ok(true);
     }
     let failed = count_in(replies, FAILED);
     let sold = count_in(replies, SOLD);
     let shown = count_in(replies, TOTALS);
-    let is_right = ran.end == End::Done
+    let is_right = ran.end == CommandEnd::Done
         && ran.errors.as_str() == LISTENING
         && failed <= 1
         && sold >= 1
@@ -183,7 +183,7 @@ fn many_connections(rt: HostRuntime) -> Result<(), Fail> {
         messages.push(SHOWN)?;
     }
     let ran = served_all(&rt, calls_fail(true, 0, 0), &messages, usize::MAX)?;
-    assert_eq!(rt; ran.end, End::Done);
+    assert_eq!(rt; ran.end, CommandEnd::Done);
     assert_eq!(rt; ran.errors.as_str(), LISTENING);
     assert_eq!(rt; count_in(ran.replies.as_str(), SOLD), 1);
     assert_eq!(rt; count_in(ran.replies.as_str(), TOTALS), 1_000);

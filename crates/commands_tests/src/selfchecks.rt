@@ -5,7 +5,7 @@ use std::io::{ErrorKind, Read};
 use std::net::{Net, SocketAddr, TcpListener, TcpStream};
 use std::test::Fail;
 use sts_token::{Demo, Plain};
-use vend_commands::{End, Watched, gives_exactly, replies_over_memory, run_selfcheck};
+use vend_commands::{CommandEnd, Watched, gives_exactly, replies_over_memory, run_selfcheck};
 
 // The replies to a sale and to a call for its receipt.
 const REPLIES: &[u8] = b"HTTP/1.1 200 OK\r\nContent-Type: application/json\r\n\
@@ -131,7 +131,7 @@ fn nobody_answers(rt: HostRuntime) -> Result<(), Fail> {
         let mut output = Watched::new(&mut out);
         let mut errors = Watched::new(&mut err);
         let end = run_selfcheck(&words, rt.alloc(), &net, &mut output, &mut errors);
-        assert_eq!(rt; end, End::Refused);
+        assert_eq!(rt; end, CommandEnd::Refused);
         assert!(rt; out.is_empty());
         assert_eq!(rt; err.as_slice(), b"net\n".as_slice());
     }

@@ -19,7 +19,7 @@ use Rattle.one_table.specs.declared.read_fault.ReadFault.TheVariants.{Database a
 use Rattle.one_table.specs.ReadFaults.{OnlyWhere}
 use Rattle.one_table.specs.Answer.{OnlyAsks, IsLeft, GivesGathered, FailsToRead, FailsToGather}
 use Rattle.one_table.specs.ReadsOnly.{ReadsOnly}
-use Rattle.one_table.specs.Taken.{TakesAll, StopsTaking}
+use Rattle.one_table.specs.Taking.{TakesAll, StopsTaking}
 use Rattle.one_table.proofs.AnswerLemmas.{read_push, shown_before, fails_before, left_then, stops_at}
 
 -- nothing was changed, and a crash leaves what it left before

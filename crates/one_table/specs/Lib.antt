@@ -2,7 +2,7 @@ pub mod Place
 pub mod ReadFaults
 pub mod Answer
 pub mod ReadsOnly
-pub mod Taken
+pub mod Taking
 pub mod Simple
 pub mod Reading
 pub mod Changing

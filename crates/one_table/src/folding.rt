@@ -4,7 +4,7 @@ ghost use Rattle.sqlite.specs.State.{HasCleanDisk, IsUnchanged, Survives};
 ghost use Rattle.sqlite.specs.Held.{state};
 ghost use Rattle.one_table.specs.Answer.{OnlyAsks, IsLeft, GivesGathered, FailsToGather};
 ghost use Rattle.one_table.specs.ReadsOnly.{ReadsOnly};
-ghost use Rattle.one_table.specs.Taken.{TakesAll, StopsTaking};
+ghost use Rattle.one_table.specs.Taking.{TakesAll, StopsTaking};
 
 use crate::from_row::FromRow;
 use crate::gathering::Gather;

@@ -13,7 +13,7 @@ use Rattle.vend_commands.proofs.TakeLemmas.{takes_last, takes_next, takes_none}
 use Rattle.vend_commands.specs.Exported.{IsExported, IsPage, page_of}
 use Rattle.vend_commands.specs.Printed.{refusal_line}
 use Rattle.vend_commands.specs.Told.{Sink, Takes, outputs}
-use Rattle.vend_commands.specs.declared.end.End.TheVariants as how
+use Rattle.vend_commands.specs.declared.command_end.CommandEnd.TheVariants as how
 
 -- the export from a page on
 abbrev pub export_from : List Sale → ℕ → List ℕ

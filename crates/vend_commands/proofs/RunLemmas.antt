@@ -46,23 +46,23 @@ use Rattle.command_line.specs.declared.commands.import.ImportWords.{ImportWords}
 use Rattle.command_line.specs.declared.commands.report.Paper.{Paper}
 use Rattle.command_line.specs.declared.commands.report.Paper.TheVariants as papers
 use Rattle.command_line.specs.declared.commands.serve.ServeWords.{ServeWords}
-use Rattle.vend_commands.specs.declared.end.End.TheVariants as how
+use Rattle.vend_commands.specs.declared.command_end.CommandEnd.TheVariants as how
 use Rattle.command_line.specs.declared.transform.Shipped.{Shipped}
 use Rattle.vend_commands.specs.declared.selfcheck_fault.SelfcheckFault.{SelfcheckFault}
 use Rattle.vend_commands.specs.declared.trials.TrialFault.{TrialFault}
-use Rattle.vend_commands.specs.declared.end.End.{End}
+use Rattle.vend_commands.specs.declared.command_end.CommandEnd.{CommandEnd}
 
 -- what was asked for by another name
-pub done_so : {S D R W : Type 0} (store : Ghosts S) (m : Machine D R W) (asked same : Asked) (o : Outputs) (end : End) → asked ≡ same → IsCarriedOut store m same o end → IsCarriedOut store m asked o end
+pub done_so : {S D R W : Type 0} (store : Ghosts S) (m : Machine D R W) (asked same : Asked) (o : Outputs) (end : CommandEnd) → asked ≡ same → IsCarriedOut store m same o end → IsCarriedOut store m asked o end
 done_so store m asked same o end is done = subst (λ a. IsCarriedOut store m a o end) (sym is) done
 
 -- what a selfcheck found is told, by less than it found
-pub selfcheck_done : (o : Outputs) (end : End) (Agrees Has : Type 0) (Disagrees Told : SelfcheckFault → Type 0) → (Agrees → Has) → ((fault : SelfcheckFault) → Disagrees fault → Told fault) → IsSelfchecked Agrees Disagrees o end → IsSelfchecked Has Told o end
+pub selfcheck_done : (o : Outputs) (end : CommandEnd) (Agrees Has : Type 0) (Disagrees Told : SelfcheckFault → Type 0) → (Agrees → Has) → ((fault : SelfcheckFault) → Disagrees fault → Told fault) → IsSelfchecked Agrees Disagrees o end → IsSelfchecked Has Told o end
 selfcheck_done o end Agrees Has Disagrees Told less fewer (agreed is told) = agreed (less is) told
 selfcheck_done o end Agrees Has Disagrees Told less fewer (failed fault why told) = failed fault (fewer fault why) told
 
 -- what `clap` says of words is a fault of theirs, or there was no room
-pub told_by_clap : {S D R W : Type 0} (store : Ghosts S) (m : Machine D R W) (error : Error) (words : List Text) (Says : Error → Text → Type 0) (o : Outputs) (end : End) → HasKind (faults_in words) error
+pub told_by_clap : {S D R W : Type 0} (store : Ghosts S) (m : Machine D R W) (error : Error) (words : List Text) (Says : Error → Text → Type 0) (o : Outputs) (end : CommandEnd) → HasKind (faults_in words) error
     → IsIdle m → IsTold o [] (refusal_line Memory) how.Refused end ⊎ ((text : Text) × Says error text × (text ≢ []) × IsExplained (kind_of error) text o end) → IsProgramRun store m words o end
 told_by_clap store m error words Says o end kind idle (inl told) = no_room idle told
 told_by_clap store m error words Says o end (inl full) idle (inr (text, said, some, says)) = absurd (subst (λ k. IsExplained k text o end) full says)
@@ -71,10 +71,10 @@ told_by_clap store m error words Says o end (inr among) idle (inr (text, said, s
 -- ---- the status
 
 -- what is told ends as it is meant to
-told_ends : (o : Outputs) (text errors : Text) (meant end : End) → exit_status_of meant ≤ 1 → IsTold o text errors meant end → exit_status_of end ≤ 1
+told_ends : (o : Outputs) (text errors : Text) (meant end : CommandEnd) → exit_status_of meant ≤ 1 → IsTold o text errors meant end → exit_status_of end ≤ 1
 told_ends o text errors meant end low (put, told, is) = subst (λ e. exit_status_of e ≤ 1) (sym is) low
 
-reply_ends : (reply : Result core.Answer Refusal) (o : Outputs) (end : End) → TellsReply reply o end → exit_status_of end ≤ 1
+reply_ends : (reply : Result core.Answer Refusal) (o : Outputs) (end : CommandEnd) → TellsReply reply o end → exit_status_of end ≤ 1
 reply_ends (Ok answer) o end (inl told) = told_ends o _ _ how.Done end (omega arith) told
 reply_ends (Ok answer) o end (inr (room, told)) = told_ends o _ _ how.Refused end (omega arith) told
 reply_ends (Err refusal) o end told = told_ends o _ _ how.Refused end (omega arith) told
@@ -91,28 +91,28 @@ quote_low : (bought : Option Buy) → exit_status_of (quote_end bought) ≤ 1
 quote_low None = omega arith
 quote_low (Some b) = omega arith
 
-totals_ends : (number : ℕ) (totals : Result Totals Refusal) (o : Outputs) (end : End) → TellsTotals number totals o end → exit_status_of end ≤ 1
+totals_ends : (number : ℕ) (totals : Result Totals Refusal) (o : Outputs) (end : CommandEnd) → TellsTotals number totals o end → exit_status_of end ≤ 1
 totals_ends number (Ok totals) o end told = told_ends o _ _ how.Done end (omega arith) told
 totals_ends number (Err refusal) o end told = told_ends o _ _ how.Refused end (omega arith) told
 
-visit_ends : {S : Type 0} (store : Ghosts S) (place : Place) (transform : Shipped) (Does : (old new : Seen) → Type 0) (o : Outputs) (end : End) → ((old new : Seen) → Does old new → exit_status_of end ≤ 1) → IsVisited store place transform Does o end → exit_status_of end ≤ 1
+visit_ends : {S : Type 0} (store : Ghosts S) (place : Place) (transform : Shipped) (Does : (old new : Seen) → Type 0) (o : Outputs) (end : CommandEnd) → ((old new : Seen) → Does old new → exit_status_of end ≤ 1) → IsVisited store place transform Does o end → exit_status_of end ≤ 1
 visit_ends store place transform Does o end ends (unopened fault fails told) = told_ends o _ _ how.Refused end (omega arith) told
 visit_ends store place transform Does o end ends (visited old new opened finds done closes) = ends (seen_in old) (seen_in new) done
 
-asked_at_ends : {S : Type 0} (store : Ghosts S) (at : Text → Place) (transform : Shipped) (file : Text) (moment : ℕ) (request : Request) (o : Outputs) (end : End) → IsAskedAt store at transform file moment request o end → exit_status_of end ≤ 1
+asked_at_ends : {S : Type 0} (store : Ghosts S) (at : Text → Place) (transform : Shipped) (file : Text) (moment : ℕ) (request : Request) (o : Outputs) (end : CommandEnd) → IsAskedAt store at transform file moment request o end → exit_status_of end ≤ 1
 asked_at_ends store at transform file moment request o end asked = visit_ends store _ _ _ o end (λ old new done. reply_ends done.reply o end done.told) asked
 
-paper_ends : (paper : Paper) (old new : Seen) (o : Outputs) (end : End) → PrintsPaper paper old new o end → exit_status_of end ≤ 1
+paper_ends : (paper : Paper) (old new : Seen) (o : Outputs) (end : CommandEnd) → PrintsPaper paper old new o end → exit_status_of end ≤ 1
 paper_ends (papers.Shift number) old new o end done = reply_ends done.reply o end done.told
 paper_ends (papers.Receipt number) old new o end done = reply_ends done.reply o end done.told
 paper_ends (papers.Totals number) old new o end done = totals_ends number done.totals o end done.told
 paper_ends papers.Sales old new o end done = told_ends o _ _ (export_stop_end done.stop) end (stop_low done.stop) done.told
 
-added_ends : {S : Type 0} (store : Ghosts S) (at : Text → Place) (untouched : Type 0) (words : ImportWords) (moment : ℕ) (rows : Result (List Row) RowFault) (o : Outputs) (end : End) → AreAdded store at untouched words moment rows o end → exit_status_of end ≤ 1
+added_ends : {S : Type 0} (store : Ghosts S) (at : Text → Place) (untouched : Type 0) (words : ImportWords) (moment : ℕ) (rows : Result (List Row) RowFault) (o : Outputs) (end : CommandEnd) → AreAdded store at untouched words moment rows o end → exit_status_of end ≤ 1
 added_ends store at untouched words moment (Ok rows) o end added = asked_at_ends store at words.transform words.file.now moment _ o end added
 added_ends store at untouched words moment (Err fault) o end (left, told) = told_ends o _ _ how.Refused end (omega arith) told
 
-import_ends : {S D R W : Type 0} (store : Ghosts S) (m : Machine D R W) (words : ImportWords) (moment : ℕ) (o : Outputs) (end : End) → IsFileImported store m.at m.untouched m.reads m.lacks words moment o end → exit_status_of end ≤ 1
+import_ends : {S D R W : Type 0} (store : Ghosts S) (m : Machine D R W) (words : ImportWords) (moment : ℕ) (o : Outputs) (end : CommandEnd) → IsFileImported store m.at m.untouched m.reads m.lacks words moment o end → exit_status_of end ≤ 1
 import_ends store m words moment o end (inl (bytes, reads, (records, rows, are, reading, added))) = added_ends store m.at m.untouched words moment rows o end added
 import_ends store m words moment o end (inr (fault, lacks, left, told)) = told_ends o _ _ how.Refused end (omega arith) told
 
@@ -121,23 +121,23 @@ served_low (Ok (books, true)) = omega arith
 served_low (Ok (books, false)) = omega arith
 served_low (Err fault) = omega arith
 
-end_low : (meant end : End) → exit_status_of meant ≤ 1 → end ≡ meant → exit_status_of end ≤ 1
+end_low : (meant end : CommandEnd) → exit_status_of meant ≤ 1 → end ≡ meant → exit_status_of end ≤ 1
 end_low meant end low is = subst (λ e. exit_status_of e ≤ 1) (sym is) low
 
-serving_ends : {S D R W : Type 0} (store : Ghosts S) (way : Way D R W) (at : Text → Place) (door : D) (answers : Option (List ℤ)) (words : ServeWords) (err_old err_new : Sink) (end : End)
+serving_ends : {S D R W : Type 0} (store : Ghosts S) (way : Way D R W) (at : Text → Place) (door : D) (answers : Option (List ℤ)) (words : ServeWords) (err_old err_new : Sink) (end : CommandEnd)
     → IsServing store way at door answers words err_old err_new end → exit_status_of end ≤ 1
 serving_ends store way at door answers words err_old err_new end (serves_unopened fault fails shut told ends) = end_low how.Refused end (omega arith) ends
 serving_ends store way at door answers words err_old err_new end (unheard old opens finds last deaf shut closes ends) = end_low how.Refused end (omega arith) ends
 serving_ends store way at door answers words err_old err_new end (was_open old opens finds were) = end_low (serving_end were.served) end (served_low were.served) were.ends
 
-done_ends : (Idle : Type 0) (At : ℕ → Type 0) (o : Outputs) (end : End) (moment : Option ℕ) → ((moment : ℕ) → At moment → exit_status_of end ≤ 1) → IsDoneAt Idle At o end moment → exit_status_of end ≤ 1
+done_ends : (Idle : Type 0) (At : ℕ → Type 0) (o : Outputs) (end : CommandEnd) (moment : Option ℕ) → ((moment : ℕ) → At moment → exit_status_of end ≤ 1) → IsDoneAt Idle At o end moment → exit_status_of end ≤ 1
 done_ends Idle At o end (Some moment) ends done = ends moment done
 done_ends Idle At o end None ends (idle, told) = told_ends o _ _ how.Refused end (omega arith) told
 
-timed_ends : (Idle : Type 0) (given : Option ℕ) (answers : Option (List ℤ)) (At : ℕ → Type 0) (o : Outputs) (end : End) → ((moment : ℕ) → At moment → exit_status_of end ≤ 1) → IsTimed Idle given answers At o end → exit_status_of end ≤ 1
+timed_ends : (Idle : Type 0) (given : Option ℕ) (answers : Option (List ℤ)) (At : ℕ → Type 0) (o : Outputs) (end : CommandEnd) → ((moment : ℕ) → At moment → exit_status_of end ≤ 1) → IsTimed Idle given answers At o end → exit_status_of end ≤ 1
 timed_ends Idle given answers At o end ends (moment, taken, done) = done_ends Idle At o end moment ends done
 
-answer_ends : {S D R W : Type 0} (store : Ghosts S) (m : Machine D R W) (asked : Asked) (o : Outputs) (end : End) → IsCarriedOut store m asked o end → exit_status_of end ≤ 1
+answer_ends : {S D R W : Type 0} (store : Ghosts S) (m : Machine D R W) (asked : Asked) (o : Outputs) (end : CommandEnd) → IsCarriedOut store m asked o end → exit_status_of end ≤ 1
 answer_ends store m (asks.Trial words) o end (idle, done) = timed_ends ⊤ words.at m.answers _ o end (λ moment tried. told_ends o _ _ (trial_end tried.2) end (trial_low tried.2) tried.4) done
 answer_ends store m (asks.Import words) o end (shut, done) = timed_ends m.untouched words.at m.answers _ o end (λ moment imported. import_ends store m words moment o end imported) done
 answer_ends store m (asks.Request words) o end (shut, done) = timed_ends m.untouched words.at m.answers _ o end (λ moment asked. asked_at_ends store m.at words.transform words.file.now moment words.request o end asked) done
@@ -151,15 +151,15 @@ answer_ends store m (asks.Selfcheck words) o end (untouched, shut, agreed has to
 answer_ends store m (asks.Selfcheck words) o end (untouched, shut, failed fault why told) = told_ends o _ _ how.Refused end (omega arith) told
 
 -- words that ask for something never end as bad words
-run_ends : {S D R W : Type 0} (store : Ghosts S) (m : Machine D R W) (words : List Text) (o : Outputs) (end : End) (asked : Asked) → AskFor words asked → IsProgramRun store m words o end → exit_status_of end ≤ 1
+run_ends : {S D R W : Type 0} (store : Ghosts S) (m : Machine D R W) (words : List Text) (o : Outputs) (end : CommandEnd) (asked : Asked) → AskFor words asked → IsProgramRun store m words o end → exit_status_of end ≤ 1
 run_ends store m words o end asked for (answered other other_for done) = answer_ends store m other o end done
 run_ends store m words o end asked for (bad_word idle no_fault none told) = absurd (none asked for)
 run_ends store m words o end asked for (explained idle kind text among some says) = absurd (subst (IsAmong kind) for.no_fault among)
 run_ends store m words o end asked for (no_room idle told) = told_ends o _ _ how.Refused end (omega arith) told
 
-low_status : (end : End) (failed : Bool) → exit_status_of end ≤ 1 → status_of end failed ≤ 1
+low_status : (end : CommandEnd) (failed : Bool) → exit_status_of end ≤ 1 → status_of end failed ≤ 1
 low_status end false low = low
 low_status end true low = omega arith
 
-pub asked_ends : {S D R W : Type 0} (store : Ghosts S) (m : Machine D R W) (words : List Text) (o : Outputs) (end : End) (cut : Bool) (asked : Asked) → AskFor words asked → IsProgramRun store m words o end → status_of end cut ≤ 1
+pub asked_ends : {S D R W : Type 0} (store : Ghosts S) (m : Machine D R W) (words : List Text) (o : Outputs) (end : CommandEnd) (cut : Bool) (asked : Asked) → AskFor words asked → IsProgramRun store m words o end → status_of end cut ≤ 1
 asked_ends store m words o end cut asked for run = low_status end cut (run_ends store m words o end asked for run)

@@ -36,44 +36,44 @@ use Rattle.vend_commands.specs.Told.{IsTold, Outputs, Sink}
 use Rattle.vend_commands.specs.Totalled.{TellsTotals}
 use Rattle.vend_commands.specs.Visited.{IsVisited, seen_in}
 use Rattle.vend_commands.specs.Visited.IsVisited.{unopened, visited}
-use Rattle.vend_commands.specs.declared.end.End.{End}
-use Rattle.vend_commands.specs.declared.end.End.TheVariants as how
+use Rattle.vend_commands.specs.declared.command_end.CommandEnd.{CommandEnd}
+use Rattle.vend_commands.specs.declared.command_end.CommandEnd.TheVariants as how
 
 -- both writers are still the same ones
 pub record AreSame (o : Outputs) : Type 0 where
   pub out : o.new.name ≡ o.old.name
   pub err : o.err_new.name ≡ o.err_old.name
 
-told_same : (o : Outputs) (text errors : Text) (meant end : End) → IsTold o text errors meant end → AreSame o
+told_same : (o : Outputs) (text errors : Text) (meant end : CommandEnd) → IsTold o text errors meant end → AreSame o
 told_same o text errors meant end (put, told, is) = record { out = put.same; err = told.same }
 
-reply_same : (reply : Result core.Answer Refusal) (o : Outputs) (end : End) → TellsReply reply o end → AreSame o
+reply_same : (reply : Result core.Answer Refusal) (o : Outputs) (end : CommandEnd) → TellsReply reply o end → AreSame o
 reply_same (Ok answer) o end (inl told) = told_same o _ _ _ end told
 reply_same (Ok answer) o end (inr (room, told)) = told_same o _ _ _ end told
 reply_same (Err refusal) o end told = told_same o _ _ _ end told
 
-totals_same : (number : ℕ) (totals : Result Totals Refusal) (o : Outputs) (end : End) → TellsTotals number totals o end → AreSame o
+totals_same : (number : ℕ) (totals : Result Totals Refusal) (o : Outputs) (end : CommandEnd) → TellsTotals number totals o end → AreSame o
 totals_same number (Ok totals) o end told = told_same o _ _ _ end told
 totals_same number (Err refusal) o end told = told_same o _ _ _ end told
 
-visit_same : {S : Type 0} (store : Ghosts S) (place : Place) (transform : Shipped) (Does : (old new : Seen) → Type 0) (o : Outputs) (end : End) → ((old new : Seen) → Does old new → AreSame o) → IsVisited store place transform Does o end → AreSame o
+visit_same : {S : Type 0} (store : Ghosts S) (place : Place) (transform : Shipped) (Does : (old new : Seen) → Type 0) (o : Outputs) (end : CommandEnd) → ((old new : Seen) → Does old new → AreSame o) → IsVisited store place transform Does o end → AreSame o
 visit_same store place transform Does o end same (unopened fault fails told) = told_same o _ _ _ end told
 visit_same store place transform Does o end same (visited old new opened finds done closes) = same (seen_in old) (seen_in new) done
 
-asked_at_same : {S : Type 0} (store : Ghosts S) (at : Text → Place) (transform : Shipped) (file : Text) (moment : ℕ) (request : Request) (o : Outputs) (end : End) → IsAskedAt store at transform file moment request o end → AreSame o
+asked_at_same : {S : Type 0} (store : Ghosts S) (at : Text → Place) (transform : Shipped) (file : Text) (moment : ℕ) (request : Request) (o : Outputs) (end : CommandEnd) → IsAskedAt store at transform file moment request o end → AreSame o
 asked_at_same store at transform file moment request o end asked = visit_same store _ _ _ o end (λ old new done. reply_same done.reply o end done.told) asked
 
-paper_same : (paper : Paper) (old new : Seen) (o : Outputs) (end : End) → PrintsPaper paper old new o end → AreSame o
+paper_same : (paper : Paper) (old new : Seen) (o : Outputs) (end : CommandEnd) → PrintsPaper paper old new o end → AreSame o
 paper_same (papers.Shift number) old new o end done = reply_same done.reply o end done.told
 paper_same (papers.Receipt number) old new o end done = reply_same done.reply o end done.told
 paper_same (papers.Totals number) old new o end done = totals_same number done.totals o end done.told
 paper_same papers.Sales old new o end done = told_same o _ _ _ end done.told
 
-added_same : {S : Type 0} (store : Ghosts S) (at : Text → Place) (untouched : Type 0) (words : ImportWords) (moment : ℕ) (rows : Result (List Row) RowFault) (o : Outputs) (end : End) → AreAdded store at untouched words moment rows o end → AreSame o
+added_same : {S : Type 0} (store : Ghosts S) (at : Text → Place) (untouched : Type 0) (words : ImportWords) (moment : ℕ) (rows : Result (List Row) RowFault) (o : Outputs) (end : CommandEnd) → AreAdded store at untouched words moment rows o end → AreSame o
 added_same store at untouched words moment (Ok rows) o end added = asked_at_same store at words.transform words.file.now moment _ o end added
 added_same store at untouched words moment (Err fault) o end (left, told) = told_same o _ _ _ end told
 
-import_same : {S D R W : Type 0} (store : Ghosts S) (m : Machine D R W) (words : ImportWords) (moment : ℕ) (o : Outputs) (end : End) → IsFileImported store m.at m.untouched m.reads m.lacks words moment o end → AreSame o
+import_same : {S D R W : Type 0} (store : Ghosts S) (m : Machine D R W) (words : ImportWords) (moment : ℕ) (o : Outputs) (end : CommandEnd) → IsFileImported store m.at m.untouched m.reads m.lacks words moment o end → AreSame o
 import_same store m words moment o end (inl (bytes, reads, (records, rows, are, reading, added))) = added_same store m.at m.untouched words moment rows o end added
 import_same store m words moment o end (inr (fault, lacks, left, told)) = told_same o _ _ _ end told
 
@@ -83,20 +83,20 @@ deaf_same way address door last old new (no_listener fails told) = told.same
 deaf_same way address door last old new (no_text port is_port listens told) = told.same
 deaf_same way address door last old new (not_told port is_port listens cut told) = told.same
 
-serving_same : {S D R W : Type 0} (store : Ghosts S) (way : Way D R W) (at : Text → Place) (door : D) (answers : Option (List ℤ)) (words : ServeWords) (old new : Sink) (end : End)
+serving_same : {S D R W : Type 0} (store : Ghosts S) (way : Way D R W) (at : Text → Place) (door : D) (answers : Option (List ℤ)) (words : ServeWords) (old new : Sink) (end : CommandEnd)
     → IsServing store way at door answers words old new end → new.name ≡ old.name
 serving_same store way at door answers words old new end (serves_unopened fault fails shut told ends) = told.same
 serving_same store way at door answers words old new end (unheard books opens finds last deaf shut closes ends) = deaf_same way words.listen door last old new deaf
 serving_same store way at door answers words old new end (was_open books opens finds were) = were.told.same ∙ were.listens.told.same
 
-done_same : (Idle : Type 0) (At : ℕ → Type 0) (o : Outputs) (end : End) (moment : Option ℕ) → ((moment : ℕ) → At moment → AreSame o) → IsDoneAt Idle At o end moment → AreSame o
+done_same : (Idle : Type 0) (At : ℕ → Type 0) (o : Outputs) (end : CommandEnd) (moment : Option ℕ) → ((moment : ℕ) → At moment → AreSame o) → IsDoneAt Idle At o end moment → AreSame o
 done_same Idle At o end (Some moment) same done = same moment done
 done_same Idle At o end None same (idle, told) = told_same o _ _ _ end told
 
-timed_same : (Idle : Type 0) (given : Option ℕ) (answers : Option (List ℤ)) (At : ℕ → Type 0) (o : Outputs) (end : End) → ((moment : ℕ) → At moment → AreSame o) → IsTimed Idle given answers At o end → AreSame o
+timed_same : (Idle : Type 0) (given : Option ℕ) (answers : Option (List ℤ)) (At : ℕ → Type 0) (o : Outputs) (end : CommandEnd) → ((moment : ℕ) → At moment → AreSame o) → IsTimed Idle given answers At o end → AreSame o
 timed_same Idle given answers At o end same (moment, taken, done) = done_same Idle At o end moment same done
 
-answer_same : {S D R W : Type 0} (store : Ghosts S) (m : Machine D R W) (asked : Asked) (o : Outputs) (end : End) → IsCarriedOut store m asked o end → AreSame o
+answer_same : {S D R W : Type 0} (store : Ghosts S) (m : Machine D R W) (asked : Asked) (o : Outputs) (end : CommandEnd) → IsCarriedOut store m asked o end → AreSame o
 answer_same store m (asks.Trial words) o end (idle, done) = timed_same ⊤ words.at m.answers _ o end (λ moment tried. told_same o _ _ _ end tried.4) done
 answer_same store m (asks.Import words) o end (shut, done) = timed_same m.untouched words.at m.answers _ o end (λ moment imported. import_same store m words moment o end imported) done
 answer_same store m (asks.Request words) o end (shut, done) = timed_same m.untouched words.at m.answers _ o end (λ moment asked. asked_at_same store m.at words.transform words.file.now moment words.request o end asked) done
@@ -108,13 +108,13 @@ answer_same store m (asks.Serve words) o end (left, done) =
 answer_same store m (asks.Selfcheck words) o end (untouched, shut, agreed has told) = told_same o _ _ _ end told
 answer_same store m (asks.Selfcheck words) o end (untouched, shut, failed fault why told) = told_same o _ _ _ end told
 
-explained_same : (kind : ErrorKind) (text : Text) (o : Outputs) (end : End) → IsExplained kind text o end → AreSame o
+explained_same : (kind : ErrorKind) (text : Text) (o : Outputs) (end : CommandEnd) → IsExplained kind text o end → AreSame o
 explained_same OutOfMemory text o end none = absurd none
 explained_same DisplayHelp text o end told = told_same o _ _ _ end told
 explained_same DisplayVersion text o end told = told_same o _ _ _ end told
 explained_same kind text o end told = told_same o [] text how.BadWords end told
 
-pub run_same : {S D R W : Type 0} (store : Ghosts S) (m : Machine D R W) (words : List Text) (o : Outputs) (end : End) → IsProgramRun store m words o end → AreSame o
+pub run_same : {S D R W : Type 0} (store : Ghosts S) (m : Machine D R W) (words : List Text) (o : Outputs) (end : CommandEnd) → IsProgramRun store m words o end → AreSame o
 run_same store m words o end (answered asked for done) = answer_same store m asked o end done
 run_same store m words o end (bad_word idle no_fault none told) = told_same o _ _ _ end told
 run_same store m words o end (explained idle kind text among some says) = explained_same kind text o end says

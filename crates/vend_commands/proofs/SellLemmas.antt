@@ -34,8 +34,8 @@ use Rattle.vend_commands.specs.Visited.{seen_in}
 use Rattle.vend_commands.specs.Visited.IsVisited.{unopened, visited}
 use Rattle.command_line.specs.Transform.{forward_of}
 use Rattle.command_line.specs.declared.transform.Shipped.{Shipped}
-use Rattle.vend_commands.specs.declared.end.End.{End}
-use Rattle.vend_commands.specs.declared.end.End.TheVariants as how
+use Rattle.vend_commands.specs.declared.command_end.CommandEnd.{CommandEnd}
+use Rattle.vend_commands.specs.declared.command_end.CommandEnd.TheVariants as how
 
 -- ---- an order that is granted gives a sale
 
@@ -97,7 +97,7 @@ is_answered (Ok answer) o (inr (room, told)) = absurd (not_refused o _ _ told)
 is_answered (Err refusal) o told = absurd (not_refused o _ _ told)
 
 -- a receipt takes no memory
-pub sale_told : (sale : Sale) (o : Outputs) (end : End) → TellsReply (Ok (Sold sale)) o end → TellsSale sale o end
+pub sale_told : (sale : Sale) (o : Outputs) (end : CommandEnd) → TellsReply (Ok (Sold sale)) o end → TellsSale sale o end
 sale_told sale o end (inl told) = told
 sale_told sale o end (inr (none, told)) = absurd none
 

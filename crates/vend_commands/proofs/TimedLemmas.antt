@@ -3,13 +3,13 @@ use Rattle.std.proofs.Common.{◌≡◌, ℕ, ℤ, List, [], Option, Some, None,
 use Rattle.vend_commands.specs.Printed.{clock_line}
 use Rattle.vend_commands.specs.Timed.{IsTakenMoment, IsTimed}
 use Rattle.vend_commands.specs.Told.{IsTold, Outputs}
-use Rattle.vend_commands.specs.declared.end.End.{End}
-use Rattle.vend_commands.specs.declared.end.End.TheVariants.{Refused}
+use Rattle.vend_commands.specs.declared.command_end.CommandEnd.{CommandEnd}
+use Rattle.vend_commands.specs.declared.command_end.CommandEnd.TheVariants.{Refused}
 
 -- it was done at the moment that was taken
-pub timed : (Idle : Type 0) (given : Option ℕ) (answers : Option (List ℤ)) (taken : Option ℕ) (moment : ℕ) (At : ℕ → Type 0) (o : Outputs) (end : End) → IsTakenMoment given answers taken → taken ≡ Some moment → At moment → IsTimed Idle given answers At o end
+pub timed : (Idle : Type 0) (given : Option ℕ) (answers : Option (List ℤ)) (taken : Option ℕ) (moment : ℕ) (At : ℕ → Type 0) (o : Outputs) (end : CommandEnd) → IsTakenMoment given answers taken → taken ≡ Some moment → At moment → IsTimed Idle given answers At o end
 timed Idle given answers taken moment At o end for is done = (Some moment, subst (IsTakenMoment given answers) is for, done)
 
 -- where there was none, that is told, and nothing was used
-pub untimed : (Idle : Type 0) (given : Option ℕ) (answers : Option (List ℤ)) (taken : Option ℕ) (At : ℕ → Type 0) (o : Outputs) (end : End) → IsTakenMoment given answers taken → taken ≡ None → Idle → IsTold o [] clock_line Refused end → IsTimed Idle given answers At o end
+pub untimed : (Idle : Type 0) (given : Option ℕ) (answers : Option (List ℤ)) (taken : Option ℕ) (At : ℕ → Type 0) (o : Outputs) (end : CommandEnd) → IsTakenMoment given answers taken → taken ≡ None → Idle → IsTold o [] clock_line Refused end → IsTimed Idle given answers At o end
 untimed Idle given answers taken At o end for is idle told = (None, subst (IsTakenMoment given answers) is for, (idle, told))

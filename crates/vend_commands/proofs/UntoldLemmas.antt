@@ -24,32 +24,32 @@ use Rattle.vend_commands.specs.Imported.{AreAdded, IsFileImported}
 use Rattle.vend_commands.specs.Timed.{IsTimed}
 use Rattle.vend_commands.specs.Visited.{IsVisited}
 use Rattle.vend_commands.specs.Visited.IsVisited.{unopened as unvisited, visited}
-use Rattle.vend_commands.specs.declared.end.End.{End}
+use Rattle.vend_commands.specs.declared.command_end.CommandEnd.{CommandEnd}
 use Rattle.command_line.specs.declared.commands.import.ImportWords.{ImportWords}
 use Rattle.command_line.specs.declared.transform.Shipped.{Shipped}
 use Rattle.command_line.specs.declared.transform.Shipped.TheVariants.{Plain}
 use Rattle.papers.specs.declared.row_fault.RowFault.{RowFault}
 use Rattle.vend_core.specs.declared.office.row.Row.{Row}
-use Rattle.vend_commands.specs.declared.read_fault.ReadFault.{ReadFault}
+use Rattle.vend_commands.specs.declared.file_fault.FileFault.{FileFault}
 
 abbrev bare_place : Place → Place
 bare_place place = untold_place place.image place.opens place.closes
 
-visited_bare : {S : Type 0} (store : Ghosts S) (place : Place) (transform : Shipped) (Does : (old new : Seen) → Type 0) (o : Outputs) (end : End) → IsVisited store place transform Does o end → IsVisited store (bare_place place) transform Does o end
+visited_bare : {S : Type 0} (store : Ghosts S) (place : Place) (transform : Shipped) (Does : (old new : Seen) → Type 0) (o : Outputs) (end : CommandEnd) → IsVisited store place transform Does o end → IsVisited store (bare_place place) transform Does o end
 visited_bare store place transform Does o end (unvisited fault fails told) = unvisited fault tt told
 visited_bare store place transform Does o end (visited old new opens finds done closes) = visited old new opens tt done closes
 
-added_bare : {S : Type 0} (store : Ghosts S) (at : Text → Place) (untouched : Type 0) (words : ImportWords) (moment : ℕ) (rows : Result (List Row) RowFault) (o : Outputs) (end : End)
+added_bare : {S : Type 0} (store : Ghosts S) (at : Text → Place) (untouched : Type 0) (words : ImportWords) (moment : ℕ) (rows : Result (List Row) RowFault) (o : Outputs) (end : CommandEnd)
     → AreAdded store at untouched words moment rows o end → AreAdded store (λ path. bare_place (at path)) ⊤ words moment rows o end
 added_bare store at untouched words moment (Ok rows) o end added = visited_bare store (at words.file.now) words.transform _ o end added
 added_bare store at untouched words moment (Err fault) o end (left, told) = (tt, told)
 
-imported_bare : {S : Type 0} (store : Ghosts S) (at : Text → Place) (untouched : Type 0) (reads : Text → List ℕ → Type 0) (lacks : Text → ReadFault → Type 0) (words : ImportWords) (moment : ℕ) (o : Outputs) (end : End)
+imported_bare : {S : Type 0} (store : Ghosts S) (at : Text → Place) (untouched : Type 0) (reads : Text → List ℕ → Type 0) (lacks : Text → FileFault → Type 0) (words : ImportWords) (moment : ℕ) (o : Outputs) (end : CommandEnd)
     → IsFileImported store at untouched reads lacks words moment o end → IsFileImported store (λ path. bare_place (at path)) ⊤ reads lacks words moment o end
 imported_bare store at untouched reads lacks words moment o end (inl (bytes, read, (records, rows, are, reading, added))) = inl (bytes, read, (records, rows, are, reading, added_bare store at untouched words moment rows o end added))
 imported_bare store at untouched reads lacks words moment o end (inr (fault, lacked, left, told)) = inr (fault, lacked, tt, told)
 
-timed_bare : (Idle : Type 0) (given : Option ℕ) (answers : Option (List ℤ)) (At Bare : ℕ → Type 0) (o : Outputs) (end : End) → ((moment : ℕ) → At moment → Bare moment) → IsTimed Idle given answers At o end → IsTimed ⊤ given answers Bare o end
+timed_bare : (Idle : Type 0) (given : Option ℕ) (answers : Option (List ℤ)) (At Bare : ℕ → Type 0) (o : Outputs) (end : CommandEnd) → ((moment : ℕ) → At moment → Bare moment) → IsTimed Idle given answers At o end → IsTimed ⊤ given answers Bare o end
 timed_bare Idle given answers At Bare o end less (None, taken, (idle, told)) = (None, taken, (tt, told))
 timed_bare Idle given answers At Bare o end less (Some moment, taken, done) = (Some moment, taken, less moment done)
 
@@ -109,7 +109,7 @@ deaf_bare way address door last old new (no_text port is_port listens told) = no
 deaf_bare way address door last old new (not_told port is_port listens cut told) = not_told port is_port tt cut told
 
 module _ {S D R W : Type 0} (store : Ghosts S) (way : Way D R W) (at : Text → Place) (door : D) where
-  serving_bare : (answers : Option (List ℤ)) (words : ServeWords) (err_old err_new : Sink) (end : End)
+  serving_bare : (answers : Option (List ℤ)) (words : ServeWords) (err_old err_new : Sink) (end : CommandEnd)
       → IsServing store way at door answers words err_old err_new end → IsServing store untold_way (λ path. bare_place (at path)) tt answers words err_old err_new end
   serving_bare answers words err_old err_new end (unopened fault fails shut told ends) = unopened fault tt tt told ends
   serving_bare answers words err_old err_new end (unheard old opens finds last deaf shut closes ends) = unheard old opens tt tt (deaf_bare way words.listen door last err_old err_new deaf) tt closes ends
@@ -128,9 +128,9 @@ module _ {S D R W : Type 0} (store : Ghosts S) (way : Way D R W) (at : Text → 
         ends = were.ends;
       })
 
-  module _ (untouched : Type 0) (reads : Text → List ℕ → Type 0) (lacks : Text → ReadFault → Type 0) (answers : Option (List ℤ)) (loop : Loop)
+  module _ (untouched : Type 0) (reads : Text → List ℕ → Type 0) (lacks : Text → FileFault → Type 0) (answers : Option (List ℤ)) (loop : Loop)
       (less : (transform : Shipped) → loop.agrees transform → HasReplies transform) where
-    carried_bare : (asked : Asked) (o : Outputs) (end : End) → IsCarriedOut store (machine at untouched reads lacks answers way door loop) asked o end → IsCarriedOut store (machine (λ path. bare_place (at path)) ⊤ reads lacks answers untold_way tt untold_loop) asked o end
+    carried_bare : (asked : Asked) (o : Outputs) (end : CommandEnd) → IsCarriedOut store (machine at untouched reads lacks answers way door loop) asked o end → IsCarriedOut store (machine (λ path. bare_place (at path)) ⊤ reads lacks answers untold_way tt untold_loop) asked o end
     carried_bare (asks.Trial words) o end (idle, done) = ((tt, (tt, tt)), done)
     carried_bare (asks.Import words) o end (left, done) = ((tt, tt), timed_bare untouched words.at answers _ _ o end (λ moment imported. imported_bare store at untouched reads lacks words moment o end imported) done)
     carried_bare (asks.Request words) o end (left, done) = ((tt, tt), timed_bare untouched words.at answers _ _ o end (λ moment asked. visited_bare store (at words.file.now) words.transform _ o end asked) done)
@@ -141,7 +141,7 @@ module _ {S D R W : Type 0} (store : Ghosts S) (way : Way D R W) (at : Text → 
     carried_bare (asks.Selfcheck words) o end (left, shut, done) = (tt, tt, selfcheck_done o end _ _ _ _ (less words.transform) (λ fault why. tt) done)
 
     -- a run of the program, of which nothing is told but that
-    pub run_bare : (words : List Text) (o : Outputs) (end : End) → IsProgramRun store (machine at untouched reads lacks answers way door loop) words o end
+    pub run_bare : (words : List Text) (o : Outputs) (end : CommandEnd) → IsProgramRun store (machine at untouched reads lacks answers way door loop) words o end
         → IsProgramRun store (machine (λ path. bare_place (at path)) ⊤ reads lacks answers untold_way tt untold_loop) words o end
     run_bare words o end (answered asked for done) = answered asked for (carried_bare asked o end done)
     run_bare words o end (bad_word idle no_fault none told) = bad_word (tt, (tt, tt)) no_fault none told

@@ -5,7 +5,7 @@ use Rattle.sts_fields.specs.Text.{Text}
 use Rattle.vend_commands.specs.Places.{Machine}
 use Rattle.vend_commands.specs.Run.{IsProgramRun}
 use Rattle.vend_commands.specs.Told.{Held, Sink, outputs, sink, writer}
-use Rattle.vend_commands.specs.declared.end.End.{End}
+use Rattle.vend_commands.specs.declared.command_end.CommandEnd.{CommandEnd}
 use Rattle.vend_commands.specs.declared.watched.Watched.{Watched}
 
 module _ {W : Type 0} (contents : W → Held) where
@@ -17,7 +17,7 @@ module _ {W : Type 0} (contents : W → Held) where
   pub sink_after : (old new : Watched W) (left : W) → left ≡ new.inner.now → new.inner.ghost_name ≡ old.inner.ghost_name → sink contents new ≡ writer (contents left) new.failed old.inner.ghost_name
   sink_after old new left is same = rw (is, same) refl
 
-pub run_of : {S D R W : Type 0} (store : Ghosts S) (m : Machine D R W) (words : List Text) (old new err_old err_new out_before out_after err_before err_after : Sink) (end : End)
+pub run_of : {S D R W : Type 0} (store : Ghosts S) (m : Machine D R W) (words : List Text) (old new err_old err_new out_before out_after err_before err_after : Sink) (end : CommandEnd)
     → old ≡ out_before → new ≡ out_after → err_old ≡ err_before → err_new ≡ err_after
     → IsProgramRun store m words (outputs old new err_old err_new) end → IsProgramRun store m words (outputs out_before out_after err_before err_after) end
 run_of store m words old new err_old err_new out_before out_after err_before err_after end p q r s run = rw (← p, ← q, ← r, ← s) run

@@ -8,13 +8,13 @@ use Rattle.vend_commands.specs.Served.{IsServedAndTold}
 use Rattle.vend_commands.specs.Told.{Outputs}
 use Rattle.vend_commands.specs.Visited.{IsVisited}
 use Rattle.command_line.specs.declared.transform.Shipped.{Shipped}
-use Rattle.vend_commands.specs.declared.end.End.{End}
+use Rattle.vend_commands.specs.declared.command_end.CommandEnd.{CommandEnd}
 
 -- `base`, `shift`, `sell`, and `import` with the rows that it read: each asks one request of the
 -- office in a file
 abbrev pub IsAskedAt : {S : Type 0} → Ghosts S → (Text → Place) → Shipped → (file : Text)
     → (moment : ℕ)
-    → Request → Outputs → End → Type 0
+    → Request → Outputs → CommandEnd → Type 0
 IsAskedAt store at transform file moment request o end =
     IsVisited store (at file) transform
     (λ old new. IsServedAndTold moment request old new o end) o end

@@ -11,8 +11,8 @@ use Rattle.vend_core.specs.declared.office.sale.Sale.{Sale}
 use Rattle.vend_commands.specs.Printed.{refusal_line}
 use Rattle.vend_commands.specs.Refused.{RefusesToRead, TellsStopped}
 use Rattle.vend_commands.specs.Told.{IsTold, Outputs, Sink, Takes}
-use Rattle.vend_commands.specs.declared.end.End.{End}
-use Rattle.vend_commands.specs.declared.end.End.TheVariants as how
+use Rattle.vend_commands.specs.declared.command_end.CommandEnd.{CommandEnd}
+use Rattle.vend_commands.specs.declared.command_end.CommandEnd.TheVariants as how
 
 -- ---- a page
 
@@ -48,7 +48,7 @@ abbrev pub stop_errors : Option Refusal → Text
 stop_errors None = []
 stop_errors (Some refusal) = refusal_line refusal
 
-abbrev pub export_stop_end : Option Refusal → End
+abbrev pub export_stop_end : Option Refusal → CommandEnd
 export_stop_end None = how.Done
 export_stop_end (Some refusal) = how.Refused
 
@@ -67,7 +67,7 @@ StopsBy old new (Some refusal) = IsPageRefusal refusal × TellsStopped old new r
 -- The export of all sales of the present office is told, or a beginning of it up to a page that is
 -- refused, and then the refusal, or up to a page that the output did not take. The books keep what
 -- they kept.
-pub record IsExported (old new : Seen) (o : Outputs) (end : End) : Type 0 where
+pub record IsExported (old new : Seen) (o : Outputs) (end : CommandEnd) : Type 0 where
   pub text : Text
   pub stop : Option Refusal
   pub told : IsTold o text (stop_errors stop) (export_stop_end stop) end

@@ -15,10 +15,10 @@ use Rattle.vend_commands.specs.Printed.{file_line, refusal_line}
 use Rattle.vend_commands.specs.Asked.{IsAskedAt}
 use Rattle.vend_commands.specs.Told.{Outputs, IsTold}
 use Rattle.command_line.specs.declared.commands.import.ImportWords.{ImportWords}
-use Rattle.vend_commands.specs.declared.end.End.{End}
-use Rattle.vend_commands.specs.declared.end.End.TheVariants.{Refused}
-use Rattle.vend_commands.specs.declared.read_fault.ReadFault.{ReadFault}
-use Rattle.vend_commands.specs.declared.read_fault.ReadFault.TheVariants as read
+use Rattle.vend_commands.specs.declared.command_end.CommandEnd.{CommandEnd}
+use Rattle.vend_commands.specs.declared.command_end.CommandEnd.TheVariants.{Refused}
+use Rattle.vend_commands.specs.declared.file_fault.FileFault.{FileFault}
+use Rattle.vend_commands.specs.declared.file_fault.FileFault.TheVariants as read
 
 -- how a fault of the rows is told: as the office refuses a row
 abbrev pub refusal_of_rows : RowFault → Refusal
@@ -28,7 +28,7 @@ refusal_of_rows Memory = refusal.Memory
 -- rows that were read go to the office as one request; a fault is told, and no office is found
 abbrev pub AreAdded : {S : Type 0} → Ghosts S → (Text → Place) → (untouched : Type 0)
     → ImportWords → ℕ
-    → Result (List Row) RowFault → Outputs → End → Type 0
+    → Result (List Row) RowFault → Outputs → CommandEnd → Type 0
 AreAdded store at untouched words moment (Ok rows) o end =
     IsAskedAt store at words.transform words.file.now moment (Import rows) o end
 AreAdded store at untouched words moment (Err fault) o end =
@@ -37,24 +37,24 @@ AreAdded store at untouched words moment (Err fault) o end =
 -- the rows of these bytes, by their kind, are added
 abbrev pub IsImported : {S : Type 0} → Ghosts S → (Text → Place) → (untouched : Type 0)
     → ImportWords → ℕ
-    → List ℕ → Outputs → End → Type 0
+    → List ℕ → Outputs → CommandEnd → Type 0
 IsImported store at untouched words moment bytes o end =
     (records : List Fields) × (rows : Result (List Row) RowFault)
     × AreFileRecords bytes records × IsReading words.kind records rows
     × AreAdded store at untouched words moment rows o end
 
 -- the file cannot be read, or there is no room for it
-abbrev pub read_fault_line : ReadFault → Text
+abbrev pub read_fault_line : FileFault → Text
 read_fault_line read.Unreadable = file_line
 read_fault_line read.Memory = refusal_line refusal.Memory
 
 -- the file of the words has some bytes, which are imported; or it is not read, and that is told,
 -- and no office is found
 abbrev pub IsFileImported : {S : Type 0} → Ghosts S → (Text → Place) → (untouched : Type 0)
-    → (Text → List ℕ → Type 0) → (Text → ReadFault → Type 0) → ImportWords → ℕ → Outputs → End
+    → (Text → List ℕ → Type 0) → (Text → FileFault → Type 0) → ImportWords → ℕ → Outputs → CommandEnd
     → Type 0
 IsFileImported store at untouched Reads Lacks words moment o end =
     ((bytes : List ℕ) × Reads words.csv.now bytes
     × IsImported store at untouched words moment bytes o end)
-    ⊎ ((fault : ReadFault) × Lacks words.csv.now fault × untouched
+    ⊎ ((fault : FileFault) × Lacks words.csv.now fault × untouched
     × IsTold o [] (read_fault_line fault) Refused end)

@@ -15,8 +15,8 @@ use Rattle.command_line.specs.Transform.{forward_of}
 use Rattle.command_line.specs.declared.address.Address.{Address}
 use Rattle.command_line.specs.declared.commands.serve.ServeWords.{ServeWords}
 use Rattle.command_line.specs.declared.transform.Shipped.{Shipped}
-use Rattle.vend_commands.specs.declared.end.End.{End}
-use Rattle.vend_commands.specs.declared.end.End.TheVariants.{Done, Refused}
+use Rattle.vend_commands.specs.declared.command_end.CommandEnd.{CommandEnd}
+use Rattle.vend_commands.specs.declared.command_end.CommandEnd.TheVariants.{Done, Refused}
 
 -- the door listens at the address of the words, and at which port was told whole
 pub record Listens {D R W : Type 0} (way : Way D R W) (address : Address) (old new : D)
@@ -52,7 +52,7 @@ stop_line (Ok (books, true)) = []
 stop_line (Ok (books, false)) = net_line
 stop_line (Err fault) = opening_line fault
 
-abbrev pub serving_end : {B : Type 0} → Result (B × Bool) OpenFault → End
+abbrev pub serving_end : {B : Type 0} → Result (B × Bool) OpenFault → CommandEnd
 serving_end (Ok (books, true)) = Done
 serving_end (Ok (books, false)) = Refused
 serving_end (Err fault) = Refused
@@ -67,7 +67,7 @@ IsClosedAfter Closes (Err fault) = ⊤
 pub record WereOpen {S D R W : Type 0} (store : Ghosts S) (way : Way D R W) (place : Place)
     (words : ServeWords)
     (old : Books S Shipped store) (door : D) (answers : Option (List ℤ)) (err_old err_new : Sink)
-    (end : End)
+    (end : CommandEnd)
     : Type 0 where
   pub listening : D
   pub mid : Sink
@@ -88,7 +88,7 @@ pub record WereOpen {S D R W : Type 0} (store : Ghosts S) (way : Way D R W) (pla
 pub data IsServing {S D R W : Type 0} (store : Ghosts S) (way : Way D R W) (at : Text → Place)
     (door : D)
     (answers : Option (List ℤ)) (words : ServeWords) (err_old err_new : Sink)
-    (end : End) : Type 0 where
+    (end : CommandEnd) : Type 0 where
   unopened : (fault : OpenFault) → (at words.file.now).fails fault → way.leaves door
       → Takes err_old err_new (opening_line fault) → end ≡ Refused
       → IsServing store way at door answers words err_old err_new end
@@ -104,6 +104,6 @@ pub data IsServing {S D R W : Type 0} (store : Ghosts S) (way : Way D R W) (at :
 -- it is served so, and the output is given nothing
 abbrev pub IsServedTo : {S D R W : Type 0} → Ghosts S → Way D R W → (Text → Place) → D
     → Option (List ℤ)
-    → ServeWords → Outputs → End → Type 0
+    → ServeWords → Outputs → CommandEnd → Type 0
 IsServedTo store way at door answers words o end =
     (o.new ≡ o.old) × IsServing store way at door answers words o.err_old o.err_new end

@@ -9,8 +9,8 @@ use Rattle.command_line.specs.Transform.{inverse_of}
 use Rattle.vend_commands.specs.Printed.{answer_line, cleared_line, credit_line}
 use Rattle.vend_commands.specs.Told.{Outputs, IsTold}
 use Rattle.command_line.specs.declared.commands.meter.MeterWords.{MeterWords}
-use Rattle.vend_commands.specs.declared.end.End.{End}
-use Rattle.vend_commands.specs.declared.end.End.TheVariants.{Done}
+use Rattle.vend_commands.specs.declared.command_end.CommandEnd.{CommandEnd}
+use Rattle.vend_commands.specs.declared.command_end.CommandEnd.TheVariants.{Done}
 
 -- the word that clears the meter
 abbrev pub clear_word : Text
@@ -42,5 +42,5 @@ metering_of words = metering (reading_of (inverse_of words.transform) words.key)
     (map (λ word. word.now) words.tokens.now)
 
 -- it stands on the output, refused tokens or not
-abbrev pub IsMetered : MeterWords → Outputs → End → Type 0
+abbrev pub IsMetered : MeterWords → Outputs → CommandEnd → Type 0
 IsMetered words o end = IsTold o (metering_of words) [] Done end

@@ -21,7 +21,7 @@ use Rattle.vend_commands.specs.declared.door.Door as doors
 use Rattle.vend_commands.specs.declared.loopback.Loopback as loopback
 use Rattle.vend_commands.specs.declared.ports.OfficeFile as file
 use Rattle.vend_commands.specs.declared.ports.SaltSource as source
-use Rattle.vend_commands.specs.declared.read_fault.ReadFault.{ReadFault}
+use Rattle.vend_commands.specs.declared.file_fault.FileFault.{FileFault}
 use Rattle.vend_commands.specs.declared.selfcheck_fault.SelfcheckFault.{SelfcheckFault}
 
 -- No office was opened: no files were found at its path, or two were, and there was no salt for a
@@ -99,7 +99,7 @@ pub record Machine (D R W : Type 0) : Type 1 where
   pub at : Text → Place
   pub untouched : Type 0
   pub reads : Text → List ℕ → Type 0
-  pub lacks : Text → ReadFault → Type 0
+  pub lacks : Text → FileFault → Type 0
   pub answers : Option (List ℤ)
   pub way : Way D R W
   pub door : D
@@ -132,7 +132,7 @@ IsIdle m = m.untouched × IsOffline m
 
 abbrev pub machine : {D R W : Type 0} → (Text → Place) → (untouched : Type 0)
     → (Text → List ℕ → Type 0)
-    → (Text → ReadFault → Type 0) → Option (List ℤ) → Way D R W → D → Loop → Machine D R W
+    → (Text → FileFault → Type 0) → Option (List ℤ) → Way D R W → D → Loop → Machine D R W
 machine at untouched reads lacks answers way door loop = record {
   at = at;
   untouched = untouched;

@@ -7,8 +7,8 @@ use Rattle.tariff.specs.Purchase.{purchase_of}
 use Rattle.vend_commands.specs.Printed.{quote_line, refusal_line}
 use Rattle.vend_commands.specs.Told.{Outputs, IsTold}
 use Rattle.command_line.specs.declared.commands.quote.QuoteWords.{QuoteWords}
-use Rattle.vend_commands.specs.declared.end.End.{End}
-use Rattle.vend_commands.specs.declared.end.End.TheVariants.{Done, Refused}
+use Rattle.vend_commands.specs.declared.command_end.CommandEnd.{CommandEnd}
+use Rattle.vend_commands.specs.declared.command_end.CommandEnd.TheVariants.{Done, Refused}
 
 abbrev pub quote_text : Option Buy → Text
 quote_text None = []
@@ -18,12 +18,12 @@ abbrev pub quote_errors : Option Buy → Text
 quote_errors None = refusal_line TooLittle
 quote_errors (Some b) = []
 
-abbrev pub quote_end : Option Buy → End
+abbrev pub quote_end : Option Buy → CommandEnd
 quote_end None = Refused
 quote_end (Some b) = Done
 
 -- what the tender buys is told
-abbrev pub IsQuoted : QuoteWords → Outputs → End → Type 0
+abbrev pub IsQuoted : QuoteWords → Outputs → CommandEnd → Type 0
 IsQuoted words o end =
     let bought = purchase_of words.steps words.prior words.tender in
     IsTold o (quote_text bought) (quote_errors bought) (quote_end bought) end

@@ -2,7 +2,7 @@
 use Rattle.std.specs.Prelude.{◌≡◌, ◌⊎◌, ◌↔◌, true, false}
 use Rattle.sqlite.specs.State.{HasCleanDisk}
 use Rattle.books.specs.Failing.{IsToldOfRead}
-use Rattle.books.specs.Keeps.{HaveTables, Seen}
+use Rattle.books.specs.Keeps.{BooksHaveTables, Seen}
 use Rattle.vend_core.specs.declared.decision.refusal.Refusal.{Refusal}
 use Rattle.vend_core.specs.declared.decision.refusal.Refusal.TheVariants.{Stopped, Store}
 
@@ -17,5 +17,5 @@ pub record TellsStopped (old new : Seen) (refusal : Refusal) : Type 0 where
 pub record RefusesToRead (Other : Refusal → Type 0) (old new : Seen)
     (refusal : Refusal) : Type 0 where
   pub tells : TellsStopped old new refusal
-  pub failures : HasCleanDisk new.state → HaveTables old → old.stopped ≡ false
+  pub failures : HasCleanDisk new.state → BooksHaveTables old → old.stopped ≡ false
       → Other refusal ⊎ IsToldOfRead refusal old.state new.state

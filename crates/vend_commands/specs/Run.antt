@@ -22,12 +22,12 @@ use Rattle.vend_commands.specs.Told.{Outputs, IsTold}
 use Rattle.vend_commands.specs.Tried.{IsTried}
 use Rattle.command_line.specs.declared.asked.Asked.{Asked}
 use Rattle.command_line.specs.declared.asked.Asked.TheVariants.{Trial, Import, Request, Report, Meter, Quote, Serve, Selfcheck}
-use Rattle.vend_commands.specs.declared.end.End.{End}
-use Rattle.vend_commands.specs.declared.end.End.TheVariants.{Done, Refused, BadWords}
+use Rattle.vend_commands.specs.declared.command_end.CommandEnd.{CommandEnd}
+use Rattle.vend_commands.specs.declared.command_end.CommandEnd.TheVariants.{Done, Refused, BadWords}
 
 -- What is asked for is done, and nothing of the machine is used beside: where no office is needed
 -- none is found, only `serve` has the door, and only `selfcheck` connects the machine with itself.
-abbrev pub IsCarriedOut : {S D R W : Type 0} → Ghosts S → Machine D R W → Asked → Outputs → End
+abbrev pub IsCarriedOut : {S D R W : Type 0} → Ghosts S → Machine D R W → Asked → Outputs → CommandEnd
     → Type 0
 IsCarriedOut store m (Trial words) o end =
     IsIdle m × IsTimed ⊤ words.at m.answers (λ moment. IsTried words moment o end) o end
@@ -45,7 +45,7 @@ IsCarriedOut store m (Selfcheck words) o end = m.untouched × IsShut m
 
 -- what is said of words that are no command's: help, which goes to the output, or what is wrong
 -- with them, which goes to the error output
-abbrev pub IsExplained : ErrorKind → Text → Outputs → End → Type 0
+abbrev pub IsExplained : ErrorKind → Text → Outputs → CommandEnd → Type 0
 IsExplained OutOfMemory text o end = ⊥
 IsExplained DisplayHelp text o end = IsTold o text [] Done end
 IsExplained DisplayVersion text o end = IsTold o text [] Done end
@@ -55,7 +55,7 @@ IsExplained kind text o end = IsTold o [] text BadWords end
 -- its rule; or `clap` has a fault of theirs, and says something of it; or there was no room to read
 -- them, or for what is said of them. Where nothing is done nothing of the machine is used.
 pub data IsProgramRun {S D R W : Type 0} (store : Ghosts S) (machine : Machine D R W)
-    (words : List Text) (o : Outputs) (end : End) : Type 0 where
+    (words : List Text) (o : Outputs) (end : CommandEnd) : Type 0 where
   answered : (asked : Asked) → AskFor words asked → IsCarriedOut store machine asked o end
       → IsProgramRun store machine words o end
   bad_word : IsIdle machine → faults_in words ≡ [] → ((asked : Asked) → ¬ AskFor words asked)

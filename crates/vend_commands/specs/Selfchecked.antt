@@ -25,8 +25,8 @@ use Rattle.vend_commands.specs.Printed.{net_line, opening_line, refusal_line, se
 use Rattle.vend_commands.specs.Sent.{IsSent}
 use Rattle.vend_commands.specs.Told.{Held, IsTold, Outputs}
 use Rattle.command_line.specs.Transform.{forward_of}
-use Rattle.vend_commands.specs.declared.end.End.{End}
-use Rattle.vend_commands.specs.declared.end.End.TheVariants.{Done, Refused as IsRefused}
+use Rattle.vend_commands.specs.declared.command_end.CommandEnd.{CommandEnd}
+use Rattle.vend_commands.specs.declared.command_end.CommandEnd.TheVariants.{Done, Refused as IsRefused}
 use Rattle.vend_commands.specs.declared.loopback.Loopback as loopback
 use Rattle.vend_commands.specs.declared.selfcheck_fault.SelfcheckFault.{SelfcheckFault}
 use Rattle.vend_commands.specs.declared.selfcheck_fault.SelfcheckFault.TheVariants.{Net, Unopened, Refused}
@@ -182,7 +182,7 @@ selfcheck_fault_line (Refused refusal) = refusal_line refusal
 
 -- the same replies came over a connection, and that is told; or why they did not
 pub data IsSelfchecked (Agrees : Type 0) (Disagrees : SelfcheckFault → Type 0) (o : Outputs)
-    (end : End) : Type 0 where
+    (end : CommandEnd) : Type 0 where
   agreed : Agrees → IsTold o selfcheck_line [] Done end → IsSelfchecked Agrees Disagrees o end
   failed : (fault : SelfcheckFault) → Disagrees fault
       → IsTold o [] (selfcheck_fault_line fault) IsRefused end

@@ -18,8 +18,8 @@ use Rattle.vend_commands.specs.Told.{IsTold, Outputs, Takes}
 use Rattle.vend_commands.specs.Visited.{seen_in}
 use Rattle.command_line.specs.Transform.{forward_of}
 use Rattle.command_line.specs.declared.transform.Shipped.{Shipped}
-use Rattle.vend_commands.specs.declared.end.End.{End}
-use Rattle.vend_commands.specs.declared.end.End.TheVariants.{Done}
+use Rattle.vend_commands.specs.declared.command_end.CommandEnd.{CommandEnd}
+use Rattle.vend_commands.specs.declared.command_end.CommandEnd.TheVariants.{Done}
 
 -- the order at this moment, with the nibble of the office's next sale
 pub record IsOrdered (moment : ℕ) (order : Order) (office : Office) (at : Stamped) : Type 0 where
@@ -44,7 +44,7 @@ pub record HasSold (forward : BlockFunction) (office : Office) (order : Order) (
 
 -- of a sale that books replied nothing is told but its receipt: so what is told else came before it
 -- stood
-abbrev pub TellsSale : Sale → Outputs → End → Type 0
+abbrev pub TellsSale : Sale → Outputs → CommandEnd → Type 0
 TellsSale sale o end = IsTold o (receipt_of sale) [] Done end
 
 -- so with the books as the command left them and closed their file, as long as the disk returned

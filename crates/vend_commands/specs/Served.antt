@@ -12,8 +12,8 @@ use Rattle.vend_core.specs.declared.decision.refusal.Refusal.TheVariants.{Memory
 use Rattle.vend_core.specs.declared.decision.request.Request.{Request}
 use Rattle.vend_commands.specs.Printed.{added_line, done_line, refusal_line, shift_line}
 use Rattle.vend_commands.specs.Told.{Outputs, IsTold}
-use Rattle.vend_commands.specs.declared.end.End.{End}
-use Rattle.vend_commands.specs.declared.end.End.TheVariants as how
+use Rattle.vend_commands.specs.declared.command_end.CommandEnd.{CommandEnd}
+use Rattle.vend_commands.specs.declared.command_end.CommandEnd.TheVariants as how
 
 -- the text of an answer: a sale's receipt, a shift's report, or a line
 abbrev pub answer_text : core.Answer → Text
@@ -37,19 +37,19 @@ TakesRoom (Reprinted sale) = ⊥
 TakesRoom (Report shift sales) = ⊤
 
 -- the text of the answer is told; or there is no room to make a report, and that is told
-abbrev pub TellsAnswer : core.Answer → Outputs → End → Type 0
+abbrev pub TellsAnswer : core.Answer → Outputs → CommandEnd → Type 0
 TellsAnswer answer o end =
     IsTold o (answer_text answer) [] how.Done end
     ⊎ (TakesRoom answer × IsTold o [] (refusal_line Memory) how.Refused end)
 
 -- the text of this reply is told, and nothing else
-abbrev pub TellsReply : Result core.Answer Refusal → Outputs → End → Type 0
+abbrev pub TellsReply : Result core.Answer Refusal → Outputs → CommandEnd → Type 0
 TellsReply (Ok answer) o end = TellsAnswer answer o end
 TellsReply (Err refusal) o end = IsTold o [] (refusal_line refusal) how.Refused end
 
 -- Books replied to the request at this moment, and the text of that reply is told.
 pub record IsServedAndTold (moment : ℕ) (request : Request) (old new : Seen) (o : Outputs)
-    (end : End)
+    (end : CommandEnd)
     : Type 0 where
   pub reply : Result core.Answer Refusal
   pub replied : ReplyAt moment request reply old new

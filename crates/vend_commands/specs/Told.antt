@@ -2,7 +2,7 @@
 use Rattle.std.specs.Prelude.{◌≡◌, ℕ, ◌<◌, Bool, true, false, List, ◌++◌, length, take, Option}
 use Rattle.std.specs.Io.KnownBytes.{Appends, Keeps}
 use Rattle.sts_fields.specs.Text.{Text}
-use Rattle.vend_commands.specs.declared.end.End.{End}
+use Rattle.vend_commands.specs.declared.command_end.CommandEnd.{CommandEnd}
 use Rattle.vend_commands.specs.declared.watched.Watched.{Watched}
 
 -- the bytes that a writer holds, where they are known
@@ -62,6 +62,6 @@ outputs old new err_old err_new =
 
 -- the text goes to the output, the errors to the error output, nothing else to either, and the
 -- command ends as it is meant to
-abbrev pub IsTold : Outputs → (text errors : Text) → (meant end : End) → Type 0
+abbrev pub IsTold : Outputs → (text errors : Text) → (meant end : CommandEnd) → Type 0
 IsTold o text errors meant end =
     Takes o.old o.new text × Takes o.err_old o.err_new errors × (end ≡ meant)

@@ -11,8 +11,8 @@ use Rattle.vend_core.specs.declared.decision.refusal.Refusal.TheVariants.{NoSuch
 use Rattle.vend_commands.specs.Printed.{line_of, refusal_line}
 use Rattle.vend_commands.specs.Refused.{RefusesToRead}
 use Rattle.vend_commands.specs.Told.{Outputs, IsTold}
-use Rattle.vend_commands.specs.declared.end.End.{End}
-use Rattle.vend_commands.specs.declared.end.End.TheVariants.{Done, Refused}
+use Rattle.vend_commands.specs.declared.command_end.CommandEnd.{CommandEnd}
+use Rattle.vend_commands.specs.declared.command_end.CommandEnd.TheVariants.{Done, Refused}
 
 -- the shift, the count of its sales, and the sums of their tenths and of their prices
 abbrev pub totals_line : ℕ → Totals → Text
@@ -34,13 +34,13 @@ AreTotals number old new (Ok totals) = HasCleanDisk new.state → (life : Life) 
 AreTotals number old new (Err refusal) = HaveNoTotals number old new refusal
 
 -- they are told, or the refusal is
-abbrev pub TellsTotals : ℕ → Result Totals Refusal → Outputs → End → Type 0
+abbrev pub TellsTotals : ℕ → Result Totals Refusal → Outputs → CommandEnd → Type 0
 TellsTotals number (Ok totals) o end = IsTold o (totals_line number totals) [] Done end
 TellsTotals number (Err refusal) o end = IsTold o [] (refusal_line refusal) Refused end
 
 -- The totals of the shift in the present office are told, or why not. The books keep what they
 -- kept.
-pub record IsTotalled (number : ℕ) (old new : Seen) (o : Outputs) (end : End) : Type 0 where
+pub record IsTotalled (number : ℕ) (old new : Seen) (o : Outputs) (end : CommandEnd) : Type 0 where
   pub totals : Result Totals Refusal
   pub are_totals : AreTotals number old new totals
   pub told : TellsTotals number totals o end

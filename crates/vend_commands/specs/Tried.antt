@@ -9,8 +9,8 @@ use Rattle.vend_commands.specs.Told.{Outputs, IsTold}
 use Rattle.vend_commands.specs.Trial.{IsTrial}
 use Rattle.command_line.specs.Transform.{forward_of}
 use Rattle.command_line.specs.declared.commands.trial.TrialWords.{TrialWords}
-use Rattle.vend_commands.specs.declared.end.End.{End}
-use Rattle.vend_commands.specs.declared.end.End.TheVariants.{Done, Refused}
+use Rattle.vend_commands.specs.declared.command_end.CommandEnd.{CommandEnd}
+use Rattle.vend_commands.specs.declared.command_end.CommandEnd.TheVariants.{Done, Refused}
 use Rattle.vend_commands.specs.declared.trials.TrialFault.{TrialFault}
 use Rattle.vend_commands.specs.declared.trials.TrialFault.TheVariants.{Amount, Tid, Memory}
 
@@ -28,12 +28,12 @@ abbrev pub trial_errors : Option TrialFault → Text
 trial_errors None = []
 trial_errors (Some fault) = trial_fault_line fault
 
-abbrev pub trial_end : Option TrialFault → End
+abbrev pub trial_end : Option TrialFault → CommandEnd
 trial_end None = Done
 trial_end (Some fault) = Refused
 
 -- the amounts are sold at a moment (`IsTrial`), and the tokens and the fault told
-abbrev pub IsTried : TrialWords → (moment : ℕ) → Outputs → End → Type 0
+abbrev pub IsTried : TrialWords → (moment : ℕ) → Outputs → CommandEnd → Type 0
 IsTried words moment o end =
     (tids : List ℕ) × (tokens : List Text) × (fault : Option TrialFault)
     × IsTrial (forward_of words.transform) words.key words.base moment words.amounts.items tids

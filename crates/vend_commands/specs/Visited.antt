@@ -2,7 +2,7 @@
 use Rattle.std.specs.Prelude.{◌≡◌, false, []}
 use Rattle.sqlite_trees.specs.declared.store.Store.{Ghosts}
 use Rattle.sqlite_wal.specs.Recovery.{Image}
-use Rattle.books.specs.Keeps.{HaveTables, Represents, Seen, seen}
+use Rattle.books.specs.Keeps.{BooksHaveTables, Represents, Seen, seen}
 use Rattle.books.specs.Path.{StandsIn}
 use Rattle.books.specs.declared.books.Books.{Books}
 use Rattle.book_opening.specs.declared.fault.OpenFault.{OpenFault}
@@ -13,8 +13,8 @@ use Rattle.vend_core.specs.Office.{Office}
 use Rattle.vend_commands.specs.Places.{Place}
 use Rattle.vend_commands.specs.Printed.{opening_line}
 use Rattle.vend_commands.specs.Told.{Outputs, IsTold}
-use Rattle.vend_commands.specs.declared.end.End.{End}
-use Rattle.vend_commands.specs.declared.end.End.TheVariants.{Refused}
+use Rattle.vend_commands.specs.declared.command_end.CommandEnd.{CommandEnd}
+use Rattle.vend_commands.specs.declared.command_end.CommandEnd.TheVariants.{Refused}
 
 -- what is seen of books whose transform is one that ships
 abbrev pub seen_in : {S : Type 0} → {store : Ghosts S} → Books S Shipped store → Seen
@@ -27,7 +27,7 @@ pub record IsOpened {S : Type 0} {store : Ghosts S} (image : Image) (Opens : See
   pub opens : (office : Office) → StandsIn image office
       → Represents (opened (forward_of transform) office) (seen_in books)
   pub running : books.stopped ≡ false
-  pub tables : HaveTables (seen_in books)
+  pub tables : BooksHaveTables (seen_in books)
   pub finds : Opens (seen_in books)
 
 -- the same, in the file at a place
@@ -38,7 +38,7 @@ IsOpenedAt place transform books = IsOpened place.image place.opens transform bo
 -- The file is not opened, and that is told, before anything is printed; or books are opened in it,
 -- what is to be done is done there, and the file is closed as it was left.
 pub data IsVisited {S : Type 0} (store : Ghosts S) (place : Place) (transform : Shipped)
-    (Does : (old new : Seen) → Type 0) (o : Outputs) (end : End) : Type 0 where
+    (Does : (old new : Seen) → Type 0) (o : Outputs) (end : CommandEnd) : Type 0 where
   unopened : (fault : OpenFault) → place.fails fault
       → IsTold o [] (opening_line fault) Refused end → IsVisited store place transform Does o end
   visited : (old new : Books S Shipped store) → IsOpenedAt place transform old

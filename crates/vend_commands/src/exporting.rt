@@ -7,7 +7,7 @@ ghost use Rattle.vend_commands.specs.Exported.{IsExported, IsPage};
 ghost use Rattle.vend_commands.specs.Told.{outputs, sink};
 ghost use Rattle.vend_core.specs.Law.Life.{Life};
 
-use crate::end::End;
+use crate::command_end::CommandEnd;
 use crate::printed::put_refusal;
 use crate::watched::Watched;
 use books::Books;
@@ -31,7 +31,7 @@ pub(crate) fn print_sales<S: Alter, T: BlockTransform, O: Write, E: Write>(
     books: &mut Books<S, T>,
     out: &mut Watched<'_, O>,
     err: &mut Watched<'_, E>,
-) -> End
+) -> CommandEnd
     ensures { IsExported (seen S.Store T.forwards books.old) (seen S.Store T.forwards books.new)
         (outputs (sink O.contents out.old) (sink O.contents out.new)
         (sink E.contents err.old) (sink E.contents err.new)) result }
@@ -41,14 +41,14 @@ pub(crate) fn print_sales<S: Alter, T: BlockTransform, O: Write, E: Write>(
     for page in 0..PAGES {
         match print_page(alloc, books, page, out) {
             Ok(true) => {}
-            Ok(false) => return End::Done,
+            Ok(false) => return CommandEnd::Done,
             Err(refusal) => {
                 put_refusal(refusal, err);
-                return End::Refused;
+                return CommandEnd::Refused;
             }
         }
     }
-    End::Done
+    CommandEnd::Done
 }
 
 // Prints a page, the first one behind the header, and answers whether another follows: it is full,

@@ -21,8 +21,8 @@ ghost use Rattle.vend_commands.specs.Selling.{EndsSold, TellsSale};
 ghost use Rattle.vend_commands.specs.Served.{TellsReply};
 ghost use Rattle.vend_commands.specs.Told.{Outputs};
 ghost use Rattle.vend_commands.specs.Visited.{seen_in};
-ghost use Rattle.vend_commands.specs.declared.end.End.{End};
-ghost use Rattle.vend_commands.specs.declared.end.End.TheVariants.{Done};
+ghost use Rattle.vend_commands.specs.declared.command_end.CommandEnd.{CommandEnd};
+ghost use Rattle.vend_commands.specs.declared.command_end.CommandEnd.TheVariants.{Done};
 
 use crate::door::Door;
 use crate::ports::OfficeFile;
@@ -44,7 +44,7 @@ pub fn sell_law<H: OfficeFile>()
         → EndsSold ⟦<FileStore<H::Medium> as Store>⟧
         (IsClosed H.Medium.Disk H.lets_go) transform order
         moment office o }
-    ensures told { (sale : Sale) (o : Outputs) (end : End)
+    ensures told { (sale : Sale) (o : Outputs) (end : CommandEnd)
         → TellsReply (Ok (Sold sale)) o end → TellsSale sale o end }
 {
     office_law();

@@ -5,7 +5,7 @@ ghost use Rattle.sqlite_std_file.specs.File.{IsFresh, file_is_usable};
 ghost use Rattle.sqlite_wal.specs.Files.{image_at};
 
 use crate::ports::{OfficeFile, SaltSource, TextFiles};
-use crate::read_fault::ReadFault;
+use crate::file_fault::FileFault;
 use books::OpenFault;
 use sqlite::{FileFrom, Start};
 use sqlite_std_file::OpenError;
@@ -63,7 +63,7 @@ impl<'a, B: Start> OfficeFile for MachineFile<'a, B> {
         }
         match sqlite_std_file::open(self.rt, path, self.start) {
             Ok(files) => Ok((files.log, files.db)),
-            Err(error) => Err(fault_of(error)),
+            Err(error) => Err(refused_files_fault(error)),
         }
     }
 
@@ -82,7 +82,7 @@ impl<'a, B: Start> OfficeFile for MachineFile<'a, B> {
 }
 
 // Why there are no files, by what opening them met.
-fn fault_of(error: OpenError) -> OpenFault {
+fn refused_files_fault(error: OpenError) -> OpenFault {
     match error {
         OpenError::OutOfMemory => OpenFault::Memory,
         OpenError::Io(error) if error.kind() == ErrorKind::OutOfMemory => OpenFault::Memory,
@@ -101,11 +101,11 @@ impl TextFiles for MachineTexts<'_> {
 
     ghost lacks = { λ _ _ _. ⊤ };
 
-    fn read(&self, path: &str) -> Result<Vec<u8>, ReadFault> {
+    fn read(&self, path: &str) -> Result<Vec<u8>, FileFault> {
         match fs::read(self.rt, path) {
             Ok(bytes) => Ok(bytes),
-            Err(error) if error.kind() == ErrorKind::OutOfMemory => Err(ReadFault::Memory),
-            Err(_) => Err(ReadFault::Unreadable),
+            Err(error) if error.kind() == ErrorKind::OutOfMemory => Err(FileFault::Memory),
+            Err(_) => Err(FileFault::Unreadable),
         }
     }
 }

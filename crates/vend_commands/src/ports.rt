@@ -6,11 +6,11 @@ ghost use Rattle.sqlite_wal.specs.Files.{seen_image};
 ghost use Rattle.sqlite_wal.specs.Recovery.{Image};
 ghost use Rattle.sts_fields.specs.Text.{Text};
 ghost use Rattle.book_opening.specs.declared.fault.OpenFault.{OpenFault};
-ghost use Rattle.vend_commands.specs.declared.read_fault.ReadFault.{ReadFault};
+ghost use Rattle.vend_commands.specs.declared.file_fault.FileFault.{FileFault};
 
 use crate::door::Door;
 use crate::loopback::Loopback;
-use crate::read_fault::ReadFault;
+use crate::file_fault::FileFault;
 use books::OpenFault;
 use sqlite_disk::Disk;
 
@@ -78,10 +78,10 @@ pub trait TextFiles: Drop {
     ghost reads: { Self → Text → List ℕ → Type 0 };
 
     /// The file of this name is not read, for this fault.
-    ghost lacks: { Self → Text → ReadFault → Type 0 };
+    ghost lacks: { Self → Text → FileFault → Type 0 };
 
     /// All that a file holds.
-    fn read(&self, path: &str) -> Result<Vec<u8>, ReadFault>
+    fn read(&self, path: &str) -> Result<Vec<u8>, FileFault>
         ensures reads { IfOk result (λ bytes. reads self.now path.now bytes.items) }
         ensures lacks { IfErr result (lacks self.now path.now) };
 }

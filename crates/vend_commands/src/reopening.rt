@@ -58,7 +58,7 @@ pub fn reopen<D: Disk + Drop, T: BlockTransform + Drop>(
     opening_law::<FileStore<D>>();
     let conn = match reconnect(alloc, options, books.into_connection()) {
         Ok(conn) => conn,
-        Err(error) => return Err(fault_of(error)),
+        Err(error) => return Err(open_fault_of(error)),
     };
     match Books::open_from(alloc, conn, transform) {
         Ok(next) => Ok(next),
@@ -87,7 +87,7 @@ fn reconnect<D: Disk + Drop>(
 }
 
 // Why no office is opened, by an error of the database.
-fn fault_of(error: Error) -> OpenFault {
+fn open_fault_of(error: Error) -> OpenFault {
     match error {
         Error::SqliteFailure(ErrorCode::OutOfMemory) => OpenFault::Memory,
         _ => OpenFault::Store,

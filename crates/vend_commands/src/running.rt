@@ -10,12 +10,12 @@ ghost use Rattle.vend_commands.specs.Status.{status_of};
 ghost use Rattle.vend_commands.specs.Told.{IsTold, Takes, outputs, sink, writer};
 ghost use Rattle.vend_commands.specs.Unread.{bad_words_end, bad_words_line};
 ghost use Rattle.command_line.specs.declared.asked.Asked.{Asked};
-ghost use Rattle.vend_commands.specs.declared.end.End.{End};
+ghost use Rattle.vend_commands.specs.declared.command_end.CommandEnd.{CommandEnd};
 
 use crate::commands;
 use crate::commands::selfcheck::run_selfcheck;
 use crate::door::Door;
-use crate::end::End;
+use crate::command_end::CommandEnd;
 use crate::explanation::Explanation;
 use crate::loopback::Loopback;
 use crate::machine::{MachineFile, MachineTexts};
@@ -45,7 +45,7 @@ pub fn run<B: Start, O: Write, E: Write>(
     out: &mut O,
     err: &mut E,
 ) -> u8
-    ensures run { (end : End) × (out_failed err_failed : Bool) × (out_name err_name : ℕ)
+    ensures run { (end : CommandEnd) × (out_failed err_failed : Bool) × (out_name err_name : ℕ)
         × IsProgramRun ⟦<FileStore<FileFrom<B>> as Store>⟧
         (untold ⟦<FileFrom<B> as Disk>⟧ (image_at B.Start))
         (map (λ w. w.now) words.now)
@@ -70,7 +70,7 @@ pub fn run<B: Start, O: Write, E: Write>(
 }
 
 /// The exit status, where the output failed or not.
-pub fn status(end: End, failed: bool) -> u8
+pub fn status(end: CommandEnd, failed: bool) -> u8
     ensures { result ≡ status_of end failed }
 {
     if failed {
@@ -94,7 +94,7 @@ pub fn run_over<
     words: &[&str],
     out: &mut Watched<'_, O>,
     err: &mut Watched<'_, E>,
-) -> End
+) -> CommandEnd
     ensures { IsProgramRun ⟦<FileStore<H::Medium> as Store>⟧ (machine
         (places_of H.Medium.Disk H.Salts.SaltSource H.OfficeFile ports.office)
         (H.leaves ports.office)
@@ -108,7 +108,7 @@ pub fn run_over<
     let Ok(line) = meant(alloc, words) else {
         leave_all(ports.office, ports.door, ports.loopback);
         put_refusal(Refusal::Memory, err);
-        return End::Refused;
+        return CommandEnd::Refused;
     };
     match parse(alloc, &line) {
         Ok(matches) => match Asked::read(alloc, &matches) {
@@ -151,7 +151,7 @@ fn answer<H: OfficeFile, F: TextFiles, C: Clock + Drop, D: Door, L: Loopback, O:
     asked: Asked<'_, '_>,
     out: &mut Watched<'_, O>,
     err: &mut Watched<'_, E>,
-) -> End
+) -> CommandEnd
     ensures { IsCarriedOut ⟦<FileStore<H::Medium> as Store>⟧ (machine
         (places_of H.Medium.Disk H.Salts.SaltSource H.OfficeFile ports.office)
         (H.leaves ports.office)
@@ -208,7 +208,7 @@ fn answer<H: OfficeFile, F: TextFiles, C: Clock + Drop, D: Door, L: Loopback, O:
 }
 
 /// Tells why words were not read.
-pub fn refuse<E: Write>(fault: BadWords, err: &mut Watched<'_, E>) -> End
+pub fn refuse<E: Write>(fault: BadWords, err: &mut Watched<'_, E>) -> CommandEnd
     ensures told { Takes (sink E.contents err.old) (sink E.contents err.new)
         (bad_words_line fault) }
     ensures end { result ≡ bad_words_end fault }
@@ -216,11 +216,11 @@ pub fn refuse<E: Write>(fault: BadWords, err: &mut Watched<'_, E>) -> End
     match fault {
         BadWords::Value => {
             put_line(&[b"bad", b"word"], err);
-            End::BadWords
+            CommandEnd::BadWords
         }
         BadWords::Memory => {
             put_refusal(Refusal::Memory, err);
-            End::Refused
+            CommandEnd::Refused
         }
     }
 }
@@ -231,30 +231,30 @@ fn explain<X: Explanation, O: Write, E: Write>(
     error: &X,
     out: &mut Watched<'_, O>,
     err: &mut Watched<'_, E>,
-) -> End
+) -> CommandEnd
     ensures { let o = outputs (sink O.contents out.old) (sink O.contents out.new)
         (sink E.contents err.old) (sink E.contents err.new) in
-        IsTold o [] (refusal_line Memory) End.Refused result
+        IsTold o [] (refusal_line Memory) CommandEnd.Refused result
         ⊎ ((text : Text) × X.says error.now text × (text ≢ [])
         × IsExplained (X.kind error.now) text o result) }
 {
     let kind = error.kind();
     if kind == ErrorKind::OutOfMemory {
         put_refusal(Refusal::Memory, err);
-        return End::Refused;
+        return CommandEnd::Refused;
     }
     let Ok(text) = error.text(alloc) else {
         put_refusal(Refusal::Memory, err);
-        return End::Refused;
+        return CommandEnd::Refused;
     };
     match kind {
         ErrorKind::DisplayHelp | ErrorKind::DisplayVersion => {
             out.put(text.as_bytes());
-            End::Done
+            CommandEnd::Done
         }
         _ => {
             err.put(text.as_bytes());
-            End::BadWords
+            CommandEnd::BadWords
         }
     }
 }

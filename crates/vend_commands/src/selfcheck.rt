@@ -54,7 +54,7 @@ pub(crate) fn selfcheck<L: Loopback, T: BlockTransform + Copy + Drop>(
     match gives_exactly(alloc, &mut stream, &replies) {
         Ok(true) => Ok(()),
         Ok(false) => Err(SelfcheckFault::Net),
-        Err(error) => Err(fault_of(&error)),
+        Err(error) => Err(net_fault_of(&error)),
     }
 }
 
@@ -102,7 +102,7 @@ fn replies_over_net<L: Loopback, T: BlockTransform + Drop>(
     };
     let (near, mut reader, mut writer) = match loopback.connect(MESSAGES) {
         Ok(ends) => ends,
-        Err(error) => return Err(fault_of(&error)),
+        Err(error) => return Err(net_fault_of(&error)),
     };
     let Ok(end) = answer(alloc, &mut reader, &mut writer, &mut books) else {
         return Err(SelfcheckFault::Refused(Refusal::Memory));
@@ -168,7 +168,7 @@ pub fn gives_exactly<R: Read>(alloc: Global, reader: &mut R, text: &[u8]) -> io:
 }
 
 // Why a connection gave no more, or none was had.
-fn fault_of(error: &io::Error) -> SelfcheckFault
+fn net_fault_of(error: &io::Error) -> SelfcheckFault
     ensures { (result ≡ SelfcheckFault.Net) ⊎ (result ≡ SelfcheckFault.Refused Memory) }
 {
     match error.kind() {

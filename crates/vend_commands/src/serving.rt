@@ -5,7 +5,7 @@ ghost use Rattle.books.specs.Keeps.{seen};
 ghost use Rattle.vend_commands.specs.Served.{IsServedAndTold, TakesRoom, TellsAnswer, answer_text};
 ghost use Rattle.vend_commands.specs.Told.{Takes, outputs, sink};
 
-use crate::end::End;
+use crate::command_end::CommandEnd;
 use crate::printed::{put_added, put_line, put_refusal, put_shift};
 use crate::watched::Watched;
 use books::Books;
@@ -27,7 +27,7 @@ pub(crate) fn ask<S: Alter, T: BlockTransform, O: Write, E: Write>(
     request: Request,
     out: &mut Watched<'_, O>,
     err: &mut Watched<'_, E>,
-) -> End
+) -> CommandEnd
     ensures { IsServedAndTold moment request (seen S.Store T.forwards books.old)
         (seen S.Store T.forwards books.new)
         (outputs (sink O.contents out.old) (sink O.contents out.new)
@@ -37,7 +37,7 @@ pub(crate) fn ask<S: Alter, T: BlockTransform, O: Write, E: Write>(
         Ok(answer) => tell_answer(alloc, &answer, out, err),
         Err(refusal) => {
             put_refusal(refusal, err);
-            End::Refused
+            CommandEnd::Refused
         }
     }
 }
@@ -48,15 +48,15 @@ fn tell_answer<O: Write, E: Write>(
     answer: &Answer,
     out: &mut Watched<'_, O>,
     err: &mut Watched<'_, E>,
-) -> End
+) -> CommandEnd
     ensures { TellsAnswer answer.now (outputs (sink O.contents out.old) (sink O.contents out.new)
         (sink E.contents err.old) (sink E.contents err.new)) result }
 {
     match print_answer(alloc, answer, out) {
-        Ok(()) => End::Done,
+        Ok(()) => CommandEnd::Done,
         Err(_) => {
             put_refusal(Refusal::Memory, err);
-            End::Refused
+            CommandEnd::Refused
         }
     }
 }

@@ -4,7 +4,7 @@ ghost use Rattle.books.specs.Keeps.{seen};
 ghost use Rattle.vend_commands.specs.Told.{Takes, outputs, sink};
 ghost use Rattle.vend_commands.specs.Totalled.{IsTotalled, totals_line};
 
-use crate::end::End;
+use crate::command_end::CommandEnd;
 use crate::printed::{put_line, put_refusal};
 use crate::watched::Watched;
 use books::{Books, Totals};
@@ -19,7 +19,7 @@ pub(crate) fn print_totals<S: Alter, T: BlockTransform, O: Write, E: Write>(
     number: u32,
     out: &mut Watched<'_, O>,
     err: &mut Watched<'_, E>,
-) -> End
+) -> CommandEnd
     ensures { IsTotalled number (seen S.Store T.forwards books.old)
         (seen S.Store T.forwards books.new)
         (outputs (sink O.contents out.old) (sink O.contents out.new)
@@ -28,11 +28,11 @@ pub(crate) fn print_totals<S: Alter, T: BlockTransform, O: Write, E: Write>(
     match books.shift_totals(number) {
         Ok(totals) => {
             put_totals(number, totals, out);
-            End::Done
+            CommandEnd::Done
         }
         Err(refusal) => {
             put_refusal(refusal, err);
-            End::Refused
+            CommandEnd::Refused
         }
     }
 }

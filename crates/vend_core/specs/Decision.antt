@@ -5,7 +5,7 @@ pub mod Fold
 pub mod Refusals
 pub mod Requests
 pub mod RowCauses
-pub mod Taken
+pub mod RowsTaken
 use Rattle.std.specs.Prelude.{ℕ, ◌+◌, ◌&&◌, ◌==◌, Bool, true, false, List, [], ◌∷◌, length, nat_lt, if◌then◌else◌, Option, Some, None, Result, Ok, Err, is_some, option_map, bytes_eq}
 use Rattle.std.specs.Option.{ok_or}
 use Rattle.sts_fields.specs.Calendar.{month_at}

@@ -8,7 +8,7 @@ ghost use Rattle.vend_core.specs.Decision.Edits.{applied};
 ghost use Rattle.vend_core.specs.Office.{Office};
 ghost use Rattle.vend_core.specs.Decision.Requests.{IsStamped};
 ghost use Rattle.vend_core.specs.Law.Store.{Meets};
-ghost use Rattle.book_tables.specs.Reading.{HasTables};
+ghost use Rattle.book_tables.specs.Reading.{HasAllTables};
 ghost use Rattle.books.specs.Keeps.{seen};
 ghost use Rattle.book_states.specs.Others.{LeavesOthers};
 ghost use Rattle.books.specs.Serving.{FailsToServe, HoldsOffice, ServesGranted, ServingEnds};
@@ -29,15 +29,15 @@ impl<S: Alter, T: BlockTransform> Books<S, T> {
             → ServingEnds (T.forwards self.old.transform) o at.now result
             (seen S.Store T.forwards self.new) }
         ensures others { HasCleanDisk (seen S.Store T.forwards self.new).state
-            → HasTables (seen S.Store T.forwards self.old).state
+            → HasAllTables (seen S.Store T.forwards self.old).state
             → LeavesOthers (seen S.Store T.forwards self.old).state
             (seen S.Store T.forwards self.new).state }
         ensures failures { HasCleanDisk (seen S.Store T.forwards self.new).state
-            → HasTables (seen S.Store T.forwards self.old).state
+            → HasAllTables (seen S.Store T.forwards self.old).state
             → IfErr result (FailsToServe at.now (seen S.Store T.forwards self.old)
             (seen S.Store T.forwards self.new)) }
         ensures granted { HasCleanDisk (seen S.Store T.forwards self.new).state
-            → HasTables (seen S.Store T.forwards self.old).state
+            → HasAllTables (seen S.Store T.forwards self.old).state
             → OnOk result (ServesGranted at.now (seen S.Store T.forwards self.old)
             (seen S.Store T.forwards self.new)) }
         ensures clean { HasCleanDisk (seen S.Store T.forwards self.new).state

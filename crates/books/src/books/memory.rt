@@ -4,7 +4,7 @@ ghost use Rattle.std.specs.Prelude.{◌≡◌, ◌⊎◌, false, None, IfOk, IfE
 ghost use Rattle.sqlite.specs.Steps.{over_memory};
 ghost use Rattle.vend_core.specs.Law.LifeLaws.{opened};
 ghost use Rattle.vend_core.specs.Office.{empty_office};
-ghost use Rattle.books.specs.Keeps.{HaveTables, Represents, seen};
+ghost use Rattle.books.specs.Keeps.{BooksHaveTables, Represents, seen};
 
 use crate::books::Books;
 use book_opening::OpenFault;
@@ -21,7 +21,7 @@ impl<T: BlockTransform + Drop> Books<MemStore, T> {
     pub fn in_memory(alloc: Global, transform: T) -> Result<Books<MemStore, T>, OpenFault>
         ensures opens { IfOk result (λ books. Represents
             (opened (T.forwards transform) empty_office) (seen over_memory T.forwards books)) }
-        ensures tables { IfOk result (λ books. HaveTables (seen over_memory T.forwards books)) }
+        ensures tables { IfOk result (λ books. BooksHaveTables (seen over_memory T.forwards books)) }
         ensures running { IfOk result (λ books. books.stopped ≡ false) }
         ensures unlimited { IfOk result (λ books.
             (seen over_memory T.forwards books).state.step_limit ≡ None) }

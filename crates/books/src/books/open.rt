@@ -5,7 +5,7 @@ ghost use Rattle.sqlite.specs.State.{HasCleanDisk, Survives};
 ghost use Rattle.sqlite.specs.Held.{state};
 ghost use Rattle.vend_core.specs.Law.LifeLaws.{opened};
 ghost use Rattle.vend_core.specs.Office.{Office};
-ghost use Rattle.books.specs.Keeps.{HaveTables, Represents, seen};
+ghost use Rattle.books.specs.Keeps.{BooksHaveTables, Represents, seen};
 ghost use Rattle.book_states.specs.Stores.{StoreStandsFor};
 ghost use Rattle.book_opening.specs.Opening.{LeavesBrought, LeavesRefused, OpensAs};
 ghost use Rattle.book_states.specs.Same.{IsSame};
@@ -35,7 +35,7 @@ impl<S: Alter, T: BlockTransform + Drop> Books<S, T> {
         ensures opens { (o : Office) → StoreStandsFor (state S.Store conn) o
             → IfOk result (λ books. Represents
             (opened (T.forwards transform) o) (seen S.Store T.forwards books)) }
-        ensures tables { IfOk result (λ books. HaveTables (seen S.Store T.forwards books)) }
+        ensures tables { IfOk result (λ books. BooksHaveTables (seen S.Store T.forwards books)) }
         ensures finds { IfOk result (λ books. HasCleanDisk (state S.Store books.conn)
             → OpensAs (state S.Store conn) (state S.Store books.conn)) }
         ensures running { IfOk result (λ books. books.stopped ≡ false) }

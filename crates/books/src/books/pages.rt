@@ -7,7 +7,7 @@ ghost use Rattle.vend_core.specs.Law.Life.{Life, MayLeave, present};
 ghost use Rattle.vend_core.specs.Office.{Office};
 ghost use Rattle.vend_core.specs.Law.Store.{sales_above};
 ghost use Rattle.book_states.specs.Failing.{IsToldOfRead};
-ghost use Rattle.books.specs.Keeps.{HaveTables, IsNextOrOneBefore, Represents, seen};
+ghost use Rattle.books.specs.Keeps.{BooksHaveTables, IsNextOrOneBefore, Represents, seen};
 ghost use Rattle.book_states.specs.Others.{LeavesOthers};
 ghost use Rattle.book_states.specs.Same.{ChangesNothing};
 
@@ -32,14 +32,14 @@ impl<S: Alter, T: BlockTransform> Books<S, T> {
             → IfOk result (λ sales. sales.items ≡ sales_above (present life) number limit) }
         ensures keeps { (life : Life) → Represents life (seen S.Store T.forwards self.old)
             → Represents life (seen S.Store T.forwards self.new) }
-        ensures tables { HaveTables (seen S.Store T.forwards self.old)
-            → HaveTables (seen S.Store T.forwards self.new) }
+        ensures tables { BooksHaveTables (seen S.Store T.forwards self.old)
+            → BooksHaveTables (seen S.Store T.forwards self.new) }
         ensures others { HasCleanDisk (seen S.Store T.forwards self.new).state
-            → HaveTables (seen S.Store T.forwards self.old)
+            → BooksHaveTables (seen S.Store T.forwards self.old)
             → LeavesOthers (seen S.Store T.forwards self.old).state
             (seen S.Store T.forwards self.new).state }
         ensures nothing { HasCleanDisk (seen S.Store T.forwards self.new).state
-            → HaveTables (seen S.Store T.forwards self.old)
+            → BooksHaveTables (seen S.Store T.forwards self.old)
             → ChangesNothing (seen S.Store T.forwards self.old).state
             (seen S.Store T.forwards self.new).state }
         ensures clean { HasCleanDisk (seen S.Store T.forwards self.new).state
@@ -50,7 +50,7 @@ impl<S: Alter, T: BlockTransform> Books<S, T> {
         ensures refusals { IfErr result (λ refusal. (refusal ≡ Refusal.Memory)
             ⊎ ((refusal ≡ Refusal.Store) ⊎ (refusal ≡ Refusal.Stopped))) }
         ensures failures { HasCleanDisk (seen S.Store T.forwards self.new).state
-            → HaveTables (seen S.Store T.forwards self.old) → self.old.stopped ≡ false
+            → BooksHaveTables (seen S.Store T.forwards self.old) → self.old.stopped ≡ false
             → IfErr result (λ refusal. IsToldOfRead refusal
             (seen S.Store T.forwards self.old).state (seen S.Store T.forwards self.new).state) }
         ensures idle { self.old.stopped ≡ true → self.new ≡ self.old }

@@ -5,7 +5,7 @@ ghost use Rattle.sqlite.specs.State.{HasCleanDisk};
 ghost use Rattle.vend_core.specs.Law.Life.{Life};
 ghost use Rattle.vend_core.specs.Law.LifeLaws.{extended_along};
 ghost use Rattle.books.specs.Asking.{AreServedInTurn};
-ghost use Rattle.books.specs.Keeps.{HaveTables, Represents, seen};
+ghost use Rattle.books.specs.Keeps.{BooksHaveTables, Represents, seen};
 ghost use Rattle.book_states.specs.Others.{LeavesOthers};
 ghost use Rattle.books.specs.Stopping.{StopAtFailure};
 
@@ -27,10 +27,10 @@ impl<S: Alter, T: BlockTransform> Books<S, T> {
             → Represents life (seen S.Store T.forwards self.old)
             → Represents (extended_along life ats.now replies.items)
             (seen S.Store T.forwards self.new)) }
-        ensures tables { HaveTables (seen S.Store T.forwards self.old)
-            → HaveTables (seen S.Store T.forwards self.new) }
+        ensures tables { BooksHaveTables (seen S.Store T.forwards self.old)
+            → BooksHaveTables (seen S.Store T.forwards self.new) }
         ensures others { HasCleanDisk (seen S.Store T.forwards self.new).state
-            → HaveTables (seen S.Store T.forwards self.old)
+            → BooksHaveTables (seen S.Store T.forwards self.old)
             → LeavesOthers (seen S.Store T.forwards self.old).state
             (seen S.Store T.forwards self.new).state }
         ensures clean { HasCleanDisk (seen S.Store T.forwards self.new).state

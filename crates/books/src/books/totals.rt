@@ -5,7 +5,7 @@ ghost use Rattle.sqlite.specs.Held.{state};
 ghost use Rattle.sqlite.specs.State.{HasCleanDisk};
 ghost use Rattle.vend_core.specs.Law.Life.{Life, present};
 ghost use Rattle.book_states.specs.Failing.{IsToldOfRead};
-ghost use Rattle.books.specs.Keeps.{HaveTables, Represents, seen};
+ghost use Rattle.books.specs.Keeps.{BooksHaveTables, Represents, seen};
 ghost use Rattle.book_states.specs.Others.{LeavesOthers};
 ghost use Rattle.book_states.specs.Same.{ChangesNothing};
 ghost use Rattle.book_facts.specs.Totals.{shift_totals};
@@ -35,14 +35,14 @@ impl<S: Alter, T: BlockTransform> Books<S, T> {
             → result ≡ Err Refusal.NoSuchShift → shift_totals (present life) number ≡ None }
         ensures keeps { (life : Life) → Represents life (seen S.Store T.forwards self.old)
             → Represents life (seen S.Store T.forwards self.new) }
-        ensures tables { HaveTables (seen S.Store T.forwards self.old)
-            → HaveTables (seen S.Store T.forwards self.new) }
+        ensures tables { BooksHaveTables (seen S.Store T.forwards self.old)
+            → BooksHaveTables (seen S.Store T.forwards self.new) }
         ensures others { HasCleanDisk (seen S.Store T.forwards self.new).state
-            → HaveTables (seen S.Store T.forwards self.old)
+            → BooksHaveTables (seen S.Store T.forwards self.old)
             → LeavesOthers (seen S.Store T.forwards self.old).state
             (seen S.Store T.forwards self.new).state }
         ensures nothing { HasCleanDisk (seen S.Store T.forwards self.new).state
-            → HaveTables (seen S.Store T.forwards self.old)
+            → BooksHaveTables (seen S.Store T.forwards self.old)
             → ChangesNothing (seen S.Store T.forwards self.old).state
             (seen S.Store T.forwards self.new).state }
         ensures clean { HasCleanDisk (seen S.Store T.forwards self.new).state
@@ -54,7 +54,7 @@ impl<S: Alter, T: BlockTransform> Books<S, T> {
             ⊎ ((refusal ≡ Refusal.Memory) ⊎ ((refusal ≡ Refusal.Store)
             ⊎ (refusal ≡ Refusal.Stopped)))) }
         ensures failures { HasCleanDisk (seen S.Store T.forwards self.new).state
-            → HaveTables (seen S.Store T.forwards self.old) → self.old.stopped ≡ false
+            → BooksHaveTables (seen S.Store T.forwards self.old) → self.old.stopped ≡ false
             → IfErr result (λ refusal. (refusal ≡ Refusal.NoSuchShift) ⊎ IsToldOfRead refusal
             (seen S.Store T.forwards self.old).state (seen S.Store T.forwards self.new).state) }
         ensures idle { self.old.stopped ≡ true → self.new ≡ self.old }

@@ -4,26 +4,26 @@ use crate::lapses::lapse::{Faults, NO_FAULTS};
 use crate::lapses::ports::Trouble;
 use crate::lapses::{CALLS, LISTENING, MESSAGES, Outcome, calls_fail, count_in, served};
 use std::test::Fail;
-use vend_commands::End;
+use vend_commands::CommandEnd;
 
 const FAILED_REPLY: &str = "HTTP/1.1 503 Service Unavailable\r\nContent-Type: application/json\r\n\
     Content-Length: 30\r\n\r\n{\"error\":\"Store\",\"refusal\":16}";
 
 // The calls of the opening fail: nobody is served.
 fn is_unopened(ran: &Outcome) -> bool {
-    ran.end == End::Refused && ran.errors.as_str() == "open 3 Store\n" && ran.replies.is_empty()
+    ran.end == CommandEnd::Refused && ran.errors.as_str() == "open 3 Store\n" && ran.replies.is_empty()
 }
 
 // The file cannot be opened again after a connection that is not the last.
 fn is_lost(ran: &Outcome, connections: usize) -> bool {
-    ran.end == End::Refused
+    ran.end == CommandEnd::Refused
         && ran.errors.as_str() == "listening 127.0.0.1:80\nopen 3 Store\n"
         && connections < MESSAGES.len()
 }
 
 // All connections are served.
 fn is_served(ran: &Outcome, connections: usize) -> bool {
-    ran.end == End::Done && ran.errors.as_str() == LISTENING && connections == MESSAGES.len()
+    ran.end == CommandEnd::Done && ran.errors.as_str() == LISTENING && connections == MESSAGES.len()
 }
 
 // Which way a run went.
@@ -132,7 +132,7 @@ fn nobody_is_served_where_it_is_not_told(rt: HostRuntime) -> Result<(), Fail> {
     for room in 0..LISTENING.len() {
         let ran = served(&rt, calls_fail(true, 0, 0), room)?;
         let told = LISTENING.get(..room).unwrap_or("no text ends here");
-        if ran.end != End::Refused || ran.errors.as_str() != told || !ran.replies.is_empty() {
+        if ran.end != CommandEnd::Refused || ran.errors.as_str() != told || !ran.replies.is_empty() {
             return Err(Fail::new(format_args!("{room}: {ran:?}")));
         }
     }

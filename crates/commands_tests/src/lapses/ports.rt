@@ -8,7 +8,7 @@ use sqlite_disk::Memory;
 use std::alloc::Global;
 use std::fs::OpenOptions;
 use std::io::{self, Read, Write};
-use vend_commands::{Door, OfficeFile, ReadFault, SaltSource, TextFiles};
+use vend_commands::{Door, OfficeFile, FileFault, SaltSource, TextFiles};
 
 /// What fails of an office's file: some calls of its log, or of its database file.
 #[derive(Clone, Copy)]
@@ -95,8 +95,8 @@ impl TextFiles for NoTexts {
 
     ghost lacks = { λ _ _ _. ⊤ };
 
-    fn read(&self, _path: &str) -> Result<Vec<u8>, ReadFault> {
-        Err(ReadFault::Unreadable)
+    fn read(&self, _path: &str) -> Result<Vec<u8>, FileFault> {
+        Err(FileFault::Unreadable)
     }
 }
 

@@ -8,10 +8,10 @@ ghost use Rattle.vend_commands.specs.Told.{Takes, outputs, sink};
 
 use crate::clock::moment_or_now;
 use crate::commands::request::ask_at;
-use crate::end::End;
+use crate::command_end::CommandEnd;
 use crate::ports::{OfficeFile, TextFiles};
 use crate::printed::{put_line, put_no_moment, put_refusal};
-use crate::read_fault::ReadFault;
+use crate::file_fault::FileFault;
 use crate::watched::Watched;
 use command_line::ImportWords;
 use desk::Clock;
@@ -33,7 +33,7 @@ pub(crate) fn run<H: OfficeFile, F: TextFiles, C: Clock, O: Write, E: Write>(
     clock: &mut C,
     out: &mut Watched<'_, O>,
     err: &mut Watched<'_, E>,
-) -> End
+) -> CommandEnd
     ensures { let o = outputs (sink O.contents out.old) (sink O.contents out.new)
         (sink E.contents err.old) (sink E.contents err.new) in
         IsTimed (H.leaves office) words.now.at (C.answers clock.old)
@@ -47,7 +47,7 @@ pub(crate) fn run<H: OfficeFile, F: TextFiles, C: Clock, O: Write, E: Write>(
         None => {
             office.leave();
             put_no_moment(err);
-            End::Refused
+            CommandEnd::Refused
         }
     }
 }
@@ -61,7 +61,7 @@ fn import_at<H: OfficeFile, F: TextFiles, O: Write, E: Write>(
     moment: Moment,
     out: &mut Watched<'_, O>,
     err: &mut Watched<'_, E>,
-) -> End
+) -> CommandEnd
     ensures { IsFileImported ⟦<FileStore<H::Medium> as Store>⟧
         (places_of H.Medium.Disk H.Salts.SaltSource H.OfficeFile office)
         (H.leaves office) (F.reads texts.now) (F.lacks texts.now) words.now moment
@@ -73,7 +73,7 @@ fn import_at<H: OfficeFile, F: TextFiles, O: Write, E: Write>(
         Err(fault) => {
             office.leave();
             put_read_fault(fault, err);
-            End::Refused
+            CommandEnd::Refused
         }
     }
 }
@@ -87,7 +87,7 @@ fn add<H: OfficeFile, O: Write, E: Write>(
     bytes: &[u8],
     out: &mut Watched<'_, O>,
     err: &mut Watched<'_, E>,
-) -> End
+) -> CommandEnd
     ensures { IsImported ⟦<FileStore<H::Medium> as Store>⟧
         (places_of H.Medium.Disk H.Salts.SaltSource H.OfficeFile office)
         (H.leaves office) words.now moment bytes.now
@@ -111,7 +111,7 @@ fn add<H: OfficeFile, O: Write, E: Write>(
         Err(fault) => {
             office.leave();
             put_refusal(refusal_of(fault), err);
-            End::Refused
+            CommandEnd::Refused
         }
     }
 }
@@ -138,11 +138,11 @@ fn refusal_of(fault: RowFault) -> Refusal
 }
 
 // Tells why a file is not read.
-fn put_read_fault<E: Write>(fault: ReadFault, err: &mut Watched<'_, E>)
+fn put_read_fault<E: Write>(fault: FileFault, err: &mut Watched<'_, E>)
     ensures { Takes (sink E.contents err.old) (sink E.contents err.new) (read_fault_line fault) }
 {
     match fault {
-        ReadFault::Unreadable => put_line(&[b"file"], err),
-        ReadFault::Memory => put_refusal(Refusal::Memory, err),
+        FileFault::Unreadable => put_line(&[b"file"], err),
+        FileFault::Memory => put_refusal(Refusal::Memory, err),
     }
 }

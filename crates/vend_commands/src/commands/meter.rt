@@ -5,7 +5,7 @@ ghost use Rattle.sts_token.specs.Reading.{reading_of};
 ghost use Rattle.vend_commands.specs.Metered.{entry_of, metering, metering_of, word_line};
 ghost use Rattle.vend_commands.specs.Told.{Takes, sink};
 
-use crate::end::End;
+use crate::command_end::CommandEnd;
 use crate::printed::{put_answer, put_credit, put_line};
 use crate::watched::Watched;
 use command_line::MeterWords;
@@ -14,13 +14,13 @@ use std::io::Write;
 use sts_token::BlockTransform;
 
 /// Prints what the meter answers to each token, and then its credit.
-pub(crate) fn run<O: Write>(words: &MeterWords, out: &mut Watched<'_, O>) -> End
+pub(crate) fn run<O: Write>(words: &MeterWords, out: &mut Watched<'_, O>) -> CommandEnd
     ensures told { Takes (sink O.contents out.old) (sink O.contents out.new)
         (metering_of words.now) }
-    ensures end { result ≡ End.Done }
+    ensures end { result ≡ CommandEnd.Done }
 {
     enter_all(words.transform, words.key, words.tokens, out);
-    End::Done
+    CommandEnd::Done
 }
 
 // Enters the words into a new meter, and prints what it answers and its credit.

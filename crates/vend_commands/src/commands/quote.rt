@@ -1,7 +1,7 @@
 ghost use Rattle.vend_commands.specs.Quoted.{IsQuoted};
 ghost use Rattle.vend_commands.specs.Told.{outputs, sink};
 
-use crate::end::End;
+use crate::command_end::CommandEnd;
 use crate::printed::{put_quote, put_refusal};
 use crate::watched::Watched;
 use command_line::QuoteWords;
@@ -14,18 +14,18 @@ pub(crate) fn run<O: Write, E: Write>(
     words: &QuoteWords,
     out: &mut Watched<'_, O>,
     err: &mut Watched<'_, E>,
-) -> End
+) -> CommandEnd
     ensures { IsQuoted words.now (outputs (sink O.contents out.old) (sink O.contents out.new)
         (sink E.contents err.old) (sink E.contents err.new)) result }
 {
     match buy(&words.steps, words.prior, words.tender) {
         Some(bought) => {
             put_quote(&bought, out);
-            End::Done
+            CommandEnd::Done
         }
         None => {
             put_refusal(Refusal::TooLittle, err);
-            End::Refused
+            CommandEnd::Refused
         }
     }
 }

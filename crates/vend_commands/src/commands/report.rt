@@ -5,7 +5,7 @@ ghost use Rattle.vend_commands.specs.Reported.{IsReported, PrintsPaper};
 ghost use Rattle.vend_commands.specs.Told.{outputs, sink};
 ghost use Rattle.vend_commands.specs.Visited.{seen_in};
 
-use crate::end::End;
+use crate::command_end::CommandEnd;
 use crate::exporting::print_sales;
 use crate::opening::{close_office, open_office};
 use crate::ports::OfficeFile;
@@ -30,7 +30,7 @@ pub(crate) fn run<H: OfficeFile, O: Write, E: Write>(
     office: H,
     out: &mut Watched<'_, O>,
     err: &mut Watched<'_, E>,
-) -> End
+) -> CommandEnd
     ensures { IsReported ⟦<FileStore<H::Medium> as Store>⟧
         (places_of H.Medium.Disk H.Salts.SaltSource H.OfficeFile office) words.now
         (outputs (sink O.contents out.old) (sink O.contents out.new)
@@ -45,7 +45,7 @@ pub(crate) fn run<H: OfficeFile, O: Write, E: Write>(
         }
         Err(fault) => {
             put_opening(fault, err);
-            End::Refused
+            CommandEnd::Refused
         }
     }
 }
@@ -57,7 +57,7 @@ fn print<S: Alter, O: Write, E: Write>(
     paper: Paper,
     out: &mut Watched<'_, O>,
     err: &mut Watched<'_, E>,
-) -> End
+) -> CommandEnd
     ensures { PrintsPaper paper (seen_in books.old) (seen_in books.new)
         (outputs (sink O.contents out.old) (sink O.contents out.new)
         (sink E.contents err.old) (sink E.contents err.new)) result }

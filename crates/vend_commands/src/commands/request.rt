@@ -4,7 +4,7 @@ ghost use Rattle.vend_commands.specs.Timed.{IsTimed};
 ghost use Rattle.vend_commands.specs.Told.{outputs, sink};
 
 use crate::clock::moment_or_now;
-use crate::end::End;
+use crate::command_end::CommandEnd;
 use crate::opening::{close_office, open_office};
 use crate::ports::OfficeFile;
 use crate::printed::{put_no_moment, put_opening};
@@ -28,7 +28,7 @@ pub(crate) fn run<H: OfficeFile, C: Clock, O: Write, E: Write>(
     clock: &mut C,
     out: &mut Watched<'_, O>,
     err: &mut Watched<'_, E>,
-) -> End
+) -> CommandEnd
     ensures { let o = outputs (sink O.contents out.old) (sink O.contents out.new)
         (sink E.contents err.old) (sink E.contents err.new) in
         IsTimed (H.leaves office) words.entry.at (C.answers clock.old)
@@ -50,7 +50,7 @@ pub(crate) fn run<H: OfficeFile, C: Clock, O: Write, E: Write>(
         None => {
             office.leave();
             put_no_moment(err);
-            End::Refused
+            CommandEnd::Refused
         }
     }
 }
@@ -66,7 +66,7 @@ pub(crate) fn ask_at<H: OfficeFile, O: Write, E: Write>(
     request: Request,
     out: &mut Watched<'_, O>,
     err: &mut Watched<'_, E>,
-) -> End
+) -> CommandEnd
     ensures { IsAskedAt ⟦<FileStore<H::Medium> as Store>⟧
         (places_of H.Medium.Disk H.Salts.SaltSource H.OfficeFile office)
         transform file.now moment request (outputs (sink O.contents out.old) (sink O.contents out.new)
@@ -81,7 +81,7 @@ pub(crate) fn ask_at<H: OfficeFile, O: Write, E: Write>(
         }
         Err(fault) => {
             put_opening(fault, err);
-            End::Refused
+            CommandEnd::Refused
         }
     }
 }

@@ -5,7 +5,7 @@ ghost use Rattle.vend_commands.specs.Selfchecked.{AgreesOver, Disagrees, IsSelfc
 ghost use Rattle.vend_commands.specs.Selfchecked.{selfcheck_fault_line};
 ghost use Rattle.vend_commands.specs.Told.{Takes, outputs, sink};
 
-use crate::end::End;
+use crate::command_end::CommandEnd;
 use crate::loopback::Loopback;
 use crate::printed::{put_line, put_opening, put_refusal};
 use crate::selfcheck::selfcheck;
@@ -22,7 +22,7 @@ pub fn run_selfcheck<L: Loopback, O: Write, E: Write>(
     loopback: L,
     out: &mut Watched<'_, O>,
     err: &mut Watched<'_, E>,
-) -> End
+) -> CommandEnd
     ensures { IsSelfchecked (AgreesOver L.Loopback L.Stream.remaining L.Stream.contents loopback
         (forward_of words.now.transform))
         (Disagrees L.Loopback L.Stream.remaining L.Stream.contents loopback
@@ -33,11 +33,11 @@ pub fn run_selfcheck<L: Loopback, O: Write, E: Write>(
     match selfcheck(alloc, loopback, words.transform) {
         Ok(()) => {
             put_line(&[b"selfcheck", b"ok"], out);
-            End::Done
+            CommandEnd::Done
         }
         Err(fault) => {
             put_selfcheck_fault(fault, err);
-            End::Refused
+            CommandEnd::Refused
         }
     }
 }

@@ -7,7 +7,7 @@ ghost use Rattle.vend_commands.specs.Told.{Takes, sink};
 ghost use Rattle.vend_commands.specs.Visited.{seen_in};
 
 use crate::door::Door;
-use crate::end::End;
+use crate::command_end::CommandEnd;
 use crate::listening::serve;
 use crate::opening::{close_office, open_office};
 use crate::ports::OfficeFile;
@@ -31,7 +31,7 @@ pub(crate) fn run<H: OfficeFile, D: Door, C: Clock, E: Write>(
     door: D,
     clock: &mut C,
     err: &mut Watched<'_, E>,
-) -> End
+) -> CommandEnd
     ensures { IsServing ⟦<FileStore<H::Medium> as Store>⟧
         (way D.Door D.Reader.remaining D.Writer.contents)
         (places_of H.Medium.Disk H.Salts.SaltSource H.OfficeFile office)
@@ -50,13 +50,13 @@ pub(crate) fn run<H: OfficeFile, D: Door, C: Clock, E: Write>(
             None => {
                 door.leave();
                 close_office::<H>(books);
-                End::Refused
+                CommandEnd::Refused
             }
         },
         Err(fault) => {
             door.leave();
             put_opening(fault, err);
-            End::Refused
+            CommandEnd::Refused
         }
     }
 }
@@ -98,7 +98,7 @@ fn listen<D: Door, E: Write>(
 fn end_with<H: OfficeFile, E: Write>(
     served: Result<(Books<FileStore<H::Medium>, Shipped>, bool), OpenFault>,
     err: &mut Watched<'_, E>,
-) -> End
+) -> CommandEnd
     ensures closed { IsClosedAfter
         (λ books. IsClosed H.Medium.Disk H.lets_go (seen_in books)) served }
     ensures told { Takes (sink E.contents err.old) (sink E.contents err.new) (stop_line served) }
@@ -108,14 +108,14 @@ fn end_with<H: OfficeFile, E: Write>(
         Ok((books, all)) => {
             close_office::<H>(books);
             if all {
-                return End::Done;
+                return CommandEnd::Done;
             }
             put_line(&[b"net"], err);
-            End::Refused
+            CommandEnd::Refused
         }
         Err(fault) => {
             put_opening(fault, err);
-            End::Refused
+            CommandEnd::Refused
         }
     }
 }

@@ -6,7 +6,7 @@ ghost use Rattle.vend_commands.specs.Trial.{IsTrial};
 ghost use Rattle.vend_commands.specs.Tried.{IsTried, token_lines, trial_fault_line};
 
 use crate::clock::moment_or_now;
-use crate::end::End;
+use crate::command_end::CommandEnd;
 use crate::printed::{put_line, put_no_moment, put_refusal, put_token};
 use crate::trials::{TrialFault, trial};
 use crate::watched::Watched;
@@ -25,7 +25,7 @@ pub(crate) fn run<C: Clock, O: Write, E: Write>(
     clock: &mut C,
     out: &mut Watched<'_, O>,
     err: &mut Watched<'_, E>,
-) -> End
+) -> CommandEnd
     ensures { let o = outputs (sink O.contents out.old) (sink O.contents out.new)
         (sink E.contents err.old) (sink E.contents err.new) in
         IsTimed ⊤ words.now.at (C.answers clock.old)
@@ -35,7 +35,7 @@ pub(crate) fn run<C: Clock, O: Write, E: Write>(
         Some(moment) => try_at(words, alloc, moment, out, err),
         None => {
             put_no_moment(err);
-            End::Refused
+            CommandEnd::Refused
         }
     }
 }
@@ -47,7 +47,7 @@ fn try_at<O: Write, E: Write>(
     moment: Moment,
     out: &mut Watched<'_, O>,
     err: &mut Watched<'_, E>,
-) -> End
+) -> CommandEnd
     ensures { IsTried words.now moment (outputs (sink O.contents out.old) (sink O.contents out.new)
         (sink E.contents err.old) (sink E.contents err.new)) result }
 {
@@ -61,10 +61,10 @@ fn try_at<O: Write, E: Write>(
     );
     put_tokens(&tokens, out);
     match fault {
-        None => End::Done,
+        None => CommandEnd::Done,
         Some(fault) => {
             put_fault(fault, err);
-            End::Refused
+            CommandEnd::Refused
         }
     }
 }

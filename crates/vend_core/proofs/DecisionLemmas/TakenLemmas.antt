@@ -13,7 +13,7 @@ use Rattle.std.proofs.lemmas.Slice.Eq.{bytes_eq-Decides}
 use Rattle.vend_core.specs.Decision.{add_meter}
 use Rattle.vend_core.specs.Decision.Edits.{with_row, with_rows}
 use Rattle.vend_core.specs.Office.{Office}
-use Rattle.vend_core.specs.Decision.Taken.{dated_under, under}
+use Rattle.vend_core.specs.Decision.RowsTaken.{dated_under, under}
 use Rattle.vend_core.specs.declared.office.meter.Meter.{Meter}
 use Rattle.vend_core.specs.declared.office.row.Row.{Row}
 

@@ -7,7 +7,7 @@ ghost use Rattle.vend_core.specs.Decision.Edits.{with_rows};
 ghost use Rattle.vend_core.specs.Decision.Facts.{AreRowsFacts, HasNewRow, IsUnlessMemory, row_facts};
 ghost use Rattle.vend_core.specs.Office.{Office};
 ghost use Rattle.vend_core.specs.Office.Rows.{greatest_rows};
-ghost use Rattle.vend_core.specs.Decision.Taken.{dated_under, under};
+ghost use Rattle.vend_core.specs.Decision.RowsTaken.{dated_under, under};
 ghost use Rattle.vend_core.specs.declared.decision.row_facts.RowFacts.{RowFacts};
 ghost use Rattle.vend_core.specs.declared.office.meter.Meter.{Meter};
 ghost use Rattle.vend_core.specs.declared.office.row.Row.TheVariants as kinds;
@@ -25,7 +25,7 @@ use tariff::Steps;
 /// The new rows so far, and what stands under their names and days: a row is looked up there
 /// without a scan.
 #[derive(Drop)]
-struct Taken<'a> {
+struct RowsTaken<'a> {
     rows: Vec<Row>,
     tariffs: BTreeMap<&'a [u8], &'a Steps>,
     dated_steps: BTreeMap<(&'a [u8], u32), &'a Steps>,
@@ -39,7 +39,7 @@ struct Taken<'a> {
         ≡ option_or (under meters q) (o.meters q) },
 }
 
-impl<'a> Taken<'a> {
+impl<'a> RowsTaken<'a> {
     ghost use Rattle.std.specs.Prelude.{◌≡◌, ◌≢◌, ◌+◌, ◌≤◌, ◌⊎◌, ◌++◌, ◌∷◌, [], IfErr, OnOk, Ok, Err, Some, is_some, length, true, if◌then◌else◌};
     ghost use Rattle.std.specs.Option.{option_copied};
     ghost use Rattle.vend_core.specs.Decision.{at_row, is_new, row_decision};
@@ -48,10 +48,10 @@ impl<'a> Taken<'a> {
     ghost use Rattle.vend_core.specs.Office.{Office};
     ghost use Rattle.vend_core.specs.declared.decision.change.Change.{Change};
 
-    fn new(alloc: Global) -> Taken<'a>
+    fn new(alloc: Global) -> RowsTaken<'a>
         ensures { result.rows.items ≡ [] }
     {
-        Taken {
+        RowsTaken {
             rows: Vec::new(alloc),
             tariffs: BTreeMap::new(alloc),
             dated_steps: BTreeMap::new(alloc),
@@ -308,7 +308,7 @@ fn new_rows<'a>(
     ensures few { IfOk result (λ new. length new.items ≤ length rows.now) }
     ensures no_store { (result ≢ Err Refusal.Store) × (result ≢ Err Refusal.Stopped) }
 {
-    let mut taken = Taken::new(alloc);
+    let mut taken = RowsTaken::new(alloc);
     let mut number = 0;
     for row in rows {
         let facts = found.get(number as usize);

@@ -2,7 +2,7 @@ use Rattle.std.proofs.Common.{◌≡◌, ◌≤◌, ℕ, rules, arith, ap, sym, 
 use Rattle.sqlite.specs.Held.{state}
 use Rattle.book_tables.specs.Format.{HasFormat}
 use Rattle.book_tables.specs.Holds.{HasOffice, HasOfficeOf}
-use Rattle.book_tables.specs.Reading.{HasTables}
+use Rattle.book_tables.specs.Reading.{HasAllTables}
 use Rattle.book_tables.specs.Rows.{present_format}
 use Rattle.book_opening.specs.Opening.{HasSoundDatabase, IsNextSale, LooksAt}
 use Rattle.book_opening.proofs.BroughtLemmas.{ends_found, no_office, refuses_nothing, same_none, survives_none}
@@ -29,7 +29,7 @@ returns-in-Ok-Some-2-clause-ends g c opens =
     let it = c.in-Ok-Some in
     let known : it.format ≤ present_format = rw it.field-0-is at it.ensures.known in
     let present : it.format ≡ present_format = omega (arith, known, c.if-format-lt-PRESENT_FORMAT.false) in
-    let has : HasTables old = λ _. subst HasOffice c.schema.ensures.value ((it.ensures.found present_format (omega arith)).0 (it.field-0-is ∙ ap Some present)) in
+    let has : HasAllTables old = λ _. subst HasOffice c.schema.ensures.value ((it.ensures.found present_format (omega arith)).0 (it.field-0-is ∙ ap Some present)) in
     let sound : HasSoundDatabase old = λ k. (c.schema.ensures.live k).0 in
     let outside : IsTrue c.is_autocommit-outside.result = search rules in
     ends_found old new c.next_of_office.result has sound (c.is_autocommit-outside.ensures.settled outside)

@@ -2,17 +2,17 @@ use Rattle.std.proofs.lemmas.Result.{IfOk-weaker}
 use Rattle.sqlite.specs.Held.{state}
 use Rattle.book_tables.specs.Format.{HasFormat}
 use Rattle.sqlite.specs.State.{HasCleanDisk, IsUnchanged, Survives}
-use Rattle.book_opening.specs.Opening.{HasTablesOf, IsNextSale}
+use Rattle.book_opening.specs.Opening.{HasTablesOfFormat, IsNextSale}
 use Rattle.book_opening.proofs.OpeningLemmas.{clean_between, left_both, shown_both, sound_after, stands_between, survives_both, tables_after, unchanged_both}
 use Rattle.book_opening.proofs.opening.next_of_office.Given as given
 use Rattle.book_opening.proofs.opening.next_of_office.Goals.{After-next_by_sales}
 use Rattle.book_opening.proofs.opening.next_of_office.Goals as goal
 
-module _ (g : given.Over) (c : After-next_by_sales g) (tables : HasTablesOf c.args.format (state g.S.Store c.args.conn.now)) where
+module _ (g : given.Over) (c : After-next_by_sales g) (tables : HasTablesOfFormat c.args.format (state g.S.Store c.args.conn.now)) where
   same : HasCleanDisk (state g.S.Store c.test_format.new.conn) → IsUnchanged (state g.S.Store c.args.conn.now) (state g.S.Store c.test_format.new.conn)
   same clean = c.in_ok-test_format.ensures.looks.same clean tables
 
-  has : HasTablesOf c.args.format (state g.S.Store c.test_format.new.conn)
+  has : HasTablesOfFormat c.args.format (state g.S.Store c.test_format.new.conn)
   has = tables_after c.args.format (state g.S.Store c.args.conn.now) (state g.S.Store c.test_format.new.conn) (g.met.S.Store.shut_if_dirty c.test_format.new.conn.store) same tables
 
   one : Survives (state g.S.Store c.args.conn.now) (state g.S.Store c.test_format.new.conn) (λ _. ⊥)

@@ -2,7 +2,7 @@ use Rattle.std.proofs.Common.{◌≡◌, Ok, take}
 use Rattle.sqlite.specs.Held.{state}
 use Rattle.sqlite.specs.State.{HasCleanDisk}
 use Rattle.one_table.specs.InTransaction.{KeepsTransaction}
-use Rattle.book_tables.specs.Reading.{HasTables}
+use Rattle.book_tables.specs.Reading.{HasAllTables}
 use Rattle.book_tables.specs.Writing.{AddsTariff}
 use Rattle.book_tables.specs.declared.error.TableError.{TableError}
 use Rattle.book_tables.proofs.adding.add_tariff.Given as goal
@@ -15,5 +15,5 @@ invariant-steps g l =
       same : l.tx.conn.ghost_name ≡ l.fn.tx.conn.ghost_name;
       place : l.place ≡ l.step-index;
       transaction : KeepsTransaction {T = Unit {0}} {E = TableError} old now (Ok tt);
-      added : HasCleanDisk now → HasTables old → AddsTariff l.name (take l.step-index l.steps) old now;
+      added : HasCleanDisk now → HasAllTables old → AddsTariff l.name (take l.step-index l.steps) old now;
     }

@@ -3,7 +3,7 @@ use Rattle.sqlite.specs.Held.{state}
 use Rattle.sqlite.specs.State.{HasCleanDisk}
 use Rattle.tariff.specs.declared.step.Step.{Step}
 use Rattle.one_table.specs.InTransaction.{KeepsTransaction}
-use Rattle.book_tables.specs.Reading.{HasTables}
+use Rattle.book_tables.specs.Reading.{HasAllTables}
 use Rattle.book_tables.specs.Writing.{AddsSteps}
 use Rattle.book_tables.specs.declared.error.TableError.{TableError}
 use Rattle.book_tables.proofs.dated.add_steps.Given as goal
@@ -16,5 +16,5 @@ invariant-others g l =
       same : l.tx.conn.ghost_name ≡ l.fn.tx.conn.ghost_name;
       place : l.place ≡ l.step-index + 1;
       transaction : KeepsTransaction {T = Unit {0}} {E = TableError} old now (Ok tt);
-      added : HasCleanDisk now → HasTables old → (first : Step) × (l.steps ≡ first ∷ l.others) × AddsSteps l.name l.day (first ∷ take l.step-index l.others) old now;
+      added : HasCleanDisk now → HasAllTables old → (first : Step) × (l.steps ≡ first ∷ l.others) × AddsSteps l.name l.day (first ∷ take l.step-index l.others) old now;
     }

@@ -2,7 +2,7 @@ use Rattle.std.proofs.Common.{◌≡◌, Ok, take}
 use Rattle.sqlite.specs.Held.{state}
 use Rattle.sqlite.specs.State.{HasCleanDisk}
 use Rattle.one_table.specs.InTransaction.{IsUnderWay, KeepsTransaction}
-use Rattle.book_tables.specs.Reading.{HasTables}
+use Rattle.book_tables.specs.Reading.{HasAllTables}
 use Rattle.book_tables.specs.declared.error.TableError.{TableError}
 use Rattle.book_tables.proofs.FillingBasesLemmas.{BasesSome}
 use Rattle.book_tables.proofs.filling.fill_bases.Given as goal
@@ -15,5 +15,5 @@ invariant-bases g l =
       same : l.tx.conn.ghost_name ≡ l.fn.tx.conn.ghost_name;
       clean : HasCleanDisk now → HasCleanDisk (state g.S.Store l.initial.tx.conn.now);
       transaction : KeepsTransaction {T = Unit {0}} {E = TableError} old now (Ok tt);
-      bases : HasCleanDisk now → IsUnderWay old → HasTables old → BasesSome (take l.present-index l.present-items) old now;
+      bases : HasCleanDisk now → IsUnderWay old → HasAllTables old → BasesSome (take l.present-index l.present-items) old now;
     }

@@ -5,7 +5,7 @@ use Rattle.sqlite.specs.State.{HasCleanDisk}
 use Rattle.one_table.specs.InTransaction.{IsUnderWay, KeepsTransaction}
 use Rattle.book_tables.specs.Filling.{HasTotalsUpto, TotalsUpto}
 use Rattle.book_tables.specs.Holds.{HoldsOf, rows_in}
-use Rattle.book_tables.specs.Reading.{HasTables}
+use Rattle.book_tables.specs.Reading.{HasAllTables}
 use Rattle.book_tables.specs.Rows.{Rows, present_format}
 use Rattle.book_tables.specs.declared.error.TableError.{TableError}
 use Rattle.book_tables.proofs.LookLemmas.{ShowsSoFar}
@@ -18,7 +18,7 @@ invariant-pages g l =
     record {
       same : l.tx.conn.ghost_name ≡ l.fn.tx.conn.ghost_name;
       transaction : KeepsTransaction {T = Unit {0}} {E = TableError} old now (Ok tt);
-      totals : HasCleanDisk now → IsUnderWay old → HasTables old → TotalsUpto 0 l.done old now;
-      turns : HasCleanDisk now → IsUnderWay old → HasTables old → (told : ℕ) (rows full : Rows) → HoldsOf present_format told old.now rows → HasTotalsUpto 0 full rows → l.turn ≤ l.done;
-      shows : HasCleanDisk now → IsUnderWay old → HasTables old → IsDatabase old.now → (rows_in now.now (codes "sales") ≡ rows_in old.now (codes "sales")) × ShowsSoFar l.done (rows_in old.now (codes "sales"));
+      totals : HasCleanDisk now → IsUnderWay old → HasAllTables old → TotalsUpto 0 l.done old now;
+      turns : HasCleanDisk now → IsUnderWay old → HasAllTables old → (told : ℕ) (rows full : Rows) → HoldsOf present_format told old.now rows → HasTotalsUpto 0 full rows → l.turn ≤ l.done;
+      shows : HasCleanDisk now → IsUnderWay old → HasAllTables old → IsDatabase old.now → (rows_in now.now (codes "sales") ≡ rows_in old.now (codes "sales")) × ShowsSoFar l.done (rows_in old.now (codes "sales"));
     }

@@ -2,7 +2,7 @@ use Rattle.std.proofs.Common.{◌≡◌, ◌≤◌, length, Ok}
 use Rattle.sqlite.specs.Held.{state}
 use Rattle.sqlite.specs.State.{HasCleanDisk}
 use Rattle.one_table.specs.InTransaction.{IsUnderWay, KeepsTransaction}
-use Rattle.book_tables.specs.Reading.{HasTables}
+use Rattle.book_tables.specs.Reading.{HasAllTables}
 use Rattle.book_tables.specs.declared.error.TableError.{TableError}
 use Rattle.book_tables.proofs.FillingLemmas.{TotalsSome}
 use Rattle.book_tables.proofs.filling.total_page.Given as goal
@@ -16,5 +16,5 @@ invariant-sales g l =
       clean : HasCleanDisk now → HasCleanDisk (state g.S.Store l.initial.tx.conn.now);
       within : l.sale-index ≤ length l.sale-items;
       transaction : KeepsTransaction {T = Unit {0}} {E = TableError} old now (Ok tt);
-      totals : HasCleanDisk now → IsUnderWay old → HasTables old → TotalsSome l.sale-items l.done l.sale-index old now;
+      totals : HasCleanDisk now → IsUnderWay old → HasAllTables old → TotalsSome l.sale-items l.done l.sale-index old now;
     }

@@ -6,7 +6,7 @@ use Rattle.one_table.specs.Answer.{OnlyAsks}
 use Rattle.one_table.specs.ReadsOnly.{ReadsOnly}
 use Rattle.one_table.proofs.ReadsOnlyLemmas.{fail_as, read_so, read_where}
 use Rattle.book_tables.specs.Kept.{about_kept}
-use Rattle.book_tables.specs.Reading.{FailsToShow, HasTable, told}
+use Rattle.book_tables.specs.Reading.{FailsToShowRow, HasTable, told}
 use Rattle.book_tables.proofs.FormatLemmas.{format_asks, format_text, given_none, given_one, lone}
 use Rattle.book_tables.proofs.ReadLemmas as read
 use Rattle.book_tables.proofs.format.format_number.Goals as goal
@@ -19,7 +19,7 @@ returns-in_err-told-clause-reads g c =
     let old = state g.S.Store c.args.conn.now in
     let new = state g.S.Store c.read_rows.new.conn in
     let why = c.in_err-told.field-0.0 in
-    let this : ReadsOnly (OnlyAsks format_text) IsUnchanged (FailsToShow (λ _. ⊤) format_text []) old new c.from_residual.result =
+    let this : ReadsOnly (OnlyAsks format_text) IsUnchanged (FailsToShowRow (λ _. ⊤) format_text []) old new c.from_residual.result =
     fail_as (told why) c.from_residual.result c.from_residual.ensures.1 c.in_err-told.ensures.reads (λ fails. (why, refl, fails)) in
     read_where c.from_residual.result (only old) this
     (λ clean has. read.fails format_asks about_kept (λ s has. has.0.has) (λ _. ⊤) old new has (λ rows held of_office found is i x low. _) c.from_residual.result [] refl (this.faults clean (only old has)))

@@ -1,6 +1,6 @@
 use Rattle.std.proofs.Common.{refl, arith, rules, ◌∙◌}
 use Rattle.one_table.specs.declared.read_fault.ReadFault.TheVariants.{Database as Failed}
-use Rattle.one_table.specs.Taken.{StopsTaking}
+use Rattle.one_table.specs.Taking.{StopsTaking}
 use Rattle.one_table.proofs.TakenLemmas.{passes_none, passes_then, taken_none, taken_more, takes_all, stops_failing, stops_unread, stops_full, stops_counting}
 use Rattle.one_table.proofs.folding.take_rows.Goals as goal
 

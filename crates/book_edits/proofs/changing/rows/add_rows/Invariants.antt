@@ -3,7 +3,7 @@ use Rattle.sqlite.specs.State.{HasCleanDisk}
 use Rattle.sqlite.specs.Held.{state}
 use Rattle.vend_core.specs.declared.office.row.Row.{Row}
 use Rattle.one_table.specs.InTransaction.{IsUnderWay, KeepsTransaction}
-use Rattle.book_tables.specs.Reading.{HasTables}
+use Rattle.book_tables.specs.Reading.{HasAllTables}
 use Rattle.book_tables.specs.declared.error.TableError.{TableError}
 use Rattle.book_states.specs.Changing.{MakesRows}
 use Rattle.book_edits.proofs.changing.rows.add_rows.Given as goal
@@ -15,5 +15,5 @@ invariant-others g l =
     record {
       same : l.tx.conn.ghost_name ≡ l.fn.tx.conn.ghost_name;
       transaction : KeepsTransaction {T = Unit {0}} {E = TableError} old now (Ok tt);
-      added : HasCleanDisk now → IsUnderWay old → HasTables old → (first : Row) × (l.rows ≡ first ∷ l.others) × MakesRows (first ∷ take l.row-index l.others) old.now now.now;
+      added : HasCleanDisk now → IsUnderWay old → HasAllTables old → (first : Row) × (l.rows ≡ first ∷ l.others) × MakesRows (first ∷ take l.row-index l.others) old.now now.now;
     }

@@ -1,6 +1,6 @@
 use Rattle.std.proofs.Common.{refl, subst}
 use Rattle.sqlite.specs.Held.{state}
-use Rattle.book_opening.specs.Opening.{ShowsNoOffice}
+use Rattle.book_opening.specs.Opening.{FaultFitsStore}
 use Rattle.books.proofs.OpenedLemmas.{keeps_opened, opened_tables}
 use Rattle.books.proofs.books.Books.open_from.Goals as goal
 
@@ -20,7 +20,7 @@ pub returns-in-Ok-clause-survives : goal.returns-in-Ok-clause-survives
 returns-in-Ok-clause-survives g c = c.in-Ok.ensures.ends.survives
 
 pub returns-in-Err-clause-other : goal.returns-in-Err-clause-other
-returns-in-Err-clause-other g c = λ clean is. subst (ShowsNoOffice (state g.S.Store c.args.conn)) is (c.in-Err.ensures.ends.refused clean).told
+returns-in-Err-clause-other g c = λ clean is. subst (FaultFitsStore (state g.S.Store c.args.conn)) is (c.in-Err.ensures.ends.refused clean).told
 
 pub returns-in-Err-clause-same : goal.returns-in-Err-clause-same
 returns-in-Err-clause-same g c = λ clean. (c.in-Err.ensures.ends.refused clean).same

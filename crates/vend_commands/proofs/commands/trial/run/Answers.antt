@@ -1,7 +1,7 @@
 use Rattle.std.proofs.Common.{refl}
 use Rattle.std.specs.Prelude.{⊤}
 use Rattle.vend_commands.specs.Told.{outputs, sink}
-use Rattle.vend_commands.specs.declared.end.End.TheVariants.{Refused}
+use Rattle.vend_commands.specs.declared.command_end.CommandEnd.TheVariants.{Refused}
 use Rattle.vend_commands.proofs.TakeLemmas.{takes_none}
 use Rattle.vend_commands.proofs.TimedLemmas.{timed, untimed}
 use Rattle.vend_commands.proofs.commands.trial.run.Goals as goal

@@ -3,7 +3,7 @@ ghost use Rattle.vend_commands.specs.Status.{exit_status_of};
 
 /// How a command ended.
 #[derive(Clone, Copy, Debug, PartialEq, Eq)]
-pub enum End {
+pub enum CommandEnd {
     /// It did what was asked.
     Done,
     /// It was refused, or something failed, as its output may.
@@ -12,15 +12,15 @@ pub enum End {
     BadWords,
 }
 
-impl End {
+impl CommandEnd {
     /// The exit status.
     pub fn status(self) -> u8
         ensures { result ≡ exit_status_of self }
     {
         match self {
-            End::Done => 0,
-            End::Refused => 1,
-            End::BadWords => 2,
+            CommandEnd::Done => 0,
+            CommandEnd::Refused => 1,
+            CommandEnd::BadWords => 2,
         }
     }
 }

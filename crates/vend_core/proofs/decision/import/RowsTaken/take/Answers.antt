@@ -2,11 +2,11 @@ use Rattle.std.proofs.Common.{◌≡◌, ◌∙◌, ◌&&◌, ◌==◌, ap, sym,
 use Rattle.tariff.specs.declared.step.Step.{Step}
 use Rattle.vend_core.specs.Decision.Edits.{with_rows}
 use Rattle.vend_core.specs.Office.{Office}
-use Rattle.vend_core.specs.Decision.Taken.{dated_under, under}
+use Rattle.vend_core.specs.Decision.RowsTaken.{dated_under, under}
 use Rattle.vend_core.specs.declared.office.row.Row.{Row}
 use Rattle.vend_core.specs.declared.office.row.Row.TheVariants as kinds
 use Rattle.vend_core.proofs.DecisionLemmas.TakenLemmas.{found_put, put_dated, put_under, with_rows-push}
-use Rattle.vend_core.proofs.decision.import.Taken.take.Goals as goal
+use Rattle.vend_core.proofs.decision.import.RowsTaken.take.Goals as goal
 
 pub invariant_of-self-in-Tariff : goal.invariant_of-self-in-Tariff
 invariant_of-self-in-Tariff c =

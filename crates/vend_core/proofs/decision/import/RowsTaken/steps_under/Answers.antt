@@ -2,7 +2,7 @@ use Rattle.std.proofs.Common.{◌∙◌, ap, sym, List, Option}
 use Rattle.std.specs.Option.{option_or}
 use Rattle.tariff.specs.declared.step.Step.{Step}
 use Rattle.vend_core.proofs.DecisionLemmas.TakenLemmas.{found_under}
-use Rattle.vend_core.proofs.decision.import.Taken.steps_under.Goals as goal
+use Rattle.vend_core.proofs.decision.import.RowsTaken.steps_under.Goals as goal
 
 pub returns-in-Some : goal.returns-in-Some
 returns-in-Some c = λ o there.

@@ -1,6 +1,6 @@
 /// Why a file is not read.
 #[derive(Clone, Copy, Debug, PartialEq, Eq)]
-pub enum ReadFault {
+pub enum FileFault {
     /// There is no such file, or it cannot be read.
     Unreadable,
     /// There was no room for it.

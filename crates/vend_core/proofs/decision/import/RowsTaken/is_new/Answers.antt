@@ -6,7 +6,7 @@ use Rattle.vend_core.specs.Decision.Edits.{with_rows}
 use Rattle.vend_core.specs.Decision.Facts.{row_facts}
 use Rattle.vend_core.specs.declared.office.row.Row.{Row}
 use Rattle.vend_core.proofs.DecisionLemmas.TakenLemmas.{or_none, same_meter_decision}
-use Rattle.vend_core.proofs.decision.import.Taken.is_new.Goals as goal
+use Rattle.vend_core.proofs.decision.import.RowsTaken.is_new.Goals as goal
 
 pub returns-in-Tariff-clause-value : goal.returns-in-Tariff-clause-value
 returns-in-Tariff-clause-value c = λ o found.

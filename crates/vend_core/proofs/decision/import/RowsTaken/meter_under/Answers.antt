@@ -2,7 +2,7 @@ use Rattle.std.proofs.Common.{◌∙◌, ap, sym, Option}
 use Rattle.std.specs.Option.{option_or}
 use Rattle.vend_core.specs.declared.office.meter.Meter.{Meter}
 use Rattle.vend_core.proofs.DecisionLemmas.TakenLemmas.{found_under}
-use Rattle.vend_core.proofs.decision.import.Taken.meter_under.Goals as goal
+use Rattle.vend_core.proofs.decision.import.RowsTaken.meter_under.Goals as goal
 
 pub returns-in-Some : goal.returns-in-Some
 returns-in-Some c = λ o there.

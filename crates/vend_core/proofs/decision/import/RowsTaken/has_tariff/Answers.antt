@@ -2,7 +2,7 @@ use Rattle.std.proofs.Common.{◌∙◌, ap, sym, is_some, List, Option}
 use Rattle.std.specs.Option.{option_or}
 use Rattle.tariff.specs.declared.step.Step.{Step}
 use Rattle.vend_core.proofs.DecisionLemmas.TakenLemmas.{none_under}
-use Rattle.vend_core.proofs.decision.import.Taken.has_tariff.Goals as goal
+use Rattle.vend_core.proofs.decision.import.RowsTaken.has_tariff.Goals as goal
 
 pub returns-else-contains_key : goal.returns-else-contains_key
 returns-else-contains_key c = λ o there.
