@@ -21,15 +21,15 @@ use Rattle.vend_core.specs.declared.office.row.Row.{Row}
 use Rattle.vend_core.specs.declared.office.row.Row.TheVariants as kinds
 use Rattle.vend_core.specs.declared.office.sale.Sale.{Sale}
 use Rattle.vend_core.specs.declared.office.shift.Shift.{Shift}
-use Rattle.book_tables.specs.Edited.{edited, is_sale}
-use Rattle.book_tables.specs.Failing.{FailsToMergeAll, FailsToWriteAll}
+use Rattle.book_tables.specs.writing.Edited.{edited, is_sale}
+use Rattle.book_tables.specs.writing.Failing.{FailsToMergeAll, FailsToWriteAll}
 use Rattle.book_tables.specs.Holds.{HasOffice, HoldsMembers, table_names}
-use Rattle.book_tables.specs.Reading.{HasAllTables}
-use Rattle.book_tables.specs.Rows.{Rows, present_format}
+use Rattle.book_tables.specs.reading.Reading.{HasAllTables}
+use Rattle.book_tables.specs.row.Rows.{Rows, present_format}
 use Rattle.book_tables.specs.Stands.{AreMembersOf}
-use Rattle.book_tables.specs.Writing.{AddsMeter, AddsShift, AddsSold, AddsSteps, AddsTariff, ClosesShift, FindsNoFalseRow, IsNextNumber, IsOfNone, MayAddSold, MovesBase, SetsTariff, WritesOnly, totals_names}
+use Rattle.book_tables.specs.writing.Writing.{AddsMeter, AddsShift, AddsSold, AddsSteps, AddsTariff, ClosesShift, FindsNoFalseRow, IsNextNumber, IsOfNone, MayAddSold, MovesBase, SetsTariff, WritesOnly, totals_names}
 use Rattle.book_tables.specs.declared.error.TableError.{TableError}
-use Rattle.book_tables.specs.declared.totals.SaleTotals.{SaleTotals}
+use Rattle.book_tables.specs.declared.row.totals.SaleTotals.{SaleTotals}
 use Rattle.book_states.specs.Changing.{IsCounted, MakesAsComputed, MakesEdit, MakesRows}
 use Rattle.book_states.specs.Failing.{FailsToMake}
 use Rattle.book_states.specs.Others.{SameOthers}

@@ -17,11 +17,11 @@ use Rattle.vend_core.specs.Law.Store.{Meets}
 use Rattle.vend_core.specs.declared.decision.change.Edit.{Edit}
 use Rattle.vend_core.specs.declared.decision.refusal.Refusal.{Refusal}
 use Rattle.book_tables.proofs.HoldsLemmas.{stands_present}
-use Rattle.book_tables.specs.Failing.{IsRefused}
+use Rattle.book_tables.specs.writing.Failing.{IsRefused}
 use Rattle.book_tables.specs.Holds.{HoldsMembers}
 use Rattle.book_tables.specs.declared.error.TableError.{TableError}
 use Rattle.book_tables.specs.declared.error.TableError.TheVariants as table
-use Rattle.book_tables.specs.Reading.{HasAllTables}
+use Rattle.book_tables.specs.reading.Reading.{HasAllTables}
 use Rattle.book_states.specs.Changing.{IsCounted, IsMiscounted, MakesAsComputed, MakesEdit}
 use Rattle.book_states.specs.Failing.{EditHasFailed}
 use Rattle.book_states.specs.Stores.{Stores, RecoversTo}

@@ -1,14 +1,14 @@
 //! What an edit does to the tables.
 
 ghost use Rattle.std.specs.Prelude.{⊤};
-ghost use Rattle.book_tables.specs.Reading.{HasAllTables};
+ghost use Rattle.book_tables.specs.reading.Reading.{HasAllTables};
 ghost use Rattle.book_states.specs.Changing.{MakesAsComputed};
 ghost use Rattle.book_states.specs.Failing.{FailsToMake};
 
-use book_tables::adding::{add_meter, add_shift, add_tariff};
-use book_tables::bases::move_base;
-use book_tables::changing::{close_shift, set_tariff};
-use book_tables::dated::add_steps;
+use book_tables::writing::additions::{add_meter, add_shift, add_tariff};
+use book_tables::writing::bases::move_base;
+use book_tables::writing::changes::{close_shift, set_tariff};
+use book_tables::reading::dated_steps::add_steps;
 use book_tables::{TableError, members_law};
 use one_table::Change;
 use rows::add_rows;

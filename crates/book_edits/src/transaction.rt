@@ -4,7 +4,7 @@ ghost use Rattle.std.specs.Prelude.{◌≡◌, ◌≢◌, Err, false};
 ghost use Rattle.sqlite.specs.State.{HasCleanDisk};
 ghost use Rattle.sqlite.specs.Held.{state};
 ghost use Rattle.one_table.specs.Committing.{HasBeen};
-ghost use Rattle.book_tables.specs.Reading.{HasAllTables};
+ghost use Rattle.book_tables.specs.reading.Reading.{HasAllTables};
 ghost use Rattle.book_edits.specs.Transaction.{Commits};
 
 use crate::changing::Editing;

@@ -21,12 +21,12 @@ use Rattle.vend_core.specs.declared.office.row.Row.{Row}
 use Rattle.vend_core.specs.declared.decision.row_facts.RowFacts.{RowFacts}
 use Rattle.vend_core.specs.declared.office.sale.Sale.{Sale}
 use Rattle.vend_core.specs.declared.office.shift.Shift.{Shift}
-use Rattle.book_tables.specs.Found.{meters_numbered}
+use Rattle.book_tables.specs.reading.Found.{meters_numbered}
 use Rattle.book_tables.specs.Holds.{Holds, HoldsMembers}
-use Rattle.book_tables.specs.Reading.{AreOfOffice, FailsToRead, HasTableRows, HasAllTables, OnlyReads}
+use Rattle.book_tables.specs.reading.Reading.{AreOfOffice, FailsToRead, HasTableRows, HasAllTables, OnlyReads}
 use Rattle.book_tables.specs.Kept.{Kept, meters_kept, shifts_kept, tariffs_kept}
 use Rattle.book_tables.proofs.OfficeTableLemmas.{IsInOffice, has_table_rows, meters_in, shifts_in, tariffs_in}
-use Rattle.book_tables.specs.Rows.{Rows}
+use Rattle.book_tables.specs.row.Rows.{Rows}
 use Rattle.book_tables.specs.Stands.{AreMembersOf}
 use Rattle.book_tables.specs.declared.error.TableError.{TableError}
 use Rattle.book_tables.specs.declared.error.TableError.TheVariants.{RowOfNoOffice}

@@ -5,10 +5,10 @@ use Rattle.sqlite.specs.State.{State}
 use Rattle.vend_core.specs.Office.{Office}
 use Rattle.vend_core.specs.Law.Store.{sales_above}
 use Rattle.vend_core.specs.declared.office.sale.Sale.{Sale}
-use Rattle.book_tables.specs.Reading.{AreOfOffice, HasTableRows}
+use Rattle.book_tables.specs.reading.Reading.{AreOfOffice, HasTableRows}
 use Rattle.book_tables.specs.Kept.{sales_kept}
 use Rattle.book_tables.proofs.OfficeTableLemmas.{has_table_rows, sales_in}
-use Rattle.book_tables.specs.Rows.{Rows}
+use Rattle.book_tables.specs.row.Rows.{Rows}
 use Rattle.book_states.specs.Stores.{Stores}
 
 -- the rows of the sales are the office's sales

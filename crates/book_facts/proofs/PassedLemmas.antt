@@ -11,7 +11,7 @@ use Rattle.sqlite.proofs.StateLemmas.{survives_then}
 use Rattle.one_table.specs.Answer.{IsLeft}
 use Rattle.one_table.specs.Reading.{FailsPlainly}
 use Rattle.book_tables.specs.Holds.{HasOffice, Holds}
-use Rattle.book_tables.specs.Reading.{FailsToRead, HasAllTables, OnlyReads}
+use Rattle.book_tables.specs.reading.Reading.{FailsToRead, HasAllTables, OnlyReads}
 use Rattle.book_tables.specs.declared.error.TableError.{TableError}
 use Rattle.book_tables.specs.declared.error.TableError.TheVariants as table
 use Rattle.book_states.specs.Same.{IsSame}

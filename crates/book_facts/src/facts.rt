@@ -3,7 +3,7 @@
 ghost use Rattle.std.specs.Prelude.{◌≡◌, length};
 ghost use Rattle.sqlite.specs.Held.{state};
 ghost use Rattle.vend_core.specs.Decision.Facts.{AreFacts};
-ghost use Rattle.book_tables.specs.Reading.{OnlyReads};
+ghost use Rattle.book_tables.specs.reading.Reading.{OnlyReads};
 ghost use Rattle.book_states.specs.Members.{SaysOfOffice};
 ghost use Rattle.book_states.specs.Same.{IsSame};
 

@@ -4,7 +4,7 @@ ghost use Rattle.std.specs.Prelude.{◌≡◌, ◌⊎◌, false, Err, None, Some
 ghost use Rattle.sqlite.specs.Held.{state};
 ghost use Rattle.sqlite.specs.State.{HasCleanDisk};
 ghost use Rattle.vend_core.specs.Office.{Office};
-ghost use Rattle.book_tables.specs.Reading.{HasAllTables};
+ghost use Rattle.book_tables.specs.reading.Reading.{HasAllTables};
 ghost use Rattle.book_states.specs.Failing.{IsToldOfRead};
 ghost use Rattle.book_states.specs.Stores.{Stores};
 ghost use Rattle.book_states.specs.Same.{ChangesNothing};

@@ -4,8 +4,8 @@ use Rattle.sqlite.specs.State.{HasCleanDisk, State, Survives}
 use Rattle.sqlite.specs.declared.error.Error.{Error}
 use Rattle.sqlite_trees.specs.Tree.{Trees}
 use Rattle.one_table.specs.Committing.{LeavesMade}
-use Rattle.book_tables.specs.Making.{BringsInside, IsSoundOfFormat, TellsOf}
-use Rattle.book_tables.specs.Rows.{present_format}
+use Rattle.book_tables.specs.format.Making.{BringsInside, IsSoundOfFormat, TellsOf}
+use Rattle.book_tables.specs.row.Rows.{present_format}
 use Rattle.book_tables.specs.declared.error.TableError.{TableError}
 use Rattle.book_tables.specs.declared.error.TableError.TheVariants as table
 use Rattle.book_opening.specs.Opening.{BringsSound, LeavesBrought, FaultFitsDatabase, fault_of_table}

@@ -9,11 +9,11 @@ use Rattle.one_table.specs.Committing.{LeavesMade}
 use Rattle.vend_core.specs.Office.{Office}
 use Rattle.book_tables.proofs.HoldsLemmas.{held_as, stands_present}
 use Rattle.book_tables.specs.Holds.{HasOffice, HasOfficeOf, HoldsMembers, StandsFor}
-use Rattle.book_tables.specs.Format.{HasFormat, TellsFormat}
+use Rattle.book_tables.specs.format.Format.{HasFormat, TellsFormat}
 use Rattle.book_states.specs.Stores.{RecoversTo, StoreStandsFor}
-use Rattle.book_tables.specs.Making.{BringsOffice}
-use Rattle.book_tables.specs.Reading.{HasAllTables}
-use Rattle.book_tables.specs.Rows.{present_format}
+use Rattle.book_tables.specs.format.Making.{BringsOffice}
+use Rattle.book_tables.specs.reading.Reading.{HasAllTables}
+use Rattle.book_tables.specs.row.Rows.{present_format}
 use Rattle.book_opening.specs.Opening.{BringsOlder, BringsTold, EndsOpening, HasSoundDatabase, HasTablesOfFormat, IsBrought, IsNextSale, LeavesBrought, LeavesRefused, LooksAt, OpensAs, OpensAt, Refuses, FaultFitsStore, FaultFitsDatabase}
 use Rattle.book_states.specs.Same.{IsSame}
 use Rattle.book_opening.specs.declared.fault.OpenFault.{OpenFault}

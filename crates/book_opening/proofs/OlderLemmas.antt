@@ -1,9 +1,9 @@
 -- The opening of an older file: a look at its tables, and the bringing of its office.
 use Rattle.std.proofs.Common.{◌≡◌, ◌<◌, ℕ, false, IsTrue, IsErrAnd, Result, Ok}
 use Rattle.sqlite.specs.State.{HasCleanDisk, IsUnchanged, State, Survives}
-use Rattle.book_tables.specs.Format.{HasFormat}
-use Rattle.book_tables.specs.Making.{IsSoundOfFormat}
-use Rattle.book_tables.specs.Rows.{present_format}
+use Rattle.book_tables.specs.format.Format.{HasFormat}
+use Rattle.book_tables.specs.format.Making.{IsSoundOfFormat}
+use Rattle.book_tables.specs.row.Rows.{present_format}
 use Rattle.book_opening.specs.Opening.{EndsOpening, IsBrought, IsNextSale, LeavesBrought, LeavesRefused, FaultFitsDatabase}
 use Rattle.book_states.specs.Same.{IsSame}
 use Rattle.book_opening.specs.declared.fault.OpenFault.{OpenFault}

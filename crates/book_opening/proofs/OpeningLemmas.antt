@@ -13,13 +13,13 @@ use Rattle.sqlite.specs.declared.error.Error.{Error}
 use Rattle.sqlite.proofs.Callers.{unchanged_then}
 use Rattle.one_table.specs.Answer.{IsLeft}
 use Rattle.vend_core.specs.Office.{Office}
-use Rattle.book_tables.specs.Format.{HasFormat, IsFormatOf}
+use Rattle.book_tables.specs.format.Format.{HasFormat, IsFormatOf}
 use Rattle.book_tables.specs.Holds.{HasOfficeOf, HoldsMembersOf, HoldsOf, HoldsRows, IsKept, StandsFor}
 use Rattle.book_tables.specs.Kept.{Kept, about_kept, kept, sales_kept}
 use Rattle.book_tables.proofs.HoldsLemmas.{held_as, of_upto}
-use Rattle.book_tables.specs.Making.{IsSoundOfFormat}
-use Rattle.book_tables.specs.Reading.{FailsToReadOf, HasTable, TableHolds}
-use Rattle.book_tables.specs.Rows.{Rows, present_format}
+use Rattle.book_tables.specs.format.Making.{IsSoundOfFormat}
+use Rattle.book_tables.specs.reading.Reading.{FailsToReadOf, HasTable, TableHolds}
+use Rattle.book_tables.specs.row.Rows.{Rows, present_format}
 use Rattle.book_tables.specs.declared.error.TableError.{TableError}
 use Rattle.book_tables.specs.declared.error.TableError.TheVariants as table
 use Rattle.book_states.specs.Stores.{StoreStandsFor}

@@ -9,10 +9,10 @@ use Rattle.sqlite_trees.specs.Tree.{Trees}
 use Rattle.one_table.specs.Answer.{IsLeft}
 use Rattle.one_table.specs.Committing.{LeavesMade}
 use Rattle.vend_core.specs.Office.{Office}
-use Rattle.book_tables.specs.Format.{HasFormat, TellsFormat}
+use Rattle.book_tables.specs.format.Format.{HasFormat, TellsFormat}
 use Rattle.book_tables.specs.Holds.{HasOffice, HasOfficeOf, StandsFor}
-use Rattle.book_tables.specs.Making.{BringsOffice}
-use Rattle.book_tables.specs.Rows.{present_format}
+use Rattle.book_tables.specs.format.Making.{BringsOffice}
+use Rattle.book_tables.specs.row.Rows.{present_format}
 use Rattle.book_tables.specs.declared.error.TableError.{TableError}
 use Rattle.book_tables.specs.declared.error.TableError.TheVariants as table
 use Rattle.book_states.specs.Stores.{Stores, StoreStandsFor}

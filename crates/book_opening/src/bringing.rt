@@ -3,15 +3,15 @@
 ghost use Rattle.std.specs.Prelude.{⊤, ◌≡◌, ◌<◌, false, IsTrue, IfErr, OnErr, OnOk};
 ghost use Rattle.sqlite.specs.State.{HasCleanDisk, Survives};
 ghost use Rattle.sqlite.specs.Held.{state};
-ghost use Rattle.book_tables.specs.Making.{IsSoundOfFormat, TellsOf};
-ghost use Rattle.book_tables.specs.Rows.{present_format};
+ghost use Rattle.book_tables.specs.format.Making.{IsSoundOfFormat, TellsOf};
+ghost use Rattle.book_tables.specs.row.Rows.{present_format};
 ghost use Rattle.book_opening.specs.Opening.{BringsSound, IsBrought, LeavesBrought, LeavesRefused, FaultFitsDatabase};
 ghost use Rattle.book_states.specs.Same.{IsSame};
 
 use crate::fault::OpenFault;
 use crate::opening::fault_of_table;
 use book_tables::TableError;
-use book_tables::making::bring;
+use book_tables::format::upgrade::bring;
 use one_table::{Change, CommitFault, change_once};
 use sqlite::{Alter, Connection, Transaction};
 use std::alloc::Global;

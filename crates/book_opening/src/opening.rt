@@ -4,16 +4,16 @@ ghost use Rattle.std.specs.Prelude.{◌≡◌, ◌⊎◌, ◌≤◌, ◌<◌, �
 ghost use Rattle.sqlite.specs.State.{HasCleanDisk, IsUnchanged, Survives};
 ghost use Rattle.sqlite.specs.Held.{state};
 ghost use Rattle.one_table.specs.Answer.{IsLeft};
-ghost use Rattle.book_tables.specs.Format.{HasFormat};
-ghost use Rattle.book_tables.specs.Making.{IsSoundOfFormat};
-ghost use Rattle.book_tables.specs.Rows.{present_format};
+ghost use Rattle.book_tables.specs.format.Format.{HasFormat};
+ghost use Rattle.book_tables.specs.format.Making.{IsSoundOfFormat};
+ghost use Rattle.book_tables.specs.row.Rows.{present_format};
 ghost use Rattle.book_opening.specs.Opening.{EndsOpening, IsNextSale, LooksAt, fault_of, fault_of_table};
 
 use crate::bringing::bring_office;
 use crate::fault::OpenFault;
-use book_tables::format::format_number;
-use book_tables::recognising::format_here;
-use book_tables::sales::last_sale_number;
+use book_tables::format::number::format_number;
+use book_tables::format::presence::format_here;
+use book_tables::reading::sales::last_sale_number;
 use book_tables::{PRESENT_FORMAT, TableError};
 use sqlite::{Alter, Connection, Error, ErrorCode};
 use std::alloc::Global;

@@ -12,8 +12,8 @@ use Rattle.vend_core.specs.declared.decision.change.Edit.{Edit}
 use Rattle.vend_core.specs.declared.decision.refusal.Refusal.{Refusal}
 use Rattle.vend_core.specs.declared.decision.refusal.Refusal.TheVariants.{Store}
 use Rattle.vend_core.specs.declared.decision.request.Stamped.{Stamped}
-use Rattle.book_tables.specs.Failing.{IsRefused}
-use Rattle.book_tables.specs.Reading.{FailsToRead, HasAllTables}
+use Rattle.book_tables.specs.writing.Failing.{IsRefused}
+use Rattle.book_tables.specs.reading.Reading.{FailsToRead, HasAllTables}
 use Rattle.book_tables.specs.declared.error.TableError.{TableError}
 use Rattle.book_tables.specs.declared.error.TableError.TheVariants.{Database, RowOfNoOffice}
 use Rattle.book_states.specs.Failing.{EditHasFailed, FailsToMake, HasFailed, RefusesUnchanged, IsToldOfRead, WereRead, refusal_for}

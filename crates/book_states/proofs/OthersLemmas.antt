@@ -8,8 +8,8 @@ use Rattle.sqlite_schema.specs.declared.schema.Table.{Table}
 use Rattle.sqlite_trees.specs.Tree.{Trees}
 use Rattle.sqlite_trees.proofs.ListLemmas.{all_of}
 use Rattle.book_tables.specs.Holds.{HasOffice, table_names}
-use Rattle.book_tables.specs.Reading.{HasAllTables}
-use Rattle.book_tables.specs.Writing.{IsOfNone}
+use Rattle.book_tables.specs.reading.Reading.{HasAllTables}
+use Rattle.book_tables.specs.writing.Writing.{IsOfNone}
 use Rattle.book_states.specs.Others.{LeavesOthers, SameOthers}
 use Rattle.book_states.specs.Same.{ChangesNothing}
 

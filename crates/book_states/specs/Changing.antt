@@ -10,8 +10,8 @@ use Rattle.vend_core.specs.declared.decision.change.Edit.TheVariants.{AddSale}
 use Rattle.vend_core.specs.declared.office.row.Row.{Row}
 use Rattle.vend_core.specs.declared.office.sale.Sale.{Sale}
 use Rattle.book_tables.specs.Holds.{HasOffice, HoldsMembers}
-use Rattle.book_tables.specs.Writing.{AreSaleTotals, TellsSold}
-use Rattle.book_tables.specs.declared.totals.SaleTotals.{SaleTotals}
+use Rattle.book_tables.specs.writing.Writing.{AreSaleTotals, TellsSold}
+use Rattle.book_tables.specs.declared.row.totals.SaleTotals.{SaleTotals}
 use Rattle.book_states.specs.Others.{SameOthers}
 
 -- a database of an office has the members of the office after the edit, the same tables, and the

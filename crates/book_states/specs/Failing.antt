@@ -14,10 +14,10 @@ use Rattle.vend_core.specs.declared.decision.facts.Facts.{Facts}
 use Rattle.vend_core.specs.declared.decision.refusal.Refusal.{Refusal}
 use Rattle.vend_core.specs.declared.decision.refusal.Refusal.TheVariants.{Memory, Store}
 use Rattle.vend_core.specs.declared.decision.request.Stamped.{Stamped}
-use Rattle.book_tables.specs.Failing.{FailsToWriteAll, IsRefused}
+use Rattle.book_tables.specs.writing.Failing.{FailsToWriteAll, IsRefused}
 use Rattle.book_tables.specs.Holds.{Holds, HoldsMembers}
-use Rattle.book_tables.specs.Reading.{AreOfOffice, FailsToRead}
-use Rattle.book_tables.specs.Rows.{Rows}
+use Rattle.book_tables.specs.reading.Reading.{AreOfOffice, FailsToRead}
+use Rattle.book_tables.specs.row.Rows.{Rows}
 use Rattle.book_tables.specs.declared.error.TableError.{TableError}
 use Rattle.book_tables.specs.declared.error.TableError.TheVariants.{Database}
 use Rattle.book_states.specs.Changing.{IsMiscounted}

@@ -5,7 +5,7 @@ use Rattle.sqlite.specs.State.{State}
 use Rattle.sqlite_schema.specs.declared.schema.Schema.{Schema}
 use Rattle.sqlite_trees.specs.Tree.{Trees}
 use Rattle.book_tables.specs.Holds.{table_names}
-use Rattle.book_tables.specs.Writing.{IsOfNone}
+use Rattle.book_tables.specs.writing.Writing.{IsOfNone}
 
 -- each table of another name has the same rows
 abbrev pub SameOthers : Schema → Trees → Trees → Type 0

@@ -12,11 +12,11 @@ use Rattle.sts_fields.specs.declared.base.Base.{Base}
 use Rattle.vend_core.specs.Office.Lookup.{greatest_of}
 use Rattle.vend_core.specs.Office.{AreNumbered, IsBefore, IsOffice, IsSaleRow, Office, greatest_count}
 use Rattle.vend_core.specs.declared.office.sale.Sale.{Sale}
-use Rattle.book_tables.specs.Reading.{AreOfOffice}
-use Rattle.book_tables.specs.Rows.{Rows}
+use Rattle.book_tables.specs.reading.Reading.{AreOfOffice}
+use Rattle.book_tables.specs.row.Rows.{Rows}
 use Rattle.book_tables.specs.Stands.{AreMembersOf, AreTotalsOf, sales_under}
-use Rattle.book_tables.specs.Values.{IsTid}
-use Rattle.book_tables.specs.Writing.{AreWithinTotals, is_under, with_totals_of}
+use Rattle.book_tables.specs.row.Values.{IsTid}
+use Rattle.book_tables.specs.writing.Writing.{AreWithinTotals, is_under, with_totals_of}
 use Rattle.book_tables.proofs.SalesOfLemmas.{greatest_within, kept_last, tells_under}
 
 -- ---- the first of a list

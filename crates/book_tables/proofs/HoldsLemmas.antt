@@ -12,15 +12,15 @@ use Rattle.vend_core.specs.Office.{IsOffice, Office, empty_office}
 use Rattle.vend_core.proofs.OfficeLemmas.{empty_is_office}
 use Rattle.vend_core.specs.declared.office.meter.Meter.{Meter}
 use Rattle.book_tables.specs.Holds.{HasOfficeOf, HoldsMembers, HoldsMembersOf, HoldsOf, HoldsRows, IsKept, IsUntaken, StandsFor}
-use Rattle.book_tables.specs.Edited.{no_rows}
+use Rattle.book_tables.specs.writing.Edited.{no_rows}
 use Rattle.book_tables.specs.Kept.{Kept, bases_kept, dated_steps_kept, kept, kept_names, last_ids_kept, later, meters_kept, sales_kept, shifts_kept, steps_kept, tariffs_kept}
-use Rattle.book_tables.specs.Rows.{Rows, base_columns, dated_columns, meter_columns, present_format, sale_row, shift_row, step_columns, tariff_columns}
+use Rattle.book_tables.specs.row.Rows.{Rows, base_columns, dated_columns, meter_columns, present_format, sale_row, shift_row, step_columns, tariff_columns}
 use Rattle.book_tables.specs.Stands.{AreMembersOf}
-use Rattle.book_tables.specs.Values.{IsKey}
-use Rattle.book_tables.proofs.EditLemmas.{no_members}
+use Rattle.book_tables.specs.row.Values.{IsKey}
+use Rattle.book_tables.proofs.WritingLemmas.EditLemmas.{no_members}
 use Rattle.book_tables.proofs.ListLemmas.{contains_first, contains_further}
 use Rattle.book_tables.proofs.MemberLemmas.{SameMembers, one_office}
-use Rattle.book_tables.proofs.RowLemmas.{one_base_row, one_dated, one_list, one_meter, one_sale, one_shift, one_step, one_tariff}
+use Rattle.book_tables.proofs.RowLemmas.RecordLemmas.{one_base_row, one_dated, one_list, one_meter, one_sale, one_shift, one_step, one_tariff}
 
 -- meters whose keys have 64 bits are told by what is stored of them
 one_meters : (xs ys : List (List ℕ × Meter)) → ((m : List ℕ × Meter) → Contains xs m → IsKey m.1.key) → ((m : List ℕ × Meter) → Contains ys m → IsKey m.1.key) → map meter_columns xs ≡ map meter_columns ys → xs ≡ ys

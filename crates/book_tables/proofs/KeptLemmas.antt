@@ -18,8 +18,8 @@ use Rattle.vend_core.specs.declared.office.sale.Sale.{Sale}
 use Rattle.vend_core.specs.declared.office.shift.Shift.{Shift}
 use Rattle.book_tables.specs.Holds.{AreStoredRows, HasOffice, HoldsOf, HoldsRows, IsKept, rows_in}
 use Rattle.book_tables.specs.Kept.{Kept, about_kept, bases_kept, dated_steps_kept, last_ids_kept, meters_kept, month_tenths_kept, sales_kept, shift_totals_kept, shifts_kept, steps_kept, tariffs_kept, upto}
-use Rattle.book_tables.specs.Rows.{DatedStepRow, Rows, StepRow, about_rows, base_columns, dated_columns, last_id_columns, meter_columns, month_columns, present_format, sale_row, shift_row, step_columns, tariff_columns, totals_row}
-use Rattle.book_tables.specs.declared.totals.Totals.{Totals}
+use Rattle.book_tables.specs.row.Rows.{DatedStepRow, Rows, StepRow, about_rows, base_columns, dated_columns, last_id_columns, meter_columns, month_columns, present_format, sale_row, shift_row, step_columns, tariff_columns, totals_row}
+use Rattle.book_tables.specs.declared.row.totals.Totals.{Totals}
 use Rattle.book_tables.proofs.OfficeTableLemmas.{about_in, bases_in, dated_steps_in, last_ids_in, meters_in, month_tenths_in, sales_in, shift_totals_in, shifts_in, steps_in, tariffs_in}
 
 -- only the rows of the table of this name may differ

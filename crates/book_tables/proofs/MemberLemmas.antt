@@ -8,7 +8,7 @@ use Rattle.sts_fields.specs.declared.base.Base.{Base}
 use Rattle.tariff.specs.declared.step.Step.{Step}
 use Rattle.vend_core.specs.Office.{IsOffice, Office}
 use Rattle.vend_core.specs.declared.office.meter.Meter.{Meter}
-use Rattle.book_tables.specs.Rows.{DatedStepRow, Rows, StepRow}
+use Rattle.book_tables.specs.row.Rows.{DatedStepRow, Rows, StepRow}
 use Rattle.book_tables.specs.Stands.{AreMembersOf, HasDatedStep, HasStep}
 
 -- of each place the two lists have the same

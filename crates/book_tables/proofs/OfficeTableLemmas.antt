@@ -6,8 +6,8 @@ use Rattle.sqlite_schema.specs.declared.schema.Schema.{Schema}
 use Rattle.one_table.proofs.ReadsOnlyLemmas.{read_where}
 use Rattle.book_tables.specs.Holds.{HasOffice, Holds, HoldsOf, HoldsRows, IsKept}
 use Rattle.book_tables.specs.Kept.{Kept, about_kept, bases_kept, dated_steps_kept, last_ids_kept, meters_kept, month_tenths_kept, sales_kept, shift_totals_kept, shifts_kept, steps_kept, tariffs_kept}
-use Rattle.book_tables.specs.Reading.{FailsToRead, FailsToReadOf, HasRows, HasTable, HasTableRows, HasAllTables, OnlyReads, ReadsTable, TableHolds}
-use Rattle.book_tables.specs.Rows.{Rows, present_format}
+use Rattle.book_tables.specs.reading.Reading.{FailsToRead, FailsToReadOf, HasRows, HasTable, HasTableRows, HasAllTables, OnlyReads, ReadsTable, TableHolds}
+use Rattle.book_tables.specs.row.Rows.{Rows, present_format}
 use Rattle.book_tables.specs.declared.error.TableError.{TableError}
 use Rattle.book_tables.specs.declared.error.TableError.TheVariants.{Database as Failed, RowOfNoOffice}
 

@@ -15,7 +15,7 @@ use Rattle.sqlite_keyed.proofs.KeyedLemmas.{IsKeyedBy-insert_by}
 use Rattle.sqlite_rules.specs.Lists.{Has as Member}
 use Rattle.one_table.proofs.LookUpLemmas.{unless_true}
 use Rattle.book_tables.specs.Stands.{AreRowsOf}
-use Rattle.book_tables.specs.Writing.{put_under}
+use Rattle.book_tables.specs.writing.Writing.{put_under}
 use Rattle.book_tables.proofs.ListLemmas.{NotBothPass, contains_cases, contains_first, contains_further, contains_map, contains_none, map_source, no_pairs, none_pass, one_passes, pairs_cons, pairs_map, pairs_push, pairs_weaker}
 
 -- ---- lists

@@ -18,10 +18,10 @@ use Rattle.vend_core.specs.Office.{IsOffice, IsSaleRow, Office, greatest_count}
 use Rattle.vend_core.specs.Law.Store.{MeetsNewSale}
 use Rattle.vend_core.specs.declared.office.sale.Sale.{Sale}
 use Rattle.book_tables.specs.Stands.{sales_in_month, sales_in_shift, sales_under, tenths_of, totals_of}
-use Rattle.book_tables.specs.Values.{AreTotalsValues, IsTotal}
-use Rattle.book_tables.specs.Writing.{AreWithinTotals, FitColumns, HasRoomFor, is_in_month, is_under, no_totals, one_more, put_under}
-use Rattle.book_tables.specs.declared.totals.Totals.{Totals}
-use Rattle.book_tables.proofs.RowLemmas.{one_base}
+use Rattle.book_tables.specs.row.Values.{AreTotalsValues, IsTotal}
+use Rattle.book_tables.specs.writing.Writing.{AreWithinTotals, FitColumns, HasRoomFor, is_in_month, is_under, no_totals, one_more, put_under}
+use Rattle.book_tables.specs.declared.row.totals.Totals.{Totals}
+use Rattle.book_tables.proofs.RowLemmas.RecordLemmas.{one_base}
 
 -- ---- keys
 

@@ -4,8 +4,8 @@ use Rattle.sqlite_keyed.specs.Keyed.{IsKeyedBy}
 use Rattle.sts_fields.specs.Base.{base_eq}
 use Rattle.sts_fields.specs.Calendar.{month_at}
 use Rattle.sts_fields.specs.declared.base.Base.{Base}
-use Rattle.book_tables.specs.Rows.{DatedStepRow, Rows, StepRow}
-use Rattle.book_tables.specs.declared.totals.Totals.{Totals}
+use Rattle.book_tables.specs.row.Rows.{DatedStepRow, Rows, StepRow}
+use Rattle.book_tables.specs.declared.row.totals.Totals.{Totals}
 use Rattle.tariff.specs.declared.step.Step.{Step}
 use Rattle.vend_core.specs.Law.Cash.{cash_of}
 use Rattle.vend_core.specs.Office.Lookup.{greatest_of}

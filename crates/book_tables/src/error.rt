@@ -55,7 +55,7 @@ impl From<AllocError> for TableError {
 
 impl From<ReadFault> for TableError {
     ghost use Rattle.std.specs.Prelude.{◌≡◌};
-    ghost use Rattle.book_tables.specs.Reading.{told};
+    ghost use Rattle.book_tables.specs.reading.Reading.{told};
 
     ghost from_gives = { λ fault e. e ≡ told fault };
 

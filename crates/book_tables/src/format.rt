@@ -1,74 +1,8 @@
-//! The number of the format of the tables.
+//! The tables that each format has, and how older ones are brought up.
 
-ghost use Rattle.std.specs.Prelude.{◌<◌, ◌^◌, IsTrue, IfOk};
-ghost use Rattle.sqlite.specs.Effect.{IsDatabase};
-ghost use Rattle.sqlite.specs.State.{HasCleanDisk};
-ghost use Rattle.sqlite.specs.Held.{state};
-ghost use Rattle.book_tables.specs.Format.{IsFormatOf};
-ghost use Rattle.book_tables.specs.Kept.{about_kept};
-ghost use Rattle.book_tables.specs.ReadBack.{ReadsBack};
-ghost use Rattle.book_tables.specs.Rows.{shown_format};
-ghost use Rattle.book_tables.specs.Reading.{HasTable, ReadsTable};
-
-use crate::cells;
-use crate::error::TableError;
-use crate::texts::FORMAT;
-use one_table::{FromRow, ReadFault, read_rows};
-use sqlite::{Alter, Connection, Row};
-use std::alloc::Global;
-
-// The number of a format, beside the number 1 of its row.
-fn format_of(row: &Row) -> Option<u32>
-    ensures { ReadsBack shown_format (λ n. n < 2 ^ 32) row.now result }
-{
-    if row.column_count() != 2 {
-        return None;
-    }
-    cells::between_at(row, 0, 1, 1)?;
-    cells::word_at(row, 1)
-}
-
-// What a row of the table tells: a format, or none.
-#[derive(Drop)]
-pub(crate) struct Told {
-    pub(crate) format: Option<u32>,
-}
-
-impl FromRow for Told {
-    ghost use Rattle.std.specs.Prelude.{◌<◌, ◌^◌, ⊤};
-    ghost use Rattle.book_tables.specs.Rows.{shown_format};
-    ghost use Rattle.book_tables.specs.ReadBack.{ReadsBack};
-
-    ghost reads_as = { λ row told. ReadsBack shown_format (λ n. n < 2 ^ 32) row told.format };
-
-    ghost is_readable = { λ _. ⊤ };
-
-    fn from_row(row: &Row) -> Result<Told, ReadFault> {
-        Ok(Told {
-            format: format_of(row),
-        })
-    }
-}
-
-/// The number of the format: `None` where the table `about` has no row, more than one, one whose
-/// number is not 1, or one that tells no number of 32 bits.
-///
-/// # Errors
-/// What the database refuses, and want of memory.
-pub fn format_number<S: Alter>(
-    alloc: Global,
-    conn: &mut Connection<S>,
-) -> Result<Option<u32>, TableError>
-    ensures given { HasCleanDisk (state S.Store conn.new)
-        → HasTable about_kept (state S.Store conn.old)
-        → (IsTrue (state S.Store conn.old).is_open → IsDatabase (state S.Store conn.old).now)
-        → IfOk result (IsFormatOf (state S.Store conn.old).now) }
-    ensures reads { ReadsTable about_kept
-        (state S.Store conn.old) (state S.Store conn.new) result }
-{
-    let told: Vec<Told> = read_rows(alloc, conn, FORMAT, &[])?;
-    if told.len() != 1 {
-        return Ok(None);
-    }
-    Ok(told[0].format)
-}
+pub(crate) mod fill;
+pub(crate) mod look;
+pub mod number;
+pub mod presence;
+pub(crate) mod tables;
+pub mod upgrade;

@@ -15,14 +15,14 @@ ghost use Rattle.vend_core.specs.declared.decision.change.Edit.{Edit};
 ghost use Rattle.vend_core.specs.declared.office.meter.Meter.{Meter};
 ghost use Rattle.vend_core.specs.declared.office.sale.Sale.{Sale};
 ghost use Rattle.vend_core.specs.declared.office.shift.Shift.{Shift};
-ghost use Rattle.book_tables.specs.Edited.{edited, is_sale, no_rows};
-ghost use Rattle.book_tables.specs.Found.{meters_numbered, tariffs_named};
+ghost use Rattle.book_tables.specs.writing.Edited.{edited, is_sale, no_rows};
+ghost use Rattle.book_tables.specs.reading.Found.{meters_numbered, tariffs_named};
 ghost use Rattle.book_tables.specs.Holds.{HasOfficeOf, HoldsMembers, HoldsMembersOf, IsUntaken, StandsFor};
 ghost use Rattle.book_tables.specs.Kept.{kept};
-ghost use Rattle.book_tables.specs.ReadBack.{ReadsBack};
-ghost use Rattle.book_tables.specs.Rows.{Rows, present_format, shown_meter, shown_number, shown_sale, shown_shift, shown_step};
+ghost use Rattle.book_tables.specs.row.ReadBack.{ReadsBack};
+ghost use Rattle.book_tables.specs.row.Rows.{Rows, present_format, shown_meter, shown_number, shown_sale, shown_shift, shown_step};
 ghost use Rattle.book_tables.specs.Stands.{AreMembersOf};
-ghost use Rattle.book_tables.specs.Values.{AreMeterValues, AreSaleValues, AreShiftValues, AreStepValues, IsNumber, IsSoldAmount, IsTid};
+ghost use Rattle.book_tables.specs.row.Values.{AreMeterValues, AreSaleValues, AreShiftValues, AreStepValues, IsNumber, IsSoldAmount, IsTid};
 
 use vend_core::office_law;
 

@@ -3,38 +3,15 @@
 //! `docs/OFFICE.md` has the tables in words. `specs/` says which rows stand for which office.
 #![tactic(auto)]
 
-pub use error::TableError;
-pub use formats::PRESENT_FORMAT;
-pub use laws::{members_law, stands_law};
-pub use totals::{SaleTotals, Totals};
-
-pub mod adding;
-pub mod bases;
-mod cells;
-pub mod changing;
-mod counted;
-pub mod dated;
 mod error;
-mod filling;
 pub mod format;
-mod formats;
 mod laws;
-mod listed;
-mod looking;
-pub mod making;
-mod merging;
-pub mod meters;
-pub mod paging;
-pub mod recognising;
-mod records;
-pub mod sale_lists;
-pub mod sales;
-pub mod shifts;
-mod shown;
-pub mod sold;
-mod storing;
-pub mod tariffs;
+pub mod reading;
+mod row;
 mod texts;
-pub mod totalling;
-mod totals;
-mod values;
+pub mod writing;
+
+pub use error::TableError;
+pub use format::tables::PRESENT_FORMAT;
+pub use laws::{members_law, stands_law};
+pub use row::totals::{SaleTotals, Totals};

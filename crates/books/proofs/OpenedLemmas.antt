@@ -7,7 +7,7 @@ use Rattle.vend_core.specs.Law.Life.{MayLeave}
 use Rattle.vend_core.specs.Law.LifeLaws.{IsRunning, opened}
 use Rattle.vend_core.specs.Office.{Office}
 use Rattle.book_tables.specs.Holds.{HasOffice}
-use Rattle.book_tables.specs.Reading.{HasAllTables}
+use Rattle.book_tables.specs.reading.Reading.{HasAllTables}
 use Rattle.book_states.specs.Stores.{Stores}
 use Rattle.books.specs.Keeps.{IsRepresented, Seen}
 use Rattle.book_opening.specs.Opening.{OpensAs}

@@ -2,8 +2,8 @@
 use Rattle.std.proofs.Common.{◌≡◌, ℕ, ◌+◌, add-one, subst, sym}
 use Rattle.books.specs.Keeps.{Seen}
 use Rattle.sts_token.specs.Token.{BlockFunction}
-use Rattle.vend_commands.specs.Connections.{AreHeld, AreReady, IsHeld, Service, service}
-use Rattle.vend_commands.specs.Places.{Way}
+use Rattle.vend_commands.specs.serving.Connections.{AreHeld, AreReady, IsHeld, Service, service}
+use Rattle.vend_commands.specs.port.Places.{Way}
 
 module _ {D R W B : Type 0} (way : Way D R W) (forward : BlockFunction) (see : B → Seen) where
   -- one more was held, by books that were made ready

@@ -14,9 +14,9 @@ use Rattle.sts_token.specs.Token.{BlockFunction}
 use Rattle.vend_core.specs.Law.Life.{AreLives, IsLife, Life, MayLeave}
 use Rattle.vend_core.specs.Law.LifeLaws.{opened}
 use Rattle.vend_core.specs.Office.{Office}
-use Rattle.vend_commands.specs.Connections.{AreHeld, AreReady, Service, service}
-use Rattle.vend_commands.specs.Courses.{Course, IsNext, LiveOn, course}
-use Rattle.vend_commands.specs.Places.{Way}
+use Rattle.vend_commands.specs.serving.Connections.{AreHeld, AreReady, Service, service}
+use Rattle.vend_commands.specs.serving.Courses.{Course, IsNext, LiveOn, course}
+use Rattle.vend_commands.specs.port.Places.{Way}
 
 -- ---- a life goes on from the office that it opened
 

@@ -8,8 +8,8 @@ use Rattle.std.specs.Borrow.{Bor}
 use Rattle.std.specs.List.{concat}
 use Rattle.sts_fields.specs.Text.{Text}
 use Rattle.sts_token.specs.Meter.{Entry, Reader, cleared, credit_of, entered}
-use Rattle.vend_commands.specs.Metered.{clear_word, entry_of, lines_after, metering, word_line}
-use Rattle.vend_commands.specs.Printed.{credit_line}
+use Rattle.vend_commands.specs.commands.Metered.{clear_word, entry_of, lines_after, metering, word_line}
+use Rattle.vend_commands.specs.print.Printed.{credit_line}
 
 -- what the first i words did
 abbrev pub history : List (Bor Text) → ℕ → List Entry

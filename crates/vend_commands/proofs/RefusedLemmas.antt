@@ -5,7 +5,7 @@ use Rattle.std.proofs.lemmas.Bool.{false_from_ne_true}
 use Rattle.books.specs.Keeps.{Seen}
 use Rattle.vend_core.specs.declared.decision.refusal.Refusal.{Refusal}
 use Rattle.vend_core.specs.declared.decision.refusal.Refusal.TheVariants.{Memory, Stopped, Store}
-use Rattle.vend_commands.specs.Refused.{TellsStopped}
+use Rattle.vend_commands.specs.office.Refused.{TellsStopped}
 
 -- what a reading says of books that were stopped, and of those that are
 abbrev pub SaysStopped : {A : Type 0} → (old new : Seen) → Result A Refusal → Type 0

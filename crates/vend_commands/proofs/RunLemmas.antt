@@ -6,7 +6,7 @@ use Rattle.clap.specs.Values.{kind_of}
 use Rattle.clap.specs.declared.error.Error.{Error}
 use Rattle.sqlite_trees.specs.declared.store.Store.{Ghosts}
 use Rattle.books.specs.Keeps.{Seen}
-use Rattle.book_tables.specs.declared.totals.Totals.{Totals}
+use Rattle.book_tables.specs.declared.row.totals.Totals.{Totals}
 use Rattle.book_opening.specs.declared.fault.OpenFault.{OpenFault}
 use Rattle.sts_fields.specs.Text.{Text}
 use Rattle.tariff.specs.declared.bought.Buy.{Buy}
@@ -18,28 +18,28 @@ use Rattle.vend_core.specs.declared.office.row.Row.{Row}
 use Rattle.papers.specs.declared.row_fault.RowFault.{RowFault}
 use Rattle.tariff.specs.Purchase.{purchase_of}
 use Rattle.command_line.specs.Asked.{AskFor}
-use Rattle.vend_commands.specs.Asked.{IsAskedAt}
-use Rattle.vend_commands.specs.Exported.{export_stop_end}
-use Rattle.vend_commands.specs.Imported.{AreAdded, IsFileImported}
+use Rattle.vend_commands.specs.commands.Asked.{IsAskedAt}
+use Rattle.vend_commands.specs.print.Exported.{export_stop_end}
+use Rattle.vend_commands.specs.commands.Imported.{AreAdded, IsFileImported}
 use Rattle.command_line.specs.Line.{faults_in}
-use Rattle.vend_commands.specs.Listening.{IsServedTo, IsServing, serving_end}
-use Rattle.vend_commands.specs.Listening.IsServing.{unheard, unopened as serves_unopened, was_open}
-use Rattle.vend_commands.specs.Quoted.{quote_end}
-use Rattle.vend_commands.specs.Places.{Machine, Place, Way, IsIdle}
-use Rattle.vend_commands.specs.Printed.{refusal_line}
-use Rattle.vend_commands.specs.Reported.{PrintsPaper}
+use Rattle.vend_commands.specs.serving.Listening.{IsServedTo, IsServing, serving_end}
+use Rattle.vend_commands.specs.serving.Listening.IsServing.{unheard, unopened as serves_unopened, was_open}
+use Rattle.vend_commands.specs.commands.Quoted.{quote_end}
+use Rattle.vend_commands.specs.port.Places.{Machine, Place, Way, IsIdle}
+use Rattle.vend_commands.specs.print.Printed.{refusal_line}
+use Rattle.vend_commands.specs.commands.Reported.{PrintsPaper}
 use Rattle.vend_commands.specs.Run.{IsCarriedOut, IsExplained, IsProgramRun}
 use Rattle.vend_commands.specs.Run.IsProgramRun.{answered, bad_word, explained, no_room}
-use Rattle.vend_commands.specs.Selfchecked.{IsSelfchecked}
-use Rattle.vend_commands.specs.Selfchecked.IsSelfchecked.{agreed, failed}
-use Rattle.vend_commands.specs.Served.{TellsReply}
+use Rattle.vend_commands.specs.commands.Selfchecked.{IsSelfchecked}
+use Rattle.vend_commands.specs.commands.Selfchecked.IsSelfchecked.{agreed, failed}
+use Rattle.vend_commands.specs.office.Served.{TellsReply}
 use Rattle.vend_commands.specs.Status.{exit_status_of, status_of}
-use Rattle.vend_commands.specs.Timed.{IsDoneAt, IsTimed}
-use Rattle.vend_commands.specs.Told.{IsTold, Outputs, Sink}
-use Rattle.vend_commands.specs.Totalled.{TellsTotals}
-use Rattle.vend_commands.specs.Tried.{trial_end}
-use Rattle.vend_commands.specs.Visited.{IsVisited, seen_in}
-use Rattle.vend_commands.specs.Visited.IsVisited.{unopened, visited}
+use Rattle.vend_commands.specs.commands.Timed.{IsDoneAt, IsTimed}
+use Rattle.vend_commands.specs.print.Told.{IsTold, Outputs, Sink}
+use Rattle.vend_commands.specs.print.Totalled.{TellsTotals}
+use Rattle.vend_commands.specs.commands.Tried.{trial_end}
+use Rattle.vend_commands.specs.office.Visited.{IsVisited, seen_in}
+use Rattle.vend_commands.specs.office.Visited.IsVisited.{unopened, visited}
 use Rattle.command_line.specs.declared.asked.Asked.{Asked}
 use Rattle.command_line.specs.declared.asked.Asked.TheVariants as asks
 use Rattle.command_line.specs.declared.commands.import.ImportWords.{ImportWords}
@@ -48,7 +48,7 @@ use Rattle.command_line.specs.declared.commands.report.Paper.TheVariants as pape
 use Rattle.command_line.specs.declared.commands.serve.ServeWords.{ServeWords}
 use Rattle.vend_commands.specs.declared.command_end.CommandEnd.TheVariants as how
 use Rattle.command_line.specs.declared.transform.Shipped.{Shipped}
-use Rattle.vend_commands.specs.declared.selfcheck_fault.SelfcheckFault.{SelfcheckFault}
+use Rattle.vend_commands.specs.declared.selfcheck.fault.SelfcheckFault.{SelfcheckFault}
 use Rattle.vend_commands.specs.declared.trials.TrialFault.{TrialFault}
 use Rattle.vend_commands.specs.declared.command_end.CommandEnd.{CommandEnd}
 

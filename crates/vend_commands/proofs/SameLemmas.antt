@@ -5,7 +5,7 @@ use Rattle.clap.specs.declared.error.kind.ErrorKind.{ErrorKind}
 use Rattle.clap.specs.declared.error.kind.ErrorKind.TheVariants.{DisplayHelp, DisplayVersion, OutOfMemory}
 use Rattle.sqlite_trees.specs.declared.store.Store.{Ghosts}
 use Rattle.books.specs.Keeps.{Seen}
-use Rattle.book_tables.specs.declared.totals.Totals.{Totals}
+use Rattle.book_tables.specs.declared.row.totals.Totals.{Totals}
 use Rattle.sts_fields.specs.Text.{Text}
 use Rattle.vend_core.specs.declared.decision.answer.Answer as core
 use Rattle.vend_core.specs.declared.decision.refusal.Refusal.{Refusal}
@@ -20,22 +20,22 @@ use Rattle.command_line.specs.declared.commands.report.Paper.{Paper}
 use Rattle.command_line.specs.declared.commands.report.Paper.TheVariants as papers
 use Rattle.command_line.specs.declared.commands.serve.ServeWords.{ServeWords}
 use Rattle.command_line.specs.declared.transform.Shipped.{Shipped}
-use Rattle.vend_commands.specs.Asked.{IsAskedAt}
-use Rattle.vend_commands.specs.Imported.{AreAdded, IsFileImported}
-use Rattle.vend_commands.specs.Listening.{IsDeaf, IsServing}
-use Rattle.vend_commands.specs.Listening.IsDeaf.{no_listener, no_room as deaf_for_room, no_text, not_told}
-use Rattle.vend_commands.specs.Listening.IsServing.{unheard, unopened as serves_unopened, was_open}
-use Rattle.vend_commands.specs.Places.{Machine, Place, Way}
-use Rattle.vend_commands.specs.Reported.{PrintsPaper}
+use Rattle.vend_commands.specs.commands.Asked.{IsAskedAt}
+use Rattle.vend_commands.specs.commands.Imported.{AreAdded, IsFileImported}
+use Rattle.vend_commands.specs.serving.Listening.{IsDeaf, IsServing}
+use Rattle.vend_commands.specs.serving.Listening.IsDeaf.{no_listener, no_room as deaf_for_room, no_text, not_told}
+use Rattle.vend_commands.specs.serving.Listening.IsServing.{unheard, unopened as serves_unopened, was_open}
+use Rattle.vend_commands.specs.port.Places.{Machine, Place, Way}
+use Rattle.vend_commands.specs.commands.Reported.{PrintsPaper}
 use Rattle.vend_commands.specs.Run.{IsCarriedOut, IsExplained, IsProgramRun}
 use Rattle.vend_commands.specs.Run.IsProgramRun.{answered, bad_word, explained, no_room}
-use Rattle.vend_commands.specs.Selfchecked.IsSelfchecked.{agreed, failed}
-use Rattle.vend_commands.specs.Served.{TellsReply}
-use Rattle.vend_commands.specs.Timed.{IsDoneAt, IsTimed}
-use Rattle.vend_commands.specs.Told.{IsTold, Outputs, Sink}
-use Rattle.vend_commands.specs.Totalled.{TellsTotals}
-use Rattle.vend_commands.specs.Visited.{IsVisited, seen_in}
-use Rattle.vend_commands.specs.Visited.IsVisited.{unopened, visited}
+use Rattle.vend_commands.specs.commands.Selfchecked.IsSelfchecked.{agreed, failed}
+use Rattle.vend_commands.specs.office.Served.{TellsReply}
+use Rattle.vend_commands.specs.commands.Timed.{IsDoneAt, IsTimed}
+use Rattle.vend_commands.specs.print.Told.{IsTold, Outputs, Sink}
+use Rattle.vend_commands.specs.print.Totalled.{TellsTotals}
+use Rattle.vend_commands.specs.office.Visited.{IsVisited, seen_in}
+use Rattle.vend_commands.specs.office.Visited.IsVisited.{unopened, visited}
 use Rattle.vend_commands.specs.declared.command_end.CommandEnd.{CommandEnd}
 use Rattle.vend_commands.specs.declared.command_end.CommandEnd.TheVariants as how
 

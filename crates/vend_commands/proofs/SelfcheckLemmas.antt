@@ -10,17 +10,17 @@ use Rattle.vend_core.specs.declared.decision.refusal.Refusal.{Refusal}
 use Rattle.vend_core.specs.declared.decision.request.Request.{Request}
 use Rattle.conversation.specs.declared.end.End as conversation
 use Rattle.conversation.specs.declared.end.End.TheVariants.{Closed, BadMessage, ReadFault, WriteFault, Memory}
-use Rattle.vend_commands.specs.Selfchecked.{AreReplies, Converses, HasNoReplies, IsGranted, IsPrepared, IsUnprepared, add_flat, add_selfcheck_meter, clock_moment, fault_in_memory, fault_over_net, messages, open_selfcheck_shift, preparing}
-use Rattle.vend_commands.specs.Selfchecked.{ConversesOver, Disagrees}
-use Rattle.vend_commands.specs.Selfchecked.Disagrees.{no_room, unlike}
-use Rattle.vend_commands.specs.Selfchecked.HasNoReplies.{cut_off}
+use Rattle.vend_commands.specs.commands.Selfchecked.{AreReplies, Converses, HasNoReplies, IsGranted, IsPrepared, IsUnprepared, add_flat, add_selfcheck_meter, clock_moment, fault_in_memory, fault_over_net, messages, open_selfcheck_shift, preparing}
+use Rattle.vend_commands.specs.commands.Selfchecked.{ConversesOver, Disagrees}
+use Rattle.vend_commands.specs.commands.Selfchecked.Disagrees.{no_room, unlike}
+use Rattle.vend_commands.specs.commands.Selfchecked.HasNoReplies.{cut_off}
 use Rattle.vend_core.specs.declared.decision.refusal.Refusal.TheVariants as refusal
 use Rattle.sts_fields.specs.Text.{Text}
-use Rattle.vend_commands.specs.declared.loopback.Loopback as loopback
+use Rattle.vend_commands.specs.declared.port.loopback.Loopback as loopback
 use Rattle.sts_token.specs.Token.{BlockFunction}
-use Rattle.vend_commands.specs.Told.{Held}
-use Rattle.vend_commands.specs.declared.selfcheck_fault.SelfcheckFault.{SelfcheckFault}
-use Rattle.vend_commands.specs.declared.selfcheck_fault.SelfcheckFault.TheVariants.{Net, Refused}
+use Rattle.vend_commands.specs.print.Told.{Held}
+use Rattle.vend_commands.specs.declared.selfcheck.fault.SelfcheckFault.{SelfcheckFault}
+use Rattle.vend_commands.specs.declared.selfcheck.fault.SelfcheckFault.TheVariants.{Net, Refused}
 
 -- what holds where something went well, told by what follows from it
 pub on_ok : {A E P Q : Type 0} (r : Result A E) → OnOk r P → (P → Q) → OnOk r Q

@@ -26,12 +26,12 @@ use Rattle.vend_core.specs.declared.decision.request.Stamped.{Stamped}
 use Rattle.vend_core.specs.declared.office.sale.Sale.{Sale}
 use Rattle.vend_core.specs.declared.office.shift.Shift.{Shift}
 use Rattle.vend_commands.specs.Selling.{EndsSold, TellsSale}
-use Rattle.vend_commands.specs.Served.{TellsReply, answer_text}
-use Rattle.vend_commands.specs.Asked.{IsAskedAt}
-use Rattle.vend_commands.specs.Places.{Place}
-use Rattle.vend_commands.specs.Told.{IsTold, Outputs, Takes}
-use Rattle.vend_commands.specs.Visited.{seen_in}
-use Rattle.vend_commands.specs.Visited.IsVisited.{unopened, visited}
+use Rattle.vend_commands.specs.office.Served.{TellsReply, answer_text}
+use Rattle.vend_commands.specs.commands.Asked.{IsAskedAt}
+use Rattle.vend_commands.specs.port.Places.{Place}
+use Rattle.vend_commands.specs.print.Told.{IsTold, Outputs, Takes}
+use Rattle.vend_commands.specs.office.Visited.{seen_in}
+use Rattle.vend_commands.specs.office.Visited.IsVisited.{unopened, visited}
 use Rattle.command_line.specs.Transform.{forward_of}
 use Rattle.command_line.specs.declared.transform.Shipped.{Shipped}
 use Rattle.vend_commands.specs.declared.command_end.CommandEnd.{CommandEnd}

@@ -10,9 +10,9 @@ use Rattle.papers.specs.Output.{IsWritten}
 use Rattle.papers.specs.declared.fault.TextFault.{TextFault}
 use Rattle.papers.specs.declared.fault.TextFault.TheVariants.{Memory, Write}
 use Rattle.sts_fields.specs.Text.{Text}
-use Rattle.vend_commands.specs.Printed.{token_line}
-use Rattle.vend_commands.specs.Told.{Held, IsPutOn, IsTaken, Sink, Takes}
-use Rattle.vend_commands.specs.Tried.{token_lines}
+use Rattle.vend_commands.specs.print.Printed.{token_line}
+use Rattle.vend_commands.specs.print.Told.{Held, IsPutOn, IsTaken, Sink, Takes}
+use Rattle.vend_commands.specs.commands.Tried.{token_lines}
 
 -- ---- nothing, and one text more
 

@@ -1,8 +1,8 @@
 -- A command that is done at a moment, given or taken from the clock.
 use Rattle.std.proofs.Common.{◌≡◌, ℕ, ℤ, List, [], Option, Some, None, subst}
-use Rattle.vend_commands.specs.Printed.{clock_line}
-use Rattle.vend_commands.specs.Timed.{IsTakenMoment, IsTimed}
-use Rattle.vend_commands.specs.Told.{IsTold, Outputs}
+use Rattle.vend_commands.specs.print.Printed.{clock_line}
+use Rattle.vend_commands.specs.commands.Timed.{IsTakenMoment, IsTimed}
+use Rattle.vend_commands.specs.print.Told.{IsTold, Outputs}
 use Rattle.vend_commands.specs.declared.command_end.CommandEnd.{CommandEnd}
 use Rattle.vend_commands.specs.declared.command_end.CommandEnd.TheVariants.{Refused}
 

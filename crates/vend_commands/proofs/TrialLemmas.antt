@@ -7,7 +7,7 @@ use Rattle.std.proofs.lemmas.List.{get_or_at, get_or_append_left, length_push, t
 use Rattle.sts_fields.specs.Tid.{FreshOutcome, IsLast, minute_of}
 use Rattle.sts_fields.specs.declared.base.Base.{Base}
 use Rattle.sts_fields.specs.declared.fault.TidFault.{TidFault}
-use Rattle.vend_commands.specs.Trial.{EndsBy, IsRefusedBy, IsSale, TidOutcome}
+use Rattle.vend_commands.specs.commands.Trial.{EndsBy, IsRefusedBy, IsSale, TidOutcome}
 use Rattle.vend_commands.specs.declared.trials.TrialFault.{TrialFault}
 use Rattle.vend_commands.specs.declared.trials.TrialFault.TheVariants.{Amount, Tid, Memory}
 

@@ -10,27 +10,27 @@ use Rattle.command_line.specs.declared.address.Address.{Address}
 use Rattle.command_line.specs.declared.asked.Asked.{Asked}
 use Rattle.command_line.specs.declared.asked.Asked.TheVariants as asks
 use Rattle.command_line.specs.declared.commands.serve.ServeWords.{ServeWords}
-use Rattle.vend_commands.specs.Connections.{AreHeld, AreServed, IsHeld, IsUnheld, Service, service}
-use Rattle.vend_commands.specs.Listening.{IsDeaf, IsServing}
-use Rattle.vend_commands.specs.Listening.IsDeaf.{no_listener, no_room as deaf_for_room, no_text, not_told}
-use Rattle.vend_commands.specs.Listening.IsServing.{unheard, unopened, was_open}
-use Rattle.vend_commands.specs.Places.{Loop, Place, Way, machine, untold_loop, untold_place, untold_way}
+use Rattle.vend_commands.specs.serving.Connections.{AreHeld, AreServed, IsHeld, IsUnheld, Service, service}
+use Rattle.vend_commands.specs.serving.Listening.{IsDeaf, IsServing}
+use Rattle.vend_commands.specs.serving.Listening.IsDeaf.{no_listener, no_room as deaf_for_room, no_text, not_told}
+use Rattle.vend_commands.specs.serving.Listening.IsServing.{unheard, unopened, was_open}
+use Rattle.vend_commands.specs.port.Places.{Loop, Place, Way, machine, untold_loop, untold_place, untold_way}
 use Rattle.vend_commands.specs.Run.{IsCarriedOut, IsProgramRun}
 use Rattle.vend_commands.specs.Run.IsProgramRun.{answered, bad_word, explained, no_room}
-use Rattle.vend_commands.specs.Selfchecked.{HasReplies}
-use Rattle.vend_commands.specs.Told.{Outputs, Sink}
+use Rattle.vend_commands.specs.commands.Selfchecked.{HasReplies}
+use Rattle.vend_commands.specs.print.Told.{Outputs, Sink}
 use Rattle.vend_commands.proofs.RunLemmas.{selfcheck_done}
-use Rattle.vend_commands.specs.Imported.{AreAdded, IsFileImported}
-use Rattle.vend_commands.specs.Timed.{IsTimed}
-use Rattle.vend_commands.specs.Visited.{IsVisited}
-use Rattle.vend_commands.specs.Visited.IsVisited.{unopened as unvisited, visited}
+use Rattle.vend_commands.specs.commands.Imported.{AreAdded, IsFileImported}
+use Rattle.vend_commands.specs.commands.Timed.{IsTimed}
+use Rattle.vend_commands.specs.office.Visited.{IsVisited}
+use Rattle.vend_commands.specs.office.Visited.IsVisited.{unopened as unvisited, visited}
 use Rattle.vend_commands.specs.declared.command_end.CommandEnd.{CommandEnd}
 use Rattle.command_line.specs.declared.commands.import.ImportWords.{ImportWords}
 use Rattle.command_line.specs.declared.transform.Shipped.{Shipped}
 use Rattle.command_line.specs.declared.transform.Shipped.TheVariants.{Plain}
 use Rattle.papers.specs.declared.row_fault.RowFault.{RowFault}
 use Rattle.vend_core.specs.declared.office.row.Row.{Row}
-use Rattle.vend_commands.specs.declared.file_fault.FileFault.{FileFault}
+use Rattle.vend_commands.specs.declared.port.file_fault.FileFault.{FileFault}
 
 abbrev bare_place : Place → Place
 bare_place place = untold_place place.image place.opens place.closes

@@ -8,18 +8,18 @@ use Rattle.sts_fields.specs.Text.{Text}
 use Rattle.vend_core.specs.declared.decision.refusal.Refusal.TheVariants.{Memory}
 use Rattle.command_line.specs.Asked.{AskFor}
 use Rattle.command_line.specs.Line.{faults_in}
-use Rattle.vend_commands.specs.Asked.{IsAskedAt}
-use Rattle.vend_commands.specs.Imported.{IsFileImported}
-use Rattle.vend_commands.specs.Listening.{IsServedTo}
-use Rattle.vend_commands.specs.Metered.{IsMetered}
-use Rattle.vend_commands.specs.Places.{IsIdle, IsOffline, IsShut, Machine}
-use Rattle.vend_commands.specs.Printed.{bad_word_line, refusal_line}
-use Rattle.vend_commands.specs.Quoted.{IsQuoted}
-use Rattle.vend_commands.specs.Reported.{IsReported}
-use Rattle.vend_commands.specs.Selfchecked.{IsSelfchecked}
-use Rattle.vend_commands.specs.Timed.{IsTimed}
-use Rattle.vend_commands.specs.Told.{Outputs, IsTold}
-use Rattle.vend_commands.specs.Tried.{IsTried}
+use Rattle.vend_commands.specs.commands.Asked.{IsAskedAt}
+use Rattle.vend_commands.specs.commands.Imported.{IsFileImported}
+use Rattle.vend_commands.specs.serving.Listening.{IsServedTo}
+use Rattle.vend_commands.specs.commands.Metered.{IsMetered}
+use Rattle.vend_commands.specs.port.Places.{IsIdle, IsOffline, IsShut, Machine}
+use Rattle.vend_commands.specs.print.Printed.{bad_word_line, refusal_line}
+use Rattle.vend_commands.specs.commands.Quoted.{IsQuoted}
+use Rattle.vend_commands.specs.commands.Reported.{IsReported}
+use Rattle.vend_commands.specs.commands.Selfchecked.{IsSelfchecked}
+use Rattle.vend_commands.specs.commands.Timed.{IsTimed}
+use Rattle.vend_commands.specs.print.Told.{Outputs, IsTold}
+use Rattle.vend_commands.specs.commands.Tried.{IsTried}
 use Rattle.command_line.specs.declared.asked.Asked.{Asked}
 use Rattle.command_line.specs.declared.asked.Asked.TheVariants.{Trial, Import, Request, Report, Meter, Quote, Serve, Selfcheck}
 use Rattle.vend_commands.specs.declared.command_end.CommandEnd.{CommandEnd}

@@ -14,8 +14,8 @@ use Rattle.vend_core.specs.declared.decision.request.Order.{Order}
 use Rattle.vend_core.specs.declared.decision.request.Request.TheVariants.{Sell}
 use Rattle.vend_core.specs.declared.decision.request.Stamped.{Stamped}
 use Rattle.vend_core.specs.declared.office.sale.Sale.{Sale}
-use Rattle.vend_commands.specs.Told.{IsTold, Outputs, Takes}
-use Rattle.vend_commands.specs.Visited.{seen_in}
+use Rattle.vend_commands.specs.print.Told.{IsTold, Outputs, Takes}
+use Rattle.vend_commands.specs.office.Visited.{seen_in}
 use Rattle.command_line.specs.Transform.{forward_of}
 use Rattle.command_line.specs.declared.transform.Shipped.{Shipped}
 use Rattle.vend_commands.specs.declared.command_end.CommandEnd.{CommandEnd}

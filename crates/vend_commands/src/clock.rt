@@ -1,4 +1,4 @@
-ghost use Rattle.vend_commands.specs.Timed.{IsTakenMoment};
+ghost use Rattle.vend_commands.specs.commands.Timed.{IsTakenMoment};
 
 use desk::Clock;
 use sts_fields::Moment;

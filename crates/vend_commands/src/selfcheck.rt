@@ -1,19 +1,22 @@
 //! A conversation of this machine with itself: what the desk writes over a connection, beside what
 //! it writes over memory.
 
+pub(crate) mod fault;
+pub(crate) mod prepared;
+
 ghost use Rattle.std.specs.Prelude.{◌≡◌, ◌⊎◌, ◌↔◌, true, IfErr, IfOk, IfSome, OnOk};
 ghost use Rattle.sqlite.specs.Steps.{over_memory};
 ghost use Rattle.conversation.specs.declared.end.End.TheVariants.{Closed};
 ghost use Rattle.vend_core.specs.Law.Life.{Life};
 ghost use Rattle.vend_core.specs.declared.decision.refusal.Refusal.TheVariants.{Memory};
 ghost use Rattle.books.specs.Keeps.{Represents, seen};
-ghost use Rattle.vend_commands.specs.Selfchecked.{AgreesOver, AreReplies, Converses, ConversesOver};
-ghost use Rattle.vend_commands.specs.Selfchecked.{Disagrees, HasNoReplies, fault_in_memory};
-ghost use Rattle.vend_commands.specs.Selfchecked.{fault_over_net};
+ghost use Rattle.vend_commands.specs.commands.Selfchecked.{AgreesOver, AreReplies, Converses, ConversesOver};
+ghost use Rattle.vend_commands.specs.commands.Selfchecked.{Disagrees, HasNoReplies, fault_in_memory};
+ghost use Rattle.vend_commands.specs.commands.Selfchecked.{fault_over_net};
 
-use crate::loopback::Loopback;
-use crate::prepared::{NOW, prepare};
-use crate::selfcheck_fault::SelfcheckFault;
+use crate::port::loopback::Loopback;
+use crate::selfcheck::prepared::{NOW, prepare};
+use crate::selfcheck::fault::SelfcheckFault;
 use books::Books;
 use desk::{Desk, End, Script};
 use sqlite::MemStore;

@@ -1,87 +1,92 @@
-//! A request to an open office, and what is printed of its answer.
+//! Connections to a door, served one after another over any books.
 
-ghost use Rattle.std.specs.Prelude.{[], MatchResult};
-ghost use Rattle.books.specs.Keeps.{seen};
-ghost use Rattle.vend_commands.specs.Served.{IsServedAndTold, TakesRoom, TellsAnswer, answer_text};
-ghost use Rattle.vend_commands.specs.Told.{Takes, outputs, sink};
+ghost use Rattle.std.specs.Prelude.{MatchResult};
+ghost use Rattle.std.specs.Bool.{MatchBool};
+ghost use Rattle.command_line.specs.Transform.{forward_of};
+ghost use Rattle.vend_commands.specs.serving.Connections.{AreLost, AreReady, AreServed, IsHeld, IsUnheld, service};
+ghost use Rattle.vend_commands.specs.port.Places.{IsUnreopened, way};
+ghost use Rattle.vend_commands.specs.office.Visited.{seen_in};
 
-use crate::command_end::CommandEnd;
-use crate::printed::{put_added, put_line, put_refusal, put_shift};
-use crate::watched::Watched;
-use books::Books;
-use papers::{receipt_in_place, shift_report};
-use sqlite::Alter;
-use std::alloc::{AllocError, Global};
-use std::io::Write;
-use sts_token::BlockTransform;
-use vend_core::{Answer, Moment, Refusal, Request};
+use crate::port::door::Door;
+use crate::port::ports::OfficeFile;
+use crate::office::reopening::open_again;
+use books::{Books, OpenFault};
+use command_line::{ServeWords, Shipped};
+use desk::{Clock, Desk};
+use sqlite::{Alter, FileStore};
+use std::alloc::Global;
 
-/// Asks books for an answer at a moment, and prints it, or tells why it is refused.
+/// Serves as many connections as the words ask for, one after another. Answers the books as they
+/// are left and whether all connections could be had, or why the file of stopped books was not
+/// opened again.
 ///
-/// What is printed stands in the office: the books answer after their commit. A receipt takes no
-/// memory, so after a sale nothing else is told. Where there is no room for a report, that is told.
-pub(crate) fn ask<S: Alter, T: BlockTransform, O: Write, E: Write>(
+/// However a conversation ends, its connection is let go then, and counts.
+pub fn serve<H: OfficeFile, D: Door, C: Clock>(
+    words: &ServeWords,
     alloc: Global,
-    books: &mut Books<S, T>,
-    moment: Moment,
-    request: Request,
-    out: &mut Watched<'_, O>,
-    err: &mut Watched<'_, E>,
-) -> CommandEnd
-    ensures { IsServedAndTold moment request (seen S.Store T.forwards books.old)
-        (seen S.Store T.forwards books.new)
-        (outputs (sink O.contents out.old) (sink O.contents out.new)
-        (sink E.contents err.old) (sink E.contents err.new)) result }
+    desk: &Desk,
+    salts: &H::Salts,
+    door: &mut D,
+    books: Books<FileStore<H::Medium>, Shipped>,
+    clock: &mut C,
+) -> Result<(Books<FileStore<H::Medium>, Shipped>, bool), OpenFault>
+    ensures { AreServed
+        (way D.Door D.Reader.remaining D.Writer.contents)
+        (forward_of words.now.transform) seen_in
+        (IsUnreopened H.Salts.SaltSource) words.now.connections
+        (service door.old books (C.answers clock.old)) door.new (C.answers clock.new) result }
 {
-    match books.ask(moment, request) {
-        Ok(answer) => tell_answer(alloc, &answer, out, err),
-        Err(refusal) => {
-            put_refusal(refusal, err);
-            CommandEnd::Refused
+    let mut books = books;
+    for _connection in 0..words.connections {
+        books = match readied::<H>(alloc, salts, books, words.transform) {
+            Ok(books) => books,
+            Err(fault) => return Err(fault),
+        };
+        if !hold(alloc, desk, door, &mut books, clock) {
+            return Ok((books, false));
         }
     }
+    Ok((books, true))
 }
 
-// Prints an answer, or tells that there was no room for its text.
-fn tell_answer<O: Write, E: Write>(
+// Books that are not stopped, or else those that are opened again in their file.
+fn readied<H: OfficeFile>(
     alloc: Global,
-    answer: &Answer,
-    out: &mut Watched<'_, O>,
-    err: &mut Watched<'_, E>,
-) -> CommandEnd
-    ensures { TellsAnswer answer.now (outputs (sink O.contents out.old) (sink O.contents out.new)
-        (sink E.contents err.old) (sink E.contents err.new)) result }
-{
-    match print_answer(alloc, answer, out) {
-        Ok(()) => CommandEnd::Done,
-        Err(_) => {
-            put_refusal(Refusal::Memory, err);
-            CommandEnd::Refused
-        }
-    }
-}
-
-// Prints the text of an answer. Only a report may find no room, and then nothing is printed.
-fn print_answer<O: Write>(
-    alloc: Global,
-    answer: &Answer,
-    out: &mut Watched<'_, O>,
-) -> Result<(), AllocError>
+    salts: &H::Salts,
+    books: Books<FileStore<H::Medium>, Shipped>,
+    transform: Shipped,
+) -> Result<Books<FileStore<H::Medium>, Shipped>, OpenFault>
     ensures { MatchResult result
-        (λ _. Takes (sink O.contents out.old) (sink O.contents out.new) (answer_text answer.now))
-        (λ _. TakesRoom answer.now × Takes (sink O.contents out.old) (sink O.contents out.new) []) }
+        (AreReady seen_in (forward_of transform) books)
+        (AreLost seen_in (IsUnreopened H.Salts.SaltSource) books) }
 {
-    match answer {
-        Answer::Done => put_line(&[b"done"], out),
-        Answer::Imported(count) => put_added(*count, out),
-        Answer::Opened(number) => put_shift(*number, out),
-        Answer::Closed(number) => put_shift(*number, out),
-        Answer::Sold(sale) => out.put(&receipt_in_place(sale)),
-        Answer::Reprinted(sale) => out.put(&receipt_in_place(sale)),
-        Answer::Report(shift, sales) => {
-            let text = shift_report(alloc, shift, sales.as_slice())?;
-            out.put(&text);
-        }
+    if !books.is_stopped() {
+        return Ok(books);
     }
-    Ok(())
+    open_again::<H>(alloc, salts, books, transform)
+}
+
+// Takes the next connection, holds its conversation and lets it go. Answers whether one could be
+// had.
+fn hold<S: Alter, D: Door, C: Clock>(
+    alloc: Global,
+    desk: &Desk,
+    door: &mut D,
+    books: &mut Books<S, Shipped>,
+    clock: &mut C,
+) -> bool
+    ensures { MatchBool result
+        (IsHeld (way D.Door D.Reader.remaining D.Writer.contents) seen_in
+        (service door.old books.old (C.answers clock.old))
+        (service door.new books.new (C.answers clock.new)))
+        (IsUnheld (way D.Door D.Reader.remaining D.Writer.contents) seen_in
+        (service door.old books.old (C.answers clock.old))
+        (service door.new books.new (C.answers clock.new))) }
+{
+    let Some((mut reader, mut writer)) = door.accept() else {
+        return false;
+    };
+    let _ = desk.run(alloc, &mut reader, &mut writer, books, clock);
+    D::end(reader, writer);
+    true
 }

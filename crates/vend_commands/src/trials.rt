@@ -1,7 +1,7 @@
 ghost use Rattle.std.specs.Prelude.{◌≡◌, ◌%◌, ◌+◌, ◌<◌, ◌≤◌, ◌^◌, ℕ, List, IfOk, IfErr};
 ghost use Rattle.std.specs.Option.{ForSome};
 ghost use Rattle.sts_fields.specs.Tid.{IsLast};
-ghost use Rattle.vend_commands.specs.Trial.{IsRefusedBy, IsSale, IsTrial, TidOutcome};
+ghost use Rattle.vend_commands.specs.commands.Trial.{IsRefusedBy, IsSale, IsTrial, TidOutcome};
 
 use std::alloc::Global;
 use sts_fields::{Amount, Base, Moment, TidFault, minute, next_tid};

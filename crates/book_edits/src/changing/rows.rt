@@ -4,12 +4,12 @@ ghost use Rattle.std.specs.Prelude.{◌≡◌, ◌≤◌, [], ◌∷◌, length,
 ghost use Rattle.sqlite.specs.State.{HasCleanDisk};
 ghost use Rattle.sqlite.specs.Held.{state};
 ghost use Rattle.one_table.specs.InTransaction.{IsUnderWay, KeepsTransaction};
-ghost use Rattle.book_tables.specs.Failing.{FailsToWriteAll};
-ghost use Rattle.book_tables.specs.Reading.{HasAllTables};
+ghost use Rattle.book_tables.specs.writing.Failing.{FailsToWriteAll};
+ghost use Rattle.book_tables.specs.reading.Reading.{HasAllTables};
 ghost use Rattle.book_states.specs.Changing.{MakesRows};
 
-use book_tables::adding::{add_meter, add_tariff};
-use book_tables::dated::add_steps;
+use book_tables::writing::additions::{add_meter, add_tariff};
+use book_tables::reading::dated_steps::add_steps;
 use book_tables::{TableError, members_law};
 use sqlite::{Alter, Error, ErrorCode, Transaction};
 use vend_core::Row;

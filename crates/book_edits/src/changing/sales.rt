@@ -4,13 +4,13 @@ ghost use Rattle.std.specs.Prelude.{◌≡◌, IfErr, OnOk};
 ghost use Rattle.sqlite.specs.State.{HasCleanDisk};
 ghost use Rattle.sqlite.specs.Held.{state};
 ghost use Rattle.one_table.specs.InTransaction.{IsUnderWay, KeepsTransaction};
-ghost use Rattle.book_tables.specs.Reading.{HasAllTables};
+ghost use Rattle.book_tables.specs.reading.Reading.{HasAllTables};
 ghost use Rattle.vend_core.specs.declared.decision.change.Edit.TheVariants.{AddSale};
 ghost use Rattle.book_states.specs.Changing.{AddsAsComputed};
 ghost use Rattle.book_states.specs.Failing.{FailsToMake};
 
 use book_tables::TableError;
-use book_tables::totalling::add_sold;
+use book_tables::writing::totals::add_sold;
 use sqlite::{Alter, Transaction};
 use vend_core::Sale;
 

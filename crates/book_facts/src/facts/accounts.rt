@@ -6,7 +6,7 @@ ghost use Rattle.sqlite.specs.Held.{state};
 ghost use Rattle.sts_fields.specs.Calendar.{month_at};
 ghost use Rattle.vend_core.specs.Decision.{account_of};
 ghost use Rattle.vend_core.specs.Office.Lookup.{greatest_of, prior, used};
-ghost use Rattle.book_tables.specs.Reading.{OnlyReads};
+ghost use Rattle.book_tables.specs.reading.Reading.{OnlyReads};
 ghost use Rattle.book_states.specs.Members.{SaysOfOffice};
 
 use crate::facts::steps::steps_on;

@@ -8,7 +8,7 @@ ghost use Rattle.vend_core.specs.Decision.{row_decision};
 ghost use Rattle.vend_core.specs.Decision.Facts.{AreRowsFacts, row_facts};
 ghost use Rattle.vend_core.specs.Office.{Office};
 ghost use Rattle.vend_core.specs.declared.decision.row_facts.RowFacts.{RowFacts};
-ghost use Rattle.book_tables.specs.Reading.{OnlyReads};
+ghost use Rattle.book_tables.specs.reading.Reading.{OnlyReads};
 ghost use Rattle.book_states.specs.Members.{SaysOfOffice};
 ghost use Rattle.book_states.specs.Same.{IsSame};
 

@@ -4,7 +4,7 @@ ghost use Rattle.std.specs.Prelude.{◌≡◌, ℕ};
 ghost use Rattle.sqlite.specs.State.{IsUnchanged};
 ghost use Rattle.sqlite.specs.Held.{state};
 ghost use Rattle.vend_core.specs.Decision.Facts.{AreMeterFacts, AreSettingFacts};
-ghost use Rattle.book_tables.specs.Reading.{OnlyReads};
+ghost use Rattle.book_tables.specs.reading.Reading.{OnlyReads};
 ghost use Rattle.book_states.specs.Members.{SaysOfOffice};
 
 use book_tables::{TableError, members_law, meters, tariffs};

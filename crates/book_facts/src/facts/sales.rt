@@ -5,7 +5,7 @@ ghost use Rattle.sqlite.specs.State.{IsUnchanged};
 ghost use Rattle.sqlite.specs.Held.{state};
 ghost use Rattle.vend_core.specs.Decision.Facts.{AreNewSaleFacts, AreSaleFacts};
 ghost use Rattle.vend_core.specs.Office.Lookup.{sale_numbered};
-ghost use Rattle.book_tables.specs.Reading.{OnlyReads};
+ghost use Rattle.book_tables.specs.reading.Reading.{OnlyReads};
 ghost use Rattle.book_states.specs.Members.{SaysOfOffice};
 
 use crate::facts::accounts::account_numbered;

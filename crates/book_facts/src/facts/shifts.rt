@@ -5,7 +5,7 @@ ghost use Rattle.sqlite.specs.State.{IsUnchanged};
 ghost use Rattle.sqlite.specs.Held.{state};
 ghost use Rattle.vend_core.specs.Decision.Facts.{AreOpeningFacts, report_of};
 ghost use Rattle.vend_core.specs.Office.Lookup.{open_shift};
-ghost use Rattle.book_tables.specs.Reading.{OnlyReads};
+ghost use Rattle.book_tables.specs.reading.Reading.{OnlyReads};
 ghost use Rattle.book_states.specs.Members.{SaysOfOffice};
 ghost use Rattle.book_facts.specs.Totals.{shift_totals};
 

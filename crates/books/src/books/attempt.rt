@@ -8,7 +8,7 @@ ghost use Rattle.vend_core.specs.Decision.Edits.{applied};
 ghost use Rattle.vend_core.specs.Office.{Office};
 ghost use Rattle.vend_core.specs.Decision.Requests.{IsStamped};
 ghost use Rattle.vend_core.specs.Law.Store.{Meets};
-ghost use Rattle.book_tables.specs.Reading.{HasAllTables};
+ghost use Rattle.book_tables.specs.reading.Reading.{HasAllTables};
 ghost use Rattle.books.specs.Keeps.{seen};
 ghost use Rattle.book_states.specs.Others.{LeavesOthers};
 ghost use Rattle.books.specs.Serving.{FailsToServe, HoldsOffice, ServesGranted, ServingEnds};

@@ -1,7 +1,7 @@
 //! Steps of later days whose rows are no office's, between other tables.
 use crate::office_tables::made::batch;
 use book_tables::TableError;
-use book_tables::dated::{first_day_until, latest_steps, steps_from};
+use book_tables::reading::dated_steps::{first_day_until, latest_steps, steps_from};
 use sqlite::Connection;
 use std::test::Fail;
 use sts_fields::Day;

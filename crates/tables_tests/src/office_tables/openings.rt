@@ -1,8 +1,8 @@
 //! What is found in a file: an office of a format, nothing under its names, or something else.
 use crate::office_tables::made::{BEFORE, TABLES, batch, file};
 use book_tables::PRESENT_FORMAT;
-use book_tables::format::format_number;
-use book_tables::recognising::format_here;
+use book_tables::format::number::format_number;
+use book_tables::format::presence::format_here;
 use sqlite::Connection;
 use std::alloc::Global;
 use std::test::Fail;

@@ -1,8 +1,8 @@
 //! Running totals that are too great, or are no office's otherwise.
 
 use crate::office_tables::made::batch;
-use book_tables::sold::{tenths_in_month, totals_of_shift};
-use book_tables::totalling::{add_tenths, add_to_shift};
+use book_tables::reading::totals::{tenths_in_month, totals_of_shift};
+use book_tables::writing::totals::{add_tenths, add_to_shift};
 use book_tables::{TableError, Totals};
 use sqlite::{Connection, Error, ErrorCode, MemStore};
 use std::alloc::Global;

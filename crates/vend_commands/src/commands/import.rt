@@ -1,18 +1,18 @@
 ghost use Rattle.std.specs.Prelude.{◌≡◌, List};
 ghost use Rattle.papers.specs.File.{AreFileRecords, Fields};
 ghost use Rattle.papers.specs.Import.{IsReading};
-ghost use Rattle.vend_commands.specs.Imported.{IsFileImported, IsImported, read_fault_line, refusal_of_rows};
-ghost use Rattle.vend_commands.specs.Places.{places_of};
-ghost use Rattle.vend_commands.specs.Timed.{IsTimed};
-ghost use Rattle.vend_commands.specs.Told.{Takes, outputs, sink};
+ghost use Rattle.vend_commands.specs.commands.Imported.{IsFileImported, IsImported, read_fault_line, refusal_of_rows};
+ghost use Rattle.vend_commands.specs.port.Places.{places_of};
+ghost use Rattle.vend_commands.specs.commands.Timed.{IsTimed};
+ghost use Rattle.vend_commands.specs.print.Told.{Takes, outputs, sink};
 
 use crate::clock::moment_or_now;
 use crate::commands::request::ask_at;
 use crate::command_end::CommandEnd;
-use crate::ports::{OfficeFile, TextFiles};
-use crate::printed::{put_line, put_no_moment, put_refusal};
-use crate::file_fault::FileFault;
-use crate::watched::Watched;
+use crate::port::ports::{OfficeFile, TextFiles};
+use crate::print::lines::{put_line, put_no_moment, put_refusal};
+use crate::port::file_fault::FileFault;
+use crate::print::watched::Watched;
 use command_line::ImportWords;
 use desk::Clock;
 use papers::{FileKind, RowFault, read_meters, read_tariffs};

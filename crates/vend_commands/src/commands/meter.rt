@@ -2,12 +2,12 @@ ghost use Rattle.std.specs.Prelude.{◌≡◌, ◌∷◌, ◌++◌, [], List, ma
 ghost use Rattle.sim_meter.specs.Meter.{ComesFrom};
 ghost use Rattle.sts_token.specs.Meter.{Entry, Reader};
 ghost use Rattle.sts_token.specs.Reading.{reading_of};
-ghost use Rattle.vend_commands.specs.Metered.{entry_of, metering, metering_of, word_line};
-ghost use Rattle.vend_commands.specs.Told.{Takes, sink};
+ghost use Rattle.vend_commands.specs.commands.Metered.{entry_of, metering, metering_of, word_line};
+ghost use Rattle.vend_commands.specs.print.Told.{Takes, sink};
 
 use crate::command_end::CommandEnd;
-use crate::printed::{put_answer, put_credit, put_line};
-use crate::watched::Watched;
+use crate::print::lines::{put_answer, put_credit, put_line};
+use crate::print::watched::Watched;
 use command_line::MeterWords;
 use sim_meter::Meter;
 use std::io::Write;

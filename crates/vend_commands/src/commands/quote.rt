@@ -1,9 +1,9 @@
-ghost use Rattle.vend_commands.specs.Quoted.{IsQuoted};
-ghost use Rattle.vend_commands.specs.Told.{outputs, sink};
+ghost use Rattle.vend_commands.specs.commands.Quoted.{IsQuoted};
+ghost use Rattle.vend_commands.specs.print.Told.{outputs, sink};
 
 use crate::command_end::CommandEnd;
-use crate::printed::{put_quote, put_refusal};
-use crate::watched::Watched;
+use crate::print::lines::{put_quote, put_refusal};
+use crate::print::watched::Watched;
 use command_line::QuoteWords;
 use std::io::Write;
 use tariff::buy;

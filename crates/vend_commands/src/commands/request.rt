@@ -1,15 +1,15 @@
-ghost use Rattle.vend_commands.specs.Asked.{IsAskedAt};
-ghost use Rattle.vend_commands.specs.Places.{places_of};
-ghost use Rattle.vend_commands.specs.Timed.{IsTimed};
-ghost use Rattle.vend_commands.specs.Told.{outputs, sink};
+ghost use Rattle.vend_commands.specs.commands.Asked.{IsAskedAt};
+ghost use Rattle.vend_commands.specs.port.Places.{places_of};
+ghost use Rattle.vend_commands.specs.commands.Timed.{IsTimed};
+ghost use Rattle.vend_commands.specs.print.Told.{outputs, sink};
 
 use crate::clock::moment_or_now;
 use crate::command_end::CommandEnd;
-use crate::opening::{close_office, open_office};
-use crate::ports::OfficeFile;
-use crate::printed::{put_no_moment, put_opening};
-use crate::serving::ask;
-use crate::watched::Watched;
+use crate::office::opening::{close_office, open_office};
+use crate::port::ports::OfficeFile;
+use crate::print::lines::{put_no_moment, put_opening};
+use crate::office::asking::ask;
+use crate::print::watched::Watched;
 use command_line::{RequestWords, Shipped};
 use desk::Clock;
 use sqlite::FileStore;

@@ -1,16 +1,16 @@
 ghost use Rattle.sqlite.specs.Steps.{over_memory};
 ghost use Rattle.books.specs.Keeps.{seen};
 ghost use Rattle.command_line.specs.Transform.{forward_of};
-ghost use Rattle.vend_commands.specs.Selfchecked.{AgreesOver, Disagrees, IsSelfchecked};
-ghost use Rattle.vend_commands.specs.Selfchecked.{selfcheck_fault_line};
-ghost use Rattle.vend_commands.specs.Told.{Takes, outputs, sink};
+ghost use Rattle.vend_commands.specs.commands.Selfchecked.{AgreesOver, Disagrees, IsSelfchecked};
+ghost use Rattle.vend_commands.specs.commands.Selfchecked.{selfcheck_fault_line};
+ghost use Rattle.vend_commands.specs.print.Told.{Takes, outputs, sink};
 
 use crate::command_end::CommandEnd;
-use crate::loopback::Loopback;
-use crate::printed::{put_line, put_opening, put_refusal};
+use crate::port::loopback::Loopback;
+use crate::print::lines::{put_line, put_opening, put_refusal};
 use crate::selfcheck::selfcheck;
-use crate::selfcheck_fault::SelfcheckFault;
-use crate::watched::Watched;
+use crate::selfcheck::fault::SelfcheckFault;
+use crate::print::watched::Watched;
 use command_line::SelfcheckWords;
 use std::alloc::Global;
 use std::io::Write;

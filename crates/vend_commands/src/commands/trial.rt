@@ -1,15 +1,15 @@
 ghost use Rattle.std.specs.Prelude.{⊤, ℕ, List};
 ghost use Rattle.command_line.specs.Transform.{forward_of};
-ghost use Rattle.vend_commands.specs.Timed.{IsTimed};
-ghost use Rattle.vend_commands.specs.Told.{Takes, outputs, sink};
-ghost use Rattle.vend_commands.specs.Trial.{IsTrial};
-ghost use Rattle.vend_commands.specs.Tried.{IsTried, token_lines, trial_fault_line};
+ghost use Rattle.vend_commands.specs.commands.Timed.{IsTimed};
+ghost use Rattle.vend_commands.specs.print.Told.{Takes, outputs, sink};
+ghost use Rattle.vend_commands.specs.commands.Trial.{IsTrial};
+ghost use Rattle.vend_commands.specs.commands.Tried.{IsTried, token_lines, trial_fault_line};
 
 use crate::clock::moment_or_now;
 use crate::command_end::CommandEnd;
-use crate::printed::{put_line, put_no_moment, put_refusal, put_token};
+use crate::print::lines::{put_line, put_no_moment, put_refusal, put_token};
 use crate::trials::{TrialFault, trial};
-use crate::watched::Watched;
+use crate::print::watched::Watched;
 use command_line::TrialWords;
 use desk::Clock;
 use std::alloc::Global;

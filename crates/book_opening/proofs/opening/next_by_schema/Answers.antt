@@ -1,9 +1,9 @@
 use Rattle.std.proofs.Common.{◌≡◌, ◌≤◌, ℕ, rules, arith, ap, sym, subst, ◌∙◌, IsTrue, Some}
 use Rattle.sqlite.specs.Held.{state}
-use Rattle.book_tables.specs.Format.{HasFormat}
+use Rattle.book_tables.specs.format.Format.{HasFormat}
 use Rattle.book_tables.specs.Holds.{HasOffice, HasOfficeOf}
-use Rattle.book_tables.specs.Reading.{HasAllTables}
-use Rattle.book_tables.specs.Rows.{present_format}
+use Rattle.book_tables.specs.reading.Reading.{HasAllTables}
+use Rattle.book_tables.specs.row.Rows.{present_format}
 use Rattle.book_opening.specs.Opening.{HasSoundDatabase, IsNextSale, LooksAt}
 use Rattle.book_opening.proofs.BroughtLemmas.{ends_found, no_office, refuses_nothing, same_none, survives_none}
 use Rattle.book_opening.proofs.opening.next_by_schema.Goals as goal

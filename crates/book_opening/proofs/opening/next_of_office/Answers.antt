@@ -1,6 +1,6 @@
 use Rattle.std.proofs.lemmas.Result.{IfOk-weaker}
 use Rattle.sqlite.specs.Held.{state}
-use Rattle.book_tables.specs.Format.{HasFormat}
+use Rattle.book_tables.specs.format.Format.{HasFormat}
 use Rattle.sqlite.specs.State.{HasCleanDisk, IsUnchanged, Survives}
 use Rattle.book_opening.specs.Opening.{HasTablesOfFormat, IsNextSale}
 use Rattle.book_opening.proofs.OpeningLemmas.{clean_between, left_both, shown_both, sound_after, stands_between, survives_both, tables_after, unchanged_both}

@@ -1,5 +1,5 @@
-use Rattle.book_tables.proofs.EditLemmas.{edited_members, no_members}
-use Rattle.book_tables.proofs.FoundLemmas.{found_numbered, found_open, found_ref, found_tariff, meter_found}
+use Rattle.book_tables.proofs.WritingLemmas.EditLemmas.{edited_members, no_members}
+use Rattle.book_tables.proofs.ReadingLemmas.FoundLemmas.{found_numbered, found_open, found_ref, found_tariff, meter_found}
 use Rattle.book_tables.proofs.laws.members_law.Goals as goal
 
 pub returns-clause-empty : goal.returns-clause-empty

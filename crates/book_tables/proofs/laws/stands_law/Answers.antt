@@ -1,9 +1,9 @@
-use Rattle.book_tables.specs.Rows.{shown_meter}
-use Rattle.book_tables.specs.Values.{AreMeterValues}
+use Rattle.book_tables.specs.row.Rows.{shown_meter}
+use Rattle.book_tables.specs.row.Values.{AreMeterValues}
 use Rattle.book_tables.proofs.HoldsLemmas.{held_as, one_format, stands_once, stands_present, untaken_stands}
-use Rattle.book_tables.proofs.RowLemmas.{one_shown_meter, reads_itself}
-use Rattle.book_tables.proofs.TextLemmas.{all_defined}
-use Rattle.book_tables.proofs.ValueLemmas.{meters_keep, sales_keep, shifts_keep, steps_keep}
+use Rattle.book_tables.proofs.RowLemmas.RecordLemmas.{one_shown_meter, reads_itself}
+use Rattle.book_tables.proofs.FormatLemmas.TextLemmas.{all_defined}
+use Rattle.book_tables.proofs.RowLemmas.ValueLemmas.{meters_keep, sales_keep, shifts_keep, steps_keep}
 use Rattle.book_tables.proofs.laws.stands_law.Goals as goal
 
 pub returns-clause-one_office : goal.returns-clause-one_office

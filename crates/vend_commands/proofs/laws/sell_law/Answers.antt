@@ -1,5 +1,5 @@
 use Rattle.sqlite.specs.Files.{over_files}
-use Rattle.vend_commands.specs.Places.{places_of}
+use Rattle.vend_commands.specs.port.Places.{places_of}
 use Rattle.vend_commands.proofs.SellLemmas.{ends_sold, sale_told}
 use Rattle.vend_commands.proofs.laws.sell_law.Goals as goal
 

@@ -1,5 +1,5 @@
-use Rattle.vend_commands.specs.Places.{way}
-use Rattle.vend_commands.specs.Visited.{seen_in}
+use Rattle.vend_commands.specs.port.Places.{way}
+use Rattle.vend_commands.specs.office.Visited.{seen_in}
 use Rattle.vend_commands.proofs.CourseLemmas.{live_on}
 use Rattle.vend_commands.proofs.laws.serve_law.Goals as goal
 

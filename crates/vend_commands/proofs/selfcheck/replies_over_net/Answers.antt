@@ -1,6 +1,6 @@
 use Rattle.std.proofs.Common.{◌∙◌, subst, sym}
-use Rattle.vend_commands.specs.Selfchecked.{Converses}
-use Rattle.vend_commands.specs.Selfchecked.Disagrees.{cut}
+use Rattle.vend_commands.specs.commands.Selfchecked.{Converses}
+use Rattle.vend_commands.specs.commands.Selfchecked.Disagrees.{cut}
 use Rattle.vend_commands.proofs.SelfcheckLemmas.{whole_over_net}
 use Rattle.vend_commands.proofs.selfcheck.replies_over_net.Goals as goal
 

@@ -1,5 +1,5 @@
 use Rattle.std.proofs.Common.{refl}
-use Rattle.vend_commands.specs.Selfchecked.Disagrees.{in_memory, unlike}
+use Rattle.vend_commands.specs.commands.Selfchecked.Disagrees.{in_memory, unlike}
 use Rattle.vend_commands.proofs.SelfcheckLemmas.{not_read}
 use Rattle.vend_commands.proofs.selfcheck.selfcheck.Goals as goal
 

@@ -1,6 +1,6 @@
 use Rattle.std.proofs.Common.{◌≡◌, ℕ, ◌+◌, ◌%◌, [], ◌∷◌, ◌++◌, length, get_or, sym, subst, arith}
 use Rattle.std.proofs.lemmas.List.{length_push}
-use Rattle.vend_commands.specs.Trial.{IsRefusedBy, IsSale}
+use Rattle.vend_commands.specs.commands.Trial.{IsRefusedBy, IsSale}
 use Rattle.vend_commands.proofs.TrialLemmas.{ends_by_refusal, last_more, one_sale_more}
 use Rattle.vend_commands.proofs.trials.trial.Goals as goal
 

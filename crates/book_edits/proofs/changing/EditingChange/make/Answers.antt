@@ -4,8 +4,8 @@ use Rattle.tariff.specs.declared.step.Step.{Step}
 use Rattle.vend_core.specs.declared.decision.change.Edit.TheVariants as edits
 use Rattle.vend_core.specs.declared.office.row.Row.{Row}
 use Rattle.one_table.proofs.ChangeLemmas.{if_err}
-use Rattle.book_tables.proofs.CauseLemmas.{came_here, of_store}
-use Rattle.book_tables.specs.Writing.{AddsSteps, AddsTariff}
+use Rattle.book_tables.proofs.WritingLemmas.CauseLemmas.{came_here, of_store}
+use Rattle.book_tables.specs.writing.Writing.{AddsSteps, AddsTariff}
 use Rattle.book_states.specs.Changing.{MakesRows}
 use Rattle.book_edits.proofs.ChangeLemmas.{told_where, refused_by, rows_refused, made_by, makes_closing, makes_import, makes_meter, makes_moving, makes_sale, makes_setting, makes_shift, makes_steps, makes_tariff}
 use Rattle.book_edits.proofs.changing.EditingChange.make.Goals as goal

@@ -3,8 +3,8 @@ use Rattle.std.proofs.lemmas.List.{take_more}
 use Rattle.sqlite.specs.Held.{state}
 use Rattle.sqlite.specs.State.{HasCleanDisk}
 use Rattle.one_table.proofs.ChangeLemmas.{told_as, transaction_off, transaction_on, transaction_then}
-use Rattle.book_tables.specs.Failing.{FailsToWriteAll}
-use Rattle.book_tables.proofs.CauseLemmas.{came_inside, of_later}
+use Rattle.book_tables.specs.writing.Failing.{FailsToWriteAll}
+use Rattle.book_tables.proofs.WritingLemmas.CauseLemmas.{came_inside, of_later}
 use Rattle.vend_core.specs.declared.office.row.Row.{Row}
 use Rattle.book_states.specs.Changing.{MakesRows}
 use Rattle.book_edits.proofs.ChangeLemmas.{makes_more, still_has}

@@ -3,7 +3,7 @@ use Rattle.sqlite.specs.State.{HasCleanDisk}
 use Rattle.sqlite.specs.Held.{state}
 use Rattle.vend_core.specs.declared.office.row.Row.{Row}
 use Rattle.one_table.specs.InTransaction.{IsUnderWay, KeepsTransaction}
-use Rattle.book_tables.specs.Reading.{HasAllTables}
+use Rattle.book_tables.specs.reading.Reading.{HasAllTables}
 use Rattle.book_tables.specs.declared.error.TableError.{TableError}
 use Rattle.book_states.specs.Changing.{MakesRows}
 use Rattle.book_edits.proofs.changing.rows.add_rows.Given as goal

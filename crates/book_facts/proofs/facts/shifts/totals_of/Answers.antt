@@ -5,7 +5,7 @@ use Rattle.vend_core.specs.Office.Lookup.{sales_of_shift}
 use Rattle.vend_core.specs.declared.office.sale.Sale.{Sale}
 use Rattle.vend_core.specs.declared.office.shift.Shift.{Shift}
 use Rattle.book_tables.specs.Stands.{all_totals, sales_in_shift}
-use Rattle.book_tables.specs.declared.totals.Totals.{Totals}
+use Rattle.book_tables.specs.declared.row.totals.Totals.{Totals}
 use Rattle.book_facts.proofs.FactsLemmas.{none_if, sales_told, shifts_told, told_there, was_clean}
 use Rattle.book_facts.proofs.PassedLemmas.{passed, passed_none, read_after}
 use Rattle.book_tables.proofs.OfficeTableLemmas.{shift_totals_in, shifts_in, read_in_office}

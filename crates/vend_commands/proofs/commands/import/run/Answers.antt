@@ -1,5 +1,5 @@
 use Rattle.std.proofs.Common.{refl}
-use Rattle.vend_commands.specs.Told.{outputs, sink}
+use Rattle.vend_commands.specs.print.Told.{outputs, sink}
 use Rattle.vend_commands.specs.declared.command_end.CommandEnd.TheVariants.{Refused}
 use Rattle.vend_commands.proofs.TakeLemmas.{takes_none}
 use Rattle.vend_commands.proofs.TimedLemmas.{timed, untimed}

@@ -1,8 +1,8 @@
 use Rattle.std.proofs.Common.{◌∙◌, ◌++◌, [], ap, sym, subst}
 use Rattle.sim_meter.specs.Meter.{ComesFrom}
 use Rattle.sts_token.specs.Reading.{reading_of}
-use Rattle.vend_commands.specs.Printed.{credit_line}
-use Rattle.vend_commands.specs.Told.{sink}
+use Rattle.vend_commands.specs.print.Printed.{credit_line}
+use Rattle.vend_commands.specs.print.Told.{sink}
 use Rattle.vend_commands.proofs.MeteringLemmas.{all_lines, history, history-more, last_line, next_line}
 use Rattle.vend_commands.proofs.TakeLemmas.{takes_last, takes_more, takes_none}
 use Rattle.vend_commands.proofs.commands.meter.enter_all.Goals as goal

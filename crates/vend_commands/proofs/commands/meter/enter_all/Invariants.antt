@@ -1,8 +1,8 @@
 use Rattle.std.proofs.Common.{◌≡◌, ℕ, List, ◌++◌, map}
 use Rattle.sim_meter.specs.Meter.{ComesFrom}
 use Rattle.sts_token.specs.Reading.{reading_of}
-use Rattle.vend_commands.specs.Metered.{metering}
-use Rattle.vend_commands.specs.Told.{Takes, sink}
+use Rattle.vend_commands.specs.commands.Metered.{metering}
+use Rattle.vend_commands.specs.print.Told.{Takes, sink}
 use Rattle.vend_commands.proofs.MeteringLemmas.{history, lines_from}
 use Rattle.vend_commands.proofs.commands.meter.enter_all.Given as goal
 

@@ -1,6 +1,6 @@
 use Rattle.std.proofs.Common.{refl}
-use Rattle.vend_commands.specs.Told.{sink}
-use Rattle.vend_commands.specs.Visited.IsVisited.{unopened, visited}
+use Rattle.vend_commands.specs.print.Told.{sink}
+use Rattle.vend_commands.specs.office.Visited.IsVisited.{unopened, visited}
 use Rattle.vend_commands.proofs.TakeLemmas.{takes_none}
 use Rattle.vend_commands.proofs.commands.report.run.Goals as goal
 

@@ -1,8 +1,8 @@
 use Rattle.std.proofs.Common.{◌∙◌, Ok, ap, subst, sym}
-use Rattle.vend_commands.specs.Closed.{IsClosed}
-use Rattle.vend_commands.specs.Listening.{IsClosedAfter, stop_line}
-use Rattle.vend_commands.specs.Told.{Takes, sink}
-use Rattle.vend_commands.specs.Visited.{seen_in}
+use Rattle.vend_commands.specs.office.Closed.{IsClosed}
+use Rattle.vend_commands.specs.serving.Listening.{IsClosedAfter, stop_line}
+use Rattle.vend_commands.specs.print.Told.{Takes, sink}
+use Rattle.vend_commands.specs.office.Visited.{seen_in}
 use Rattle.vend_commands.proofs.TakeLemmas.{takes_none}
 use Rattle.vend_commands.proofs.commands.serve.end_with.Goals as goal
 

@@ -1,6 +1,6 @@
 use Rattle.std.proofs.Common.{refl}
-use Rattle.vend_commands.specs.Listening.IsServing.{unheard, unopened, was_open}
-use Rattle.vend_commands.specs.Told.{sink}
+use Rattle.vend_commands.specs.serving.Listening.IsServing.{unheard, unopened, was_open}
+use Rattle.vend_commands.specs.print.Told.{sink}
 use Rattle.vend_commands.proofs.commands.serve.run.Goals as goal
 
 pub returns-in-Some : goal.returns-in-Some

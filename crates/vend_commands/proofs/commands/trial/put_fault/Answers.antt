@@ -1,6 +1,6 @@
 use Rattle.std.proofs.Common.{subst, sym}
-use Rattle.vend_commands.specs.Told.{Takes, sink}
-use Rattle.vend_commands.specs.Tried.{trial_fault_line}
+use Rattle.vend_commands.specs.print.Told.{Takes, sink}
+use Rattle.vend_commands.specs.commands.Tried.{trial_fault_line}
 use Rattle.vend_commands.proofs.commands.trial.put_fault.Goals as goal
 
 pub returns-in-Amount : goal.returns-in-Amount

@@ -1,7 +1,7 @@
 use Rattle.std.proofs.Common.{◌∙◌, ◌++◌, [], ap, append-nil, sym, refl}
 use Rattle.std.proofs.lemmas.List.{drop_all}
-use Rattle.vend_commands.specs.Told.{sink}
-use Rattle.vend_commands.specs.Tried.{token_lines}
+use Rattle.vend_commands.specs.print.Told.{sink}
+use Rattle.vend_commands.specs.commands.Tried.{token_lines}
 use Rattle.vend_commands.proofs.TakeLemmas.{next_token, takes_as, takes_more, takes_none}
 use Rattle.vend_commands.proofs.commands.trial.put_tokens.Goals as goal
 

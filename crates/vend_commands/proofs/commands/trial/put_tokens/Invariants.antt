@@ -1,6 +1,6 @@
 use Rattle.std.proofs.Common.{◌≡◌, ℕ, List, ◌++◌, drop}
-use Rattle.vend_commands.specs.Told.{Takes, sink}
-use Rattle.vend_commands.specs.Tried.{token_lines}
+use Rattle.vend_commands.specs.print.Told.{Takes, sink}
+use Rattle.vend_commands.specs.commands.Tried.{token_lines}
 use Rattle.vend_commands.proofs.commands.trial.put_tokens.Given as goal
 
 -- the lines of the first tokens were put, and the others are left

@@ -1,0 +1,72 @@
+-- What each text over the steps of later days means.
+use Rattle.std.proofs.Common.{◌≡◌, true, ℕ, List, [], ◌∷◌, pos, refl, codes}
+use Rattle.sqlite.specs.declared.types.Value.TheVariants.{Text}
+use Rattle.sqlite_value.specs.declared.keys.Collation.TheVariants.{Binary}
+use Rattle.sqlite_value.specs.declared.value.Value.TheVariants.{Int, Null}
+use Rattle.sqlite_sql.specs.Query.{Query}
+use Rattle.sqlite_sql.specs.Term.{Term, col, lit, op2}
+use Rattle.sqlite_sql.specs.declared.ops.BinaryOp.TheVariants.{Compare}
+use Rattle.sqlite_sql.specs.declared.ops.CompareOp.TheVariants.{Eq, Le}
+use Rattle.sqlite_tied.specs.Compute.{everything}
+use Rattle.sqlite_resolve.specs.Scope.{Name}
+use Rattle.one_table.specs.Inserting.{IsInsert, insert_in, insert_meant, puts_meant}
+use Rattle.one_table.specs.Listed.{falling, query_on, no_limit, rising}
+use Rattle.one_table.specs.Reading.{is_whole, meant, select_meant, text_meant}
+use Rattle.book_tables.specs.row.Rows.{number}
+use Rattle.book_tables.specs.Tables.{dated_steps_table}
+use Rattle.book_tables.proofs.ReadingLemmas.ReadLemmas.{Asks}
+use Rattle.book_tables.proofs.ReadingLemmas.StepTexts.{step_names}
+
+-- ---- the steps that begin on a day
+
+abbrev pub steps_from_text : List ℕ
+steps_from_text =
+    codes "SELECT ends, price FROM dated_steps WHERE tariff = ?1 AND day = ?2 ORDER BY place"
+
+abbrev is_from_day : List Term
+is_from_day = op2 (Compare Eq Binary) (col 1 1) (col 0 0) ∷ op2 (Compare Eq Binary) (col 1 2) (col 0 1) ∷ []
+
+abbrev pub steps_from_query : ℕ → Query
+steps_from_query tree = query_on tree is_from_day (col 1 4 ∷ col 1 5 ∷ []) (rising 3) no_limit
+
+pub steps_from_asks : (name : List ℕ) (day : ℕ) → Asks dated_steps_table steps_from_query step_names steps_from_text (Text name ∷ number day ∷ [])
+unfolding everything is_whole meant select_meant text_meant
+steps_from_asks name day =
+    record { is = λ tree. record { means = refl; from = refl }; bare = λ tree. refl; typed = λ tree. refl; whole = refl }
+
+-- ---- the last first day until a day
+
+abbrev pub first_day_text : List ℕ
+first_day_text =
+    codes "SELECT day FROM dated_steps WHERE tariff = ?1 AND day <= ?2 ORDER BY day DESC LIMIT 1"
+
+abbrev is_until_day : List Term
+is_until_day = op2 (Compare Eq Binary) (col 1 1) (col 0 0) ∷ op2 (Compare Le Binary) (col 1 2) (col 0 1) ∷ []
+
+abbrev pub day_names : List Name
+day_names = codes "day" ∷ []
+
+abbrev pub first_day_query : ℕ → Query
+first_day_query tree = query_on tree is_until_day (col 1 2 ∷ []) (falling 2) (lit (Int (pos 1)))
+
+pub first_day_asks : (name : List ℕ) (day : ℕ) → Asks dated_steps_table first_day_query day_names first_day_text (Text name ∷ number day ∷ [])
+unfolding everything is_whole meant select_meant text_meant
+first_day_asks name day =
+    record { is = λ tree. record { means = refl; from = refl }; bare = λ tree. refl; typed = λ tree. refl; whole = refl }
+
+-- ---- a new step
+
+abbrev pub new_dated_text : List ℕ
+new_dated_text =
+    codes "INSERT INTO dated_steps (tariff, day, place, ends, price) VALUES (?1, ?2, ?3, ?4, ?5)"
+
+abbrev pub five_terms : List Term
+five_terms = lit Null ∷ col 0 0 ∷ col 0 1 ∷ col 0 2 ∷ col 0 3 ∷ col 0 4 ∷ []
+
+pub new_dated_means : (tree : ℕ) → IsInsert (dated_steps_table tree) five_terms new_dated_text
+unfolding everything insert_meant insert_in puts_meant
+new_dated_means tree = record { means = refl; whole = refl; uncounted = refl; unstamped = refl }
+
+pub new_dated_whole : is_whole new_dated_text 5 ≡ true
+unfolding everything is_whole
+new_dated_whole = refl

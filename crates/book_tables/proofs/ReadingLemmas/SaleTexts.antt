@@ -1,0 +1,66 @@
+-- What each text over the table of sales means.
+use Rattle.std.proofs.Common.{ℕ, List, [], ◌∷◌, refl, codes, pos}
+use Rattle.sqlite.specs.declared.types.Value.TheVariants.{Int, Text}
+use Rattle.sqlite_value.specs.declared.keys.Collation.TheVariants.{Binary}
+use Rattle.sqlite_sql.specs.Query.{Query}
+use Rattle.sqlite_sql.specs.Term.{Term, lit, col, op2}
+use Rattle.sqlite_sql.specs.declared.ops.BinaryOp.TheVariants.{Compare}
+use Rattle.sqlite_sql.specs.declared.ops.CompareOp.TheVariants.{Eq}
+use Rattle.sqlite_tied.specs.Compute.{everything}
+use Rattle.sqlite_resolve.specs.Scope.{Name}
+use Rattle.one_table.specs.Listed.{query_on, no_limit, falling}
+use Rattle.one_table.specs.Reading.{is_whole, meant, select_meant, text_meant}
+use Rattle.book_tables.specs.row.Rows.{number}
+use Rattle.book_tables.specs.Tables.{sales_table}
+use Rattle.book_tables.proofs.ReadingLemmas.ReadLemmas.{Asks}
+
+-- all columns but the month
+abbrev pub sale_terms : List Term
+sale_terms =
+    col 1 0 ∷ col 1 2 ∷ col 1 4 ∷ col 1 5 ∷ col 1 6 ∷ col 1 7 ∷ col 1 8 ∷ col 1 9 ∷ col 1 10 ∷ col 1 11 ∷ col 1 12 ∷ col 1 13 ∷ col 1 14 ∷ []
+
+abbrev pub sale_names : List Name
+sale_names =
+    codes "number" ∷ codes "moment" ∷ codes "shift" ∷ codes "operator" ∷ codes "ref" ∷ codes "meter" ∷ codes "base"
+    ∷ codes "tid" ∷ codes "rnd" ∷ codes "tenths" ∷ codes "price" ∷ codes "tender" ∷ codes "digits" ∷ []
+
+abbrev pub sale_numbered_text : List ℕ
+sale_numbered_text =
+    codes "SELECT number, moment, shift, operator, ref, meter, base, tid, rnd, tenths, price, tender, digits FROM sales WHERE number = ?1"
+
+abbrev pub has_number : List Term
+has_number = op2 (Compare Eq Binary) (col 1 0) (col 0 0) ∷ []
+
+abbrev pub sale_numbered_query : ℕ → Query
+sale_numbered_query tree = query_on tree has_number sale_terms [] no_limit
+
+pub sale_numbered_asks : (n : ℕ) → Asks sales_table sale_numbered_query sale_names sale_numbered_text (number n ∷ [])
+unfolding everything is_whole meant select_meant text_meant
+sale_numbered_asks n =
+    record { is = λ tree. record { means = refl; from = refl }; bare = λ tree. refl; typed = λ tree. refl; whole = refl }
+
+abbrev pub sale_of_ref_text : List ℕ
+sale_of_ref_text =
+    codes "SELECT number, moment, shift, operator, ref, meter, base, tid, rnd, tenths, price, tender, digits FROM sales WHERE operator = ?1 AND ref = ?2"
+
+abbrev has_operator_and_ref : List Term
+has_operator_and_ref = op2 (Compare Eq Binary) (col 1 5) (col 0 0) ∷ op2 (Compare Eq Binary) (col 1 6) (col 0 1) ∷ []
+
+abbrev pub sale_of_ref_query : ℕ → Query
+sale_of_ref_query tree = query_on tree has_operator_and_ref sale_terms [] no_limit
+
+pub sale_of_ref_asks : (operator order_ref : List ℕ) → Asks sales_table sale_of_ref_query sale_names sale_of_ref_text (Text operator ∷ Text order_ref ∷ [])
+unfolding everything is_whole meant select_meant text_meant
+sale_of_ref_asks operator order_ref =
+    record { is = λ tree. record { means = refl; from = refl }; bare = λ tree. refl; typed = λ tree. refl; whole = refl }
+
+abbrev pub last_sale_text : List ℕ
+last_sale_text = codes "SELECT number FROM sales ORDER BY number DESC LIMIT 1"
+
+abbrev pub last_sale_query : ℕ → Query
+last_sale_query tree = query_on tree [] (col 1 0 ∷ []) (falling 0) (lit (Int (pos 1)))
+
+pub last_sale_asks : Asks sales_table last_sale_query (codes "number" ∷ []) last_sale_text []
+unfolding everything is_whole meant select_meant text_meant
+last_sale_asks =
+    record { is = λ tree. record { means = refl; from = refl }; bare = λ tree. refl; typed = λ tree. refl; whole = refl }

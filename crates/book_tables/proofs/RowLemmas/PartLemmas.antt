@@ -1,0 +1,88 @@
+-- A sale's row is that of its parts.
+use Rattle.std.proofs.Common.{◌≡◌, ℕ, zero, suc, ◌+◌, [], ◌∷◌, ◌++◌, Option, length, drop, subst, sym, ◌∙◌, ap, ap₂, add-one, arith}
+use Rattle.std.proofs.lemmas.List.{drop_all, drop_more}
+use Rattle.sqlite.specs.Order.{Row, column}
+use Rattle.sqlite.specs.declared.types.Value.TheVariants.{Null}
+use Rattle.vend_core.specs.declared.decision.request.Order.{Order}
+use Rattle.vend_core.specs.declared.office.sale.Sale.{Sale}
+use Rattle.book_tables.specs.row.Parts.{entry_columns, order_columns, sale_part, shown_entry, shown_order, shown_token, token_columns}
+use Rattle.book_tables.specs.row.Rows.{number, shown_booked, shown_sale}
+use Rattle.book_tables.specs.row.ReadBack.{ReadsBack}
+use Rattle.book_tables.specs.row.Values.{AreSaleValues}
+use Rattle.sts_fields.specs.Calendar.{month_at}
+use Rattle.sqlite.specs.declared.types.Value.{Value}
+use Rattle.book_tables.specs.declared.row.office_records.Entry.{Entry}
+use Rattle.book_tables.specs.declared.row.office_records.Token.{Token}
+
+-- so many columns of a row, from one on
+abbrev columns_from : Row → ℕ → ℕ → Row
+columns_from r at zero = []
+columns_from r at (suc count) = column r at ∷ columns_from r (suc at) count
+
+columns_to_the_end : (r : Row) (at count : ℕ) → at + count ≡ length r → columns_from r at count ≡ drop at r
+columns_to_the_end r at zero e = sym (drop_all at r (omega (arith, e)))
+columns_to_the_end r at (suc count) e =
+    let rest : columns_from r (suc at) count ≡ drop (suc at) r = columns_to_the_end r (suc at) count (omega (arith, e)) in
+    let next : drop at r ≡ column r at ∷ drop (suc at) r =
+    drop_more r at Null (omega (arith, e)) ∙ ap (λ (k : ℕ). column r at ∷ drop k r) (add-one at) in
+    ap (λ (more : Row). column r at ∷ more) rest ∙ sym next
+
+-- a row of the columns of a sale, and one with the month behind
+pub whole_sale : (r : Row) → length r ≡ 13 → sale_part r ≡ r
+whole_sale r e = columns_to_the_end r 0 13 (sym e)
+
+pub whole_booking : (r : Row) → length r ≡ 14 → sale_part r ++ column r 13 ∷ [] ≡ r
+whole_booking r e = columns_to_the_end r 0 14 (sym e)
+
+-- the sale of these parts
+abbrev pub sale_from : Entry → Order → Token → ℕ → Sale
+sale_from entry order token price = record {
+  number = entry.number;
+  moment = entry.moment;
+  shift = entry.shift;
+  operator = order.operator;
+  order_ref = order.order_ref;
+  meter = order.meter;
+  base = token.base;
+  tid = token.tid;
+  rnd = token.rnd;
+  tenths = token.tenths;
+  price = price;
+  tender = order.tender;
+  digits = token.digits;
+}
+
+abbrev pub entry_in : Sale → Entry
+entry_in s = record { number = s.number; moment = s.moment; shift = s.shift }
+
+abbrev pub order_in : Sale → Order
+order_in s = record { operator = s.operator; order_ref = s.order_ref; meter = s.meter; tender = s.tender }
+
+abbrev pub token_in : Sale → Token
+token_in s = record { base = s.base; tid = s.tid; rnd = s.rnd; tenths = s.tenths; digits = s.digits }
+
+pub shows_sale : (r : Row) (entry : Entry) (order : Order) (token : Token) (price : ℕ) → shown_entry entry ≡ entry_columns r → shown_order order ≡ order_columns r → shown_token token ≡ token_columns r → number price ≡ column r 10 → shown_sale (sale_from entry order token price) ≡ sale_part r
+shows_sale r entry order token price e o t p = cc
+
+pub shows_entry : (r : Row) (s : Sale) → shown_sale s ≡ sale_part r → shown_entry (entry_in s) ≡ entry_columns r
+shows_entry r s e = ap entry_columns e
+
+pub shows_order : (r : Row) (s : Sale) → shown_sale s ≡ sale_part r → shown_order (order_in s) ≡ order_columns r
+shows_order r s e = ap order_columns e
+
+pub shows_token : (r : Row) (s : Sale) → shown_sale s ≡ sale_part r → shown_token (token_in s) ≡ token_columns r
+shows_token r s e = ap token_columns e
+
+pub read_whole : (r : Row) (read : Option Sale) → length r ≡ 13 → ReadsBack shown_sale AreSaleValues (sale_part r) read → ReadsBack shown_sale AreSaleValues r read
+read_whole r read count part = subst (λ (row : Row). ReadsBack shown_sale AreSaleValues row read) (whole_sale r count) part
+
+-- ---- with the month
+
+pub sale_booked : (r : Row) (s : Sale) → shown_booked s ≡ r → shown_sale s ≡ sale_part r
+sale_booked r s e = ap sale_part e
+
+pub month_booked : (r : Row) (s : Sale) → shown_booked s ≡ r → number (month_at s.moment) ≡ column r 13
+month_booked r s e = ap (λ (row : Row). column row 13) e
+
+pub books : (r : Row) (s : Sale) (month : ℕ) → length r ≡ 14 → shown_sale s ≡ sale_part r → number month ≡ column r 13 → month ≡ month_at s.moment → shown_booked s ≡ r
+books r s month count sale is of_moment = ap₂ (λ (front : Row) (v : Value). front ++ v ∷ []) sale (ap number (sym of_moment) ∙ is) ∙ whole_booking r count

@@ -1,0 +1,17 @@
+pub mod AddTotalsLemmas
+pub mod BaseLemmas
+pub mod BaseTexts
+pub mod CauseLemmas
+pub mod DatedWriteLemmas
+pub mod EditLemmas
+pub mod HiddenWriteLemmas
+pub mod MeterEditLemmas
+pub mod OnlyLemmas
+pub mod PutLemmas
+pub mod RefusalLemmas
+pub mod TariffEditLemmas
+pub mod TariffWriteLemmas
+pub mod TotallingLemmas
+pub mod TotalsTexts
+pub mod WriteLemmas
+pub mod WriteTexts

@@ -1,0 +1,169 @@
+-- What the tables are after the totals of a sale were added one by one, and after the sale with
+-- them.
+use Rattle.std.proofs.Common.{◌≡◌, ◌≤◌, ◌+◌, ℕ, List, [], ◌∷◌, ◌++◌, codes, length, map, unwrap_or, Some, sym, ap, subst, ◌∙◌}
+use Rattle.std.specs.List.{AllByRecursion}
+use Rattle.sqlite_rules.specs.Edit.{IsNoIndex}
+use Rattle.sqlite.specs.State.{State}
+use Rattle.sqlite_keyed.proofs.ListLemmas.{all_both}
+use Rattle.sqlite_schema.specs.declared.schema.Schema.{Schema}
+use Rattle.sqlite_schema.specs.declared.schema.Table.{Table}
+use Rattle.sts_fields.specs.Amount.{IsRepresentable}
+use Rattle.sts_fields.specs.Calendar.{month_at}
+use Rattle.one_table.proofs.ChangeLemmas.{stays_then}
+use Rattle.vend_core.specs.Decision.Edits.{applied}
+use Rattle.vend_core.specs.Office.Lookup.{greatest_of}
+use Rattle.vend_core.specs.Office.{AreNumbered, IsOffice, Office}
+use Rattle.vend_core.specs.Law.Store.{MeetsNewSale}
+use Rattle.vend_core.specs.declared.decision.change.Edit.TheVariants.{AddSale}
+use Rattle.vend_core.specs.declared.office.sale.Sale.{Sale}
+use Rattle.book_tables.specs.Holds.{HasOffice, HoldsMembers, HoldsOf}
+use Rattle.book_tables.specs.reading.Reading.{HasAllTables}
+use Rattle.book_tables.specs.row.Rows.{Rows, present_format}
+use Rattle.book_tables.specs.Stands.{AreMembersOf, AreTotalsOf, sales_in_month, sales_in_shift, sales_under, tenths_of, totals_of}
+use Rattle.book_tables.specs.writing.Writing.{AddsSale, AddsTenths, AddsToShift, AreSaleTotals, FitColumns, IsNextNumber, IsOfNone, MayAddSold, MayAddTenths, MayAddToShift, MayAddTotals, SetsLastId, TellsSold, TellsTotals, WritesOnly, totals_names, with_totals_of}
+use Rattle.book_tables.specs.declared.row.totals.SaleTotals.{SaleTotals}
+use Rattle.book_tables.proofs.RowsOfLemmas.{rows_of_same}
+use Rattle.book_tables.proofs.SalesOfLemmas.{fit_within, last_more, month_more, month_own, own_last, room_in_month, room_in_shift, sales_within, shift_more, shift_own, total_in_month, totals_in_shift}
+use Rattle.book_tables.proofs.WritingLemmas.TotallingLemmas.{total_fits}
+
+-- ---- writes one after another
+
+-- of two writes only the tables of both may have other rows
+only_then : (names a b : List (List ℕ)) → ((s : Schema) (tree : ℕ) → IsOfNone s names tree → IsOfNone s a tree × IsOfNone s b tree) → (old mid new : State) → WritesOnly a old mid → WritesOnly b mid new → WritesOnly names old new
+only_then names a b apart old mid new first second = record {
+  inside = stays_then old mid new first.inside second.inside;
+  marks = second.marks ∙ first.marks;
+  schema = second.schema ∙ first.schema;
+  tables = all_both _ _ _ (λ u kept later none. later (there u.tree none) ∙ kept (apart old.now.schema u.tree none).0) old.now.schema.tables first.tables
+      (subst (λ (s : Schema). AllByRecursion (λ (u : Table). IsOfNone mid.now.schema b u.tree → new.now.trees u.tree ≡ mid.now.trees u.tree) s.tables) first.schema second.tables);
+  others = λ tree none no_index. second.others tree (there tree none) (subst (λ (s : Schema). IsNoIndex s tree) (sym first.schema) no_index) ∙ first.others tree (apart old.now.schema tree none).0 no_index;
+  sound = second.sound;
+}
+  where
+    there : (tree : ℕ) → IsOfNone old.now.schema names tree → IsOfNone mid.now.schema b tree
+    there tree none = subst (λ (s : Schema). IsOfNone s b tree) (sym first.schema) (apart old.now.schema tree none).1
+
+-- the office's tables are still there
+pub tables_stay : (names : List (List ℕ)) (old mid : State) → WritesOnly names old mid → HasAllTables old → HasAllTables mid
+tables_stay names old mid only has runs = subst HasOffice (sym only.schema) (has only.inside.was_open)
+
+-- ---- the totals of a sale
+
+module _ (s : Sale) (last : ℕ) (shown : SaleTotals) (old one two new : State) (first : SetsLastId (s.meter, s.base) last old one) (second : AddsTenths (s.meter, month_at s.moment) s.tenths shown.month_tenths one two) (third : AddsToShift s.shift s.tenths s.price shown.shift two new) where
+  abbrev two_names : List (List ℕ)
+  two_names = codes "last_ids" ∷ codes "month_tenths" ∷ []
+
+  pub only_totals : WritesOnly totals_names old new
+  only_totals =
+      only_then totals_names two_names (codes "shift_totals" ∷ []) (λ s tree none. ((none.0, (none.1.0, tt)), (none.1.1.0, tt))) old two new
+      (only_then two_names (codes "last_ids" ∷ []) (codes "month_tenths" ∷ []) (λ s tree none. ((none.0, tt), (none.1.0, tt))) old one two first.only second.only) third.only
+
+  -- the rows with the totals of these sales and this one, and what was told of it
+  record After (format : ℕ) (rows : Rows) (sales : List Sale) : Type 0 where
+    totals : Rows
+    holds : HoldsOf present_format format new.now (with_totals_of totals rows)
+    are : greatest_of (map (λ t. t.tid) (sales_under (sales ++ s ∷ []) (s.meter, s.base))) ≡ Some last → AreTotalsOf (sales ++ s ∷ []) totals
+    shows : AreSaleTotals s (sales ++ s ∷ []) shown
+
+  after : (format : ℕ) (rows : Rows) (sales : List Sale) → HoldsOf present_format format old.now rows → AreTotalsOf sales rows → FitColumns (sales ++ s ∷ []) → After format rows sales
+  after format rows sales held are fit =
+      let ids = first.rows format rows (λ k. greatest_of (map (λ t. t.tid) (sales_under sales k))) held are.last_ids in
+      let with_ids : Rows = record rows { last_ids = ids.0 } in
+      let month = second.rows format with_ids (λ k. tenths_of (sales_in_month sales k)) ids.1 are.month_tenths (room_in_month sales s fit) in
+      let with_month : Rows = record with_ids { month_tenths = month.0 } in
+      let shift = third.rows format with_month (λ k. totals_of (sales_in_shift sales k)) month.1 are.shift_totals are.by_shift (room_in_shift sales s fit) in
+      let more : List Sale = sales ++ s ∷ [] in
+      record {
+        totals = record with_month { shift_totals = shift.0 };
+        holds = shift.1;
+        are = λ own. record {
+          last_ids = rows_of_same ids.0 _ (λ k. greatest_of (map (λ t. t.tid) (sales_under more k))) (last_more sales s last own) ids.2;
+          month_tenths = rows_of_same month.0 _ (λ k. tenths_of (sales_in_month more k)) (month_more sales s) month.2;
+          shift_totals = rows_of_same shift.0 _ (λ k. totals_of (sales_in_shift more k)) (shift_more sales s) shift.2;
+          by_shift = shift.3;
+        };
+        shows = (month_own sales s ∙ ap Some (sym month.3), shift_own sales s ∙ ap Some (sym shift.4));
+      }
+
+  pub tells_totals : TellsTotals s last shown old new
+  tells_totals = record {
+    adds = record {
+      only = only_totals;
+      rows = λ format rows sales held are fit own. let it = after format rows sales held are fit in (it.totals, it.holds, it.are own);
+    };
+    tells = λ format rows sales held are fit. (after format rows sales held are fit).shows;
+  }
+
+-- what a write finds after the one before it
+module _ (s : Sale) (last : ℕ) (old new : State) (format : ℕ) (rows : Rows) (held : HoldsOf present_format format old.now rows) where
+  pub may_add_tenths : SetsLastId (s.meter, s.base) last old new → MayAddTotals s last format rows
+      → (after : Rows) × HoldsOf present_format format new.now after × MayAddTenths (s.meter, month_at s.moment) s.tenths format after × MayAddToShift s.shift s.tenths s.price format after
+  may_add_tenths first (small, (sales, are, few)) =
+      let ids = first.rows format rows (λ k. greatest_of (map (λ t. t.tid) (sales_under sales k))) held are.last_ids in (
+        record rows { last_ids = ids.0 },
+        ids.1,
+        ((λ k. tenths_of (sales_in_month sales k)), are.month_tenths, total_in_month sales s few),
+        ((λ k. totals_of (sales_in_shift sales k)), are.shift_totals, are.by_shift, totals_in_shift sales s few),
+      )
+
+  pub may_add_to_shift : (sum : ℕ) → AddsTenths (s.meter, month_at s.moment) s.tenths sum old new → MayAddTenths (s.meter, month_at s.moment) s.tenths format rows → MayAddToShift s.shift s.tenths s.price format rows
+      → (after : Rows) × HoldsOf present_format format new.now after × MayAddToShift s.shift s.tenths s.price format after
+  may_add_to_shift sum second (has, are, small) (has_totals, are_totals, up, within) =
+      let month = second.rows format rows has held are (total_fits (unwrap_or (has (s.meter, month_at s.moment)) 0 + s.tenths) small) in
+      (record rows { month_tenths = month.0 }, month.1, (has_totals, are_totals, up, within))
+
+-- ---- a sale and its totals
+
+module _ (s : Sale) where
+  abbrev with_sale : Rows → Rows
+  with_sale rows = record rows { sales = rows.sales ++ s ∷ [] }
+
+  next_is : (o : Office) (rows : Rows) → IsOffice o → MeetsNewSale o s → AreMembersOf rows o → IsNextNumber (λ (t : Sale). t.number) rows.sales s.number
+  next_is o rows office meets are = record {
+    numbered = subst (λ (l : List Sale). AreNumbered (λ (t : Sale). t.number) l) (sym are.sales) office.sale_numbers;
+    next_is = meets.number ∙ ap (λ (l : List Sale). length l + 1) (sym are.sales);
+  }
+
+  own_totals : (o : Office) (rows : Rows) → AreMembersOf rows o → AreTotalsOf o.sales (with_sale rows)
+  own_totals o rows are = record { last_ids = are.totals.last_ids; month_tenths = are.totals.month_tenths; shift_totals = are.totals.shift_totals; by_shift = are.totals.by_shift }
+
+  -- what is found after the sale was added
+  pub may_add_totals : ((t : ℕ) → IsRepresentable t → t ≤ 18201624) → (old mid : State) → AddsSale s old mid → (format : ℕ) (rows : Rows) → HoldsOf present_format format old.now rows → MayAddSold s format rows
+      → (after : Rows) × HoldsOf present_format format mid.now after × MayAddTotals s s.tid format after
+  may_add_totals greatest old mid first format rows held (present, (o, office, meets, are)) =
+      let before = subst (λ (f : ℕ). HoldsOf present_format f old.now rows) present held in
+      let after = first.rows rows before (next_is o rows office meets are) in
+      (with_sale rows, subst (λ (f : ℕ). HoldsOf present_format f mid.now (with_sale rows)) (sym present) after, (meets.values.tid, (o.sales, own_totals o rows are, sales_within greatest o s office meets)))
+
+module _ (greatest : (t : ℕ) → IsRepresentable t → t ≤ 18201624) (s : Sale) (shown : SaleTotals) (old mid new : State) (first : AddsSale s old mid) (second : TellsTotals s s.tid shown mid new) where
+  members : (o : Office) → IsOffice o → MeetsNewSale o s → HoldsMembers old.now o → HoldsMembers new.now (applied (AddSale s) o)
+  members o office meets (rows, held, are) =
+      let it = second.adds.rows present_format (with_sale s rows) o.sales (first.rows rows held (next_is s o rows office meets are)) (own_totals s o rows are) (fit_within (o.sales ++ s ∷ []) (sales_within greatest o s office meets)) (own_last o s meets) in (
+        with_totals_of it.0 (with_sale s rows),
+        it.1,
+        record {
+          tariffs = are.tariffs;
+          steps = are.steps;
+          meters = are.meters;
+          bases = are.bases;
+          dated_steps = are.dated_steps;
+          shifts = are.shifts;
+          sales = ap (λ (l : List Sale). l ++ s ∷ []) are.sales;
+          totals = record { last_ids = it.2.last_ids; month_tenths = it.2.month_tenths; shift_totals = it.2.shift_totals; by_shift = it.2.by_shift };
+          tariffs_once = are.tariffs_once;
+          steps_once = are.steps_once;
+          meters_once = are.meters_once;
+          bases_once = are.bases_once;
+          dated_once = are.dated_once;
+        },
+      )
+
+  pub tells_sold : TellsSold s shown old new
+  tells_sold = record {
+    adds = record {
+      only = only_then (codes "sales" ∷ totals_names) (codes "sales" ∷ []) totals_names (λ s tree none. ((none.0, tt), none.1)) old mid new first.only second.adds.only;
+      members = members;
+    };
+    tells = λ o office meets held.
+        second.tells present_format (with_sale s held.0) o.sales (first.rows held.0 held.1 (next_is s o held.0 office meets held.2)) (own_totals s o held.0 held.2) (fit_within (o.sales ++ s ∷ []) (sales_within greatest o s office meets));
+  }

@@ -1,0 +1,64 @@
+-- What each text over the bases of meters means.
+use Rattle.std.proofs.Common.{◌≡◌, true, ℕ, List, [], ◌∷◌, refl, codes}
+use Rattle.sqlite_value.specs.declared.value.Value.TheVariants.{Null}
+use Rattle.sqlite_sql.specs.Query.{Query}
+use Rattle.sqlite_sql.specs.Term.{Term, col, lit}
+use Rattle.sqlite_tied.specs.Compute.{everything}
+use Rattle.sqlite_resolve.specs.Scope.{Name}
+use Rattle.one_table.specs.Changing.{IsUpdate, sets_meant, update_in, update_meant}
+use Rattle.one_table.specs.Inserting.{IsInsert, insert_in, insert_meant, puts_meant}
+use Rattle.one_table.specs.Listed.{no_limit, query_on}
+use Rattle.one_table.specs.Reading.{is_whole, meant, select_meant, text_meant}
+use Rattle.book_tables.specs.Tables.{meter_bases_table, meters_table}
+use Rattle.book_tables.proofs.ReadingLemmas.ReadLemmas.{Asks}
+use Rattle.book_tables.proofs.WritingLemmas.WriteTexts.{is_that_meter}
+
+-- ---- a base more
+
+abbrev pub new_base_text : List ℕ
+new_base_text = codes "INSERT INTO meter_bases (meter, base) VALUES (?1, ?2)"
+
+abbrev pub two_terms : List Term
+two_terms = lit Null ∷ col 0 0 ∷ col 0 1 ∷ []
+
+pub new_base_means : (tree : ℕ) → IsInsert (meter_bases_table tree) two_terms new_base_text
+unfolding everything insert_meant insert_in puts_meant
+new_base_means tree = record { means = refl; whole = refl; uncounted = refl; unstamped = refl }
+
+pub new_base_whole : is_whole new_base_text 2 ≡ true
+unfolding everything is_whole
+new_base_whole = refl
+
+-- ---- the present base of a meter
+
+abbrev pub base_set_text : List ℕ
+base_set_text = codes "UPDATE meters SET base = ?2 WHERE meter = ?1"
+
+abbrev pub base_set_terms : List Term
+base_set_terms = col 1 0 ∷ col 1 0 ∷ col 1 1 ∷ col 0 1 ∷ col 1 3 ∷ col 1 4 ∷ []
+
+abbrev pub base_set_query : ℕ → Query
+base_set_query tree = query_on tree is_that_meter base_set_terms [] no_limit
+
+pub base_set_means : (tree : ℕ) → IsUpdate (meters_table tree) (base_set_query tree) base_set_text
+unfolding everything update_meant update_in sets_meant
+base_set_means tree = record { means = refl; from = refl }
+
+pub base_set_whole : is_whole base_set_text 2 ≡ true
+unfolding everything is_whole
+base_set_whole = refl
+
+-- ---- all meters
+
+abbrev pub all_meters_text : List ℕ
+all_meters_text = codes "SELECT meter, base, tariff, secret FROM meters"
+
+abbrev pub all_meters_names : List Name
+all_meters_names = codes "meter" ∷ codes "base" ∷ codes "tariff" ∷ codes "secret" ∷ []
+
+abbrev pub all_meters_query : ℕ → Query
+all_meters_query tree = query_on tree [] (col 1 1 ∷ col 1 2 ∷ col 1 3 ∷ col 1 4 ∷ []) [] no_limit
+
+pub all_meters_asks : Asks meters_table all_meters_query all_meters_names all_meters_text []
+unfolding everything is_whole meant select_meant text_meant
+all_meters_asks = record { is = λ tree. record { means = refl; from = refl }; bare = λ tree. refl; typed = λ tree. refl; whole = refl }

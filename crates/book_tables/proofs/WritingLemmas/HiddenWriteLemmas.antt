@@ -1,0 +1,150 @@
+-- What the rows of the tariffs, their steps and the meters are after a write. SQLite chooses the
+-- numbers of these rows.
+use Rattle.std.proofs.Common.{◌≡◌, ◌≢◌, ℕ, pos, Bool, List, [], ◌∷◌, ◌++◌, length, map, filter, find, drop, ◌≤◌, codes, refl, sym, ap, ◌∙◌, subst}
+use Rattle.std.specs.Prelude.{AllPairs, bytes_eq}
+use Rattle.std.proofs.lemmas.List.{map-append}
+use Rattle.std.proofs.lemmas.Slice.Eq.{bytes_eq-Decides}
+use Rattle.sqlite.specs.Order.{Row}
+use Rattle.sqlite.specs.State.{State}
+use Rattle.sqlite_value.specs.declared.value.Value.TheVariants.{Null, Text}
+use Rattle.sqlite_trees.specs.Tree.{put_row}
+use Rattle.sqlite_sql.specs.Term.{Term}
+use Rattle.sqlite_rules.specs.declared.error.Rowids.TheVariants.{Chosen}
+use Rattle.sqlite_rules.specs.Edit.{with_rowid}
+use Rattle.sqlite_schema.specs.declared.schema.Table.{Table}
+use Rattle.sqlite_typed.proofs.TestLemmas.{last_term}
+use Rattle.one_table.specs.InTransaction.{PutsRow, SetsRows}
+use Rattle.one_table.specs.Inserting.{new_row, source_row}
+use Rattle.one_table.specs.Numbered.{IsInOrder}
+use Rattle.one_table.specs.Standing.{tree_in}
+use Rattle.one_table.specs.Updating.{SetsHidden}
+use Rattle.one_table.proofs.AppendLemmas.{stands_last}
+use Rattle.one_table.proofs.CastLemmas.{cast_int, cast_no_int}
+use Rattle.one_table.proofs.HiddenSetLemmas.{sets_hidden}
+use Rattle.one_table.proofs.TestsLemmas.{text_is}
+use Rattle.sts_fields.specs.Base.{year_of}
+use Rattle.vend_core.specs.Decision.Fold.{with_tariff}
+use Rattle.vend_core.specs.declared.office.meter.Meter.{Meter}
+use Rattle.book_tables.specs.writing.Edited.{row_with_tariff}
+use Rattle.book_tables.specs.row.Rows.{StepRow, meter_columns, present_format, step_columns, tariff_columns}
+use Rattle.book_tables.specs.Tables.{meters_table, tariff_steps_table, tariffs_table}
+use Rattle.book_tables.specs.writing.Writing.{AddsMeterRow, AddsName, AddsStep, SetsTariff}
+use Rattle.book_tables.proofs.KeptLemmas.{meters_changed, steps_changed, tariffs_changed}
+use Rattle.book_tables.proofs.ListLemmas.{NotBothPass, first_is_all, pairs_weaker}
+use Rattle.book_tables.proofs.WritingLemmas.WriteLemmas.{cast_optional, changes_only, few, only_one}
+use Rattle.book_tables.proofs.WritingLemmas.WriteTexts.{four_terms, is_that_meter, one_term, tariff_set_query, tariff_set_terms}
+
+-- ---- one row more
+
+-- the rows of a table after a row of it was put in
+module _ {X : Type 0} (stored : X → Row) (t : Table) (terms : List Term) (params : Row) (x : X) (source : source_row t terms params ≡ Null ∷ stored x) (old new : State)
+    (h : PutsRow t (new_row t terms params (old.now.trees t.tree)) old new) where
+  abbrev rows : List Row
+  rows = old.now.trees t.tree
+
+  row_is : new_row t terms params rows ≡ with_rowid Chosen rows (Null ∷ stored x)
+  row_is = ap (with_rowid Chosen rows) source
+
+  pub stands_after : (xs : List X) → map (drop 1) rows ≡ map stored xs → IsInOrder rows → (map (drop 1) (new.now.trees t.tree) ≡ map stored (xs ++ x ∷ [])) × IsInOrder (new.now.trees t.tree)
+  stands_after xs holds order =
+      let last = stands_last (Null ∷ stored x) refl rows order.rises order.are_numbers in
+      let put : new.now.trees t.tree ≡ put_row (with_rowid Chosen rows (Null ∷ stored x)) rows = h.changed.rows_are ∙ ap (λ (r : Row). put_row r rows) row_is in (
+        ap (map (drop 1)) put ∙ last.columns ∙ ap (λ (l : List Row). l ++ stored x ∷ []) holds ∙ sym (map-append stored xs (x ∷ [])),
+        subst IsInOrder (sym put) (record { rises = last.rises; are_numbers = last.are_numbers }),
+      )
+
+-- ---- a meter
+
+module _ (old new : State) where
+  abbrev meters : Table
+  meters = meters_table (tree_in old.now.schema (codes "meters"))
+
+  meter_source : (number : List ℕ) (m : Meter) → source_row meters four_terms (meter_columns (number, m)) ≡ Null ∷ meter_columns (number, m)
+  meter_source number m = rw (cast_no_int, cast_int (pos (year_of m.base))) refl
+
+  pub adds_meter : (number : List ℕ) (m : Meter) (params : Row) → params ≡ meter_columns (number, m) → PutsRow meters (new_row meters four_terms params (old.now.trees meters.tree)) old new → AddsMeterRow number m old new
+  adds_meter number m params bound put =
+      let h = subst (λ (p : Row). PutsRow meters (new_row meters four_terms p (old.now.trees meters.tree)) old new) bound put in
+      let only = only_one (codes "meters") meters _ old new refl h.changed in
+      let kept = changes_only (codes "meters") old new only in
+      record {
+        only = only;
+        rows = λ rows held.
+            let it = stands_after meter_columns meters four_terms (meter_columns (number, m)) (number, m) (meter_source number m) old new h rows.meters held.are.1.1.1.0.0 held.are.1.1.1.0.1 in
+            meters_changed present_format old.now new.now rows held (rows.meters ++ (number, m) ∷ []) kept it.0 it.1;
+      }
+
+  -- ---- the name of a tariff
+
+  abbrev tariffs : Table
+  tariffs = tariffs_table (tree_in old.now.schema (codes "tariffs"))
+
+  name_source : (name : List ℕ) → source_row tariffs one_term (tariff_columns name) ≡ Null ∷ tariff_columns name
+  name_source name = rw cast_no_int refl
+
+  pub adds_name : (name : List ℕ) (params : Row) → params ≡ tariff_columns name → PutsRow tariffs (new_row tariffs one_term params (old.now.trees tariffs.tree)) old new → AddsName name old new
+  adds_name name params bound put =
+      let h = subst (λ (p : Row). PutsRow tariffs (new_row tariffs one_term p (old.now.trees tariffs.tree)) old new) bound put in
+      let only = only_one (codes "tariffs") tariffs _ old new refl h.changed in
+      let kept = changes_only (codes "tariffs") old new only in
+      record {
+        only = only;
+        rows = λ rows held.
+            let it = stands_after tariff_columns tariffs one_term (tariff_columns name) name (name_source name) old new h rows.tariffs held.are.1.0.0 held.are.1.0.1 in
+            tariffs_changed present_format old.now new.now rows held (rows.tariffs ++ name ∷ []) kept it.0 it.1;
+      }
+
+  -- ---- a step
+
+  abbrev steps : Table
+  steps = tariff_steps_table (tree_in old.now.schema (codes "tariff_steps"))
+
+  step_source : (r : StepRow) → source_row steps four_terms (step_columns r) ≡ Null ∷ step_columns r
+  step_source r = rw (cast_no_int, cast_int (pos r.place), cast_optional r.step.ends, cast_int (pos r.step.price)) refl
+
+  pub adds_step : (r : StepRow) (params : Row) → params ≡ step_columns r → PutsRow steps (new_row steps four_terms params (old.now.trees steps.tree)) old new → AddsStep r old new
+  adds_step r params bound put =
+      let h = subst (λ (p : Row). PutsRow steps (new_row steps four_terms p (old.now.trees steps.tree)) old new) bound put in
+      let only = only_one (codes "tariff_steps") steps _ old new refl h.changed in
+      let kept = changes_only (codes "tariff_steps") old new only in
+      record {
+        only = only;
+        rows = λ rows held.
+            let it = stands_after step_columns steps four_terms (step_columns r) r (step_source r) old new h rows.steps held.are.1.1.0.0 held.are.1.1.0.1 in
+            steps_changed present_format old.now new.now rows held (rows.steps ++ r ∷ []) kept it.0 it.1;
+      }
+
+  -- ---- the tariff of a meter
+
+  abbrev pub is_that : List ℕ → (List ℕ × Meter) → Bool
+  is_that number r = bytes_eq r.0 number
+
+  abbrev renamed : List ℕ → (List ℕ × Meter) → (List ℕ × Meter)
+  renamed name r = (r.0, with_tariff name r.1)
+
+  setting : (number name : List ℕ) → SetsHidden meters is_that_meter tariff_set_terms (Text number ∷ Text name ∷ []) meter_columns (is_that number) (renamed name)
+  setting number name = record {
+    passes = λ n r. last_term (text_is r.0 number);
+    identifies = λ n r. refl;
+    becomes = λ n r. rw (cast_int n, cast_int (pos (year_of r.1.base))) refl;
+  }
+
+  pub one_at_most : (number : List ℕ) (xs : List (List ℕ × Meter)) → AllPairs (λ a b. a.0 ≢ b.0) xs → length (filter (is_that number) xs) ≤ 1
+  one_at_most number xs apart =
+      let once = pairs_weaker (λ a b. a.0 ≢ b.0) (NotBothPass (is_that number)) xs (λ a b differ p q. differ ((bytes_eq-Decides a.0 number).0 p ∙ sym ((bytes_eq-Decides b.0 number).0 q))) apart in
+      subst (λ (l : List (List ℕ × Meter)). length l ≤ 1) (sym (first_is_all (is_that number) xs once)) (few (find (is_that number) xs))
+
+  pub sets_tariff : (number name : List ℕ) (params : Row) → params ≡ Text number ∷ Text name ∷ [] → SetsRows meters (tariff_set_query meters.tree) params old new → SetsTariff number name old new
+  sets_tariff number name params bound found =
+      let h = subst (λ (p : Row). SetsRows meters (tariff_set_query meters.tree) p old new) bound found in
+      let only = only_one (codes "meters") meters _ old new refl h.changed in
+      record {
+        only = only;
+        rows = λ rows held apart.
+            let order = held.are.1.1.1.0.1 in
+            let set = sets_hidden meter_columns (is_that number) (renamed name) meters is_that_meter tariff_set_terms (Text number ∷ Text name ∷ []) (setting number name) (λ r none. cc)
+            old new rows.meters h held.are.1.1.1.0.0 order.rises order.are_numbers (one_at_most number rows.meters apart) in
+            let in_order : IsInOrder set.rows = record { rises = set.rises; are_numbers = set.are_numbers } in
+            meters_changed present_format old.now new.now rows held (map (row_with_tariff number name) rows.meters) (changes_only (codes "meters") old new only)
+            (ap (map (drop 1)) set.changed.rows_are ∙ set.holds) (subst IsInOrder (sym set.changed.rows_are) in_order);
+      }

@@ -1,0 +1,54 @@
+-- Why a write of the office's tables fails.
+use Rattle.std.proofs.Common.{◌≡◌, ℕ, IfErr, IsErrAnd, Result, Ok, Err, ap, subst, sym, ◌∙◌}
+use Rattle.sqlite.specs.Order.{Row}
+use Rattle.sqlite.specs.State.{HasCleanDisk, KeepsCommit, State, Survives}
+use Rattle.sqlite.specs.declared.error.Error.{Error}
+use Rattle.sqlite_schema.specs.declared.command.Command.{Command}
+use Rattle.sqlite_schema.specs.declared.schema.Table.{Table}
+use Rattle.one_table.specs.InTransaction.{FailsToWrite, IsUnderWay}
+use Rattle.one_table.specs.Merges.{FailsToTouch, FailsToUpsert, Upserts, shown_row}
+use Rattle.one_table.specs.Upserting.{Merging}
+use Rattle.one_table.specs.declared.read_fault.ReadFault.{ReadFault}
+use Rattle.one_table.specs.declared.read_fault.ReadFault.TheVariants as fault
+use Rattle.one_table.proofs.ChangeLemmas.{transaction_off}
+use Rattle.book_tables.specs.reading.Reading.{FailsToMerge, FailsToStore, HasAllTables, told}
+use Rattle.book_tables.specs.writing.Writing.{MergesTables}
+use Rattle.book_tables.specs.declared.error.TableError.{TableError}
+use Rattle.book_tables.specs.declared.error.TableError.TheVariants.{Database, RowOfNoOffice}
+
+pub fails_to_store : {A : Type 0} {old new : State} {e : Error} (command : Command) (params : Row) (r : Result A TableError) → IsErrAnd r (λ x. x ≡ Database e) → FailsToWrite command params old new e → IfErr r (FailsToStore old new)
+fails_to_store command params (Ok x) told fails = tt
+fails_to_store {old = old} {new = new} command params (Err x) told fails = subst (FailsToStore old new) (sym told) (command, params, fails)
+
+pub same_error : {A : Type 0} (x y : TableError) → ◌≡◌ {A = Result A TableError} (Err x) (Err y) → x ≡ y
+same_error x y e = cc
+
+-- the error that a failure hands on
+pub handed_on : {A B : Type 0} (e y : TableError) (r : Result A TableError) → IsErrAnd r (λ x. x ≡ e) → r ≡ Err y → ◌≡◌ {A = Result B TableError} (Err e) (Err y)
+handed_on e y (Ok x) is known = absurd is
+handed_on {B = B} e y (Err x) is known = ap (λ (z : TableError). let r : Result B TableError = Err z in r) (sym is ∙ same_error x y known)
+
+-- an upsert failed, which is told so
+pub fails_to_merge : {A : Type 0} (old new : State) (t : Table) (m : Merging) (params : Row) (at : ℕ) (why : ReadFault) (r : Result A TableError) → IsErrAnd r (λ x. x ≡ told why) → FailsToTouch t m params old new at why → IfErr r (FailsToMerge old new)
+fails_to_merge old new t m params at why (Ok x) is fails = tt
+fails_to_merge old new t m params at (fault.Database e) (Err x) is fails = subst (FailsToMerge old new) (sym is) (t, m, params, at, fails)
+fails_to_merge old new t m params at fault.Row (Err x) is fails = subst (FailsToMerge old new) (sym is) (t, m, params, at, fails)
+fails_to_merge old new t m params at fault.TooMuch (Err x) is fails = absurd fails
+
+-- it is told that a row is no office's only where what is shown of the row that was written is none
+pub false_row : {A : Type 0} {old new : State} (t : Table) (m : Merging) (params : Row) (at : ℕ) (IsReadable : Row → Type 0) (why : ReadFault) (r : Result A TableError) → IsErrAnd r (λ x. x ≡ told why) → FailsToUpsert t m params old new at IsReadable why
+    → r ≡ Err RowOfNoOffice → (row : Row) × (¬ IsReadable (shown_row t m params row)) × Upserts t m params old new row
+false_row t m params at IsReadable why (Ok x) is fails known = absurd is
+false_row t m params at IsReadable (fault.Database e) (Err x) is fails known = absurd (let wrong : Database e ≡ RowOfNoOffice = sym is ∙ same_error x RowOfNoOffice known in cc)
+false_row t m params at IsReadable fault.Row (Err x) is fails known = fails
+false_row t m params at IsReadable fault.TooMuch (Err x) is fails known = absurd fails
+
+-- what is left of the tables where a write that answers something fails, and why it does
+pub merge_off : {T : Type 0} {Makes : T → State → State → Type 0} {old new : State} (e : TableError) (r : Result T TableError) → IsErrAnd r (λ x. x ≡ e) → (HasCleanDisk new → IsUnderWay old → KeepsCommit old new) → Survives old new (λ _. ⊥)
+    → (HasCleanDisk new → IsUnderWay old → HasAllTables old → FailsToMerge old new e) → MergesTables Makes old new r
+merge_off e (Ok x) is kept survives fails = absurd is
+merge_off {old = old} {new = new} e (Err x) is kept survives fails = record {
+  made = λ clean way has. tt;
+  transaction = transaction_off e (Err x) is kept survives;
+  refused = λ clean way has. subst (FailsToMerge old new) (sym is) (fails clean way has);
+}

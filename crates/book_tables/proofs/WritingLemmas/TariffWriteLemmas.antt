@@ -1,0 +1,63 @@
+-- What the rows are after a tariff with its steps was added, row by row.
+use Rattle.std.proofs.Common.{◌≡◌, ℕ, ◌+◌, List, [], ◌∷◌, ◌++◌, length, map, codes, sym, ap, subst, ◌∙◌, arith, append-nil, append_assoc}
+use Rattle.std.specs.List.{enumerate_from}
+use Rattle.sqlite.specs.State.{State}
+use Rattle.tariff.specs.declared.step.Step.{Step}
+use Rattle.book_tables.specs.writing.Edited.{step_rows}
+use Rattle.book_tables.specs.Holds.{Holds}
+use Rattle.book_tables.specs.row.Rows.{StepRow}
+use Rattle.book_tables.specs.writing.Writing.{AddsName, AddsStep, AddsTariff, WritesOnly}
+use Rattle.book_tables.proofs.WritingLemmas.OnlyLemmas.{only_among, only_both}
+
+-- ---- lists
+
+rows_more : (name : List ℕ) (at : ℕ) (xs : List Step) (s : Step) → map (λ (p : ℕ × Step). let r : StepRow = record { tariff = name; place = p.0; step = p.1 } in r) (enumerate_from at (xs ++ s ∷ []))
+    ≡ map (λ (p : ℕ × Step). let r : StepRow = record { tariff = name; place = p.0; step = p.1 } in r) (enumerate_from at xs) ++ record { tariff = name; place = at + length xs; step = s } ∷ []
+rows_more name at [] s = let here : at ≡ at + 0 = omega arith in ap (λ (n : ℕ). let r : List StepRow = record { tariff = name; place = n; step = s } ∷ [] in r) here
+rows_more name at (x ∷ xs) s =
+    let further : at + 1 + length xs ≡ at + length (x ∷ xs) = omega arith in
+    ap (λ (l : List StepRow). record { tariff = name; place = at; step = x } ∷ l) (rows_more name (at + 1) xs s
+    ∙ ap (λ (n : ℕ). map (λ (p : ℕ × Step). let r : StepRow = record { tariff = name; place = p.0; step = p.1 } in r) (enumerate_from (at + 1) xs) ++ record { tariff = name; place = n; step = s } ∷ []) further)
+
+-- ---- two tables
+
+abbrev both : List (List ℕ)
+both = codes "tariffs" ∷ codes "tariff_steps" ∷ []
+
+first_only : (old new : State) → WritesOnly (codes "tariffs" ∷ []) old new → WritesOnly both old new
+first_only = only_among (codes "tariffs" ∷ []) both (λ s tree apart. (apart.0, tt))
+
+then_second : (old mid new : State) → WritesOnly both old mid → WritesOnly (codes "tariff_steps" ∷ []) mid new → WritesOnly both old new
+then_second old mid new first second = only_both both old mid new first (only_among (codes "tariff_steps" ∷ []) both (λ s tree apart. (apart.1.0, tt)) mid new second)
+
+-- ---- a tariff
+
+rows_are : (name : List ℕ) (xs : List Step) (s : Step) → step_rows name (xs ++ s ∷ []) ≡ step_rows name xs ++ record { tariff = name; place = length xs; step = s } ∷ []
+rows_are name xs s =
+    let here : 0 + length xs ≡ length xs = omega arith in
+    rows_more name 0 xs s ∙ ap (λ (n : ℕ). step_rows name xs ++ record { tariff = name; place = n; step = s } ∷ []) here
+
+-- with no steps so far
+pub adds_none : (name : List ℕ) (old new : State) → AddsName name old new → AddsTariff name [] old new
+adds_none name old new adds = record {
+  only = first_only old new adds.only;
+  rows = λ rows held.
+      let none : rows.steps ++ [] ≡ rows.steps = append-nil rows.steps in
+      subst (λ (l : List StepRow). Holds new.now (record rows { tariffs = rows.tariffs ++ name ∷ []; steps = l })) (sym none) (adds.rows rows held);
+}
+
+adds_at_end : (name : List ℕ) (xs : List Step) (s : Step) (old mid new : State) → AddsTariff name xs old mid → AddsStep (record { tariff = name; place = length xs; step = s }) mid new → AddsTariff name (xs ++ s ∷ []) old new
+adds_at_end name xs s old mid new first second = record {
+  only = then_second old mid new first.only second.only;
+  rows = λ rows held.
+      let both = second.rows (record rows { tariffs = rows.tariffs ++ name ∷ []; steps = rows.steps ++ step_rows name xs }) (first.rows rows held) in
+      let steps : (rows.steps ++ step_rows name xs) ++ record { tariff = name; place = length xs; step = s } ∷ [] ≡ rows.steps ++ step_rows name (xs ++ s ∷ []) =
+      append_assoc rows.steps (step_rows name xs) (record { tariff = name; place = length xs; step = s } ∷ []) ∙ ap (λ (l : List StepRow). rows.steps ++ l) (sym (rows_are name xs s)) in
+      subst (λ (l : List StepRow). Holds new.now (record rows { tariffs = rows.tariffs ++ name ∷ []; steps = l })) steps both;
+}
+
+-- with one step more
+pub adds_next : (name : List ℕ) (xs : List Step) (place : ℕ) (s : Step) (old mid new : State) → place ≡ length xs → AddsTariff name xs old mid → AddsStep (record { tariff = name; place = place; step = s }) mid new
+    → AddsTariff name (xs ++ s ∷ []) old new
+adds_next name xs place s old mid new is first added =
+    adds_at_end name xs s old mid new first (subst (λ (n : ℕ). AddsStep (record { tariff = name; place = n; step = s }) mid new) is added)

@@ -1,0 +1,133 @@
+-- What each text over the tables of running totals means.
+use Rattle.std.proofs.Common.{◌≡◌, true, ℕ, List, [], ◌∷◌, refl, codes, pos}
+use Rattle.sqlite.specs.declared.types.Value.TheVariants.{Int, Null, Text}
+use Rattle.sqlite_value.specs.declared.keys.Collation.TheVariants.{Binary}
+use Rattle.sqlite_sql.specs.Query.{Query}
+use Rattle.sqlite_sql.specs.Term.{Term, lit, col, op2}
+use Rattle.sqlite_sql.specs.declared.ops.ArithOp.TheVariants.{Add}
+use Rattle.sqlite_sql.specs.declared.ops.BinaryOp.TheVariants.{Arith, Compare}
+use Rattle.sqlite_sql.specs.declared.ops.CompareOp.TheVariants.{Eq}
+use Rattle.sqlite_tied.specs.Compute.{everything}
+use Rattle.sqlite_resolve.specs.Scope.{Name}
+use Rattle.one_table.specs.Inserting.{puts_meant}
+use Rattle.one_table.specs.Listed.{query_on, no_limit}
+use Rattle.one_table.specs.Reading.{is_whole, meant, select_meant, text_meant}
+use Rattle.one_table.specs.Upserting.{IsUpsert, Merging, set_meant, shown_meant, upsert_by, upsert_in, upsert_meant}
+use Rattle.book_tables.specs.row.Rows.{number}
+use Rattle.book_tables.specs.Tables.{last_ids_table, month_tenths_table, shift_totals_table}
+use Rattle.book_tables.proofs.ReadingLemmas.ReadLemmas.{Asks}
+
+-- ---- what is read by a key
+
+-- a text and a number are these
+abbrev is_that_pair : List Term
+is_that_pair = op2 (Compare Eq Binary) (col 1 1) (col 0 0) ∷ op2 (Compare Eq Binary) (col 1 2) (col 0 1) ∷ []
+
+abbrev pub last_id_text : List ℕ
+last_id_text = codes "SELECT tid FROM last_ids WHERE meter = ?1 AND base = ?2"
+
+abbrev pub last_id_query : ℕ → Query
+last_id_query tree = query_on tree is_that_pair (col 1 3 ∷ []) [] no_limit
+
+abbrev pub last_id_names : List Name
+last_id_names = codes "tid" ∷ []
+
+pub last_id_asks : (meter : List ℕ) (year : ℕ) → Asks last_ids_table last_id_query last_id_names last_id_text (Text meter ∷ number year ∷ [])
+unfolding everything is_whole meant select_meant text_meant
+last_id_asks meter year =
+    record { is = λ tree. record { means = refl; from = refl }; bare = λ tree. refl; typed = λ tree. refl; whole = refl }
+
+abbrev pub month_tenths_text : List ℕ
+month_tenths_text = codes "SELECT tenths FROM month_tenths WHERE meter = ?1 AND month = ?2"
+
+abbrev pub month_tenths_query : ℕ → Query
+month_tenths_query tree = query_on tree is_that_pair (col 1 3 ∷ []) [] no_limit
+
+abbrev pub month_tenths_names : List Name
+month_tenths_names = codes "tenths" ∷ []
+
+pub month_tenths_asks : (meter : List ℕ) (month : ℕ) → Asks month_tenths_table month_tenths_query month_tenths_names month_tenths_text (Text meter ∷ number month ∷ [])
+unfolding everything is_whole meant select_meant text_meant
+month_tenths_asks meter month =
+    record { is = λ tree. record { means = refl; from = refl }; bare = λ tree. refl; typed = λ tree. refl; whole = refl }
+
+abbrev pub shift_totals_text : List ℕ
+shift_totals_text = codes "SELECT sales, tenths, cash FROM shift_totals WHERE shift = ?1"
+
+abbrev pub shift_totals_query : ℕ → Query
+shift_totals_query tree =
+    query_on tree (op2 (Compare Eq Binary) (col 1 0) (col 0 0) ∷ []) (col 1 2 ∷ col 1 3 ∷ col 1 4 ∷ []) [] no_limit
+
+abbrev pub shift_totals_names : List Name
+shift_totals_names = codes "sales" ∷ codes "tenths" ∷ codes "cash" ∷ []
+
+pub shift_totals_asks : (shift : ℕ) → Asks shift_totals_table shift_totals_query shift_totals_names shift_totals_text (number shift ∷ [])
+unfolding everything is_whole meant select_meant text_meant
+shift_totals_asks shift =
+    record { is = λ tree. record { means = refl; from = refl }; bare = λ tree. refl; typed = λ tree. refl; whole = refl }
+
+-- ---- what is put in or merged by its key
+
+-- the third column of a table with a UNIQUE of the first two is set so, and shown
+abbrev third_set : List ℕ → Term → Merging
+third_set name set = record {
+  count = 3;
+  given = lit Null ∷ col 0 0 ∷ col 0 1 ∷ col 0 2 ∷ [];
+  key = 1 ∷ 2 ∷ [];
+  sets = col 1 0 ∷ col 1 1 ∷ col 1 2 ∷ set ∷ [];
+  names = name ∷ [];
+  shown = col 0 7 ∷ [];
+}
+
+abbrev pub last_id_set_text : List ℕ
+last_id_set_text =
+    codes "INSERT INTO last_ids (meter, base, tid) VALUES (?1, ?2, ?3) ON CONFLICT (meter, base) DO UPDATE SET tid = excluded.tid RETURNING tid"
+
+abbrev pub last_id_merging : Merging
+last_id_merging = third_set (codes "tid") (col 0 7)
+
+pub last_id_set_means : (tree : ℕ) → IsUpsert (last_ids_table tree) last_id_merging last_id_set_text
+unfolding everything upsert_meant upsert_in upsert_by puts_meant set_meant shown_meant
+last_id_set_means tree = record { means = refl; whole = refl; shows_some = refl; shows_each = refl; uncounted = refl; unstamped = refl }
+
+pub last_id_set_whole : is_whole last_id_set_text 3 ≡ true
+unfolding everything is_whole
+last_id_set_whole = refl
+
+abbrev pub tenths_added_text : List ℕ
+tenths_added_text =
+    codes "INSERT INTO month_tenths (meter, month, tenths) VALUES (?1, ?2, ?3) ON CONFLICT (meter, month) DO UPDATE SET tenths = tenths + excluded.tenths RETURNING tenths"
+
+abbrev pub tenths_merging : Merging
+tenths_merging = third_set (codes "tenths") (op2 (Arith Add) (col 1 3) (col 0 7))
+
+pub tenths_added_means : (tree : ℕ) → IsUpsert (month_tenths_table tree) tenths_merging tenths_added_text
+unfolding everything upsert_meant upsert_in upsert_by puts_meant set_meant shown_meant
+tenths_added_means tree = record { means = refl; whole = refl; shows_some = refl; shows_each = refl; uncounted = refl; unstamped = refl }
+
+pub tenths_added_whole : is_whole tenths_added_text 3 ≡ true
+unfolding everything is_whole
+tenths_added_whole = refl
+
+abbrev pub sale_counted_text : List ℕ
+sale_counted_text =
+    codes "INSERT INTO shift_totals (shift, sales, tenths, cash) VALUES (?1, 1, ?2, ?3) ON CONFLICT (shift) DO UPDATE SET sales = sales + 1, tenths = tenths + excluded.tenths, cash = cash + excluded.cash RETURNING sales, tenths, cash"
+
+abbrev pub totals_merging : Merging
+totals_merging = record {
+  count = 3;
+  given = col 0 0 ∷ lit Null ∷ lit (Int (pos 1)) ∷ col 0 1 ∷ col 0 2 ∷ [];
+  key = 0 ∷ [];
+  sets =
+      col 1 0 ∷ lit Null ∷ op2 (Arith Add) (col 1 2) (lit (Int (pos 1))) ∷ op2 (Arith Add) (col 1 3) (col 0 7) ∷ op2 (Arith Add) (col 1 4) (col 0 8) ∷ [];
+  names = codes "sales" ∷ codes "tenths" ∷ codes "cash" ∷ [];
+  shown = col 0 6 ∷ col 0 7 ∷ col 0 8 ∷ [];
+}
+
+pub sale_counted_means : (tree : ℕ) → IsUpsert (shift_totals_table tree) totals_merging sale_counted_text
+unfolding everything upsert_meant upsert_in upsert_by puts_meant set_meant shown_meant
+sale_counted_means tree = record { means = refl; whole = refl; shows_some = refl; shows_each = refl; uncounted = refl; unstamped = refl }
+
+pub sale_counted_whole : is_whole sale_counted_text 3 ≡ true
+unfolding everything is_whole
+sale_counted_whole = refl

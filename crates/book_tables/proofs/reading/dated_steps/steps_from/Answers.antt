@@ -1,0 +1,52 @@
+use Rattle.std.proofs.Common.{rules, subst, ◌∙◌, inl, Err, IfOk, refl}
+use Rattle.sqlite.specs.Held.{state}
+use Rattle.sqlite.specs.Values.{bound}
+use Rattle.one_table.specs.Answer.{IsLeft}
+use Rattle.one_table.proofs.ReadsOnlyLemmas.{fail_on}
+use Rattle.book_tables.specs.Kept.{dated_steps_kept}
+use Rattle.book_tables.proofs.ReadingLemmas.DatedListLemmas.{AreStepsFrom, dated_keep, steps_from}
+use Rattle.book_tables.proofs.ReadingLemmas.ListingLemmas.{gives, only_asks, reads}
+use Rattle.book_tables.proofs.ReadingLemmas.StepListLemmas.{fails_to_make, makes}
+use Rattle.book_tables.proofs.reading.dated_steps.steps_from.Goals as goal
+
+pub returns-in_err-shown-clause-reads : goal.returns-in_err-shown-clause-reads
+returns-in_err-shown-clause-reads g c =
+    fail_on c.from_residual.result c.from_residual.ensures.1
+    (reads (steps_from c.args.name.now c.args.day) (state g.S.Store c.args.conn.now) (state g.S.Store c.all_records.new.conn) (Err c.in_err-shown.field-0.0) (bound c.dated_values.result) c.dated_values.ensures c.in_err-shown.ensures.reads)
+
+pub returns-clause-given : goal.returns-clause-given
+returns-clause-given g c clean rows o has office are =
+    let name = c.args.name.now in
+    let day = c.args.day in
+    let old = state g.S.Store c.args.conn.now in
+    let only = only_asks (steps_from name day) old (λ runs. (has runs).0) in
+    let found = gives (steps_from name day) (λ found. found.items) old (state g.S.Store c.all_records.new.conn) rows has (o, office, are) c.all_records.result
+    (bound c.dated_values.result) c.dated_values.ensures (c.all_records.ensures.reads.same clean only) (c.all_records.ensures.given clean only) in
+    let here = subst (λ r. IfOk r (λ found. AreStepsFrom name day rows found.items)) c.in_ok-shown.was found in
+    makes c.deref.result.now c.tariff_of.result c.tariff_of.ensures.steps c.tariff_of.ensures.kept (o.dated_steps name day) (dated_keep o office name day (o.dated_steps name day) refl) (c.deref.ensures.value ∙ here o office are)
+
+pub returns-clause-reads : goal.returns-clause-reads
+returns-clause-reads g c =
+    let name = c.args.name.now in
+    let day = c.args.day in
+    let old = state g.S.Store c.args.conn.now in
+    let new = state g.S.Store c.all_records.new.conn in
+    let asks = only_asks (steps_from name day) old in
+    record {
+      same = λ clean has.
+          let same = c.in_ok-shown.ensures.reads.same clean (asks has) in
+          search (rules, same);
+      kept = λ clean has.
+          let left : IsLeft old new = inl (c.in_ok-shown.ensures.reads.same clean (asks has)) in
+          search (rules, left);
+      mode = c.in_ok-shown.ensures.reads.mode;
+      faults = λ clean has.
+          fails_to_make dated_steps_kept (λ o. o.dated_steps name day) (λ o office. dated_keep o office name day (o.dated_steps name day) refl) c.deref.result.now old new (c.in_ok-shown.ensures.reads.same clean (asks has))
+          (λ rows held of_office.
+          let found = gives (steps_from name day) (λ found. found.items) old new rows (λ _. held) of_office c.all_records.result
+          (bound c.dated_values.result) c.dated_values.ensures (c.all_records.ensures.reads.same clean (asks has)) (c.all_records.ensures.given clean (asks has)) in
+          let here = subst (λ r. IfOk r (λ found. AreStepsFrom name day rows found.items)) c.in_ok-shown.was found in
+          λ o office are. c.deref.ensures.value ∙ here o office are)
+          c.tariff_of.result c.tariff_of.ensures.faults;
+      survives = λ has. c.in_ok-shown.ensures.reads.survives (asks has);
+    }

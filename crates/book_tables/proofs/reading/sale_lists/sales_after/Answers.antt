@@ -1,0 +1,17 @@
+use Rattle.sqlite.specs.Held.{state}
+use Rattle.sqlite.specs.Values.{bound}
+use Rattle.book_tables.proofs.ReadingLemmas.ListingLemmas.{gives, only_asks, reads}
+use Rattle.book_tables.proofs.ReadingLemmas.SaleListLemmas.{sales_after}
+use Rattle.book_tables.proofs.reading.sale_lists.sales_after.Goals as goal
+
+pub returns-clause-given : goal.returns-clause-given
+returns-clause-given g c clean rows has of_office =
+    let old = state g.S.Store c.args.conn.now in
+    let only = only_asks (sales_after c.args.number c.args.limit) old (λ runs. (has runs).0) in
+    gives (sales_after c.args.number c.args.limit) (λ found. found.items) old (state g.S.Store c.all_records.new.conn) rows has of_office c.all_records.result
+    (bound c.page_values.result) c.page_values.ensures (c.all_records.ensures.reads.same clean only) (c.all_records.ensures.given clean only)
+
+pub returns-clause-reads : goal.returns-clause-reads
+returns-clause-reads g c =
+    reads (sales_after c.args.number c.args.limit) (state g.S.Store c.args.conn.now) (state g.S.Store c.all_records.new.conn) c.all_records.result (bound c.page_values.result) c.page_values.ensures
+    c.all_records.ensures.reads

@@ -1,0 +1,17 @@
+use Rattle.sqlite.specs.Held.{state}
+use Rattle.sqlite.specs.Values.{bound}
+use Rattle.book_tables.proofs.ReadingLemmas.ListingLemmas.{gives, only_asks, reads}
+use Rattle.book_tables.proofs.ReadingLemmas.SaleListLemmas.{sales_of_shift}
+use Rattle.book_tables.proofs.reading.sale_lists.sales_of_shift.Goals as goal
+
+pub returns-clause-given : goal.returns-clause-given
+returns-clause-given g c clean rows has of_office =
+    let old = state g.S.Store c.args.conn.now in
+    let only = only_asks (sales_of_shift c.args.shift) old (λ runs. (has runs).0) in
+    gives (sales_of_shift c.args.shift) (λ found. found.items) old (state g.S.Store c.all_records.new.conn) rows has of_office c.all_records.result
+    (bound c.number_values.result) c.number_values.ensures (c.all_records.ensures.reads.same clean only) (c.all_records.ensures.given clean only)
+
+pub returns-clause-reads : goal.returns-clause-reads
+returns-clause-reads g c =
+    reads (sales_of_shift c.args.shift) (state g.S.Store c.args.conn.now) (state g.S.Store c.all_records.new.conn) c.all_records.result (bound c.number_values.result) c.number_values.ensures
+    c.all_records.ensures.reads

@@ -1,0 +1,22 @@
+use Rattle.std.proofs.Common.{◌≡◌, length, subst, sym, true}
+use Rattle.std.specs.Prelude.{codes}
+use Rattle.sqlite.specs.Held.{state}
+use Rattle.one_table.proofs.ChangeLemmas.{on_ok}
+use Rattle.one_table.specs.Reading.{is_whole}
+use Rattle.one_table.specs.Standing.{place_in, tree_in}
+use Rattle.book_tables.specs.Tables.{sales_table}
+use Rattle.book_tables.proofs.WritingLemmas.WriteLemmas.{adds_sale}
+use Rattle.book_tables.proofs.WritingLemmas.WriteTexts.{new_sale_means, new_sale_terms, new_sale_text, new_sale_whole}
+use Rattle.book_tables.proofs.writing.additions.add_sale.Goals as goal
+
+pub returns-clause-writes : goal.returns-clause-writes
+returns-clause-writes g c =
+    let s = c.args.tx.now.conn.now.schema in
+    let tree = tree_in s (codes "sales") in
+    record {
+      made = λ clean has.
+          on_ok c.put.result (adds_sale (state g.S.Store c.args.tx.now.conn.now) (state g.S.Store c.put.new.tx.conn.now) c.args.sale.now _ c.sale_values.ensures)
+          (c.put.ensures.added clean (sales_table tree) (place_in s (codes "sales")) new_sale_terms (new_sale_means tree) (λ runs. (has runs).tables.1.1.1.1.1.0.0.has));
+      transaction = c.put.ensures.transaction;
+      refused = λ clean has. c.put.ensures.refused clean (sales_table tree) (place_in s (codes "sales")) new_sale_terms (new_sale_means tree) (subst (λ ps. is_whole new_sale_text (length ps) ≡ true) (sym c.sale_values.ensures) new_sale_whole) (λ runs. (has runs).tables.1.1.1.1.1.0.0.has);
+    }

@@ -1,0 +1,22 @@
+use Rattle.std.proofs.Common.{◌≡◌, length, subst, sym, true}
+use Rattle.std.specs.Prelude.{codes}
+use Rattle.sqlite.specs.Held.{state}
+use Rattle.one_table.proofs.ChangeLemmas.{on_ok}
+use Rattle.one_table.specs.Reading.{is_whole}
+use Rattle.one_table.specs.Standing.{place_in, tree_in}
+use Rattle.book_tables.specs.Tables.{shifts_table}
+use Rattle.book_tables.proofs.WritingLemmas.WriteLemmas.{adds_shift}
+use Rattle.book_tables.proofs.WritingLemmas.WriteTexts.{new_shift_means, new_shift_terms, new_shift_text, new_shift_whole}
+use Rattle.book_tables.proofs.writing.additions.add_shift.Goals as goal
+
+pub returns-clause-writes : goal.returns-clause-writes
+returns-clause-writes g c =
+    let s = c.args.tx.now.conn.now.schema in
+    let tree = tree_in s (codes "shifts") in
+    record {
+      made = λ clean has.
+          on_ok c.put.result (adds_shift (state g.S.Store c.args.tx.now.conn.now) (state g.S.Store c.put.new.tx.conn.now) c.args.shift.now _ c.shift_values.ensures)
+          (c.put.ensures.added clean (shifts_table tree) (place_in s (codes "shifts")) new_shift_terms (new_shift_means tree) (λ runs. (has runs).tables.1.1.1.1.0.0.has));
+      transaction = c.put.ensures.transaction;
+      refused = λ clean has. c.put.ensures.refused clean (shifts_table tree) (place_in s (codes "shifts")) new_shift_terms (new_shift_means tree) (subst (λ ps. is_whole new_shift_text (length ps) ≡ true) (sym c.shift_values.ensures) new_shift_whole) (λ runs. (has runs).tables.1.1.1.1.0.0.has);
+    }

@@ -1,0 +1,74 @@
+use Rattle.std.proofs.Common.{rules, arith, ◌≡◌, ◌∙◌, sym, subst, take, length, get_or, List, None, Ok}
+use Rattle.sqlite.specs.Held.{state}
+use Rattle.sqlite.specs.State.{HasCleanDisk}
+use Rattle.std.proofs.lemmas.List.{length-take-le, take_all, take_more}
+use Rattle.tariff.specs.declared.step.Step.{Step}
+use Rattle.one_table.proofs.ChangeLemmas.{told_as, transaction_off, transaction_on, transaction_then}
+use Rattle.book_tables.specs.writing.Writing.{AddsTariff}
+use Rattle.book_tables.proofs.WritingLemmas.OnlyLemmas.{tables_there}
+use Rattle.book_tables.proofs.WritingLemmas.TariffWriteLemmas.{adds_next, adds_none}
+use Rattle.book_tables.specs.writing.Failing.{FailsToWriteAll}
+use Rattle.book_tables.proofs.WritingLemmas.CauseLemmas.{came_after, came_here, of_store}
+use Rattle.book_tables.proofs.writing.additions.add_tariff.Goals as goal
+
+pub steps-init : goal.steps-init
+steps-init g c = record {
+  same = search rules;
+  place = search rules;
+  transaction = transaction_on c.in_ok-add_name.ensures.writes.transaction;
+  added = λ clean has. adds_none c.args.name.now (state g.S.Store c.args.tx.now.conn.now) (state g.S.Store c.add_name.new.tx.conn.now) (c.in_ok-add_name.ensures.writes.made clean has);
+}
+
+pub steps-preserved : goal.steps-preserved
+steps-preserved g c = record {
+  same = search rules;
+  place = search rules;
+  transaction = transaction_then (state g.S.Store c.args.tx.now.conn.now) (state g.S.Store c.steps.tx.conn.now) (state g.S.Store c.add_step.new.tx.conn.now) (Ok tt) c.steps.invariant.transaction (transaction_on c.in_ok-add_step.ensures.writes.transaction);
+  added = λ clean has.
+      let old = state g.S.Store c.args.tx.now.conn.now in
+      let mid = state g.S.Store c.steps.tx.conn.now in
+      let new = state g.S.Store c.add_step.new.tx.conn.now in
+      let early : HasCleanDisk mid = omega (arith, c.add_step.ensures.writes.transaction.survives.clean) in
+      let so_far = c.steps.invariant.added early has in
+      let last = c.in_ok-add_step.ensures.writes.made clean (tables_there _ old mid so_far.only has) in
+      let step = get_or c.args.steps.now c.steps.step-index (record { ends = None; price = 0 }) in
+      let count : length (take c.steps.step-index c.args.steps.now) ≡ c.steps.step-index = length-take-le c.steps.step-index c.args.steps.now (omega (arith, c.steps-test.true)) in
+      subst (λ (l : List Step). AddsTariff c.args.name.now l old new) (sym (take_more c.args.steps.now c.steps.step-index (record { ends = None; price = 0 }) c.steps-test.true))
+      (adds_next c.args.name.now (take c.steps.step-index c.args.steps.now) c.steps.place step old mid new (c.steps.invariant.place ∙ sym count) so_far last);
+}
+
+pub returns-clause-added : goal.returns-clause-added
+returns-clause-added g c clean has =
+    subst (λ (l : List Step). AddsTariff c.args.name.now l (state g.S.Store c.args.tx.now.conn.now) (state g.S.Store c.steps.tx.conn.now)) (take_all c.steps.step-index c.args.steps.now c.steps-test.false)
+    (c.steps.invariant.added clean has)
+
+pub returns-in_err-add_name-clause-transaction : goal.returns-in_err-add_name-clause-transaction
+returns-in_err-add_name-clause-transaction g c =
+    transaction_off _ c.from_residual.result c.from_residual.ensures.1 c.in_err-add_name.ensures.writes.transaction.kept c.in_err-add_name.ensures.writes.transaction.survives
+
+pub returns-in_err-add_step-clause-transaction : goal.returns-in_err-add_step-clause-transaction
+returns-in_err-add_step-clause-transaction g c =
+    let r = c.from_residual-in_err-add_step.result in
+    transaction_then (state g.S.Store c.args.tx.now.conn.now) (state g.S.Store c.steps.tx.conn.now) (state g.S.Store c.add_step.new.tx.conn.now) r c.steps.invariant.transaction
+    (transaction_off _ r c.from_residual-in_err-add_step.ensures.1 c.in_err-add_step.ensures.writes.transaction.kept c.in_err-add_step.ensures.writes.transaction.survives)
+
+pub returns-clause-transaction : goal.returns-clause-transaction
+returns-clause-transaction g c = transaction_on c.steps.invariant.transaction
+
+pub returns-in_err-add_name-clause-refused : goal.returns-in_err-add_name-clause-refused
+returns-in_err-add_name-clause-refused g c clean way has =
+    let old = state g.S.Store c.args.tx.now.conn.now in
+    let new = state g.S.Store c.add_name.new.tx.conn.now in
+    let e = c.in_err-add_name.field-0.0 in
+    told_as (FailsToWriteAll old new) c.from_residual.result e c.from_residual.ensures.1 (of_store old old new (came_here old way) e (c.in_err-add_name.ensures.writes.refused clean has))
+
+pub returns-in_err-add_step-clause-refused : goal.returns-in_err-add_step-clause-refused
+returns-in_err-add_step-clause-refused g c clean way has =
+    let old = state g.S.Store c.args.tx.now.conn.now in
+    let mid = state g.S.Store c.steps.tx.conn.now in
+    let new = state g.S.Store c.add_step.new.tx.conn.now in
+    let early : HasCleanDisk mid = omega (arith, c.add_step.ensures.writes.transaction.survives.clean) in
+    let so_far = c.steps.invariant.added early has in
+    let came = came_after _ old mid so_far.only c.steps.invariant.transaction.survives in
+    let e = c.in_err-add_step.field-0.0 in
+    told_as (FailsToWriteAll old new) c.from_residual-in_err-add_step.result e c.from_residual-in_err-add_step.ensures.1 (of_store old mid new came e (c.in_err-add_step.ensures.writes.refused clean (tables_there _ old mid so_far.only has)))

@@ -1,0 +1,21 @@
+use Rattle.sqlite.specs.Held.{state}
+use Rattle.sqlite.specs.Values.{bound}
+use Rattle.book_tables.specs.reading.Reading.{ShowsRecord}
+use Rattle.one_table.proofs.ChangeLemmas.{transaction_off, transaction_on}
+use Rattle.book_tables.proofs.WritingLemmas.RefusalLemmas.{false_row, fails_to_merge}
+use Rattle.book_tables.proofs.writing.merge.merge.Goals as goal
+
+pub returns-in_err-shown-clause-transaction : goal.returns-in_err-shown-clause-transaction
+returns-in_err-shown-clause-transaction g c =
+    transaction_off _ c.from_residual.result c.from_residual.ensures.1 c.in_err-shown.ensures.transaction.kept c.in_err-shown.ensures.transaction.survives
+
+pub returns-in_err-shown-clause-refused : goal.returns-in_err-shown-clause-refused
+returns-in_err-shown-clause-refused g c clean way t at m is whole stands =
+    fails_to_merge (state g.S.Store c.args.tx.now.conn.now) (state g.S.Store c.upsert.new.tx.conn.now) t m (bound c.args.params.now) at c.in_err-shown.field-0.0 c.from_residual.result c.from_residual.ensures.1 (c.in_err-shown.ensures.failed clean way t at m is whole stands)
+
+pub returns-in_err-shown-clause-false_row : goal.returns-in_err-shown-clause-false_row
+returns-in_err-shown-clause-false_row g c clean way t at m is whole takes told_so =
+    false_row t m (bound c.args.params.now) at (ShowsRecord g.T.Record.shown g.T.Record.keeps) c.in_err-shown.field-0.0 c.from_residual.result c.from_residual.ensures.1 (c.in_err-shown.ensures.refused clean way t at m is whole takes) told_so
+
+pub returns-clause-transaction : goal.returns-clause-transaction
+returns-clause-transaction g c = transaction_on c.in_ok-shown.ensures.transaction

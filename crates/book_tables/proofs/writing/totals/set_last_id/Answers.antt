@@ -1,0 +1,76 @@
+use Rattle.std.proofs.Common.{◌≡◌, ◌∙◌, arith, length, refl, subst, sym, true, Err}
+use Rattle.sqlite.specs.Held.{state}
+use Rattle.sqlite.specs.Values.{bound}
+use Rattle.one_table.proofs.ChangeLemmas.{transaction_off, transaction_on}
+use Rattle.one_table.specs.Reading.{is_whole}
+use Rattle.book_tables.specs.Kept.{last_ids_kept}
+use Rattle.book_tables.specs.declared.error.TableError.TheVariants.{RowOfNoOffice}
+use Rattle.book_tables.proofs.OfficeTableLemmas.{last_ids_in}
+use Rattle.book_tables.proofs.RowLemmas.RecordLemmas.{one_number}
+use Rattle.book_tables.proofs.WritingLemmas.RefusalLemmas.{handed_on, merge_off}
+use Rattle.book_tables.proofs.WritingLemmas.TotallingLemmas.{sets_last_id, last_ids, last_ids_at, stands_for, takes_last_id, tid_is_shown, tid_shown}
+use Rattle.book_tables.proofs.WritingLemmas.TotalsTexts.{last_id_merging, last_id_set_means, last_id_set_text, last_id_set_whole}
+use Rattle.book_tables.proofs.writing.totals.set_last_id.Goals as goal
+
+pub returns-in_err-last-clause-merges : goal.returns-in_err-last-clause-merges
+returns-in_err-last-clause-merges g c =
+    let old = state g.S.Store c.args.tx.now.conn.now in
+    let new = state g.S.Store c.merge.new.tx.conn.now in
+    let e = c.in_err-last.field-0.0 in
+    let failed = c.in_err-last.ensures in
+    merge_off e c.from_residual.result c.from_residual.ensures.1 failed.transaction.kept failed.transaction.survives
+    (λ clean way has. failed.refused clean way (last_ids old new) (last_ids_at old new) last_id_merging (last_id_set_means (last_ids old new).tree)
+    (subst (λ ps. is_whole last_id_set_text (length ps) ≡ true) (sym c.last_id_values.ensures) last_id_set_whole) (λ runs. stands_for last_ids_kept old.now.schema (last_ids_in.there old.now.schema (has runs))))
+
+pub returns-clause-merges : goal.returns-clause-merges
+returns-clause-merges g c =
+    let old = state g.S.Store c.args.tx.now.conn.now in
+    let new = state g.S.Store c.merge.new.tx.conn.now in
+    let done = c.in_ok-last.ensures in
+    record {
+      made = λ clean way has.
+          sets_last_id old new c.args.meter.now c.args.base c.args.tid (bound c.last_id_values.result) c.last_id_values.ensures
+          (done.touched clean way (last_ids old new) (last_ids_at old new) last_id_merging (last_id_set_means (last_ids old new).tree) (λ runs. stands_for last_ids_kept old.now.schema (last_ids_in.there old.now.schema (has runs))))
+          (λ takes. let it = done.merged clean way (last_ids old new) (last_ids_at old new) last_id_merging (last_id_set_means (last_ids old new).tree) takes in (it.0, it.2));
+      transaction = transaction_on done.transaction;
+      refused = λ clean way has. tt;
+    }
+
+pub returns-in_err-last-clause-no_false_row : goal.returns-in_err-last-clause-no_false_row
+returns-in_err-last-clause-no_false_row g c clean way format rows held known told_so =
+    let old = state g.S.Store c.args.tx.now.conn.now in
+    let new = state g.S.Store c.merge.new.tx.conn.now in
+    let e = c.in_err-last.field-0.0 in
+    tid_is_shown old new c.args.meter.now c.args.base c.args.tid (bound c.last_id_values.result) c.last_id_values.ensures format rows held known.1.0 known.1.1 known.0
+    (c.in_err-last.ensures.false_row clean way (last_ids old new) (last_ids_at old new) last_id_merging (last_id_set_means (last_ids old new).tree) (subst (λ ps. is_whole last_id_set_text (length ps) ≡ true) (sym c.last_id_values.ensures) last_id_set_whole)
+    (takes_last_id old new c.args.meter.now c.args.base c.args.tid (bound c.last_id_values.result) c.last_id_values.ensures format rows held known.1.0 known.1.1) (handed_on e RowOfNoOffice c.from_residual.result c.from_residual.ensures.1 told_so))
+
+pub returns-then-last-tid-clause-merges : goal.returns-then-last-tid-clause-merges
+returns-then-last-tid-clause-merges g c =
+    let old = state g.S.Store c.args.tx.now.conn.now in
+    let new = state g.S.Store c.merge.new.tx.conn.now in
+    let done = c.in_ok-last.ensures in
+    record {
+      made = λ clean way has. tt;
+      transaction = transaction_off RowOfNoOffice (Err RowOfNoOffice) refl done.transaction.kept done.transaction.survives;
+      refused = λ clean way has. (
+        last_ids old new,
+        last_id_merging,
+        bound c.last_id_values.result,
+        last_ids_at old new,
+        done.touched clean way (last_ids old new) (last_ids_at old new) last_id_merging (last_id_set_means (last_ids old new).tree) (λ runs. stands_for last_ids_kept old.now.schema (last_ids_in.there old.now.schema (has runs))),
+      );
+    }
+
+-- it is what comes back
+pub returns-then-last-tid-clause-no_false_row : goal.returns-then-last-tid-clause-no_false_row
+returns-then-last-tid-clause-no_false_row g c clean way format rows held known told_so =
+    let old = state g.S.Store c.args.tx.now.conn.now in
+    let new = state g.S.Store c.merge.new.tx.conn.now in
+    let meter = c.args.meter.now in
+    let values = bound c.last_id_values.result in
+    let it = c.in_ok-last.ensures.merged clean way (last_ids old new) (last_ids_at old new) last_id_merging (last_id_set_means (last_ids old new).tree)
+    (takes_last_id old new meter c.args.base c.args.tid values c.last_id_values.ensures format rows held known.1.0 known.1.1) in
+    let same : c.in_ok-last.last.number ≡ c.args.tid =
+    one_number c.in_ok-last.last.number c.args.tid (it.1.0 ∙ tid_shown old new meter c.args.base c.args.tid values c.last_id_values.ensures format rows held known.1.0 known.1.1 it.0 it.2) in
+    omega (arith, c.if-last-tid.true, same)

@@ -1,0 +1,4 @@
+pub mod Filling
+pub mod Format
+pub mod Looking
+pub mod Making

@@ -1,0 +1,92 @@
+-- The tables of an office that are made in a database, beside whatever other tables it has, and the
+-- tables of an older format that are brought up to the present one.
+use Rattle.std.specs.Prelude.{◌≡◌, ◌≤◌, ℕ, zero, suc, true, List, [], ◌∷◌, codes, fold, IsTrue}
+use Rattle.std.specs.List.{AllByRecursion}
+use Rattle.sqlite.specs.Effect.{Database, IsDatabase}
+use Rattle.sqlite.specs.State.{Shows, State}
+use Rattle.sqlite.specs.Table.{Table}
+use Rattle.one_table.specs.Making.{made}
+use Rattle.one_table.specs.Place.{Has}
+use Rattle.vend_core.specs.Office.{Office}
+use Rattle.book_tables.specs.writing.Edited.{no_rows}
+use Rattle.book_tables.specs.format.Format.{HasFormat, TellsFormat}
+use Rattle.book_tables.specs.Holds.{HasOffice, HasOfficeOf, Holds, HoldsMembers, HoldsOf, StandsFor, rows_in}
+use Rattle.book_tables.specs.Kept.{kept_tables, later}
+use Rattle.book_tables.specs.format.Looking.{ShowsRowsOf}
+use Rattle.book_tables.specs.row.Rows.{Rows, about_rows, present_format}
+use Rattle.book_tables.specs.declared.error.TableError.{TableError}
+use Rattle.book_tables.specs.declared.error.TableError.TheVariants as fails
+use Rattle.book_tables.specs.writing.Writing.{IsOfNone, WritesOnly}
+
+-- while the connection is open, its database is sound and has the tables of a format
+abbrev pub IsSoundOfFormat : ℕ → State → Type 0
+IsSoundOfFormat n s = IsTrue s.is_open → IsDatabase s.now × HasOfficeOf n s.now.schema
+
+-- the rows of the tables of a format, and none of those that it lacks
+abbrev pub rows_upto : ℕ → Rows → Rows
+rows_upto zero rows = no_rows
+rows_upto (suc zero) rows =
+    record rows { last_ids = []; month_tenths = []; shift_totals = []; bases = []; dated_steps = [] }
+rows_upto (suc (suc zero)) rows = record rows { bases = []; dated_steps = [] }
+rows_upto (suc (suc (suc zero))) rows = record rows { dated_steps = [] }
+rows_upto (suc (suc (suc (suc n)))) rows = rows
+
+-- the table that tells the format, where there is one: alone among those that were there it gets
+-- another row
+abbrev pub told_names : ℕ → List (List ℕ)
+told_names zero = []
+told_names (suc n) = codes "about" ∷ []
+
+-- what was there is left: nothing but the tables that a format lacks is added to the schema, each
+-- table has its place, and each but `about` has its rows, whatever they are
+pub record LeavesBeside (from : ℕ) (old new : Database) : Type 0 where
+  pub schema : new.schema ≡ fold made old.schema (kept_tables (later from))
+  pub places : (at : ℕ) (t : Table) → Has old.schema at t
+      → Has new.schema at t
+  pub others : AllByRecursion (λ u. IsOfNone old.schema (told_names from) u.tree
+      → new.trees u.tree ≡ old.trees u.tree) old.schema.tables
+  pub sound : IsDatabase new
+
+-- the rows that are looked at are as they were
+pub record AreLeft (old new : Database) : Type 0 where
+  pub sales : rows_in new (codes "sales") ≡ rows_in old (codes "sales")
+  pub meters : rows_in new (codes "meters") ≡ rows_in old (codes "meters")
+
+-- the tables that a format lacks are made, with nothing in them
+pub record MakesMissing (from : ℕ) (old new : Database) : Type 0 where
+  pub had : HasOfficeOf from old.schema
+  pub has : HasOffice new.schema
+  pub rows : (rows : Rows) → HoldsOf from from old rows
+      → HoldsOf present_format from new (rows_upto from rows)
+  pub tells : TellsFormat from old → rows_in new (codes "about") ≡ about_rows from
+  pub left : 1 ≤ from → AreLeft old new
+  pub beside : LeavesBeside from old new
+
+-- `about` tells the present format, where it told another or none
+pub record TellsPresent (told : ℕ) (old new : State) : Type 0 where
+  pub only : WritesOnly (codes "about" ∷ []) old new
+  pub rows : (rows : Rows) → HoldsOf present_format told old.now rows → Holds new.now rows
+  pub tells : rows_in old.now (codes "about") ≡ about_rows told → HasFormat new.now present_format
+
+-- The database has the present tables in place of those of a format, or of none, and holds the
+-- office that it stood for: the empty one, where there was none. Whatever the other rows are,
+-- `about` tells the present format in place of that of the tables. The rows of `sales` and of
+-- `meters` were looked at, and are sales and meters.
+pub record BringsOffice (from : ℕ) (old new : Database) : Type 0 where
+  pub had : HasOfficeOf from old.schema
+  pub has : HasOffice new.schema
+  pub members : (o : Office) → StandsFor old o → HoldsMembers new o
+  pub tells : TellsFormat from old → HasFormat new present_format
+  pub shows : ShowsRowsOf from old
+  pub beside : LeavesBeside from old new
+
+-- it is not, where a row is that of no office: then the database stands for none
+abbrev pub TellsOf : ℕ → Database → TableError → Type 0
+TellsOf from old (fails.Database e) = Unit {0}
+TellsOf from old fails.RowOfNoOffice =
+    IsDatabase old → HasOfficeOf from old.schema → (o : Office) → ¬ StandsFor old o
+
+-- The same inside a transaction: the connection is in it, and nothing is committed.
+pub record BringsInside (from : ℕ) (old new : State) : Type 0 where
+  pub inside : Shows old new new.now old.committed true
+  pub brings : BringsOffice from old.now new.now

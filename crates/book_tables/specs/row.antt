@@ -1,0 +1,4 @@
+pub mod Parts
+pub mod ReadBack
+pub mod Rows
+pub mod Values

@@ -1,0 +1,50 @@
+-- The parts that a sale's row is read in.
+use Rattle.std.specs.Prelude.{◌<◌, ◌^◌, [], ◌∷◌}
+use Rattle.sqlite.specs.Order.{Row, column}
+use Rattle.sqlite.specs.declared.types.Value.TheVariants.{Text}
+use Rattle.sts_fields.specs.Base.{year_of}
+use Rattle.sts_token.specs.Token.{AreTwentyDigits}
+use Rattle.sts_fields.specs.Moment.{IsMoment}
+use Rattle.vend_core.specs.declared.decision.request.Order.{Order}
+use Rattle.book_tables.specs.row.Rows.{number}
+use Rattle.book_tables.specs.row.Values.{IsNumber, IsSoldAmount, IsTid}
+use Rattle.book_tables.specs.declared.row.office_records.Entry.{Entry}
+use Rattle.book_tables.specs.declared.row.office_records.Token.{Token}
+
+abbrev pub shown_entry : Entry → Row
+shown_entry e = number e.number ∷ number e.moment ∷ number e.shift ∷ []
+
+abbrev pub shown_order : Order → Row
+shown_order order =
+    Text order.operator ∷ Text order.order_ref ∷ Text order.meter ∷ number order.tender ∷ []
+
+abbrev pub shown_token : Token → Row
+shown_token t =
+    number (year_of t.base) ∷ number t.tid ∷ number t.rnd ∷ number t.tenths ∷ Text t.digits ∷ []
+
+pub record AreEntryValues (e : Entry) : Type 0 where
+  pub number : IsNumber e.number
+  pub moment : IsMoment e.moment
+  pub shift : IsNumber e.shift
+
+pub record AreTokenValues (t : Token) : Type 0 where
+  pub tid : IsTid t.tid
+  pub rnd : t.rnd < 2 ^ 4
+  pub tenths : IsSoldAmount t.tenths
+  pub digits : AreTwentyDigits t.digits
+
+-- the columns of each part in the row of a sale
+abbrev pub entry_columns : Row → Row
+entry_columns r = column r 0 ∷ column r 1 ∷ column r 2 ∷ []
+
+abbrev pub order_columns : Row → Row
+order_columns r = column r 3 ∷ column r 4 ∷ column r 5 ∷ column r 11 ∷ []
+
+abbrev pub token_columns : Row → Row
+token_columns r = column r 6 ∷ column r 7 ∷ column r 8 ∷ column r 9 ∷ column r 12 ∷ []
+
+-- the columns of a sale, before whatever else the row has
+abbrev pub sale_part : Row → Row
+sale_part r =
+    column r 0 ∷ column r 1 ∷ column r 2 ∷ column r 3 ∷ column r 4 ∷ column r 5 ∷ column r 6
+    ∷ column r 7 ∷ column r 8 ∷ column r 9 ∷ column r 10 ∷ column r 11 ∷ column r 12 ∷ []

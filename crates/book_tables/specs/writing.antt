@@ -1,0 +1,3 @@
+pub mod Edited
+pub mod Failing
+pub mod Writing

@@ -1,0 +1,163 @@
+//! The making of the office's tables, where there are none or those of an older format.
+
+ghost use Rattle.std.specs.Prelude.{◌≡◌, ◌≢◌, ◌<◌, ℕ, suc, IfErr, OnOk};
+ghost use Rattle.sqlite.specs.State.{HasCleanDisk};
+ghost use Rattle.sqlite.specs.Held.{state};
+ghost use Rattle.one_table.specs.InTransaction.{KeepsTransaction, StaysInside};
+ghost use Rattle.book_tables.specs.format.Making.{BringsInside, IsSoundOfFormat, MakesMissing, TellsOf, TellsPresent};
+ghost use Rattle.book_tables.specs.row.Rows.{present_format};
+ghost use Rattle.book_tables.specs.writing.Writing.{WritesTables};
+
+use crate::error::TableError;
+use crate::format::fill::{fill_bases, fill_totals};
+use crate::format::tables::tables_after;
+use crate::format::look::look_at_sales;
+use crate::reading::pages::meters_inside;
+use crate::writing::store::{put, set};
+use crate::texts::{FORMAT_SET, NEW_FORMAT};
+use one_table::make::create_tables;
+use sqlite::{Alter, Transaction};
+use std::alloc::Global;
+
+// Makes the tables that a format lacks, with nothing in them.
+fn make_missing<S: Alter>(tx: &mut Transaction<'_, S>, from: u32) -> Result<(), TableError>
+    requires { from < present_format }
+    ensures same_reference { tx.new.conn.ghost_name ≡ tx.old.conn.ghost_name }
+    ensures made { HasCleanDisk (state S.Store tx.new.conn.now)
+        → IsSoundOfFormat from (state S.Store tx.old.conn.now)
+        → OnOk result (MakesMissing from
+        (state S.Store tx.old.conn.now).now (state S.Store tx.new.conn.now).now) }
+    ensures database { IfErr result (λ e. e ≢ TableError.RowOfNoOffice) }
+    ensures inside { HasCleanDisk (state S.Store tx.new.conn.now)
+        → OnOk result (StaysInside
+        (state S.Store tx.old.conn.now) (state S.Store tx.new.conn.now)) }
+    ensures transaction { KeepsTransaction
+        (state S.Store tx.old.conn.now) (state S.Store tx.new.conn.now) result }
+{
+    create_tables(tx, tables_after(from).texts)?;
+    Ok(())
+}
+
+// Tells the present format, where the tables tell none.
+fn tell_first<S: Alter>(tx: &mut Transaction<'_, S>) -> Result<(), TableError>
+    ensures same_reference { tx.new.conn.ghost_name ≡ tx.old.conn.ghost_name }
+    ensures database { IfErr result (λ e. e ≢ TableError.RowOfNoOffice) }
+    ensures writes { WritesTables (TellsPresent 0)
+        (state S.Store tx.old.conn.now) (state S.Store tx.new.conn.now) result }
+{
+    put(tx, NEW_FORMAT, &[])
+}
+
+// The tables of an office, with nothing in them but the number of their format, where there are
+// none.
+fn begin<S: Alter>(tx: &mut Transaction<'_, S>) -> Result<(), TableError>
+    ensures same_reference { tx.new.conn.ghost_name ≡ tx.old.conn.ghost_name }
+    ensures brings { HasCleanDisk (state S.Store tx.new.conn.now)
+        → IsSoundOfFormat 0 (state S.Store tx.old.conn.now)
+        → OnOk result (BringsInside 0
+        (state S.Store tx.old.conn.now) (state S.Store tx.new.conn.now)) }
+    ensures told { HasCleanDisk (state S.Store tx.new.conn.now)
+        → IfErr result (TellsOf 0 (state S.Store tx.old.conn.now).now) }
+    ensures transaction { KeepsTransaction
+        (state S.Store tx.old.conn.now) (state S.Store tx.new.conn.now) result }
+{
+    make_missing(tx, 0)?;
+    tell_first(tx)
+}
+
+// Tells the present format, where the tables tell an older one.
+fn tell_present<S: Alter>(tx: &mut Transaction<'_, S>) -> Result<(), TableError>
+    ensures same_reference { tx.new.conn.ghost_name ≡ tx.old.conn.ghost_name }
+    ensures database { IfErr result (λ e. e ≢ TableError.RowOfNoOffice) }
+    ensures writes { (before : ℕ) → WritesTables (TellsPresent (suc before))
+        (state S.Store tx.old.conn.now) (state S.Store tx.new.conn.now) result }
+{
+    set(tx, FORMAT_SET, &[])
+}
+
+// The tables of format 1, which has no totals and no bases.
+fn bring_first<S: Alter>(alloc: Global, tx: &mut Transaction<'_, S>) -> Result<(), TableError>
+    ensures same_reference { tx.new.conn.ghost_name ≡ tx.old.conn.ghost_name }
+    ensures brings { HasCleanDisk (state S.Store tx.new.conn.now)
+        → IsSoundOfFormat 1 (state S.Store tx.old.conn.now)
+        → OnOk result (BringsInside 1
+        (state S.Store tx.old.conn.now) (state S.Store tx.new.conn.now)) }
+    ensures told { HasCleanDisk (state S.Store tx.new.conn.now)
+        → IfErr result (TellsOf 1 (state S.Store tx.old.conn.now).now) }
+    ensures transaction { KeepsTransaction
+        (state S.Store tx.old.conn.now) (state S.Store tx.new.conn.now) result }
+{
+    make_missing(tx, 1)?;
+    fill_totals(alloc, tx)?;
+    fill_bases(alloc, tx)?;
+    tell_present(tx)
+}
+
+// The tables of format 2, which has no bases.
+fn bring_second<S: Alter>(alloc: Global, tx: &mut Transaction<'_, S>) -> Result<(), TableError>
+    ensures same_reference { tx.new.conn.ghost_name ≡ tx.old.conn.ghost_name }
+    ensures brings { HasCleanDisk (state S.Store tx.new.conn.now)
+        → IsSoundOfFormat 2 (state S.Store tx.old.conn.now)
+        → OnOk result (BringsInside 2
+        (state S.Store tx.old.conn.now) (state S.Store tx.new.conn.now)) }
+    ensures told { HasCleanDisk (state S.Store tx.new.conn.now)
+        → IfErr result (TellsOf 2 (state S.Store tx.old.conn.now).now) }
+    ensures transaction { KeepsTransaction
+        (state S.Store tx.old.conn.now) (state S.Store tx.new.conn.now) result }
+{
+    make_missing(tx, 2)?;
+    look_at_sales(alloc, tx)?;
+    fill_bases(alloc, tx)?;
+    tell_present(tx)
+}
+
+// The tables of format 3, which has no steps of later days.
+fn bring_third<S: Alter>(alloc: Global, tx: &mut Transaction<'_, S>) -> Result<(), TableError>
+    ensures same_reference { tx.new.conn.ghost_name ≡ tx.old.conn.ghost_name }
+    ensures brings { HasCleanDisk (state S.Store tx.new.conn.now)
+        → IsSoundOfFormat 3 (state S.Store tx.old.conn.now)
+        → OnOk result (BringsInside 3
+        (state S.Store tx.old.conn.now) (state S.Store tx.new.conn.now)) }
+    ensures told { HasCleanDisk (state S.Store tx.new.conn.now)
+        → IfErr result (TellsOf 3 (state S.Store tx.old.conn.now).now) }
+    ensures transaction { KeepsTransaction
+        (state S.Store tx.old.conn.now) (state S.Store tx.new.conn.now) result }
+{
+    make_missing(tx, 3)?;
+    look_at_sales(alloc, tx)?;
+    meters_inside(alloc, tx)?;
+    tell_present(tx)
+}
+
+/// Brings the tables of a format to the present one, with the same office; format 0 is that there
+/// are none, and the office is the empty one.
+///
+/// Each table that is there keeps its rows, whatever they are, but for `about`: it tells the
+/// present format then. What was made before an error goes with the transaction, which the caller
+/// drops.
+///
+/// # Errors
+/// What the database refuses, want of memory, and a row that is no office's.
+pub fn bring<S: Alter>(
+    alloc: Global,
+    tx: &mut Transaction<'_, S>,
+    from: u32,
+) -> Result<(), TableError>
+    requires { from < present_format }
+    ensures same_reference { tx.new.conn.ghost_name ≡ tx.old.conn.ghost_name }
+    ensures brings { HasCleanDisk (state S.Store tx.new.conn.now)
+        → IsSoundOfFormat from (state S.Store tx.old.conn.now)
+        → OnOk result (BringsInside from
+        (state S.Store tx.old.conn.now) (state S.Store tx.new.conn.now)) }
+    ensures told { HasCleanDisk (state S.Store tx.new.conn.now)
+        → IfErr result (TellsOf from (state S.Store tx.old.conn.now).now) }
+    ensures transaction { KeepsTransaction
+        (state S.Store tx.old.conn.now) (state S.Store tx.new.conn.now) result }
+{
+    match from {
+        0 => begin(tx),
+        1 => bring_first(alloc, tx),
+        2 => bring_second(alloc, tx),
+        _ => bring_third(alloc, tx),
+    }
+}

@@ -1,0 +1,44 @@
+//! The records that all rows of an answer show.
+
+ghost use Rattle.std.specs.Prelude.{◌≡◌, map, IfOk};
+ghost use Rattle.sqlite.specs.Values.{bound};
+ghost use Rattle.sqlite.specs.State.{HasCleanDisk, IsUnchanged};
+ghost use Rattle.sqlite.specs.Held.{state};
+ghost use Rattle.one_table.specs.Answer.{GivesAll, OnlyAsks};
+ghost use Rattle.one_table.specs.ReadsOnly.{ReadsOnly};
+ghost use Rattle.book_tables.specs.reading.Reading.{FailsToShowRow, IsShown, ShowsRecord};
+
+use crate::error::TableError;
+use crate::row::record::{Record, Shown};
+use one_table::read_rows;
+use sqlite::types::ValueRef;
+use sqlite::{Alter, Connection};
+use std::alloc::{AllocError, Global};
+
+pub(crate) fn records_of<T: Record + Drop>(
+    alloc: Global,
+    shown: Vec<Shown<T>>,
+) -> Result<Vec<T>, AllocError>
+    ensures { IfOk result (λ records. records.items ≡ map (λ s. s.record) shown.items) }
+{
+    shown.into_iter().map(|shown| shown.record).collect(alloc)
+}
+
+/// The records that the rows of an answer show, in its order.
+pub(crate) fn all_records<S: Alter, T: Record + Drop>(
+    alloc: Global,
+    conn: &mut Connection<S>,
+    sql: &str,
+    params: &[ValueRef<'_>],
+) -> Result<Vec<T>, TableError>
+    ensures given { HasCleanDisk (state S.Store conn.new)
+        → OnlyAsks sql.now (state S.Store conn.old)
+        → IfOk result (λ found. GivesAll (IsShown T.Record.shown T.Record.keeps) sql.now
+        (bound params.now) (state S.Store conn.old) (state S.Store conn.new) found.items) }
+    ensures reads { ReadsOnly (OnlyAsks sql.now) IsUnchanged
+        (FailsToShowRow (ShowsRecord T.Record.shown T.Record.keeps) sql.now (bound params.now))
+        (state S.Store conn.old) (state S.Store conn.new) result }
+{
+    let shown: Vec<Shown<T>> = read_rows(alloc, conn, sql, params)?;
+    Ok(records_of(alloc, shown)?)
+}

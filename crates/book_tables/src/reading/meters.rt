@@ -1,0 +1,30 @@
+//! The statements on the table of meters.
+
+ghost use Rattle.std.specs.Prelude.{◌≡◌, bytes_eq, find, option_map};
+ghost use Rattle.sqlite.specs.Held.{state};
+ghost use Rattle.book_tables.specs.Kept.{meters_kept};
+ghost use Rattle.book_tables.specs.reading.Reading.{ReadsTable, SaysOfTable};
+
+use crate::error::TableError;
+use crate::row::record::first_record;
+use crate::texts::METER_NUMBERED;
+use crate::row::values::meter_no_values;
+use sqlite::{Alter, Connection};
+use vend_core::{Meter, MeterNo};
+
+/// The meter of a number.
+///
+/// # Errors
+/// What the database refuses, and a row that is no office's.
+pub fn meter_numbered<S: Alter>(
+    conn: &mut Connection<S>,
+    number: &MeterNo,
+) -> Result<Option<Meter>, TableError>
+    ensures given { SaysOfTable meters_kept (λ rows found. found ≡ option_map (λ r. r.1)
+        (find (λ r. bytes_eq r.0 number.now) rows.meters))
+        (state S.Store conn.old) (state S.Store conn.new) result }
+    ensures reads { ReadsTable meters_kept
+        (state S.Store conn.old) (state S.Store conn.new) result }
+{
+    first_record(conn, METER_NUMBERED, &meter_no_values(number))
+}

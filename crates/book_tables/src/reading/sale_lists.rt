@@ -1,0 +1,51 @@
+//! The statements that list sales, by number.
+
+ghost use Rattle.std.specs.Prelude.{◌≡◌, ◌==◌, filter, nat_lt, take};
+ghost use Rattle.sqlite.specs.Held.{state};
+ghost use Rattle.book_tables.specs.Kept.{sales_kept};
+ghost use Rattle.book_tables.specs.reading.Reading.{ReadsTable, SaysOfTable};
+
+use crate::error::TableError;
+use crate::reading::lists::all_records;
+use crate::texts::{SALES_AFTER, SALES_OF_SHIFT};
+use crate::row::values::{number_values, page_values};
+use sqlite::{Alter, Connection};
+use std::alloc::Global;
+use vend_core::Sale;
+
+/// A page: the first sales after a number, at most so many.
+///
+/// # Errors
+/// What the database refuses, and a row that is no office's.
+pub fn sales_after<S: Alter>(
+    alloc: Global,
+    conn: &mut Connection<S>,
+    number: u32,
+    limit: u32,
+) -> Result<Vec<Sale>, TableError>
+    ensures given { SaysOfTable sales_kept (λ rows found. found.items
+        ≡ take limit (filter (λ s. nat_lt number s.number) rows.sales))
+        (state S.Store conn.old) (state S.Store conn.new) result }
+    ensures reads { ReadsTable sales_kept
+        (state S.Store conn.old) (state S.Store conn.new) result }
+{
+    all_records(alloc, conn, SALES_AFTER, &page_values(number, limit))
+}
+
+/// The sales of a shift. This walks all sales: no index has their shifts.
+///
+/// # Errors
+/// What the database refuses, and a row that is no office's.
+pub fn sales_of_shift<S: Alter>(
+    alloc: Global,
+    conn: &mut Connection<S>,
+    shift: u32,
+) -> Result<Vec<Sale>, TableError>
+    ensures given { SaysOfTable sales_kept
+        (λ rows found. found.items ≡ filter (λ s. s.shift == shift) rows.sales)
+        (state S.Store conn.old) (state S.Store conn.new) result }
+    ensures reads { ReadsTable sales_kept
+        (state S.Store conn.old) (state S.Store conn.new) result }
+{
+    all_records(alloc, conn, SALES_OF_SHIFT, &number_values(shift))
+}

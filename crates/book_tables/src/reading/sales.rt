@@ -1,0 +1,67 @@
+//! The statements on the table of sales.
+
+ghost use Rattle.std.specs.Prelude.{◌≡◌, ◌&&◌, ◌==◌, bytes_eq, find, length, option_map, unwrap_or, None};
+ghost use Rattle.std.specs.List.{last_or};
+ghost use Rattle.sqlite.specs.Held.{state};
+ghost use Rattle.book_tables.specs.Kept.{sales_kept};
+ghost use Rattle.book_tables.specs.reading.Reading.{ReadsTable, SaysOfTable};
+
+use crate::error::TableError;
+use crate::row::record::first_record;
+use crate::texts::{LAST_SALE_NUMBER, SALE_NUMBERED, SALE_OF_REF};
+use crate::row::values::{number_values, ref_values};
+use sqlite::{Alter, Connection};
+use vend_core::{Operator, Ref, Sale};
+
+/// The sale of a number.
+///
+/// # Errors
+/// What the database refuses, and a row that is no office's.
+pub fn sale_numbered<S: Alter>(
+    conn: &mut Connection<S>,
+    number: u32,
+) -> Result<Option<Sale>, TableError>
+    ensures given { SaysOfTable sales_kept
+        (λ rows found. found ≡ find (λ s. s.number == number) rows.sales)
+        (state S.Store conn.old) (state S.Store conn.new) result }
+    ensures reads { ReadsTable sales_kept
+        (state S.Store conn.old) (state S.Store conn.new) result }
+{
+    first_record(conn, SALE_NUMBERED, &number_values(number))
+}
+
+/// The sale that an operator made under a ref.
+///
+/// # Errors
+/// What the database refuses, and a row that is no office's.
+pub fn sale_of_ref<S: Alter>(
+    conn: &mut Connection<S>,
+    operator: &Operator,
+    order_ref: &Ref,
+) -> Result<Option<Sale>, TableError>
+    ensures given { SaysOfTable sales_kept
+        (λ rows found. found ≡ find (λ s. bytes_eq s.operator operator.now
+        && bytes_eq s.order_ref order_ref.now) rows.sales)
+        (state S.Store conn.old) (state S.Store conn.new) result }
+    ensures reads { ReadsTable sales_kept
+        (state S.Store conn.old) (state S.Store conn.new) result }
+{
+    first_record(conn, SALE_OF_REF, &ref_values(operator, order_ref))
+}
+
+/// The number of the last sale, if there is one. It is how many sales there are, since they are
+/// numbered from 1 without a gap.
+///
+/// # Errors
+/// What the database refuses, and a row that is no office's.
+pub fn last_sale_number<S: Alter>(conn: &mut Connection<S>) -> Result<Option<u32>, TableError>
+    ensures given { SaysOfTable sales_kept
+        (λ rows found. found ≡ option_map (λ s. s.number) (last_or None rows.sales))
+        (state S.Store conn.old) (state S.Store conn.new) result }
+    ensures counted { SaysOfTable sales_kept (λ rows found. unwrap_or found 0 ≡ length rows.sales)
+        (state S.Store conn.old) (state S.Store conn.new) result }
+    ensures reads { ReadsTable sales_kept
+        (state S.Store conn.old) (state S.Store conn.new) result }
+{
+    first_record(conn, LAST_SALE_NUMBER, &[])
+}

@@ -1,0 +1,66 @@
+//! The statements on the table of shifts.
+
+ghost use Rattle.std.specs.Prelude.{◌≡◌, ◌&&◌, ◌==◌, bytes_eq, find, is_none, length, option_map, unwrap_or, None};
+ghost use Rattle.std.specs.List.{last_or};
+ghost use Rattle.sqlite.specs.Held.{state};
+ghost use Rattle.book_tables.specs.Kept.{shifts_kept};
+ghost use Rattle.book_tables.specs.reading.Reading.{ReadsTable, SaysOfTable};
+
+use crate::error::TableError;
+use crate::row::record::first_record;
+use crate::texts::{LAST_SHIFT_NUMBER, OPEN_SHIFT, SHIFT_NUMBERED};
+use crate::row::values::{number_values, operator_values};
+use sqlite::{Alter, Connection};
+use vend_core::{Operator, Shift};
+
+/// The shift of a number.
+///
+/// # Errors
+/// What the database refuses, and a row that is no office's.
+pub fn shift_numbered<S: Alter>(
+    conn: &mut Connection<S>,
+    number: u32,
+) -> Result<Option<Shift>, TableError>
+    ensures given { SaysOfTable shifts_kept
+        (λ rows found. found ≡ find (λ s. s.number == number) rows.shifts)
+        (state S.Store conn.old) (state S.Store conn.new) result }
+    ensures reads { ReadsTable shifts_kept
+        (state S.Store conn.old) (state S.Store conn.new) result }
+{
+    first_record(conn, SHIFT_NUMBERED, &number_values(number))
+}
+
+/// The shift of an operator that is open, if there is one.
+///
+/// # Errors
+/// What the database refuses, and a row that is no office's.
+pub fn open_shift<S: Alter>(
+    conn: &mut Connection<S>,
+    operator: &Operator,
+) -> Result<Option<Shift>, TableError>
+    ensures given { SaysOfTable shifts_kept
+        (λ rows found. found ≡ find (λ s. bytes_eq s.operator operator.now
+        && is_none s.closed) rows.shifts)
+        (state S.Store conn.old) (state S.Store conn.new) result }
+    ensures reads { ReadsTable shifts_kept
+        (state S.Store conn.old) (state S.Store conn.new) result }
+{
+    first_record(conn, OPEN_SHIFT, &operator_values(operator))
+}
+
+/// The number of the last shift, if there is one. It is how many shifts there are, since they are
+/// numbered from 1 without a gap.
+///
+/// # Errors
+/// What the database refuses, and a row that is no office's.
+pub fn last_shift_number<S: Alter>(conn: &mut Connection<S>) -> Result<Option<u32>, TableError>
+    ensures given { SaysOfTable shifts_kept
+        (λ rows found. found ≡ option_map (λ s. s.number) (last_or None rows.shifts))
+        (state S.Store conn.old) (state S.Store conn.new) result }
+    ensures counted { SaysOfTable shifts_kept (λ rows found. unwrap_or found 0 ≡ length rows.shifts)
+        (state S.Store conn.old) (state S.Store conn.new) result }
+    ensures reads { ReadsTable shifts_kept
+        (state S.Store conn.old) (state S.Store conn.new) result }
+{
+    first_record(conn, LAST_SHIFT_NUMBER, &[])
+}

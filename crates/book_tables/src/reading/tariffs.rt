@@ -1,0 +1,77 @@
+//! The statements on the tables of tariffs.
+
+ghost use Rattle.std.specs.Prelude.{◌≡◌, ◌≢◌, ◌↔◌, ◌⊎◌, [], unwrap_or, Contains, IsTrue, IfOk, IfErr, IfSome};
+ghost use Rattle.sqlite.specs.State.{HasCleanDisk};
+ghost use Rattle.sqlite.specs.Held.{state};
+ghost use Rattle.tariff.specs.Steps.{IsSteps};
+ghost use Rattle.vend_core.specs.Office.{IsOffice, Office};
+ghost use Rattle.book_tables.specs.Kept.{steps_kept, tariffs_kept};
+ghost use Rattle.book_tables.specs.reading.Reading.{HasTableRows, ReadsTable, SaysOfTable};
+ghost use Rattle.book_tables.specs.row.Rows.{Rows};
+ghost use Rattle.book_tables.specs.Stands.{AreMembersOf};
+
+use crate::error::TableError;
+use crate::reading::lists::all_records;
+use crate::row::record::first_record;
+use crate::texts::{STEPS_OF, TARIFF_NAMED};
+use crate::row::values::tariff_values;
+use sqlite::{Alter, Connection, Error, ErrorCode};
+use std::alloc::Global;
+use tariff::{Step, Steps, StepsFault};
+use vend_core::TariffName;
+
+/// Whether there is a tariff of a name.
+///
+/// # Errors
+/// What the database refuses, and a row that is no office's.
+pub fn has_tariff<S: Alter>(conn: &mut Connection<S>, name: &TariffName) -> Result<bool, TableError>
+    ensures given { SaysOfTable tariffs_kept
+        (λ rows there. IsTrue there ↔ Contains rows.tariffs name.now)
+        (state S.Store conn.old) (state S.Store conn.new) result }
+    ensures reads { ReadsTable tariffs_kept
+        (state S.Store conn.old) (state S.Store conn.new) result }
+{
+    let found: Option<TariffName> = first_record(conn, TARIFF_NAMED, &tariff_values(name))?;
+    Ok(found.is_some())
+}
+
+// A tariff with these steps, or none where there is no step: each tariff of an office has one.
+pub(crate) fn tariff_of(alloc: Global, shown: &[Step]) -> Result<Option<Steps>, TableError>
+    ensures steps { IfOk result (λ found. unwrap_or found [] ≡ shown.now) }
+    ensures kept { IfOk result (λ found. IfSome found IsSteps) }
+    ensures faults { IfErr result (λ e.
+        (e ≡ TableError.Database (Error.SqliteFailure ErrorCode.OutOfMemory))
+        ⊎ ((e ≡ TableError.RowOfNoOffice) × (shown.now ≢ []) × ¬ IsSteps shown.now)) }
+{
+    if shown.is_empty() {
+        return Ok(None);
+    }
+    match Steps::read(alloc, shown) {
+        Ok(steps) => Ok(Some(steps)),
+        Err(StepsFault::Memory) => Err(TableError::Database(Error::SqliteFailure(
+            ErrorCode::OutOfMemory,
+        ))),
+        Err(_) => Err(TableError::RowOfNoOffice),
+    }
+}
+
+/// The steps of the tariff of a name, in the order of their places; `None` where there is none.
+///
+/// # Errors
+/// What the database refuses, want of memory, and rows that are no office's: also those that are
+/// no steps of a tariff together.
+pub fn steps_of<S: Alter>(
+    alloc: Global,
+    conn: &mut Connection<S>,
+    name: &TariffName,
+) -> Result<Option<Steps>, TableError>
+    ensures given { HasCleanDisk (state S.Store conn.new)
+        → (rows : Rows) (o : Office) → HasTableRows steps_kept (state S.Store conn.old) rows
+        → IsOffice o → AreMembersOf rows o
+        → IfOk result (λ found. found ≡ o.tariffs name.now) }
+    ensures reads { ReadsTable steps_kept
+        (state S.Store conn.old) (state S.Store conn.new) result }
+{
+    let shown: Vec<Step> = all_records(alloc, conn, STEPS_OF, &tariff_values(name))?;
+    tariff_of(alloc, &shown)
+}

@@ -1,0 +1,107 @@
+//! What was sold so far, each as one row by its key: to a meter under a base and in a month, and in
+//! a shift.
+
+ghost use Rattle.std.specs.Prelude.{◌≡◌, length, map, option_map, sum_by, unwrap_or};
+ghost use Rattle.sqlite.specs.Held.{state};
+ghost use Rattle.vend_core.specs.Law.Cash.{cash_of};
+ghost use Rattle.vend_core.specs.Office.Lookup.{greatest_of};
+ghost use Rattle.book_tables.specs.Kept.{last_ids_kept, month_tenths_kept, shift_totals_kept};
+ghost use Rattle.book_tables.specs.reading.Reading.{ReadsTable, SaysOfTable};
+ghost use Rattle.book_tables.specs.Stands.{sales_in_month, sales_in_shift, sales_under};
+ghost use Rattle.book_tables.specs.writing.Writing.{no_totals};
+
+use crate::row::total_records::{Tenths, Tid};
+use crate::error::TableError;
+use crate::row::record::first_record;
+use crate::texts::{LAST_ID, MONTH_TENTHS, SHIFT_TOTALS};
+use crate::row::totals::Totals;
+use crate::row::values::{base_values, month_values, number_values};
+use sqlite::{Alter, Connection};
+use sts_fields::{Base, amount_law};
+use vend_core::MeterNo;
+
+/// The greatest identifier sold to a meter under a base.
+///
+/// # Errors
+/// What the database refuses, and a row that is no office's.
+pub fn greatest_tid<S: Alter>(
+    conn: &mut Connection<S>,
+    meter: &MeterNo,
+    base: Base,
+) -> Result<Option<u32>, TableError>
+    ensures given { SaysOfTable last_ids_kept
+        (λ rows greatest. greatest ≡ greatest_of (map (λ s. s.tid)
+        (sales_under rows.sales (meter.now, base))))
+        (state S.Store conn.old) (state S.Store conn.new) result }
+    ensures reads { ReadsTable last_ids_kept
+        (state S.Store conn.old) (state S.Store conn.new) result }
+{
+    let found: Option<Tid> = first_record(conn, LAST_ID, &base_values(meter, base))?;
+    Ok(number_of(found))
+}
+
+fn number_of(found: Option<Tid>) -> Option<u32>
+    ensures { result ≡ option_map (λ tid. tid.number) found }
+{
+    match found {
+        Some(Tid { number }) => Some(number),
+        None => None,
+    }
+}
+
+/// The tenths of a kWh sold to a meter in a month, under any base.
+///
+/// # Errors
+/// What the database refuses, and a row that is no office's.
+pub fn tenths_in_month<S: Alter>(
+    conn: &mut Connection<S>,
+    meter: &MeterNo,
+    month: u32,
+) -> Result<u64, TableError>
+    ensures given { SaysOfTable month_tenths_kept (λ rows tenths. tenths ≡ sum_by (λ s. s.tenths)
+        (sales_in_month rows.sales (meter.now, month)))
+        (state S.Store conn.old) (state S.Store conn.new) result }
+    ensures reads { ReadsTable month_tenths_kept
+        (state S.Store conn.old) (state S.Store conn.new) result }
+{
+    amount_law();
+    let found: Option<Tenths> = first_record(conn, MONTH_TENTHS, &month_values(meter, month))?;
+    Ok(sum_of(found))
+}
+
+fn sum_of(found: Option<Tenths>) -> u64
+    ensures { result ≡ unwrap_or (option_map (λ tenths. tenths.sum) found) 0 }
+{
+    match found {
+        Some(Tenths { sum }) => sum,
+        None => 0,
+    }
+}
+
+/// How many sales there are in a shift, and the sums of their tenths and of their prices.
+///
+/// # Errors
+/// What the database refuses, and a row that is no office's.
+pub fn totals_of_shift<S: Alter>(conn: &mut Connection<S>, shift: u32) -> Result<Totals, TableError>
+    ensures given { SaysOfTable shift_totals_kept (λ rows totals. totals ≡ record {
+      sales = length (sales_in_shift rows.sales shift);
+      tenths = sum_by (λ s. s.tenths) (sales_in_shift rows.sales shift);
+      cash = cash_of (sales_in_shift rows.sales shift);
+    }) (state S.Store conn.old) (state S.Store conn.new) result }
+    ensures reads { ReadsTable shift_totals_kept
+        (state S.Store conn.old) (state S.Store conn.new) result }
+{
+    amount_law();
+    let found: Option<Totals> = first_record(conn, SHIFT_TOTALS, &number_values(shift))?;
+    Ok(totals_or_none(found))
+}
+
+fn totals_or_none(found: Option<Totals>) -> Totals
+    ensures { result ≡ unwrap_or found no_totals }
+{
+    found.unwrap_or(Totals {
+        sales: 0,
+        tenths: 0,
+        cash: 0,
+    })
+}

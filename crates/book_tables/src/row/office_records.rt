@@ -1,0 +1,238 @@
+//! The records that the rows of an answer show.
+//!
+//! A record is read of a row of its columns, in their order. There is none exactly where they are
+//! those of no record whose values keep their rules: such a row is no office's.
+
+ghost use Rattle.vend_core.specs.Decision.Requests.{IsOrder};
+ghost use Rattle.book_tables.specs.row.ReadBack.{ReadsBack};
+ghost use Rattle.book_tables.specs.row.Parts.{AreEntryValues, AreTokenValues, entry_columns, order_columns, shown_entry, sale_part, shown_order, shown_token, token_columns};
+ghost use Rattle.book_tables.specs.row.Rows.{shown_meter, shown_number, shown_sale, shown_shift, shown_step, tariff_columns};
+ghost use Rattle.std.specs.Prelude.{◌∷◌, [], ℕ};
+ghost use Rattle.sqlite_value.specs.Order.{column};
+ghost use Rattle.vend_core.specs.Name.{IsName};
+ghost use Rattle.book_tables.specs.row.Values.{AreMeterValues, AreSaleValues, AreShiftValues, AreStepValues, IsNumber, IsSoldAmount};
+
+use crate::row::cells;
+use crate::row::record::Record;
+use sqlite::Row;
+use sts_fields::{Amount, Base, Moment, month_of};
+use tariff::Step;
+use vend_core::{Meter, Order, Sale, Shift, TariffName};
+
+// The number of a shift or of a sale.
+impl Record for u32 {
+    ghost shown = { shown_number };
+
+    ghost keeps = { IsNumber };
+
+    fn of_row(row: &Row) -> Option<u32> {
+        if row.column_count() != 1 {
+            return None;
+        }
+        cells::number_at(row, 0)
+    }
+}
+
+// The amount of a sale.
+impl Record for Amount {
+    ghost shown = { shown_number };
+
+    ghost keeps = { IsSoldAmount };
+
+    fn of_row(row: &Row) -> Option<Amount> {
+        if row.column_count() != 1 {
+            return None;
+        }
+        cells::amount_at(row, 0)
+    }
+}
+
+impl Record for TariffName {
+    ghost shown = { tariff_columns };
+
+    ghost keeps = { IsName };
+
+    fn of_row(row: &Row) -> Option<TariffName> {
+        if row.column_count() != 1 {
+            return None;
+        }
+        cells::tariff_at(row, 0)
+    }
+}
+
+impl Record for Step {
+    ghost shown = { shown_step };
+
+    ghost keeps = { AreStepValues };
+
+    fn of_row(row: &Row) -> Option<Step> {
+        if row.column_count() != 2 {
+            return None;
+        }
+        Some(Step {
+            ends: cells::end_at(row, 0)?,
+            price: cells::between_at(row, 1, 1, 1_000_000)?,
+        })
+    }
+}
+
+impl Record for Meter {
+    ghost shown = { shown_meter };
+
+    ghost keeps = { AreMeterValues };
+
+    fn of_row(row: &Row) -> Option<Meter> {
+        if row.column_count() != 3 {
+            return None;
+        }
+        Some(Meter {
+            base: cells::base_at(row, 0)?,
+            tariff: cells::tariff_at(row, 1)?,
+            key: cells::key_at(row, 2)?,
+        })
+    }
+}
+
+impl Record for Shift {
+    ghost shown = { shown_shift };
+
+    ghost keeps = { AreShiftValues };
+
+    fn of_row(row: &Row) -> Option<Shift> {
+        if row.column_count() != 4 {
+            return None;
+        }
+        Some(Shift {
+            number: cells::number_at(row, 0)?,
+            operator: cells::operator_at(row, 1)?,
+            opened: cells::moment_at(row, 2)?,
+            closed: cells::closing_at(row, 3)?,
+        })
+    }
+}
+
+// What a sale's row says of the sale as an entry in the books.
+#[derive(Clone, Copy)]
+struct Entry {
+    number: u32,
+    moment: Moment,
+    shift: u32,
+}
+
+fn entry_of(row: &Row) -> Option<Entry>
+    ensures { ReadsBack shown_entry AreEntryValues (entry_columns row.now) result }
+{
+    Some(Entry {
+        number: cells::number_at(row, 0)?,
+        moment: cells::moment_at(row, 1)?,
+        shift: cells::number_at(row, 2)?,
+    })
+}
+
+fn order_of(row: &Row) -> Option<Order>
+    ensures { ReadsBack shown_order IsOrder (order_columns row.now) result }
+{
+    Some(Order {
+        operator: cells::operator_at(row, 3)?,
+        order_ref: cells::ref_at(row, 4)?,
+        meter: cells::meter_no_at(row, 5)?,
+        tender: cells::tender_at(row, 11)?,
+    })
+}
+
+// What a sale's row says of its token.
+#[derive(Clone, Copy)]
+struct Token {
+    base: Base,
+    tid: u32,
+    rnd: u8,
+    tenths: Amount,
+    digits: [u8; 20],
+}
+
+fn token_of(row: &Row) -> Option<Token>
+    ensures { ReadsBack shown_token AreTokenValues (token_columns row.now) result }
+{
+    Some(Token {
+        base: cells::base_at(row, 6)?,
+        tid: cells::tid_at(row, 7)?,
+        rnd: cells::nibble_at(row, 8)?,
+        tenths: cells::amount_at(row, 9)?,
+        digits: cells::digits_at(row, 12)?,
+    })
+}
+
+// The sale of the first thirteen columns.
+fn sale_of(row: &Row) -> Option<Sale>
+    ensures { ReadsBack shown_sale AreSaleValues (sale_part row.now) result }
+{
+    let Some(entry) = entry_of(row) else {
+        return None;
+    };
+    let Some(order) = order_of(row) else {
+        return None;
+    };
+    let Some(token) = token_of(row) else {
+        return None;
+    };
+    let (tender, digits) = (order.tender, token.digits);
+    let Some(price) = cells::between_at(row, 10, 0, tender.cents()) else {
+        return None;
+    };
+    Some(Sale {
+        number: entry.number,
+        moment: entry.moment,
+        shift: entry.shift,
+        operator: order.operator,
+        order_ref: order.order_ref,
+        meter: order.meter,
+        base: token.base,
+        tid: token.tid,
+        rnd: token.rnd,
+        tenths: token.tenths,
+        price,
+        tender,
+        digits,
+    })
+}
+
+impl Record for Sale {
+    ghost shown = { shown_sale };
+
+    ghost keeps = { AreSaleValues };
+
+    fn of_row(row: &Row) -> Option<Sale> {
+        if row.column_count() != 13 {
+            return None;
+        }
+        sale_of(row)
+    }
+}
+
+/// A sale whose row has the month of its moment.
+#[derive(Drop)]
+pub(crate) struct Booked {
+    pub(crate) sale: Sale,
+}
+
+impl Record for Booked {
+    ghost use Rattle.book_tables.specs.row.Rows.{shown_booked};
+
+    ghost shown = { λ b. shown_booked b.sale };
+
+    ghost keeps = { λ b. AreSaleValues b.sale };
+
+    fn of_row(row: &Row) -> Option<Booked> {
+        if row.column_count() != 14 {
+            return None;
+        }
+        let Some(sale) = sale_of(row) else {
+            return None;
+        };
+        let month = month_of(sale.moment).unwrap();
+        match cells::between_at(row, 13, month, month) {
+            Some(_) => Some(Booked { sale }),
+            None => None,
+        }
+    }
+}

@@ -1,0 +1,68 @@
+//! The records that are read of the rows of an answer.
+
+ghost use Rattle.std.specs.Prelude.{IfOk};
+ghost use Rattle.sqlite.specs.Order.{Row};
+ghost use Rattle.sqlite.specs.Values.{bound};
+ghost use Rattle.sqlite.specs.State.{HasCleanDisk, IsUnchanged};
+ghost use Rattle.sqlite.specs.Held.{state};
+ghost use Rattle.one_table.specs.Answer.{GivesFirst, OnlyAsks};
+ghost use Rattle.one_table.specs.ReadsOnly.{ReadsOnly};
+ghost use Rattle.book_tables.specs.row.ReadBack.{ReadsBack};
+ghost use Rattle.book_tables.specs.reading.Reading.{FailsToShowRow, IsShown, ShowsRecord};
+
+use crate::error::TableError;
+use one_table::{FromRow, ReadFault, read_row};
+use sqlite::types::ValueRef;
+use sqlite::{Alter, Connection, Row};
+
+/// A record that a row of an answer may show.
+pub(crate) trait Record: Sized {
+    // The columns of a record, and the rules that its values keep.
+    ghost shown: { Self → Row };
+
+    ghost keeps: { Self → Type 0 };
+
+    /// The record of the row's columns, if they are those of one whose values keep their rules.
+    fn of_row(row: &Row) -> Option<Self>
+        ensures { ReadsBack shown keeps row.now result };
+}
+
+/// A record as a row of an answer shows it.
+#[derive(Drop)]
+pub(crate) struct Shown<T> {
+    pub(crate) record: T,
+}
+
+impl<T: Record> FromRow for Shown<T> {
+    ghost reads_as = { λ row x. IsShown T.Record.shown T.Record.keeps row x.record };
+
+    ghost is_readable = { ShowsRecord T.Record.shown T.Record.keeps };
+
+    fn from_row(row: &Row) -> Result<Shown<T>, ReadFault> {
+        match T::of_row(row) {
+            Some(record) => Ok(Shown { record }),
+            None => Err(ReadFault::Row),
+        }
+    }
+}
+
+/// The record that the first row of an answer shows: for a text that answers at most one row.
+pub(crate) fn first_record<S: Alter, T: Record>(
+    conn: &mut Connection<S>,
+    sql: &str,
+    params: &[ValueRef<'_>],
+) -> Result<Option<T>, TableError>
+    ensures given { HasCleanDisk (state S.Store conn.new)
+        → OnlyAsks sql.now (state S.Store conn.old)
+        → IfOk result (GivesFirst (IsShown T.Record.shown T.Record.keeps) sql.now (bound params.now)
+        (state S.Store conn.old) (state S.Store conn.new)) }
+    ensures reads { ReadsOnly (OnlyAsks sql.now) IsUnchanged
+        (FailsToShowRow (ShowsRecord T.Record.shown T.Record.keeps) sql.now (bound params.now))
+        (state S.Store conn.old) (state S.Store conn.new) result }
+{
+    let found: Option<Shown<T>> = read_row(conn, sql, params)?;
+    match found {
+        Some(Shown { record }) => Ok(Some(record)),
+        None => Ok(None),
+    }
+}

@@ -1,0 +1,8 @@
+//! The statements that write, inside a transaction.
+
+pub mod additions;
+pub mod bases;
+pub mod changes;
+pub(crate) mod merge;
+pub(crate) mod store;
+pub mod totals;

@@ -1,0 +1,156 @@
+//! The statements that add rows to the tables.
+
+ghost use Rattle.std.specs.Prelude.{◌≡◌, ◌≤◌, length, IfErr, OnOk};
+ghost use Rattle.sqlite.specs.State.{HasCleanDisk};
+ghost use Rattle.sqlite.specs.Held.{state};
+ghost use Rattle.one_table.specs.InTransaction.{IsUnderWay, KeepsTransaction};
+ghost use Rattle.book_tables.specs.writing.Failing.{FailsToWriteAll};
+ghost use Rattle.book_tables.specs.reading.Reading.{HasAllTables};
+ghost use Rattle.book_tables.specs.writing.Writing.{AddsMeter, AddsMeterRow, AddsName, AddsSale, AddsShift, AddsStep, AddsTariff, WritesTables};
+
+use crate::writing::bases::add_base;
+use crate::error::TableError;
+use crate::writing::store::put;
+use crate::texts::{NEW_METER, NEW_SALE, NEW_SHIFT, NEW_STEP, NEW_TARIFF};
+use crate::row::values::{meter_values, sale_values, shift_values, step_values, tariff_values};
+use sqlite::{Alter, Transaction};
+use sts_token::key_text;
+use tariff::Step;
+use vend_core::{Meter, MeterNo, Sale, Shift, TariffName};
+
+/// Adds a sale, with the month of its moment.
+///
+/// # Errors
+/// What the database refuses: a number or a ref that is taken, an identifier that the meter has
+/// had, a shift or a meter that is not there; want of memory, and the disk.
+pub fn add_sale<S: Alter>(tx: &mut Transaction<'_, S>, sale: &Sale) -> Result<(), TableError>
+    ensures same_reference { tx.new.conn.ghost_name ≡ tx.old.conn.ghost_name }
+    ensures writes { WritesTables (AddsSale sale.now)
+        (state S.Store tx.old.conn.now) (state S.Store tx.new.conn.now) result }
+{
+    put(tx, NEW_SALE, &sale_values(sale))
+}
+
+/// Adds a shift.
+///
+/// # Errors
+/// What the database refuses: a number that is taken; want of memory, and the disk.
+pub fn add_shift<S: Alter>(tx: &mut Transaction<'_, S>, shift: &Shift) -> Result<(), TableError>
+    ensures same_reference { tx.new.conn.ghost_name ≡ tx.old.conn.ghost_name }
+    ensures writes { WritesTables (AddsShift shift.now)
+        (state S.Store tx.old.conn.now) (state S.Store tx.new.conn.now) result }
+{
+    put(tx, NEW_SHIFT, &shift_values(shift))
+}
+
+/// Adds the row of a meter, with its number and its key.
+///
+/// # Errors
+/// What the database refuses: a number that is taken, a tariff that is not there; want of memory,
+/// and the disk.
+fn add_meter_row<S: Alter>(
+    tx: &mut Transaction<'_, S>,
+    number: &MeterNo,
+    meter: &Meter,
+) -> Result<(), TableError>
+    ensures same_reference { tx.new.conn.ghost_name ≡ tx.old.conn.ghost_name }
+    ensures writes { WritesTables (AddsMeterRow number.now meter.now)
+        (state S.Store tx.old.conn.now) (state S.Store tx.new.conn.now) result }
+{
+    let secret = key_text(meter.key);
+    put(tx, NEW_METER, &meter_values(number, meter, &secret))
+}
+
+/// Adds a meter, with its number, its key and its base.
+///
+/// What was added before an error goes with the transaction, which the caller drops.
+///
+/// # Errors
+/// What the database refuses: a number that is taken, a tariff that is not there; want of memory,
+/// and the disk.
+pub fn add_meter<S: Alter>(
+    tx: &mut Transaction<'_, S>,
+    number: &MeterNo,
+    meter: &Meter,
+) -> Result<(), TableError>
+    ensures same_reference { tx.new.conn.ghost_name ≡ tx.old.conn.ghost_name }
+    ensures added { HasCleanDisk (state S.Store tx.new.conn.now)
+        → HasAllTables (state S.Store tx.old.conn.now)
+        → OnOk result (AddsMeter number.now meter.now
+        (state S.Store tx.old.conn.now) (state S.Store tx.new.conn.now)) }
+    ensures refused { HasCleanDisk (state S.Store tx.new.conn.now)
+        → IsUnderWay (state S.Store tx.old.conn.now)
+        → HasAllTables (state S.Store tx.old.conn.now)
+        → IfErr result (FailsToWriteAll
+        (state S.Store tx.old.conn.now) (state S.Store tx.new.conn.now)) }
+    ensures transaction { KeepsTransaction
+        (state S.Store tx.old.conn.now) (state S.Store tx.new.conn.now) result }
+{
+    add_meter_row(tx, number, meter)?;
+    add_base(tx, number, meter.base)
+}
+
+/// Adds the name of a tariff, with no steps.
+///
+/// # Errors
+/// What the database refuses: a name that is taken; want of memory, and the disk.
+pub fn add_name<S: Alter>(tx: &mut Transaction<'_, S>, name: &TariffName) -> Result<(), TableError>
+    ensures same_reference { tx.new.conn.ghost_name ≡ tx.old.conn.ghost_name }
+    ensures writes { WritesTables (AddsName name.now)
+        (state S.Store tx.old.conn.now) (state S.Store tx.new.conn.now) result }
+{
+    put(tx, NEW_TARIFF, &tariff_values(name))
+}
+
+/// Adds a step of a tariff at a place, from 0.
+///
+/// # Errors
+/// What the database refuses: a place that is taken, a tariff that is not there; want of memory,
+/// and the disk.
+pub fn add_step<S: Alter>(
+    tx: &mut Transaction<'_, S>,
+    name: &TariffName,
+    place: u32,
+    step: Step,
+) -> Result<(), TableError>
+    ensures same_reference { tx.new.conn.ghost_name ≡ tx.old.conn.ghost_name }
+    ensures writes { WritesTables
+        (AddsStep (record { tariff = name.now; place = place; step = step }))
+        (state S.Store tx.old.conn.now) (state S.Store tx.new.conn.now) result }
+{
+    put(tx, NEW_STEP, &step_values(name, place, step))
+}
+
+/// Adds a tariff with its steps, in their order and from place 0.
+///
+/// What was added before an error goes with the transaction, which the caller drops.
+///
+/// # Errors
+/// What the database refuses: a name that is taken; want of memory, and the disk.
+pub fn add_tariff<S: Alter>(
+    tx: &mut Transaction<'_, S>,
+    name: &TariffName,
+    steps: &[Step],
+) -> Result<(), TableError>
+    requires { length steps.now ≤ 8 }
+    ensures same_reference { tx.new.conn.ghost_name ≡ tx.old.conn.ghost_name }
+    ensures added { HasCleanDisk (state S.Store tx.new.conn.now)
+        → HasAllTables (state S.Store tx.old.conn.now)
+        → OnOk result (AddsTariff name.now steps.now
+        (state S.Store tx.old.conn.now) (state S.Store tx.new.conn.now)) }
+    ensures refused { HasCleanDisk (state S.Store tx.new.conn.now)
+        → IsUnderWay (state S.Store tx.old.conn.now)
+        → HasAllTables (state S.Store tx.old.conn.now)
+        → IfErr result (FailsToWriteAll
+        (state S.Store tx.old.conn.now) (state S.Store tx.new.conn.now)) }
+    ensures transaction { KeepsTransaction
+        (state S.Store tx.old.conn.now) (state S.Store tx.new.conn.now) result }
+{
+    add_name(tx, name)?;
+    let mut place = 0;
+    'steps: for step in steps {
+        add_step(tx, name, place, *step)?;
+        place += 1;
+    }
+    Ok(())
+}

@@ -1,0 +1,78 @@
+//! The statements on the bases of meters.
+
+ghost use Rattle.std.specs.Prelude.{◌≡◌, IfErr, OnOk};
+ghost use Rattle.sqlite.specs.State.{HasCleanDisk};
+ghost use Rattle.sqlite.specs.Held.{state};
+ghost use Rattle.one_table.specs.InTransaction.{IsUnderWay, KeepsTransaction};
+ghost use Rattle.book_tables.specs.writing.Failing.{FailsToWriteAll};
+ghost use Rattle.book_tables.specs.reading.Reading.{HasAllTables};
+ghost use Rattle.book_tables.specs.writing.Writing.{AddsBase, MovesBase, SetsBase, WritesTables};
+
+use crate::error::TableError;
+use crate::writing::store::{put, set};
+use crate::texts::{BASE_SET, NEW_BASE};
+use crate::row::values::base_values;
+use sqlite::{Alter, Transaction};
+use sts_fields::Base;
+use vend_core::MeterNo;
+
+/// Adds a base that the meter of a number has had.
+///
+/// # Errors
+/// What the database refuses: a base that the meter has had, a meter that is not there; want of
+/// memory, and the disk.
+pub fn add_base<S: Alter>(
+    tx: &mut Transaction<'_, S>,
+    number: &MeterNo,
+    base: Base,
+) -> Result<(), TableError>
+    ensures same_reference { tx.new.conn.ghost_name ≡ tx.old.conn.ghost_name }
+    ensures writes { WritesTables (AddsBase number.now base)
+        (state S.Store tx.old.conn.now) (state S.Store tx.new.conn.now) result }
+{
+    put(tx, NEW_BASE, &base_values(number, base))
+}
+
+/// Sets the present base of the meter of a number.
+///
+/// # Errors
+/// Want of memory, and the disk.
+pub fn set_base<S: Alter>(
+    tx: &mut Transaction<'_, S>,
+    number: &MeterNo,
+    base: Base,
+) -> Result<(), TableError>
+    ensures same_reference { tx.new.conn.ghost_name ≡ tx.old.conn.ghost_name }
+    ensures writes { WritesTables (SetsBase number.now base)
+        (state S.Store tx.old.conn.now) (state S.Store tx.new.conn.now) result }
+{
+    set(tx, BASE_SET, &base_values(number, base))
+}
+
+/// Moves the meter of a number to a base, which is among those that it had from then on.
+///
+/// What was written before an error goes with the transaction, which the caller drops.
+///
+/// # Errors
+/// What the database refuses: a base that the meter has had; want of memory, and the disk.
+pub fn move_base<S: Alter>(
+    tx: &mut Transaction<'_, S>,
+    number: &MeterNo,
+    base: Base,
+) -> Result<(), TableError>
+    ensures same_reference { tx.new.conn.ghost_name ≡ tx.old.conn.ghost_name }
+    ensures moved { HasCleanDisk (state S.Store tx.new.conn.now)
+        → HasAllTables (state S.Store tx.old.conn.now)
+        → OnOk result (MovesBase number.now base
+        (state S.Store tx.old.conn.now) (state S.Store tx.new.conn.now)) }
+    ensures refused { HasCleanDisk (state S.Store tx.new.conn.now)
+        → IsUnderWay (state S.Store tx.old.conn.now)
+        → HasAllTables (state S.Store tx.old.conn.now)
+        → IfErr result (FailsToWriteAll
+        (state S.Store tx.old.conn.now) (state S.Store tx.new.conn.now)) }
+    ensures transaction { KeepsTransaction
+        (state S.Store tx.old.conn.now) (state S.Store tx.new.conn.now) result }
+{
+    set_base(tx, number, base)?;
+    add_base(tx, number, base)
+}

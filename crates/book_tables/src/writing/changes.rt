@@ -1,0 +1,50 @@
+//! The statements that change rows of the tables.
+
+ghost use Rattle.std.specs.Prelude.{◌≡◌};
+ghost use Rattle.sqlite.specs.Held.{state};
+ghost use Rattle.book_tables.specs.writing.Writing.{ClosesShift, SetsTariff, WritesTables};
+
+use crate::error::TableError;
+use crate::writing::store::set;
+use crate::texts::{SHIFT_CLOSED, TARIFF_SET};
+use crate::row::values::{seconds, whole};
+use sqlite::types::ValueRef;
+use sqlite::{Alter, Transaction};
+use sts_fields::Moment;
+use vend_core::{MeterNo, TariffName};
+
+/// Closes the shift of a number at a moment.
+///
+/// # Errors
+/// Want of memory, and the disk.
+pub fn close_shift<S: Alter>(
+    tx: &mut Transaction<'_, S>,
+    number: u32,
+    moment: Moment,
+) -> Result<(), TableError>
+    ensures same_reference { tx.new.conn.ghost_name ≡ tx.old.conn.ghost_name }
+    ensures writes { WritesTables (ClosesShift number moment)
+        (state S.Store tx.old.conn.now) (state S.Store tx.new.conn.now) result }
+{
+    set(tx, SHIFT_CLOSED, &[whole(number), seconds(moment)])
+}
+
+/// Sets the tariff of the meter of a number.
+///
+/// # Errors
+/// What the database refuses: a tariff that is not there; want of memory, and the disk.
+pub fn set_tariff<S: Alter>(
+    tx: &mut Transaction<'_, S>,
+    number: &MeterNo,
+    name: &TariffName,
+) -> Result<(), TableError>
+    ensures same_reference { tx.new.conn.ghost_name ≡ tx.old.conn.ghost_name }
+    ensures writes { WritesTables (SetsTariff number.now name.now)
+        (state S.Store tx.old.conn.now) (state S.Store tx.new.conn.now) result }
+{
+    let values = [
+        ValueRef::Text(number.as_bytes()),
+        ValueRef::Text(name.as_bytes()),
+    ];
+    set(tx, TARIFF_SET, &values)
+}

@@ -1,0 +1,79 @@
+//! What writes a row, or sets columns of rows, and how it fails.
+
+ghost use Rattle.std.specs.Prelude.{◌≡◌, ◌≢◌, ℕ, List, true, length, IsTrue, IfErr, OnOk};
+ghost use Rattle.sqlite.specs.Held.{state};
+ghost use Rattle.sqlite.specs.Query.{Query};
+ghost use Rattle.sqlite.specs.State.{HasCleanDisk};
+ghost use Rattle.sqlite.specs.Table.{Table};
+ghost use Rattle.sqlite.specs.Term.{Term};
+ghost use Rattle.sqlite.specs.Values.{bound};
+ghost use Rattle.one_table.specs.Changing.{IsUpdate};
+ghost use Rattle.one_table.specs.InTransaction.{KeepsTransaction, PutsRow, SetsRows};
+ghost use Rattle.one_table.specs.Inserting.{IsInsert, new_row};
+ghost use Rattle.one_table.specs.Place.{Has};
+ghost use Rattle.one_table.specs.Reading.{is_whole};
+ghost use Rattle.one_table.specs.Referring.{is_left_alone};
+ghost use Rattle.book_tables.specs.reading.Reading.{FailsToStore};
+
+use crate::error::TableError;
+use one_table::{insert, update};
+use sqlite::types::ValueRef;
+use sqlite::{Alter, Transaction};
+
+/// Puts one row into a table.
+pub(crate) fn put<S: Alter>(
+    tx: &mut Transaction<'_, S>,
+    sql: &str,
+    params: &[ValueRef<'_>],
+) -> Result<(), TableError>
+    ensures same_reference { tx.new.conn.ghost_name ≡ tx.old.conn.ghost_name }
+    ensures added { HasCleanDisk (state S.Store tx.new.conn.now)
+        → (t : Table) (at : ℕ) (terms : List Term) → IsInsert t terms sql.now
+        → (IsTrue (state S.Store tx.old.conn.now).is_open
+        → Has (state S.Store tx.old.conn.now).now.schema at t)
+        → OnOk result (PutsRow t (new_row t terms (bound params.now)
+        ((state S.Store tx.old.conn.now).now.trees t.tree))
+        (state S.Store tx.old.conn.now) (state S.Store tx.new.conn.now)) }
+    ensures database { IfErr result (λ e. e ≢ TableError.RowOfNoOffice) }
+    ensures transaction { KeepsTransaction
+        (state S.Store tx.old.conn.now) (state S.Store tx.new.conn.now) result }
+    ensures refused { HasCleanDisk (state S.Store tx.new.conn.now)
+        → (t : Table) (at : ℕ) (terms : List Term) → IsInsert t terms sql.now
+        → is_whole sql.now (length (bound params.now)) ≡ true
+        → (IsTrue (state S.Store tx.old.conn.now).is_open
+        → Has (state S.Store tx.old.conn.now).now.schema at t)
+        → IfErr result (FailsToStore
+        (state S.Store tx.old.conn.now) (state S.Store tx.new.conn.now)) }
+{
+    insert(tx, sql, params)?;
+    Ok(())
+}
+
+/// Sets columns of the rows that a text finds.
+pub(crate) fn set<S: Alter>(
+    tx: &mut Transaction<'_, S>,
+    sql: &str,
+    params: &[ValueRef<'_>],
+) -> Result<(), TableError>
+    ensures same_reference { tx.new.conn.ghost_name ≡ tx.old.conn.ghost_name }
+    ensures changed { HasCleanDisk (state S.Store tx.new.conn.now)
+        → (t : Table) (at : ℕ) (q : Query) → IsUpdate t q sql.now
+        → (IsTrue (state S.Store tx.old.conn.now).is_open
+        → Has (state S.Store tx.old.conn.now).now.schema at t
+        × (is_left_alone (state S.Store tx.old.conn.now).now.schema t.tree ≡ true))
+        → OnOk result (SetsRows t q (bound params.now)
+        (state S.Store tx.old.conn.now) (state S.Store tx.new.conn.now)) }
+    ensures database { IfErr result (λ e. e ≢ TableError.RowOfNoOffice) }
+    ensures transaction { KeepsTransaction
+        (state S.Store tx.old.conn.now) (state S.Store tx.new.conn.now) result }
+    ensures refused { HasCleanDisk (state S.Store tx.new.conn.now)
+        → (t : Table) (at : ℕ) (q : Query) → IsUpdate t q sql.now
+        → is_whole sql.now (length (bound params.now)) ≡ true
+        → (IsTrue (state S.Store tx.old.conn.now).is_open
+        → Has (state S.Store tx.old.conn.now).now.schema at t)
+        → IfErr result (FailsToStore
+        (state S.Store tx.old.conn.now) (state S.Store tx.new.conn.now)) }
+{
+    update(tx, sql, params)?;
+    Ok(())
+}

@@ -1,0 +1,162 @@
+//! The statements that keep the running totals. Each puts the row of its key in, or merges it into
+//! the one that is there.
+
+ghost use Rattle.std.specs.Prelude.{◌≡◌, IfErr, IfOk};
+ghost use Rattle.sqlite.specs.Held.{state};
+ghost use Rattle.sqlite.specs.State.{HasCleanDisk};
+ghost use Rattle.sts_fields.specs.Calendar.{month_at};
+ghost use Rattle.one_table.specs.InTransaction.{IsUnderWay, KeepsTransaction};
+ghost use Rattle.book_tables.specs.writing.Failing.{FailsToMergeAll};
+ghost use Rattle.book_tables.specs.reading.Reading.{HasAllTables};
+ghost use Rattle.book_tables.specs.writing.Writing.{AddsTenths, AddsToShift, FindsNoFalseRow, MayAddSold, MayAddTenths, MayAddToShift, MayAddTotals, MaySetLastId, MergesTables, SetsLastId, TellsSold, TellsTotals};
+
+use crate::writing::additions::add_sale;
+use crate::row::total_records::{Tenths, Tid};
+use crate::error::TableError;
+use crate::writing::merge::merge;
+use crate::texts::{LAST_ID_SET, SALE_COUNTED, TENTHS_ADDED};
+use crate::row::totals::{SaleTotals, Totals};
+use crate::row::values::{last_id_values, sale_total_values, tenths_values};
+use sqlite::{Alter, Transaction};
+use sts_fields::{Base, amount_law, month_of};
+use vend_core::{MeterNo, Sale};
+
+/// Sets the last identifier of a meter under a base.
+///
+/// # Errors
+/// Want of memory, and the disk.
+pub fn set_last_id<S: Alter>(
+    tx: &mut Transaction<'_, S>,
+    meter: &MeterNo,
+    base: Base,
+    tid: u32,
+) -> Result<(), TableError>
+    ensures same_reference { tx.new.conn.ghost_name ≡ tx.old.conn.ghost_name }
+    ensures merges { MergesTables (λ done. SetsLastId (meter.now, base) tid)
+        (state S.Store tx.old.conn.now) (state S.Store tx.new.conn.now) result }
+    ensures no_false_row { FindsNoFalseRow (MaySetLastId tid)
+        (state S.Store tx.old.conn.now) (state S.Store tx.new.conn.now) result }
+{
+    let last: Tid = merge(tx, LAST_ID_SET, &last_id_values(meter, base, tid))?;
+    if last.number != tid {
+        return Err(TableError::RowOfNoOffice);
+    }
+    Ok(())
+}
+
+/// Adds tenths of a kWh to those of a meter in a month, and answers their sum.
+///
+/// # Errors
+/// Want of memory, and the disk; and a sum that is no office's.
+pub fn add_tenths<S: Alter>(
+    tx: &mut Transaction<'_, S>,
+    meter: &MeterNo,
+    month: u32,
+    tenths: u32,
+) -> Result<u64, TableError>
+    ensures same_reference { tx.new.conn.ghost_name ≡ tx.old.conn.ghost_name }
+    ensures merges { MergesTables (AddsTenths (meter.now, month) tenths)
+        (state S.Store tx.old.conn.now) (state S.Store tx.new.conn.now) result }
+    ensures no_false_row { FindsNoFalseRow (MayAddTenths (meter.now, month) tenths)
+        (state S.Store tx.old.conn.now) (state S.Store tx.new.conn.now) result }
+{
+    let all: Tenths = merge(tx, TENTHS_ADDED, &tenths_values(meter, month, tenths))?;
+    Ok(all.sum)
+}
+
+/// Adds a sale of these tenths at this price to the totals of a shift, and answers these.
+///
+/// # Errors
+/// Want of memory, and the disk; and totals that are no office's.
+pub fn add_to_shift<S: Alter>(
+    tx: &mut Transaction<'_, S>,
+    shift: u32,
+    tenths: u32,
+    price: u32,
+) -> Result<Totals, TableError>
+    ensures same_reference { tx.new.conn.ghost_name ≡ tx.old.conn.ghost_name }
+    ensures merges { MergesTables (AddsToShift shift tenths price)
+        (state S.Store tx.old.conn.now) (state S.Store tx.new.conn.now) result }
+    ensures no_false_row { FindsNoFalseRow (MayAddToShift shift tenths price)
+        (state S.Store tx.old.conn.now) (state S.Store tx.new.conn.now) result }
+{
+    let all: Totals = merge(tx, SALE_COUNTED, &sale_total_values(shift, tenths, price))?;
+    Ok(all)
+}
+
+fn month_of_sale(sale: &Sale) -> u32
+    ensures { result ≡ month_at sale.now.moment }
+{
+    month_of(sale.moment).unwrap()
+}
+
+/// Adds a sale to the totals, after which this is the last identifier of its meter under its base,
+/// and answers those of its month and its shift.
+///
+/// What was added before an error goes with the transaction, which the caller drops.
+///
+/// # Errors
+/// Want of memory, and the disk; and totals that are no office's.
+pub fn add_totals<S: Alter>(
+    tx: &mut Transaction<'_, S>,
+    sale: &Sale,
+    last: u32,
+) -> Result<SaleTotals, TableError>
+    ensures same_reference { tx.new.conn.ghost_name ≡ tx.old.conn.ghost_name }
+    ensures adds { HasCleanDisk (state S.Store tx.new.conn.now)
+        → IsUnderWay (state S.Store tx.old.conn.now)
+        → HasAllTables (state S.Store tx.old.conn.now)
+        → IfOk result (λ shown. TellsTotals sale.now last shown
+        (state S.Store tx.old.conn.now) (state S.Store tx.new.conn.now)) }
+    ensures refused { HasCleanDisk (state S.Store tx.new.conn.now)
+        → IsUnderWay (state S.Store tx.old.conn.now)
+        → HasAllTables (state S.Store tx.old.conn.now)
+        → IfErr result (FailsToMergeAll
+        (state S.Store tx.old.conn.now) (state S.Store tx.new.conn.now)) }
+    ensures transaction { KeepsTransaction
+        (state S.Store tx.old.conn.now) (state S.Store tx.new.conn.now) result }
+    ensures no_false_row { FindsNoFalseRow (MayAddTotals sale.now last)
+        (state S.Store tx.old.conn.now) (state S.Store tx.new.conn.now) result }
+{
+    let month = month_of_sale(sale);
+    let tenths = sale.tenths.tenths();
+    set_last_id(tx, &sale.meter, sale.base, last)?;
+    let month_tenths = add_tenths(tx, &sale.meter, month, tenths)?;
+    let shift = add_to_shift(tx, sale.shift, tenths, sale.price)?;
+    Ok(SaleTotals {
+        month_tenths,
+        shift,
+    })
+}
+
+/// Adds a sale with its totals, and answers those of its month and its shift.
+///
+/// What was added before an error goes with the transaction, which the caller drops.
+///
+/// # Errors
+/// Those of `add_sale` and of `add_totals`.
+pub fn add_sold<S: Alter>(
+    tx: &mut Transaction<'_, S>,
+    sale: &Sale,
+) -> Result<SaleTotals, TableError>
+    ensures same_reference { tx.new.conn.ghost_name ≡ tx.old.conn.ghost_name }
+    ensures adds { HasCleanDisk (state S.Store tx.new.conn.now)
+        → IsUnderWay (state S.Store tx.old.conn.now)
+        → HasAllTables (state S.Store tx.old.conn.now)
+        → IfOk result (λ shown. TellsSold sale.now shown
+        (state S.Store tx.old.conn.now) (state S.Store tx.new.conn.now)) }
+    ensures refused { HasCleanDisk (state S.Store tx.new.conn.now)
+        → IsUnderWay (state S.Store tx.old.conn.now)
+        → HasAllTables (state S.Store tx.old.conn.now)
+        → IfErr result (FailsToMergeAll
+        (state S.Store tx.old.conn.now) (state S.Store tx.new.conn.now)) }
+    ensures transaction { KeepsTransaction
+        (state S.Store tx.old.conn.now) (state S.Store tx.new.conn.now) result }
+    ensures no_false_row { FindsNoFalseRow (MayAddSold sale.now)
+        (state S.Store tx.old.conn.now) (state S.Store tx.new.conn.now) result }
+{
+    amount_law();
+    add_sale(tx, sale)?;
+    let totals = add_totals(tx, sale, sale.tid)?;
+    Ok(totals)
+}

@@ -1,0 +1,20 @@
+use Rattle.std.proofs.Common.{Err, ap, refl}
+use Rattle.books.specs.Keeps.{seen}
+use Rattle.vend_commands.specs.print.Told.{sink}
+use Rattle.vend_commands.proofs.RefusedLemmas.{tells_refusal}
+use Rattle.vend_commands.proofs.TakeLemmas.{takes_none}
+use Rattle.vend_commands.proofs.print.totals.print_totals.Goals as goal
+
+pub returns-in-Err : goal.returns-in-Err
+returns-in-Err g c = record {
+  totals = Err c.in-Err.refusal;
+  are_totals = record {
+    none = λ clean life kept is. c.in-Err.ensures.none clean life kept (ap Err is);
+    refused = record {
+      tells = tells_refusal (seen g.S.Store g.T.BlockTransform.forwards c.args.books.now) (seen g.S.Store g.T.BlockTransform.forwards c.shift_totals.new.self) c.in-Err.refusal (c.in-Err.ensures.stopped, c.in-Err.ensures.stops);
+      failures = c.in-Err.ensures.failures;
+    };
+  };
+  told = (takes_none (sink g.O.Write.contents c.args.out.now), c.put_refusal.ensures, refl);
+  keeps = c.in-Err.ensures.keeps;
+}

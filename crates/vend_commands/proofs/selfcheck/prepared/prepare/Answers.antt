@@ -1,0 +1,6 @@
+use Rattle.vend_core.specs.Law.LifeLaws.{opened}
+use Rattle.vend_core.specs.Office.{empty_office}
+use Rattle.vend_commands.proofs.selfcheck.prepared.prepare.Goals as goal
+
+pub returns-in-Ok-ready-clause-prepared : goal.returns-in-Ok-ready-clause-prepared
+returns-in-Ok-ready-clause-prepared g c = c.in-Ok-ready.ensures.granted (opened (g.T.BlockTransform.forwards c.args.transform) empty_office) c.in-Ok.ensures.opens

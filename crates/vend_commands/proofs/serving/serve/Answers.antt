@@ -1,0 +1,50 @@
+use Rattle.std.proofs.Common.{arith, refl}
+use Rattle.command_line.specs.Transform.{forward_of}
+use Rattle.vend_commands.specs.serving.Connections.{service}
+use Rattle.vend_commands.specs.port.Places.{way}
+use Rattle.vend_commands.specs.office.Visited.{seen_in}
+use Rattle.vend_commands.proofs.ConnectionLemmas.{all_held, one_more}
+use Rattle.vend_commands.proofs.serving.serve.Goals as goal
+
+pub loop-connection-preserved : goal.loop-connection-preserved
+loop-connection-preserved g c =
+    let D = g.D.Door in
+    let H = g.H.OfficeFile in
+    let C = g.C.Clock in
+    let ways = way D g.D.Reader.Read.remaining g.D.Writer.Write.contents in
+    let before = c.loop-connection in
+    one_more ways (forward_of c.args.words.now.transform) seen_in before._connection
+    (service c.args.door.now c.args.books (C.answers c.args.clock.now)) (service before.door before.books (C.answers before.clock))
+    (service c.hold.new.door c.hold.new.books (C.answers c.hold.new.clock)) c.in-Ok.books before.invariant c.in-Ok.ensures c.if-not-hold.ensures
+
+pub returns-in-Err : goal.returns-in-Err
+returns-in-Err g c = record {
+  count = c.loop-connection._connection;
+  fewer = c.loop-connection-test.true;
+  last = service c.loop-connection.door c.loop-connection.books (g.C.Clock.answers c.loop-connection.clock);
+  held = c.loop-connection.invariant;
+  lost = c.in-Err.ensures;
+  door = refl;
+  answers = refl;
+}
+
+pub returns-then-not-hold : goal.returns-then-not-hold
+returns-then-not-hold g c = record {
+  count = c.loop-connection._connection;
+  fewer = c.loop-connection-test.true;
+  last = service c.loop-connection.door c.loop-connection.books (g.C.Clock.answers c.loop-connection.clock);
+  held = c.loop-connection.invariant;
+  ready = c.in-Ok.books;
+  are_ready = c.in-Ok.ensures;
+  unheld = c.if-not-hold.ensures;
+}
+
+pub returns : goal.returns
+returns g c =
+    let D = g.D.Door in
+    let H = g.H.OfficeFile in
+    let C = g.C.Clock in
+    let ways = way D g.D.Reader.Read.remaining g.D.Writer.Write.contents in
+    let last = c.loop-connection in
+    all_held ways (forward_of c.args.words.now.transform) seen_in last._connection c.args.words.now.connections
+    (service c.args.door.now c.args.books (C.answers c.args.clock.now)) (service last.door last.books (C.answers last.clock)) last.invariant (omega arith)

@@ -1,0 +1,10 @@
+pub mod Asked
+pub mod Imported
+pub mod Metered
+pub mod Quoted
+pub mod Reported
+pub mod Selfchecked
+pub mod Timed
+pub mod Trial
+pub mod Tried
+pub mod Unread

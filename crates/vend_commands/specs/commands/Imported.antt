@@ -1,0 +1,60 @@
+-- What `import` does: a file of rows is read, and they are added to an office.
+use Rattle.std.specs.Prelude.{◌⊎◌, ℕ, List, [], Result, Ok, Err}
+use Rattle.sts_fields.specs.Text.{Text}
+use Rattle.sqlite_trees.specs.declared.store.Store.{Ghosts}
+use Rattle.papers.specs.File.{AreFileRecords, Fields}
+use Rattle.papers.specs.Import.{IsReading}
+use Rattle.papers.specs.declared.row_fault.RowFault.{RowFault}
+use Rattle.papers.specs.declared.row_fault.RowFault.TheVariants.{At, Memory}
+use Rattle.vend_core.specs.declared.decision.refusal.Refusal.{Refusal}
+use Rattle.vend_core.specs.declared.decision.refusal.Refusal.TheVariants as refusal
+use Rattle.vend_core.specs.declared.decision.request.Request.TheVariants.{Import}
+use Rattle.vend_core.specs.declared.office.row.Row.{Row}
+use Rattle.vend_commands.specs.port.Places.{Place}
+use Rattle.vend_commands.specs.print.Printed.{file_line, refusal_line}
+use Rattle.vend_commands.specs.commands.Asked.{IsAskedAt}
+use Rattle.vend_commands.specs.print.Told.{Outputs, IsTold}
+use Rattle.command_line.specs.declared.commands.import.ImportWords.{ImportWords}
+use Rattle.vend_commands.specs.declared.command_end.CommandEnd.{CommandEnd}
+use Rattle.vend_commands.specs.declared.command_end.CommandEnd.TheVariants.{Refused}
+use Rattle.vend_commands.specs.declared.port.file_fault.FileFault.{FileFault}
+use Rattle.vend_commands.specs.declared.port.file_fault.FileFault.TheVariants as read
+
+-- how a fault of the rows is told: as the office refuses a row
+abbrev pub refusal_of_rows : RowFault → Refusal
+refusal_of_rows (At row cause) = refusal.ImportRow row cause
+refusal_of_rows Memory = refusal.Memory
+
+-- rows that were read go to the office as one request; a fault is told, and no office is found
+abbrev pub AreAdded : {S : Type 0} → Ghosts S → (Text → Place) → (untouched : Type 0)
+    → ImportWords → ℕ
+    → Result (List Row) RowFault → Outputs → CommandEnd → Type 0
+AreAdded store at untouched words moment (Ok rows) o end =
+    IsAskedAt store at words.transform words.file.now moment (Import rows) o end
+AreAdded store at untouched words moment (Err fault) o end =
+    untouched × IsTold o [] (refusal_line (refusal_of_rows fault)) Refused end
+
+-- the rows of these bytes, by their kind, are added
+abbrev pub IsImported : {S : Type 0} → Ghosts S → (Text → Place) → (untouched : Type 0)
+    → ImportWords → ℕ
+    → List ℕ → Outputs → CommandEnd → Type 0
+IsImported store at untouched words moment bytes o end =
+    (records : List Fields) × (rows : Result (List Row) RowFault)
+    × AreFileRecords bytes records × IsReading words.kind records rows
+    × AreAdded store at untouched words moment rows o end
+
+-- the file cannot be read, or there is no room for it
+abbrev pub read_fault_line : FileFault → Text
+read_fault_line read.Unreadable = file_line
+read_fault_line read.Memory = refusal_line refusal.Memory
+
+-- the file of the words has some bytes, which are imported; or it is not read, and that is told,
+-- and no office is found
+abbrev pub IsFileImported : {S : Type 0} → Ghosts S → (Text → Place) → (untouched : Type 0)
+    → (Text → List ℕ → Type 0) → (Text → FileFault → Type 0) → ImportWords → ℕ → Outputs → CommandEnd
+    → Type 0
+IsFileImported store at untouched Reads Lacks words moment o end =
+    ((bytes : List ℕ) × Reads words.csv.now bytes
+    × IsImported store at untouched words moment bytes o end)
+    ⊎ ((fault : FileFault) × Lacks words.csv.now fault × untouched
+    × IsTold o [] (read_fault_line fault) Refused end)

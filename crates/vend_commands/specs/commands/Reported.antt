@@ -1,0 +1,33 @@
+-- What `report` prints of an office.
+use Rattle.sqlite_trees.specs.declared.store.Store.{Ghosts}
+use Rattle.sts_fields.specs.Moment.{first_moment}
+use Rattle.sts_fields.specs.Text.{Text}
+use Rattle.books.specs.Keeps.{Seen}
+use Rattle.vend_core.specs.declared.decision.request.Request.TheVariants.{Reprint, ShiftReport}
+use Rattle.vend_commands.specs.print.Exported.{IsExported}
+use Rattle.vend_commands.specs.port.Places.{Place}
+use Rattle.vend_commands.specs.office.Served.{IsServedAndTold}
+use Rattle.vend_commands.specs.print.Told.{Outputs}
+use Rattle.vend_commands.specs.print.Totalled.{IsTotalled}
+use Rattle.vend_commands.specs.office.Visited.{IsVisited}
+use Rattle.command_line.specs.declared.commands.report.Paper.{Paper}
+use Rattle.command_line.specs.declared.commands.report.Paper.TheVariants.{Shift, Receipt, Totals, Sales}
+use Rattle.command_line.specs.declared.commands.report.ReportWords.{ReportWords}
+use Rattle.command_line.specs.declared.transform.Shipped.TheVariants.{Plain}
+use Rattle.vend_commands.specs.declared.command_end.CommandEnd.{CommandEnd}
+
+-- a report or a receipt is asked for at the first moment, since it is the same at each
+abbrev pub PrintsPaper : Paper → (old new : Seen) → Outputs → CommandEnd → Type 0
+PrintsPaper (Shift number) old new o end =
+    IsServedAndTold first_moment (ShiftReport number) old new o end
+PrintsPaper (Receipt number) old new o end =
+    IsServedAndTold first_moment (Reprint number) old new o end
+PrintsPaper (Totals number) old new o end = IsTotalled number old new o end
+PrintsPaper Sales old new o end = IsExported old new o end
+
+-- the paper of the words is printed of the office in their file, where no token is written
+abbrev pub IsReported : {S : Type 0} → Ghosts S → (Text → Place) → ReportWords → Outputs → CommandEnd
+    → Type 0
+IsReported store at words o end =
+    IsVisited store (at words.file.now) Plain
+    (λ old new. PrintsPaper words.paper old new o end) o end

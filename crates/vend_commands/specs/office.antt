@@ -1,0 +1,6 @@
+pub mod Closed
+pub mod Opened
+pub mod Refused
+pub mod Reopened
+pub mod Served
+pub mod Visited

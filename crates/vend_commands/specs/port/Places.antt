@@ -1,0 +1,179 @@
+-- What a command has of the machine beside its outputs.
+use Rattle.std.specs.Prelude.{◌≡◌, ◌⊎◌, ℕ, ℤ, ⊤, List, Option, None}
+use Rattle.sqlite.specs.Steps.{over_memory}
+use Rattle.sqlite_disk.specs.declared.Disk as disk
+use Rattle.sqlite_disk.specs.declared.Files.{Files}
+use Rattle.sqlite_wal.specs.Recovery.{Image}
+use Rattle.books.specs.Keeps.{Seen, seen}
+use Rattle.books.specs.Path.{AreTakenFrom, RefusesFiles}
+use Rattle.book_opening.specs.declared.fault.OpenFault.{OpenFault}
+use Rattle.book_opening.specs.declared.fault.OpenFault.TheVariants.{Store}
+use Rattle.books.specs.declared.refused_files.RefusedFiles.{RefusedFiles}
+use Rattle.sts_fields.specs.Text.{Text}
+use Rattle.command_line.specs.Transform.{forward_of}
+use Rattle.command_line.specs.declared.address.Address.{Address}
+use Rattle.command_line.specs.declared.transform.Shipped.{Shipped}
+use Rattle.vend_commands.specs.office.Closed.{IsClosed}
+use Rattle.vend_commands.specs.office.Opened.{OpensIn}
+use Rattle.vend_commands.specs.commands.Selfchecked.{AgreesOver, Disagrees, HasReplies}
+use Rattle.vend_commands.specs.print.Told.{Held}
+use Rattle.vend_commands.specs.declared.port.door.Door as doors
+use Rattle.vend_commands.specs.declared.port.loopback.Loopback as loopback
+use Rattle.vend_commands.specs.declared.port.ports.OfficeFile as file
+use Rattle.vend_commands.specs.declared.port.ports.SaltSource as source
+use Rattle.vend_commands.specs.declared.port.file_fault.FileFault.{FileFault}
+use Rattle.vend_commands.specs.declared.selfcheck.fault.SelfcheckFault.{SelfcheckFault}
+
+-- No office was opened: no files were found at its path, or two were, and there was no salt for a
+-- new log, or the office in them was refused. Then these are taken from what the refusal gave back,
+-- which says what they hold, and let go.
+pub data IsUnopened {D S : Type 0} (disk : disk.Ghosts D) (salts : source.Ghosts S)
+    (finds lets_go : D → D → Type 0) (fails : OpenFault → Type 0) (fault : OpenFault) : Type 0 where
+  unfound : fails fault → IsUnopened disk salts finds lets_go fails fault
+  unsalted : (log db : D) → finds log db → (it : S) → salts.lacks it → fault ≡ Store
+      → IsUnopened disk salts finds lets_go fails fault
+  refused : (found left : Files D) → finds found.log found.db → (refused : RefusedFiles D disk)
+      → RefusesFiles found fault refused → AreTakenFrom refused left → lets_go left.log left.db
+      → IsUnopened disk salts finds lets_go fails fault
+
+-- Stopped books lost their file: there was no salt for a new log, or with a salt that was drawn the
+-- office was not opened again.
+abbrev pub IsUnreopened : {S : Type 0} → source.Ghosts S → OpenFault → Type 0
+IsUnreopened {S} salts fault = (it : S)
+    × ((salts.lacks it × (fault ≡ Store)) ⊎ ((salt : ℕ) × salts.draws it salt))
+
+-- a file at a path: what it holds, that it was found, how an office was opened there and why none
+-- was, how it is closed, and why it is not opened again
+pub record Place : Type 1 where
+  pub image : Image
+  pub finds : Type 0
+  pub opens : Seen → Type 0
+  pub fails : OpenFault → Type 0
+  pub closes : Seen → Type 0
+  pub loses : OpenFault → Type 0
+
+-- What a door tells: where it listens or that it could not, which connection came in or that none
+-- could be had, that it was let go, and that the door was left; and what is known of the bytes of
+-- its halves.
+pub record Way (D R W : Type 0) : Type 1 where
+  pub listens : D → Address → ℕ → D → Type 0
+  pub fails : D → Address → D → Type 0
+  pub accepts : D → R → W → D → Type 0
+  pub refuses : D → D → Type 0
+  pub ends : R → W → Type 0
+  pub leaves : D → Type 0
+  pub remaining : R → Held
+  pub contents : W → Held
+
+abbrev pub way : {D R W : Type 0} → doors.Ghosts D R W → (R → Held) → (W → Held) → Way D R W
+way of remaining contents = record {
+  listens = of.listens;
+  fails = of.fails;
+  accepts = of.accepts;
+  refuses = of.refuses;
+  ends = of.ends;
+  leaves = of.leaves;
+  remaining = remaining;
+  contents = contents;
+}
+
+-- What the machine's connection with itself tells of `selfcheck`: that it was left, that the
+-- replies over it agreed, and why not.
+pub record Loop : Type 1 where
+  pub leaves : Type 0
+  pub agrees : Shipped → Type 0
+  pub disagrees : Shipped → SelfcheckFault → Type 0
+
+abbrev pub loop_of : {N S : Type 0} → loopback.Ghosts N S → (remaining contents : S → Held) → N
+    → Loop
+loop_of of remaining contents net = record {
+  leaves = of.leaves net;
+  agrees = λ transform. AgreesOver of remaining contents net (forward_of transform);
+  disagrees = λ transform fault. Disagrees of remaining contents net (forward_of transform)
+      (seen over_memory forward_of) fault;
+}
+
+-- the files that keep offices and that none of them was found, the files that are read, the answers
+-- of the clock, the door, and the connection with itself
+pub record Machine (D R W : Type 0) : Type 1 where
+  pub at : Text → Place
+  pub untouched : Type 0
+  pub reads : Text → List ℕ → Type 0
+  pub lacks : Text → FileFault → Type 0
+  pub answers : Option (List ℤ)
+  pub way : Way D R W
+  pub door : D
+  pub loop : Loop
+
+-- what keeps offices has a file at each path
+abbrev pub places_of : {H D S : Type 0} → (disk : disk.Ghosts D) → source.Ghosts S
+    → file.Ghosts H D S
+    → H → Text → Place
+places_of {H} {D} {S} disk salts of office path = record {
+  image = of.image office path;
+  finds = (log : D) × (db : D) × of.finds office path log db;
+  opens = OpensIn disk (of.image office path);
+  fails = IsUnopened disk salts (of.finds office path) of.lets_go (of.fails office path);
+  closes = IsClosed disk of.lets_go;
+  loses = IsUnreopened salts;
+}
+
+-- nobody was listened to: the door was left as it was
+abbrev pub IsShut : {D R W : Type 0} → Machine D R W → Type 0
+IsShut m = m.way.leaves m.door
+
+-- nor was the machine connected with itself
+abbrev pub IsOffline : {D R W : Type 0} → Machine D R W → Type 0
+IsOffline m = IsShut m × m.loop.leaves
+
+-- nor was a file of an office found
+abbrev pub IsIdle : {D R W : Type 0} → Machine D R W → Type 0
+IsIdle m = m.untouched × IsOffline m
+
+abbrev pub machine : {D R W : Type 0} → (Text → Place) → (untouched : Type 0)
+    → (Text → List ℕ → Type 0)
+    → (Text → FileFault → Type 0) → Option (List ℤ) → Way D R W → D → Loop → Machine D R W
+machine at untouched reads lacks answers way door loop = record {
+  at = at;
+  untouched = untouched;
+  reads = reads;
+  lacks = lacks;
+  answers = answers;
+  way = way;
+  door = door;
+  loop = loop;
+}
+
+-- a door of which nothing is told but the bytes of each connection
+abbrev pub untold_way : Way ⊤ Held Held
+untold_way = record {
+  listens = λ old address port new. ⊤;
+  fails = λ old address new. ⊤;
+  accepts = λ old reader writer new. ⊤;
+  refuses = λ old new. ⊤;
+  ends = λ reader writer. ⊤;
+  leaves = λ door. ⊤;
+  remaining = λ unread. unread;
+  contents = λ held. held;
+}
+
+-- a connection of which nothing is told but that there are replies over memory
+abbrev pub untold_loop : Loop
+untold_loop = record { leaves = ⊤; agrees = HasReplies; disagrees = λ transform fault. ⊤ }
+
+-- a file of which nothing is told but what it holds, and how an office is opened there and closed
+abbrev pub untold_place : Image → (opens closes : Seen → Type 0) → Place
+untold_place image opens closes = record {
+  image = image;
+  finds = ⊤;
+  opens = opens;
+  fails = λ fault. ⊤;
+  closes = closes;
+  loses = λ fault. ⊤;
+}
+
+-- a machine of which nothing is told but that, and the bytes of each connection
+abbrev pub untold : {D : Type 0} → disk.Ghosts D → Image → Machine ⊤ Held Held
+untold disk image = machine
+    (λ path. untold_place image (OpensIn disk image) (IsClosed disk (λ log db. ⊤))) ⊤
+    (λ path bytes. ⊤) (λ path fault. ⊤) None untold_way tt untold_loop

@@ -1,0 +1,4 @@
+pub mod Exported
+pub mod Printed
+pub mod Told
+pub mod Totalled

@@ -1,0 +1,113 @@
+-- Connections that are served one after another, each over the bytes of its own.
+use Rattle.std.specs.Prelude.{◌≡◌, ◌⊎◌, ℕ, ℤ, zero, suc, ◌<◌, Bool, true, false, List, Option, Result, Ok, Err}
+use Rattle.sqlite.specs.State.{HasCleanDisk}
+use Rattle.books.specs.Keeps.{Represents, Seen}
+use Rattle.books.specs.Others.{LeavesOthers}
+use Rattle.book_opening.specs.declared.fault.OpenFault.{OpenFault}
+use Rattle.desk.specs.Answering.{answers_by, books_serve, life_serves, message_refusal_of}
+use Rattle.conversation.specs.Run.{IsRun}
+use Rattle.conversation.specs.Uses.{IsPaced, Use}
+use Rattle.conversation.specs.declared.end.End as conversation
+use Rattle.sts_token.specs.Token.{BlockFunction}
+use Rattle.vend_core.specs.Law.Life.{Life}
+use Rattle.vend_commands.specs.port.Places.{Way}
+use Rattle.vend_commands.specs.office.Reopened.{IsNextLife}
+
+-- what serves: the door, the books, and the answers that the clock has yet to give
+pub record Service (D B : Type 0) : Type 0 where
+  pub door : D
+  pub books : B
+  pub answers : Option (List ℤ)
+
+abbrev pub service : {D B : Type 0} → D → B → Option (List ℤ) → Service D B
+service door books answers = record { door = door; books = books; answers = answers }
+
+-- Every life that books kept they keep as it went on so, and no table of another name has changed.
+abbrev pub GoOn : (old new : Seen) → (Life → Life → Type 0) → Type 0
+GoOn old new Goes = HasCleanDisk new.state → (life : Life) → Represents life old
+    → (after : Life) × Goes life after × Represents after new × LeavesOthers old.state new.state
+
+module _ {D R W B : Type 0} (way : Way D R W) (see : B → Seen) where
+  -- A connection came in, the desk held its conversation over what it sends and what it is sent,
+  -- and it was let go as the conversation left it. No more was read than the desk may ask for, nor
+  -- before the replies to what came before it were written. Every life that the books kept goes on
+  -- by that, and by nothing beside.
+  pub record IsHeld (old new : Service D B) : Type 0 where
+    pub reader : R
+    pub writer : W
+    pub read : R
+    pub written : W
+    pub end : conversation.End
+    pub accepted : way.accepts old.door reader writer new.door
+    pub run : IsRun (answers_by (books_serve see)) message_refusal_of (old.books, old.answers)
+        (new.books, new.answers) (way.remaining reader) (way.remaining read)
+        (way.contents writer) (way.contents written) end
+    pub paced : (uses : List Use) × IsPaced (answers_by (books_serve see)) (old.books, old.answers)
+        (way.remaining reader) (way.remaining read) (way.contents writer)
+        (way.contents written) uses
+    pub clean : HasCleanDisk (see new.books).state → HasCleanDisk (see old.books).state
+    pub lives : GoOn (see old.books) (see new.books) (λ life after.
+        IsRun (answers_by life_serves) message_refusal_of (life, old.answers) (after, new.answers)
+        (way.remaining reader) (way.remaining read) (way.contents writer)
+        (way.contents written) end)
+    pub ended : way.ends read written
+
+  -- no connection could be had, and nothing else has changed
+  pub record IsUnheld (old new : Service D B) : Type 0 where
+    pub refused : way.refuses old.door new.door
+    pub books : new.books ≡ old.books
+    pub answers : new.answers ≡ old.answers
+
+-- the file of books was opened again, by others that go on
+pub record IsReopened (forward : BlockFunction) (old new : Seen) : Type 0 where
+  pub running : new.stopped ≡ false
+  pub next : HasCleanDisk new.state → IsNextLife forward old new
+
+module _ {B : Type 0} (see : B → Seen) where
+  -- books that are not stopped serve on; of those that are, the file is opened again
+  abbrev pub AreReady : BlockFunction → (old new : B) → Type 0
+  AreReady forward old new = (((see old).stopped ≡ false) × (new ≡ old))
+      ⊎ (((see old).stopped ≡ true) × IsReopened forward (see old) (see new))
+
+  -- it cannot be, for this fault
+  abbrev pub AreLost : (OpenFault → Type 0) → B → OpenFault → Type 0
+  AreLost loses old fault = ((see old).stopped ≡ true) × loses fault
+
+module _ {D R W B : Type 0} (way : Way D R W) (forward : BlockFunction) (see : B → Seen) where
+  -- so many connections, one after another, and before each the books are made ready
+  abbrev pub AreHeld : ℕ → (old new : Service D B) → Type 0
+  AreHeld zero old new = new ≡ old
+  AreHeld (suc count) old new = (mid : Service D B) × AreHeld count old mid
+      × ((ready : B) × AreReady see forward mid.books ready
+      × IsHeld way see (service mid.door ready mid.answers) new)
+
+  -- one could not be had after fewer than were asked for
+  pub record IsRefused (asked : ℕ) (old new : Service D B) : Type 0 where
+    pub count : ℕ
+    pub fewer : count < asked
+    pub last : Service D B
+    pub held : AreHeld count old last
+    pub ready : B
+    pub are_ready : AreReady see forward last.books ready
+    pub unheld : IsUnheld way see (service last.door ready last.answers) new
+
+  -- after fewer the file of stopped books could not be opened again, and nothing else has changed
+  -- since
+  pub record IsLost (loses : OpenFault → Type 0) (asked : ℕ) (old : Service D B) (new_door : D)
+      (left : Option (List ℤ)) (fault : OpenFault) : Type 0 where
+    pub count : ℕ
+    pub fewer : count < asked
+    pub last : Service D B
+    pub held : AreHeld count old last
+    pub lost : AreLost see loses last.books fault
+    pub door : new_door ≡ last.door
+    pub answers : left ≡ last.answers
+
+  -- as many as were asked for, which is all; or fewer, for one of those causes
+  abbrev pub AreServed : (OpenFault → Type 0) → ℕ → Service D B → D → Option (List ℤ)
+      → Result (B × Bool) OpenFault → Type 0
+  AreServed loses asked old door answers (Ok (books, true)) =
+      AreHeld asked old (service door books answers)
+  AreServed loses asked old door answers (Ok (books, false)) =
+      IsRefused asked old (service door books answers)
+  AreServed loses asked old door answers (Err fault) = IsLost loses asked old door answers fault

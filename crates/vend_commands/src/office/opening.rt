@@ -1,0 +1,78 @@
+//! An office in a file: how it is opened, and closed.
+
+ghost use Rattle.std.specs.Prelude.{◌≡◌, IfErr, IfOk};
+ghost use Rattle.vend_commands.specs.office.Closed.{IsClosed};
+ghost use Rattle.vend_commands.specs.office.Opened.{OpensIn};
+ghost use Rattle.vend_commands.specs.port.Places.{places_of};
+ghost use Rattle.vend_commands.specs.office.Visited.{IsOpened, seen_in};
+
+use crate::port::ports::{OfficeFile, SaltSource};
+use books::{Books, OpenFault};
+use command_line::Shipped;
+use sqlite::{FileStore, Options};
+use sqlite_disk::Files;
+use std::alloc::Global;
+
+// So many pages of a file are kept in memory. Their room is cleared at each opening: that of the
+// toolchain's 2000 takes as long as all else that a command does with a small file.
+const CACHE_PAGES: usize = 256;
+
+/// How the files of an office are opened, with this salt for a new log.
+pub(crate) fn options_of(salt: u64) -> Options
+    ensures { result.seed ≡ salt }
+{
+    Options {
+        cache_pages: CACHE_PAGES,
+        ..Options::new(salt)
+    }
+}
+
+/// Opens the office at a path, or begins one where there is no file.
+///
+/// # Errors
+/// `NotAnOffice` where the file stands for no office; `Store` where it cannot be opened, and
+/// `Memory`.
+pub(crate) fn open_office<H: OfficeFile>(
+    alloc: Global,
+    office: H,
+    salts: &H::Salts,
+    path: &str,
+    transform: Shipped,
+) -> Result<Books<FileStore<H::Medium>, Shipped>, OpenFault>
+    ensures opened { IfOk result (IsOpened (H.image office path.now)
+        (OpensIn H.Medium.Disk (H.image office path.now)) transform) }
+    ensures finds { IfOk result
+        (λ _. (places_of H.Medium.Disk H.Salts.SaltSource H.OfficeFile office path.now).finds) }
+    ensures fails { IfErr result
+        (places_of H.Medium.Disk H.Salts.SaltSource H.OfficeFile office path.now).fails }
+{
+    let (log, db) = match office.find(path) {
+        Ok(files) => files,
+        Err(fault) => return Err(fault),
+    };
+    let Some(salt) = salts.draw() else {
+        return Err(OpenFault::Store);
+    };
+    match Books::open_files(alloc, Files { log, db }, options_of(salt), transform) {
+        Ok(books) => Ok(books),
+        Err((fault, refused)) => {
+            let files = refused.into_files();
+            H::let_go(files.log, files.db);
+            Err(fault)
+        }
+    }
+}
+
+/// Closes the file of an office, so that it alone holds the office. That may fail: what was done
+/// stands all the same.
+pub(crate) fn close_office<H: OfficeFile>(books: Books<FileStore<H::Medium>, Shipped>)
+    ensures { IsClosed H.Medium.Disk H.lets_go (seen_in books) }
+{
+    match books.into_connection().close_files() {
+        Ok(files) => H::let_go(files.log, files.db),
+        Err((_, store)) => {
+            let files = store.close();
+            H::let_go(files.log, files.db);
+        }
+    }
+}

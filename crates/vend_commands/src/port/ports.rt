@@ -1,0 +1,99 @@
+//! What a command has of the machine beside its outputs: each a small trait that says what it
+//! means. Whatever stands over them is proved for every machine.
+
+ghost use Rattle.std.specs.Prelude.{◌≡◌, ℕ, List, IfErr, IfNone, IfOk, IfSome, IsTrue};
+ghost use Rattle.sqlite_wal.specs.Files.{seen_image};
+ghost use Rattle.sqlite_wal.specs.Recovery.{Image};
+ghost use Rattle.sts_fields.specs.Text.{Text};
+ghost use Rattle.book_opening.specs.declared.fault.OpenFault.{OpenFault};
+ghost use Rattle.vend_commands.specs.declared.port.file_fault.FileFault.{FileFault};
+
+use crate::port::door::Door;
+use crate::port::loopback::Loopback;
+use crate::port::file_fault::FileFault;
+use books::OpenFault;
+use sqlite_disk::Disk;
+
+/// Where the salts of a file's log come from: numbers that are drawn at random.
+pub trait SaltSource: Drop {
+    /// This number was drawn.
+    ghost draws: { Self → ℕ → Type 0 };
+
+    /// None could be drawn.
+    ghost lacks: { Self → Type 0 };
+
+    /// Draws a number.
+    fn draw(&self) -> Option<u64>
+        ensures draws { IfSome result (draws self.now) }
+        ensures lacks { IfNone result (lacks self.now) };
+}
+
+/// The file that keeps an office, with its log. It is found once.
+pub trait OfficeFile: Drop {
+    /// What the two files are kept on.
+    type Medium: Disk + Drop;
+
+    /// What the salts of its log are drawn from.
+    type Salts: SaltSource;
+
+    /// What the files hold at a path: no code can read it.
+    ghost image: { Self → Text → Image };
+
+    /// At this path these were opened, the log and the database file.
+    ghost finds: { Self → Text → Self.Medium → Self.Medium → Type 0 };
+
+    /// At this path no files were opened, for this fault.
+    ghost fails: { Self → Text → OpenFault → Type 0 };
+
+    /// The log and the database file were let go, as their last use left them.
+    ghost lets_go: { Self.Medium → Self.Medium → Type 0 };
+
+    /// It was left as it was: no files were opened.
+    ghost leaves: { Self → Type 0 };
+
+    /// What the salts of its log are drawn from.
+    fn salts(&self) -> Self::Salts;
+
+    /// Opens the log and the database file at a path, or makes them where there is none.
+    fn find(self, path: &str) -> Result<(Self::Medium, Self::Medium), OpenFault>
+        ensures image { IfOk result (λ pair. seen_image Self.Medium.Disk pair.0 pair.1
+            ≡ image self path.now) }
+        ensures log { IfOk result (λ pair. IsTrue (Self.Medium.Disk.is_usable pair.0)) }
+        ensures db { IfOk result (λ pair. IsTrue (Self.Medium.Disk.is_usable pair.1)) }
+        ensures finds { IfOk result (λ pair. finds self path.now pair.0 pair.1) }
+        ensures fails { IfErr result (fails self path.now) };
+
+    /// Lets the log and the database file go.
+    fn let_go(log: Self::Medium, db: Self::Medium)
+        ensures { lets_go log db };
+
+    /// Leaves it as it is. Then no files can be opened any more.
+    fn leave(self)
+        ensures { leaves self };
+}
+
+/// Files that are read whole.
+pub trait TextFiles: Drop {
+    /// The file of this name holds these bytes.
+    ghost reads: { Self → Text → List ℕ → Type 0 };
+
+    /// The file of this name is not read, for this fault.
+    ghost lacks: { Self → Text → FileFault → Type 0 };
+
+    /// All that a file holds.
+    fn read(&self, path: &str) -> Result<Vec<u8>, FileFault>
+        ensures reads { IfOk result (λ bytes. reads self.now path.now bytes.items) }
+        ensures lacks { IfErr result (lacks self.now path.now) };
+}
+
+/// The ports of one run. A command uses up what it needs and leaves the rest: the file of an
+/// office, the door and the connection with itself by a call that takes them, whose fact no other
+/// call gives.
+#[derive(Drop)]
+pub struct Ports<H: OfficeFile, F: TextFiles, C, D: Door, L: Loopback> {
+    pub office: H,
+    pub texts: F,
+    pub clock: C,
+    pub door: D,
+    pub loopback: L,
+}

@@ -1,0 +1,7 @@
+//! What is printed.
+
+pub(crate) mod explanation;
+pub(crate) mod lines;
+pub(crate) mod sales;
+pub(crate) mod totals;
+pub(crate) mod watched;

@@ -1,0 +1,196 @@
+//! The lines that the program prints (`specs/Printed.antt`). None takes memory.
+ghost use Rattle.std.specs.Prelude.{◌≡◌, ◌≢◌, ℕ, IfOk, map, string_bytes};
+ghost use Rattle.vend_core.specs.Decision.RowCauses.{cause_text};
+ghost use Rattle.vend_commands.specs.print.Printed.{added_line, address_text, answer_line, clock_line, credit_line};
+ghost use Rattle.vend_commands.specs.print.Printed.{host_text, line_of, opening_line, pair_text};
+ghost use Rattle.vend_commands.specs.print.Printed.{quote_line, refusal_line, shift_line, token_line};
+ghost use Rattle.vend_commands.specs.print.Told.{IsPutOn, Takes, sink};
+
+use crate::print::watched::Watched;
+use arrayvec::ArrayVec;
+use books::OpenFault;
+use command_line::Address;
+use itoa::Buffer;
+use sim_meter::Answer;
+use std::alloc::{AllocError, Global};
+use std::io::Write;
+use tariff::Buy;
+use vend_core::{Refusal, RowCause};
+
+// Room for any line that the program prints: a longer one would only take more than one write.
+const LINE_ROOM: usize = 128;
+
+/// Prints words on a line of their own, with a space between them: by one write, where the writer
+/// takes it whole, so that the lines of programs that share a log stay whole.
+pub(crate) fn put_line<W: Write>(words: &[&[u8]], out: &mut Watched<'_, W>)
+    ensures { Takes (sink W.contents out.old) (sink W.contents out.new)
+        (line_of (map (λ word. word.now) words.now)) }
+{
+    let mut line = ArrayVec::new();
+    let mut separator: &[u8] = b"";
+    for word in words {
+        add(separator, &mut line, out);
+        add(word, &mut line, out);
+        separator = b" ";
+    }
+    add(b"\n", &mut line, out);
+    out.put(&line);
+}
+
+// Adds a piece to the part of a line that is not written yet. Where there is no room for it, that
+// part and the piece are written.
+fn add<W: Write>(piece: &[u8], line: &mut ArrayVec<u8, LINE_ROOM>, out: &mut Watched<'_, W>)
+    ensures { IsPutOn (sink W.contents out.old) (sink W.contents out.new)
+        line.old.items line.new.items piece.now }
+{
+    match line.try_extend_from_slice(piece) {
+        Ok(()) => {}
+        Err(_) => {
+            out.put(line);
+            line.clear();
+            out.put(piece);
+        }
+    }
+}
+
+/// Prints a token.
+pub(crate) fn put_token<W: Write>(token: &[u8; 20], out: &mut Watched<'_, W>)
+    ensures { Takes (sink W.contents out.old) (sink W.contents out.new) (token_line token.now) }
+{
+    put_line(&[token], out);
+}
+
+/// Prints what a meter answers to a token.
+pub(crate) fn put_answer<W: Write>(answer: Answer, out: &mut Watched<'_, W>)
+    ensures { Takes (sink W.contents out.old) (sink W.contents out.new) (answer_line answer) }
+{
+    let mut number = Buffer::new();
+    match answer {
+        Answer::Accepted(amount) => {
+            let tenths = number.format(amount.tenths());
+            put_line(&[b"accepted", tenths.as_bytes()], out);
+        }
+        Answer::Used => put_line(&[b"used"], out),
+        Answer::Old => put_line(&[b"old"], out),
+        Answer::Refused(fault) => {
+            let number = number.format(fault.number()).as_bytes();
+            put_line(&[b"refused", number, fault.name().as_bytes()], out);
+        }
+    }
+}
+
+/// Prints the credit of a meter, in tenths of a kWh.
+pub(crate) fn put_credit<W: Write>(tenths: u64, out: &mut Watched<'_, W>)
+    ensures { Takes (sink W.contents out.old) (sink W.contents out.new) (credit_line tenths) }
+{
+    let mut number = Buffer::new();
+    put_line(&[b"credit", number.format(tenths).as_bytes()], out);
+}
+
+/// Prints what a tender buys.
+pub(crate) fn put_quote<W: Write>(bought: &Buy, out: &mut Watched<'_, W>)
+    ensures { Takes (sink W.contents out.old) (sink W.contents out.new) (quote_line bought.now) }
+{
+    let mut tenths = Buffer::new();
+    let mut price = Buffer::new();
+    let mut change = Buffer::new();
+    let tenths = tenths.format(bought.tenths.tenths()).as_bytes();
+    let price = price.format(bought.price).as_bytes();
+    let change = change.format(bought.change).as_bytes();
+    put_line(&[tenths, price, change], out);
+}
+
+/// Prints how many rows an import added.
+pub(crate) fn put_added<W: Write>(count: u32, out: &mut Watched<'_, W>)
+    ensures { Takes (sink W.contents out.old) (sink W.contents out.new) (added_line count) }
+{
+    let mut number = Buffer::new();
+    put_line(&[b"added", number.format(count).as_bytes()], out);
+}
+
+/// Prints the number of a shift.
+pub(crate) fn put_shift<W: Write>(shift: u32, out: &mut Watched<'_, W>)
+    ensures { Takes (sink W.contents out.old) (sink W.contents out.new) (shift_line shift) }
+{
+    let mut number = Buffer::new();
+    put_line(&[b"shift", number.format(shift).as_bytes()], out);
+}
+
+/// The text of an address, at this port.
+pub(crate) fn address_text(alloc: Global, address: Address, port: u16) -> Result<String, AllocError>
+    ensures { IfOk result (λ text. string_bytes text ≡ address_text address port) }
+{
+    let host = host_text(alloc, address)?;
+    format!(in alloc; "{host}:{port}")
+}
+
+// The numbers of an address.
+fn host_text(alloc: Global, address: Address) -> Result<String, AllocError>
+    ensures { IfOk result (λ text. string_bytes text ≡ host_text address) }
+{
+    let front = pair_text(alloc, address.first, address.second)?;
+    let back = pair_text(alloc, address.third, address.fourth)?;
+    format!(in alloc; "{front}.{back}")
+}
+
+// Two of them.
+fn pair_text(alloc: Global, one: u8, next: u8) -> Result<String, AllocError>
+    ensures { IfOk result (λ text. string_bytes text ≡ pair_text one next) }
+{
+    format!(in alloc; "{one}.{next}")
+}
+
+/// Tells that the clock has no moment.
+pub(crate) fn put_no_moment<W: Write>(out: &mut Watched<'_, W>)
+    ensures { Takes (sink W.contents out.old) (sink W.contents out.new) clock_line }
+{
+    put_line(&[b"refused", b"clock"], out);
+}
+
+/// Tells why an office is not opened.
+pub(crate) fn put_opening<W: Write>(fault: OpenFault, out: &mut Watched<'_, W>)
+    ensures { Takes (sink W.contents out.old) (sink W.contents out.new) (opening_line fault) }
+{
+    let mut number = Buffer::new();
+    let number = number.format(fault.number()).as_bytes();
+    put_line(&[b"open", number, fault.name().as_bytes()], out);
+}
+
+/// Tells a refusal of the office.
+pub(crate) fn put_refusal<W: Write>(refusal: Refusal, out: &mut Watched<'_, W>)
+    ensures { Takes (sink W.contents out.old) (sink W.contents out.new) (refusal_line refusal) }
+{
+    let mut number = Buffer::new();
+    let number = number.format(refusal.number()).as_bytes();
+    let name = refusal.name().as_bytes();
+    match refusal {
+        Refusal::ImportRow(row, RowCause::Field(field)) => {
+            let mut place = Buffer::new();
+            let mut which = Buffer::new();
+            let row = place.format(row).as_bytes();
+            let field = which.format(field).as_bytes();
+            put_line(&[b"refused", number, name, row, b"Field", field], out);
+        }
+        Refusal::ImportRow(row, cause) => {
+            let mut place = Buffer::new();
+            let row = place.format(row).as_bytes();
+            put_line(&[b"refused", number, name, row, cause_name(cause)], out);
+        }
+        _ => put_line(&[b"refused", number, name], out),
+    }
+}
+
+// Why a row is refused, but for the number of its field.
+fn cause_name(cause: RowCause) -> &'static [u8]
+    ensures { ((field : ℕ) → cause ≢ RowCause.Field field) → result.now ≡ cause_text cause }
+{
+    match cause {
+        RowCause::Header => b"Header",
+        RowCause::Columns => b"Columns",
+        RowCause::Field(_) => b"Field",
+        RowCause::TooManyRows => b"TooManyRows",
+        RowCause::Differs => b"Differs",
+        RowCause::NoTariff => b"NoTariff",
+        RowCause::DayPast => b"DayPast",
+    }
+}
