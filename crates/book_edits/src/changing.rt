@@ -8,7 +8,7 @@ ghost use Rattle.book_states.specs.Failing.{FailsToMake};
 use book_tables::writing::additions::{add_meter, add_shift, add_tariff};
 use book_tables::writing::bases::move_base;
 use book_tables::writing::changes::{close_shift, set_tariff};
-use book_tables::reading::dated_steps::add_steps;
+use book_tables::writing::dated_steps::add_steps;
 use book_tables::{TableError, members_law};
 use one_table::Change;
 use rows::add_rows;

@@ -12,15 +12,15 @@ ghost use Rattle.vend_commands.specs.commands.Unread.{bad_words_end, bad_words_l
 ghost use Rattle.command_line.specs.declared.asked.Asked.{Asked};
 ghost use Rattle.vend_commands.specs.declared.command_end.CommandEnd.{CommandEnd};
 
+use crate::command_end::CommandEnd;
 use crate::commands;
 use crate::commands::selfcheck::run_selfcheck;
 use crate::port::door::Door;
-use crate::command_end::CommandEnd;
-use crate::print::explanation::Explanation;
 use crate::port::loopback::Loopback;
 use crate::port::machine::{MachineFile, MachineTexts};
 use crate::port::machine_door::MachineDoor;
 use crate::port::ports::{OfficeFile, Ports, TextFiles};
+use crate::print::explanation::Explanation;
 use crate::print::lines::{put_line, put_refusal};
 use crate::print::watched::Watched;
 use clap::error::ErrorKind;

@@ -15,8 +15,8 @@ ghost use Rattle.vend_commands.specs.commands.Selfchecked.{Disagrees, HasNoRepli
 ghost use Rattle.vend_commands.specs.commands.Selfchecked.{fault_over_net};
 
 use crate::port::loopback::Loopback;
-use crate::selfcheck::prepared::{NOW, prepare};
 use crate::selfcheck::fault::SelfcheckFault;
+use crate::selfcheck::prepared::{NOW, prepare};
 use books::Books;
 use desk::{Desk, End, Script};
 use sqlite::MemStore;

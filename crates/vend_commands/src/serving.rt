@@ -7,9 +7,9 @@ ghost use Rattle.vend_commands.specs.serving.Connections.{AreLost, AreReady, Are
 ghost use Rattle.vend_commands.specs.port.Places.{IsUnreopened, way};
 ghost use Rattle.vend_commands.specs.office.Visited.{seen_in};
 
+use crate::office::reopening::open_again;
 use crate::port::door::Door;
 use crate::port::ports::OfficeFile;
-use crate::office::reopening::open_again;
 use books::{Books, OpenFault};
 use command_line::{ServeWords, Shipped};
 use desk::{Clock, Desk};

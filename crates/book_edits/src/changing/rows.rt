@@ -9,7 +9,7 @@ ghost use Rattle.book_tables.specs.reading.Reading.{HasAllTables};
 ghost use Rattle.book_states.specs.Changing.{MakesRows};
 
 use book_tables::writing::additions::{add_meter, add_tariff};
-use book_tables::reading::dated_steps::add_steps;
+use book_tables::writing::dated_steps::add_steps;
 use book_tables::{TableError, members_law};
 use sqlite::{Alter, Error, ErrorCode, Transaction};
 use vend_core::Row;

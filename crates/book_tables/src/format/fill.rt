@@ -12,10 +12,10 @@ ghost use Rattle.book_tables.specs.format.Looking.{ShowMeters, ShowSales, ShowsU
 ghost use Rattle.book_tables.specs.reading.Reading.{HasTable, HasAllTables};
 ghost use Rattle.book_tables.specs.writing.Writing.{FindsNoFalseRow};
 
-use crate::writing::bases::add_base;
 use crate::error::TableError;
 use crate::format::look::{PAGE, last_of};
 use crate::reading::pages::{first_sale_inside, greatest_inside, meters_inside, sales_inside};
+use crate::writing::bases::add_base;
 use crate::writing::totals::add_totals;
 use sqlite::{Alter, Transaction};
 use std::alloc::Global;

@@ -10,8 +10,8 @@ ghost use Rattle.book_tables.specs.row.ReadBack.{ReadsBack};
 ghost use Rattle.book_tables.specs.row.Rows.{shown_format};
 ghost use Rattle.book_tables.specs.reading.Reading.{HasTable, ReadsTable};
 
-use crate::row::cells;
 use crate::error::TableError;
+use crate::row::cells;
 use crate::texts::FORMAT;
 use one_table::{FromRow, ReadFault, read_rows};
 use sqlite::{Alter, Connection, Row};

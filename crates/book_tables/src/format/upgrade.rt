@@ -10,11 +10,11 @@ ghost use Rattle.book_tables.specs.writing.Writing.{WritesTables};
 
 use crate::error::TableError;
 use crate::format::fill::{fill_bases, fill_totals};
-use crate::format::tables::tables_after;
 use crate::format::look::look_at_sales;
+use crate::format::tables::tables_after;
 use crate::reading::pages::meters_inside;
-use crate::writing::store::{put, set};
 use crate::texts::{FORMAT_SET, NEW_FORMAT};
+use crate::writing::store::{put, set};
 use one_table::make::create_tables;
 use sqlite::{Alter, Transaction};
 use std::alloc::Global;

@@ -7,8 +7,8 @@ ghost use Rattle.book_tables.specs.reading.Reading.{ReadsTable, SaysOfTable};
 
 use crate::error::TableError;
 use crate::row::record::first_record;
-use crate::texts::METER_NUMBERED;
 use crate::row::values::meter_no_values;
+use crate::texts::METER_NUMBERED;
 use sqlite::{Alter, Connection};
 use vend_core::{Meter, MeterNo};
 

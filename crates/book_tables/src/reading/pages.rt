@@ -18,14 +18,14 @@ ghost use Rattle.book_tables.specs.row.Rows.{meter_columns};
 ghost use Rattle.book_tables.specs.Stands.{sales_under};
 ghost use Rattle.book_tables.specs.row.Values.{AreMeterValues};
 
-use crate::row::cells;
-use crate::row::total_records::Tid;
 use crate::error::TableError;
 use crate::reading::lists::records_of;
+use crate::row::cells;
 use crate::row::office_records::Booked;
 use crate::row::record::{Record, Shown};
-use crate::texts::{ALL_METERS, BOOKED_SALES_AFTER, FIRST_SALE_NUMBER, LAST_ID};
+use crate::row::total_records::Tid;
 use crate::row::values::{base_values, page_values};
+use crate::texts::{ALL_METERS, BOOKED_SALES_AFTER, FIRST_SALE_NUMBER, LAST_ID};
 use one_table::read_rows_inside;
 use sqlite::types::ValueRef;
 use sqlite::{Alter, Row, Transaction};

@@ -7,8 +7,8 @@ ghost use Rattle.book_tables.specs.reading.Reading.{ReadsTable, SaysOfTable};
 
 use crate::error::TableError;
 use crate::reading::lists::all_records;
-use crate::texts::{SALES_AFTER, SALES_OF_SHIFT};
 use crate::row::values::{number_values, page_values};
+use crate::texts::{SALES_AFTER, SALES_OF_SHIFT};
 use sqlite::{Alter, Connection};
 use std::alloc::Global;
 use vend_core::Sale;

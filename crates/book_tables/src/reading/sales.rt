@@ -8,8 +8,8 @@ ghost use Rattle.book_tables.specs.reading.Reading.{ReadsTable, SaysOfTable};
 
 use crate::error::TableError;
 use crate::row::record::first_record;
-use crate::texts::{LAST_SALE_NUMBER, SALE_NUMBERED, SALE_OF_REF};
 use crate::row::values::{number_values, ref_values};
+use crate::texts::{LAST_SALE_NUMBER, SALE_NUMBERED, SALE_OF_REF};
 use sqlite::{Alter, Connection};
 use vend_core::{Operator, Ref, Sale};
 

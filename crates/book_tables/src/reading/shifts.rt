@@ -8,8 +8,8 @@ ghost use Rattle.book_tables.specs.reading.Reading.{ReadsTable, SaysOfTable};
 
 use crate::error::TableError;
 use crate::row::record::first_record;
-use crate::texts::{LAST_SHIFT_NUMBER, OPEN_SHIFT, SHIFT_NUMBERED};
 use crate::row::values::{number_values, operator_values};
+use crate::texts::{LAST_SHIFT_NUMBER, OPEN_SHIFT, SHIFT_NUMBERED};
 use sqlite::{Alter, Connection};
 use vend_core::{Operator, Shift};
 

@@ -10,12 +10,12 @@ ghost use Rattle.book_tables.specs.reading.Reading.{ReadsTable, SaysOfTable};
 ghost use Rattle.book_tables.specs.Stands.{sales_in_month, sales_in_shift, sales_under};
 ghost use Rattle.book_tables.specs.writing.Writing.{no_totals};
 
-use crate::row::total_records::{Tenths, Tid};
 use crate::error::TableError;
 use crate::row::record::first_record;
-use crate::texts::{LAST_ID, MONTH_TENTHS, SHIFT_TOTALS};
+use crate::row::total_records::{Tenths, Tid};
 use crate::row::totals::Totals;
 use crate::row::values::{base_values, month_values, number_values};
+use crate::texts::{LAST_ID, MONTH_TENTHS, SHIFT_TOTALS};
 use sqlite::{Alter, Connection};
 use sts_fields::{Base, amount_law};
 use vend_core::MeterNo;

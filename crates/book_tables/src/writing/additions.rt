@@ -8,11 +8,11 @@ ghost use Rattle.book_tables.specs.writing.Failing.{FailsToWriteAll};
 ghost use Rattle.book_tables.specs.reading.Reading.{HasAllTables};
 ghost use Rattle.book_tables.specs.writing.Writing.{AddsMeter, AddsMeterRow, AddsName, AddsSale, AddsShift, AddsStep, AddsTariff, WritesTables};
 
-use crate::writing::bases::add_base;
 use crate::error::TableError;
-use crate::writing::store::put;
-use crate::texts::{NEW_METER, NEW_SALE, NEW_SHIFT, NEW_STEP, NEW_TARIFF};
 use crate::row::values::{meter_values, sale_values, shift_values, step_values, tariff_values};
+use crate::texts::{NEW_METER, NEW_SALE, NEW_SHIFT, NEW_STEP, NEW_TARIFF};
+use crate::writing::bases::add_base;
+use crate::writing::store::put;
 use sqlite::{Alter, Transaction};
 use sts_token::key_text;
 use tariff::Step;

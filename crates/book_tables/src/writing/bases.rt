@@ -9,9 +9,9 @@ ghost use Rattle.book_tables.specs.reading.Reading.{HasAllTables};
 ghost use Rattle.book_tables.specs.writing.Writing.{AddsBase, MovesBase, SetsBase, WritesTables};
 
 use crate::error::TableError;
-use crate::writing::store::{put, set};
-use crate::texts::{BASE_SET, NEW_BASE};
 use crate::row::values::base_values;
+use crate::texts::{BASE_SET, NEW_BASE};
+use crate::writing::store::{put, set};
 use sqlite::{Alter, Transaction};
 use sts_fields::Base;
 use vend_core::MeterNo;

@@ -5,9 +5,9 @@ ghost use Rattle.sqlite.specs.Held.{state};
 ghost use Rattle.book_tables.specs.writing.Writing.{ClosesShift, SetsTariff, WritesTables};
 
 use crate::error::TableError;
-use crate::writing::store::set;
-use crate::texts::{SHIFT_CLOSED, TARIFF_SET};
 use crate::row::values::{seconds, whole};
+use crate::texts::{SHIFT_CLOSED, TARIFF_SET};
+use crate::writing::store::set;
 use sqlite::types::ValueRef;
 use sqlite::{Alter, Transaction};
 use sts_fields::Moment;

@@ -10,13 +10,13 @@ ghost use Rattle.book_tables.specs.writing.Failing.{FailsToMergeAll};
 ghost use Rattle.book_tables.specs.reading.Reading.{HasAllTables};
 ghost use Rattle.book_tables.specs.writing.Writing.{AddsTenths, AddsToShift, FindsNoFalseRow, MayAddSold, MayAddTenths, MayAddToShift, MayAddTotals, MaySetLastId, MergesTables, SetsLastId, TellsSold, TellsTotals};
 
-use crate::writing::additions::add_sale;
-use crate::row::total_records::{Tenths, Tid};
 use crate::error::TableError;
-use crate::writing::merge::merge;
-use crate::texts::{LAST_ID_SET, SALE_COUNTED, TENTHS_ADDED};
+use crate::row::total_records::{Tenths, Tid};
 use crate::row::totals::{SaleTotals, Totals};
 use crate::row::values::{last_id_values, sale_total_values, tenths_values};
+use crate::texts::{LAST_ID_SET, SALE_COUNTED, TENTHS_ADDED};
+use crate::writing::additions::add_sale;
+use crate::writing::merge::merge;
 use sqlite::{Alter, Transaction};
 use sts_fields::{Base, amount_law, month_of};
 use vend_core::{MeterNo, Sale};

@@ -7,11 +7,11 @@ ghost use Rattle.vend_commands.specs.commands.Timed.{IsTimed};
 ghost use Rattle.vend_commands.specs.print.Told.{Takes, outputs, sink};
 
 use crate::clock::moment_or_now;
-use crate::commands::request::ask_at;
 use crate::command_end::CommandEnd;
+use crate::commands::request::ask_at;
+use crate::port::file_fault::FileFault;
 use crate::port::ports::{OfficeFile, TextFiles};
 use crate::print::lines::{put_line, put_no_moment, put_refusal};
-use crate::port::file_fault::FileFault;
 use crate::print::watched::Watched;
 use command_line::ImportWords;
 use desk::Clock;

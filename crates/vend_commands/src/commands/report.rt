@@ -6,11 +6,11 @@ ghost use Rattle.vend_commands.specs.print.Told.{outputs, sink};
 ghost use Rattle.vend_commands.specs.office.Visited.{seen_in};
 
 use crate::command_end::CommandEnd;
-use crate::print::sales::print_sales;
+use crate::office::asking::ask;
 use crate::office::opening::{close_office, open_office};
 use crate::port::ports::OfficeFile;
 use crate::print::lines::put_opening;
-use crate::office::asking::ask;
+use crate::print::sales::print_sales;
 use crate::print::totals::print_totals;
 use crate::print::watched::Watched;
 use books::Books;

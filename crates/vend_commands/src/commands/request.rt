@@ -5,10 +5,10 @@ ghost use Rattle.vend_commands.specs.print.Told.{outputs, sink};
 
 use crate::clock::moment_or_now;
 use crate::command_end::CommandEnd;
+use crate::office::asking::ask;
 use crate::office::opening::{close_office, open_office};
 use crate::port::ports::OfficeFile;
 use crate::print::lines::{put_no_moment, put_opening};
-use crate::office::asking::ask;
 use crate::print::watched::Watched;
 use command_line::{RequestWords, Shipped};
 use desk::Clock;

@@ -6,13 +6,13 @@ ghost use Rattle.vend_commands.specs.print.Printed.{net_line, refusal_line};
 ghost use Rattle.vend_commands.specs.print.Told.{Takes, sink};
 ghost use Rattle.vend_commands.specs.office.Visited.{seen_in};
 
-use crate::port::door::Door;
 use crate::command_end::CommandEnd;
-use crate::serving::serve;
 use crate::office::opening::{close_office, open_office};
+use crate::port::door::Door;
 use crate::port::ports::OfficeFile;
 use crate::print::lines::{address_text, put_line, put_opening, put_refusal};
 use crate::print::watched::Watched;
+use crate::serving::serve;
 use books::{Books, OpenFault};
 use command_line::{Address, ServeWords, Shipped};
 use desk::{Clock, Desk};

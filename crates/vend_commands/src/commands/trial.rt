@@ -8,8 +8,8 @@ ghost use Rattle.vend_commands.specs.commands.Tried.{IsTried, token_lines, trial
 use crate::clock::moment_or_now;
 use crate::command_end::CommandEnd;
 use crate::print::lines::{put_line, put_no_moment, put_refusal, put_token};
-use crate::trials::{TrialFault, trial};
 use crate::print::watched::Watched;
+use crate::trials::{TrialFault, trial};
 use command_line::TrialWords;
 use desk::Clock;
 use std::alloc::Global;

@@ -4,8 +4,8 @@ ghost use Rattle.std.specs.Prelude.{⊤, true, false, IfOk};
 ghost use Rattle.sqlite_std_file.specs.File.{IsFresh, file_is_usable};
 ghost use Rattle.sqlite_wal.specs.Files.{image_at};
 
-use crate::port::ports::{OfficeFile, SaltSource, TextFiles};
 use crate::port::file_fault::FileFault;
+use crate::port::ports::{OfficeFile, SaltSource, TextFiles};
 use books::OpenFault;
 use sqlite::{FileFrom, Start};
 use sqlite_std_file::OpenError;

@@ -9,8 +9,8 @@ ghost use Rattle.book_opening.specs.declared.fault.OpenFault.{OpenFault};
 ghost use Rattle.vend_commands.specs.declared.port.file_fault.FileFault.{FileFault};
 
 use crate::port::door::Door;
-use crate::port::loopback::Loopback;
 use crate::port::file_fault::FileFault;
+use crate::port::loopback::Loopback;
 use books::OpenFault;
 use sqlite_disk::Disk;
 

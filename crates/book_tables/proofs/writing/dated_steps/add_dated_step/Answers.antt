@@ -10,7 +10,7 @@ use Rattle.book_tables.proofs.ReadingLemmas.DatedLemmas.{dated_at}
 use Rattle.book_tables.proofs.ReadingLemmas.DatedTexts.{five_terms, new_dated_means, new_dated_text, new_dated_whole}
 use Rattle.book_tables.proofs.WritingLemmas.DatedWriteLemmas.{adds_dated_step}
 use Rattle.book_tables.proofs.OfficeTableLemmas.{dated_steps_in}
-use Rattle.book_tables.proofs.reading.dated_steps.add_dated_step.Goals as goal
+use Rattle.book_tables.proofs.writing.dated_steps.add_dated_step.Goals as goal
 
 pub returns-clause-writes : goal.returns-clause-writes
 returns-clause-writes g c =

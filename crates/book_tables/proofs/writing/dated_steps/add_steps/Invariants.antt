@@ -6,7 +6,7 @@ use Rattle.one_table.specs.InTransaction.{KeepsTransaction}
 use Rattle.book_tables.specs.reading.Reading.{HasAllTables}
 use Rattle.book_tables.specs.writing.Writing.{AddsSteps}
 use Rattle.book_tables.specs.declared.error.TableError.{TableError}
-use Rattle.book_tables.proofs.reading.dated_steps.add_steps.Given as goal
+use Rattle.book_tables.proofs.writing.dated_steps.add_steps.Given as goal
 
 abbrev pub invariant-others : goal.invariant-others
 invariant-others g l =

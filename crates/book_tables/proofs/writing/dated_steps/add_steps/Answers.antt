@@ -9,7 +9,7 @@ use Rattle.book_tables.proofs.WritingLemmas.DatedWriteLemmas.{adds_next}
 use Rattle.book_tables.proofs.WritingLemmas.OnlyLemmas.{tables_there}
 use Rattle.book_tables.specs.writing.Failing.{FailsToWriteAll}
 use Rattle.book_tables.proofs.WritingLemmas.CauseLemmas.{came_after, came_here, of_store}
-use Rattle.book_tables.proofs.reading.dated_steps.add_steps.Goals as goal
+use Rattle.book_tables.proofs.writing.dated_steps.add_steps.Goals as goal
 
 pub others-preserved : goal.others-preserved
 others-preserved g c =

@@ -1,0 +1,85 @@
+ghost use Rattle.std.specs.Prelude.{◌≡◌, ◌≤◌, length, IfErr, OnOk};
+ghost use Rattle.sqlite.specs.State.{HasCleanDisk};
+ghost use Rattle.sqlite.specs.Held.{state};
+ghost use Rattle.one_table.specs.InTransaction.{IsUnderWay, KeepsTransaction};
+ghost use Rattle.book_tables.specs.writing.Failing.{FailsToWriteAll};
+ghost use Rattle.book_tables.specs.reading.Reading.{HasAllTables};
+ghost use Rattle.book_tables.specs.writing.Writing.{AddsDatedStep, AddsSteps, WritesTables};
+
+use crate::error::TableError;
+use crate::row::values::dated_step_values;
+use crate::texts::NEW_DATED_STEP;
+use crate::writing::store::put;
+use sqlite::{Alter, Error, ErrorCode, Transaction};
+use sts_fields::Day;
+use tariff::Step;
+use vend_core::TariffName;
+
+/// Adds a step of those that a tariff has from a day on, at a place, from 0.
+///
+/// # Errors
+/// What the database refuses: a place that is taken, a tariff that is not there; want of memory,
+/// and the disk.
+pub fn add_dated_step<S: Alter>(
+    tx: &mut Transaction<'_, S>,
+    name: &TariffName,
+    day: Day,
+    place: u32,
+    step: Step,
+) -> Result<(), TableError>
+    ensures same_reference { tx.new.conn.ghost_name ≡ tx.old.conn.ghost_name }
+    ensures writes { WritesTables (AddsDatedStep (record {
+      tariff = name.now;
+      day = day;
+      place = place;
+      step = step;
+    }))
+        (state S.Store tx.old.conn.now) (state S.Store tx.new.conn.now) result }
+{
+    put(
+        tx,
+        NEW_DATED_STEP,
+        &dated_step_values(name, day, place, step),
+    )
+}
+
+/// Adds the steps that a tariff has from a day on, in their order and from place 0.
+///
+/// What was added before an error goes with the transaction, which the caller drops. With no step
+/// there would be no statement to tell that the transaction is still under way, and so there is an
+/// error.
+///
+/// # Errors
+/// What the database refuses: steps of that day, a tariff that is not there; want of memory, and
+/// the disk.
+pub fn add_steps<S: Alter>(
+    tx: &mut Transaction<'_, S>,
+    name: &TariffName,
+    day: Day,
+    steps: &[Step],
+) -> Result<(), TableError>
+    requires { length steps.now ≤ 8 }
+    ensures same_reference { tx.new.conn.ghost_name ≡ tx.old.conn.ghost_name }
+    ensures added { HasCleanDisk (state S.Store tx.new.conn.now)
+        → HasAllTables (state S.Store tx.old.conn.now)
+        → OnOk result (AddsSteps name.now day steps.now
+        (state S.Store tx.old.conn.now) (state S.Store tx.new.conn.now)) }
+    ensures refused { HasCleanDisk (state S.Store tx.new.conn.now)
+        → IsUnderWay (state S.Store tx.old.conn.now)
+        → HasAllTables (state S.Store tx.old.conn.now)
+        → 1 ≤ length steps.now → IfErr result (FailsToWriteAll
+        (state S.Store tx.old.conn.now) (state S.Store tx.new.conn.now)) }
+    ensures transaction { KeepsTransaction
+        (state S.Store tx.old.conn.now) (state S.Store tx.new.conn.now) result }
+{
+    let Some((first, others)) = steps.split_first() else {
+        return Err(TableError::Database(Error::SqliteFailure(ErrorCode::TransactionState)));
+    };
+    add_dated_step(tx, name, day, 0, *first)?;
+    let mut place = 1;
+    'others: for step in others {
+        add_dated_step(tx, name, day, place, *step)?;
+        place += 1;
+    }
+    Ok(())
+}
