@@ -6,11 +6,12 @@
 pub use error::TableError;
 pub use formats::PRESENT_FORMAT;
 pub use laws::{members_law, stands_law};
+pub use shown::Record;
 pub use totals::{SaleTotals, Totals};
 
 pub mod adding;
 pub mod bases;
-mod cells;
+pub mod cells;
 pub mod changing;
 mod counted;
 pub mod dated;
