@@ -1,0 +1,17 @@
+pub mod ApartLemmas
+pub mod AuditLaw
+pub mod ByNumberLemmas
+pub mod FitLemmas
+pub mod FormatLemmas
+pub mod FoundLemmas
+pub mod OpenShiftLemmas
+pub mod ParentLemmas
+pub mod PartLemmas
+pub mod PlacedLemmas
+pub mod PassedLemmas
+pub mod RowsLemmas
+pub mod SalesReadLemmas
+pub mod SalesSeenLemmas
+pub mod StoredLemmas
+pub mod ValueLaw
+pub mod WholeLemmas

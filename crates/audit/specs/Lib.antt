@@ -1,0 +1,15 @@
+pub mod Audited
+pub mod Breaks
+pub mod Fails
+pub mod ListTexts
+pub mod Listing
+pub mod OpenShifts
+pub mod Parts
+pub mod Placed
+pub mod Records
+pub mod Sales
+pub mod SalesSeen
+pub mod Tables
+pub mod Texts
+pub mod Values
+pub mod Whole

@@ -1,0 +1,195 @@
+//! The rows of the office's tables, as records of all their columns.
+
+ghost use Rattle.audit.specs.Records.{shown_base, shown_dated_step, shown_last_id, shown_meter_row, shown_month, shown_shift_totals, shown_step_row};
+ghost use Rattle.audit.specs.Values.{AreBaseValues, AreDatedStepValues, AreLastIdValues, AreMeterRowValues, AreMonthValues, AreShiftTotalsValues, AreStepRowValues};
+
+use book_tables::{Record, Totals, cells};
+use sqlite::Row;
+use sts_fields::{Base, Day};
+use tariff::Step;
+use vend_core::{Meter, MeterNo, TariffName};
+
+/// A step of a tariff, at its place from 0.
+#[derive(Clone, Copy, Debug)]
+pub(crate) struct StepRow {
+    pub(crate) tariff: TariffName,
+    pub(crate) place: u32,
+    pub(crate) step: Step,
+}
+
+impl Record for StepRow {
+    ghost shown = { shown_step_row };
+
+    ghost keeps = { AreStepRowValues };
+
+    fn of_row(row: &Row) -> Option<StepRow> {
+        if row.column_count() != 4 {
+            return None;
+        }
+        Some(StepRow {
+            tariff: cells::tariff_at(row, 0)?,
+            place: cells::word_at(row, 1)?,
+            step: Step {
+                ends: cells::end_at(row, 2)?,
+                price: cells::between_at(row, 3, 1, 1_000_000)?,
+            },
+        })
+    }
+}
+
+/// A meter under its number.
+#[derive(Clone, Copy, Debug)]
+pub(crate) struct MeterRow {
+    pub(crate) number: MeterNo,
+    pub(crate) meter: Meter,
+}
+
+impl Record for MeterRow {
+    ghost shown = { shown_meter_row };
+
+    ghost keeps = { AreMeterRowValues };
+
+    fn of_row(row: &Row) -> Option<MeterRow> {
+        if row.column_count() != 4 {
+            return None;
+        }
+        Some(MeterRow {
+            number: cells::meter_no_at(row, 0)?,
+            meter: Meter {
+                base: cells::base_at(row, 1)?,
+                tariff: cells::tariff_at(row, 2)?,
+                key: cells::key_at(row, 3)?,
+            },
+        })
+    }
+}
+
+/// The last identifier of a meter under a base.
+#[derive(Clone, Copy, Debug)]
+pub(crate) struct LastId {
+    pub(crate) meter: MeterNo,
+    pub(crate) base: Base,
+    pub(crate) tid: u32,
+}
+
+impl Record for LastId {
+    ghost shown = { shown_last_id };
+
+    ghost keeps = { AreLastIdValues };
+
+    fn of_row(row: &Row) -> Option<LastId> {
+        if row.column_count() != 3 {
+            return None;
+        }
+        Some(LastId {
+            meter: cells::meter_no_at(row, 0)?,
+            base: cells::base_at(row, 1)?,
+            tid: cells::tid_at(row, 2)?,
+        })
+    }
+}
+
+/// The tenths of a kWh that were sold to a meter in a month.
+#[derive(Clone, Copy, Debug)]
+pub(crate) struct MonthTenths {
+    pub(crate) meter: MeterNo,
+    pub(crate) month: u32,
+    pub(crate) tenths: u64,
+}
+
+impl Record for MonthTenths {
+    ghost shown = { shown_month };
+
+    ghost keeps = { AreMonthValues };
+
+    fn of_row(row: &Row) -> Option<MonthTenths> {
+        if row.column_count() != 3 {
+            return None;
+        }
+        Some(MonthTenths {
+            meter: cells::meter_no_at(row, 0)?,
+            month: cells::word_at(row, 1)?,
+            tenths: cells::total_at(row, 2)?,
+        })
+    }
+}
+
+/// The totals of the sales of a shift.
+#[derive(Clone, Copy, Debug)]
+pub(crate) struct ShiftTotals {
+    pub(crate) shift: u32,
+    pub(crate) totals: Totals,
+}
+
+impl Record for ShiftTotals {
+    ghost shown = { shown_shift_totals };
+
+    ghost keeps = { AreShiftTotalsValues };
+
+    fn of_row(row: &Row) -> Option<ShiftTotals> {
+        if row.column_count() != 4 {
+            return None;
+        }
+        Some(ShiftTotals {
+            shift: cells::number_at(row, 0)?,
+            totals: Totals {
+                sales: cells::total_at(row, 1)?,
+                tenths: cells::total_at(row, 2)?,
+                cash: cells::total_at(row, 3)?,
+            },
+        })
+    }
+}
+
+/// A base that a meter had.
+#[derive(Clone, Copy, Debug)]
+pub(crate) struct BaseRow {
+    pub(crate) meter: MeterNo,
+    pub(crate) base: Base,
+}
+
+impl Record for BaseRow {
+    ghost shown = { shown_base };
+
+    ghost keeps = { AreBaseValues };
+
+    fn of_row(row: &Row) -> Option<BaseRow> {
+        if row.column_count() != 2 {
+            return None;
+        }
+        Some(BaseRow {
+            meter: cells::meter_no_at(row, 0)?,
+            base: cells::base_at(row, 1)?,
+        })
+    }
+}
+
+/// A step of those that a tariff has from a day on, at its place from 0.
+#[derive(Clone, Copy, Debug)]
+pub(crate) struct DatedStepRow {
+    pub(crate) tariff: TariffName,
+    pub(crate) day: Day,
+    pub(crate) place: u32,
+    pub(crate) step: Step,
+}
+
+impl Record for DatedStepRow {
+    ghost shown = { shown_dated_step };
+
+    ghost keeps = { AreDatedStepValues };
+
+    fn of_row(row: &Row) -> Option<DatedStepRow> {
+        if row.column_count() != 5 {
+            return None;
+        }
+        Some(DatedStepRow {
+            tariff: cells::tariff_at(row, 0)?,
+            day: cells::day_at(row, 1)?,
+            place: cells::word_at(row, 2)?,
+            step: Step {
+                ends: cells::end_at(row, 3)?,
+                price: cells::between_at(row, 4, 1, 1_000_000)?,
+            },
+        })
+    }
+}
