@@ -11,8 +11,8 @@ use Rattle.vend_core.specs.Office.{AreNumbered, NotBothOpen, Office}
 use Rattle.vend_core.specs.declared.office.sale.Sale.{Sale}
 use Rattle.vend_core.specs.declared.office.shift.Shift.{Shift}
 use Rattle.book_tables.specs.Holds.{IsKept, StandsFor}
-use Rattle.book_tables.specs.Kept.{sales_kept, shifts_kept}
-use Rattle.book_tables.specs.Rows.{number, sale_columns, sale_row, shift_columns, shift_row}
+use Rattle.book_tables.specs.Kept.{dated_steps_kept, sales_kept, shifts_kept, steps_kept, tariffs_kept}
+use Rattle.book_tables.specs.Rows.{dated_columns, number, sale_columns, sale_row, shift_columns, shift_row, step_columns, tariff_columns}
 use Rattle.book_tables.proofs.ListLemmas.{map_source}
 use Rattle.audit.specs.Breaks.{Breaks, BreaksRule, IsFalseMonth}
 use Rattle.audit.specs.Sales.{shown_sale_row}
@@ -27,7 +27,9 @@ use Rattle.audit.specs.declared.table_name.TableName.{TableName}
 use Rattle.audit.specs.declared.table_name.TableName.TheVariants as table
 use Rattle.audit.proofs.ByNumberLemmas.{no_gap}
 use Rattle.audit.proofs.OpenShiftLemmas.{no_two_open}
-use Rattle.audit.proofs.FitLemmas.{columns_numbered, holds_of}
+use Rattle.audit.proofs.TariffStepsLemmas.{no_false_steps}
+use Rattle.audit.proofs.DatedStepsLemmas.{no_false_dated}
+use Rattle.audit.proofs.FitLemmas.{columns_hidden, columns_numbered, holds_of}
 use Rattle.audit.proofs.ValueLaw.{no_false_row}
 
 one_number : (m n : ℕ) → number m ≡ number n → m ≡ n
@@ -43,6 +45,15 @@ module _ (db : Database) (o : Office) (s : StandsFor db o) where
       let moment : from.0.moment ≡ r.sale.moment = one_number from.0.moment r.sale.moment (ap (λ (row : Row). column row 1) from.2) in
       let month : month_at from.0.moment ≡ r.month = one_number (month_at from.0.moment) r.month (ap (λ (row : Row). column row 2) from.2) in
       other (sym month ∙ ap month_at moment)
+
+  tariffs_are : IsKept db.schema tariffs_kept → all_columns tariffs_kept db ≡ map tariff_columns s.held.0.tariffs
+  tariffs_are there = columns_hidden tariffs_kept tariff_columns (λ v x. refl) (λ x none. cc) _ s.held.0.tariffs (holds_of db s.format s.format s.held.0 tariffs_kept (inr (inl refl)) there s.held.1).0
+
+  steps_are : IsKept db.schema steps_kept → all_columns steps_kept db ≡ map step_columns s.held.0.steps
+  steps_are there = columns_hidden steps_kept step_columns (λ v x. refl) (λ x none. cc) _ s.held.0.steps (holds_of db s.format s.format s.held.0 steps_kept (inr (inr (inl refl))) there s.held.1).0
+
+  dated_are : IsKept db.schema dated_steps_kept → all_columns dated_steps_kept db ≡ map dated_columns s.held.0.dated_steps
+  dated_are there = columns_hidden dated_steps_kept dated_columns (λ v x. refl) (λ x none. cc) _ s.held.0.dated_steps (holds_of db s.format s.format s.held.0 dated_steps_kept (inr (inr (inr (inr (inr (inr (inr (inr (inr (inr (inl refl))))))))))) there s.held.1).0
 
   shifts_are : IsKept db.schema shifts_kept → all_columns shifts_kept db ≡ map shift_columns s.held.0.shifts
   shifts_are there = columns_numbered shifts_kept shift_row shift_columns (λ x. refl) _ s.held.0.shifts (holds_of db s.format s.format s.held.0 shifts_kept (inr (inr (inr (inr (inl refl))))) there s.held.1)
@@ -60,7 +71,11 @@ module _ (db : Database) (o : Office) (s : StandsFor db o) where
     none_breaks : (r : Rule) (k : RowKey) (t : TableName) → IsKept db.schema (kept_of t) → BreaksRule r k t db → ⊥
     none_breaks rule.Value (key.Columns row) t there breaks = no_false_row db o s small greatest t there row breaks
     none_breaks rule.Value (key.Number n) t there breaks = breaks
+    none_breaks rule.Value (key.Tariff name) t there breaks = breaks
+    none_breaks rule.Value (key.Dated name day) t there breaks = breaks
     none_breaks rule.Month (key.Number n) table.Sales there breaks = no_false_month there n breaks
+    none_breaks rule.Steps (key.Tariff name) table.TariffSteps there breaks = no_false_steps db o s (tariffs_are breaks.there) (steps_are there) name breaks
+    none_breaks rule.Steps (key.Dated name day) table.DatedSteps there breaks = no_false_dated db o s (dated_are there) name day breaks
     none_breaks rule.TwoOpen (key.Number n) table.Shifts there breaks = no_two_open db s.held.0.shifts (shifts_are there) one_open n breaks
     none_breaks rule.Gap (key.Number n) table.Sales there breaks = no_gap sales_kept sale_columns (λ (x : Sale). x.number) (λ x. refl) db s.held.0.sales (sales_are there) numbered n breaks
     none_breaks rule.Gap (key.Number n) table.Shifts there breaks = no_gap shifts_kept shift_columns (λ (x : Shift). x.number) (λ x. refl) db s.held.0.shifts (shifts_are there) shifts_numbered n breaks

@@ -1,6 +1,7 @@
 pub mod ApartLemmas
 pub mod AuditLaw
 pub mod ByNumberLemmas
+pub mod DatedStepsLemmas
 pub mod FitLemmas
 pub mod FormatLemmas
 pub mod FoundLemmas
@@ -13,5 +14,7 @@ pub mod RowsLemmas
 pub mod SalesReadLemmas
 pub mod SalesSeenLemmas
 pub mod StoredLemmas
+pub mod TariffReadLemmas
+pub mod TariffStepsLemmas
 pub mod ValueLaw
 pub mod WholeLemmas

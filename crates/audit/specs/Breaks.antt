@@ -9,10 +9,12 @@ use Rattle.book_tables.specs.Holds.{IsKept}
 use Rattle.book_tables.specs.Kept.{Kept, bases_kept, dated_steps_kept, last_ids_kept, meters_kept, month_tenths_kept, sales_kept, shift_totals_kept, shifts_kept, steps_kept, tariffs_kept}
 use Rattle.book_tables.specs.Rows.{number, shown_shift, tariff_columns}
 use Rattle.book_tables.specs.Values.{AreShiftValues}
+use Rattle.audit.specs.DatedSteps.{HasFalseDated}
 use Rattle.audit.specs.OpenShifts.{HasTwoOpen}
 use Rattle.audit.specs.Records.{shown_base, shown_dated_step, shown_last_id, shown_meter_row, shown_month, shown_shift_totals, shown_step_row}
 use Rattle.audit.specs.Sales.{AreSaleRowValues, shown_sale_row}
 use Rattle.audit.specs.Tables.{kept_of}
+use Rattle.audit.specs.TariffSteps.{HasFalseSteps}
 use Rattle.audit.specs.Values.{AreBaseValues, AreDatedStepValues, AreLastIdValues, AreMeterRowValues, AreMonthValues, AreShiftTotalsValues, AreStepRowValues}
 use Rattle.audit.specs.Whole.{IsFalse, all_columns}
 use Rattle.audit.specs.declared.finding.Finding.{Finding}
@@ -63,7 +65,7 @@ IsGap k db n =
 -- what the row breaks
 abbrev pub BreaksRule : Rule → RowKey → TableName → Database → Type 0
 BreaksRule rule.Value (key.Columns row) table db = IsFalseRow table db row
-BreaksRule rule.Value (key.Number n) table db = ⊥
+BreaksRule rule.Value _ table db = ⊥
 BreaksRule rule.Month (key.Number n) table.Sales db = IsFalseMonth db n
 BreaksRule rule.Month _ _ db = ⊥
 BreaksRule rule.Gap (key.Number n) table.Sales db = IsGap sales_kept db n
@@ -71,6 +73,9 @@ BreaksRule rule.Gap (key.Number n) table.Shifts db = IsGap shifts_kept db n
 BreaksRule rule.Gap _ _ db = ⊥
 BreaksRule rule.TwoOpen (key.Number n) table.Shifts db = HasTwoOpen db n
 BreaksRule rule.TwoOpen _ _ db = ⊥
+BreaksRule rule.Steps (key.Tariff name) table.TariffSteps db = HasFalseSteps db name
+BreaksRule rule.Steps (key.Dated name day) table.DatedSteps db = HasFalseDated db name day
+BreaksRule rule.Steps _ _ db = ⊥
 
 -- the table is there, and a row of it breaks the rule
 pub record Breaks (f : Finding) (db : Database) : Type 0 where

@@ -1,5 +1,6 @@
 pub mod Audited
 pub mod Breaks
+pub mod DatedSteps
 pub mod Fails
 pub mod ListTexts
 pub mod Listing
@@ -10,6 +11,7 @@ pub mod Records
 pub mod Sales
 pub mod SalesSeen
 pub mod Tables
+pub mod TariffSteps
 pub mod Texts
 pub mod Values
 pub mod Whole

@@ -103,10 +103,9 @@ fn audit_format<S: Alter>(
 /// Looks at all rows of all tables, of whatever format they are, and counts them.
 ///
 /// Where it succeeds (`Passes`), the database obeys its schema, the values of all rows keep their
-/// rules, shifts and sales are numbered, no two shifts of one operator are open, and each sale is in
-/// its month. It does not say that a tariff's steps are in their places, that a meter's base is the
-/// latest of those that it had, that a sale's base is one of them, or that the totals are those of
-/// the sales.
+/// rules, each tariff has steps, shifts and sales are numbered, no two shifts of one operator are
+/// open, and each sale is in its month. It does not say that a meter's base is the latest of those
+/// that it had, that a sale's base is one of them, or that the totals are those of the sales.
 ///
 /// # Errors
 /// A row that breaks a rule, so that the database stands for no office (`audit_law`); tables of no

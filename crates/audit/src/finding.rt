@@ -1,5 +1,7 @@
 use crate::table_name::TableName;
 use sqlite::{Error, Row};
+use sts_fields::Day;
+use vend_core::TariffName;
 
 /// The rules that a row may break.
 #[derive(Clone, Copy, Debug, PartialEq, Eq)]
@@ -12,6 +14,9 @@ pub enum Rule {
     Month,
     /// The shift is open beside another one of its operator.
     TwoOpen,
+    /// The rows of the tariff, or of it and a day, are not those of steps that a tariff may have,
+    /// each at its place.
+    Steps,
 }
 
 /// Which row of a table it is.
@@ -21,6 +26,10 @@ pub enum RowKey {
     Number(u64),
     /// One of these columns, in the order of the table.
     Columns(Row),
+    /// Those of this tariff.
+    Tariff(TariffName),
+    /// Those of this tariff from this day on.
+    Dated(TariffName, Day),
 }
 
 /// A row that no office has.

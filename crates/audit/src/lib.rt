@@ -12,6 +12,7 @@ pub use table_name::TableName;
 
 mod audited;
 mod auditing;
+mod dated_list;
 mod finding;
 mod laws;
 mod listed;
@@ -25,4 +26,5 @@ mod seen;
 mod source;
 mod table_name;
 mod tables;
+mod tariff_list;
 mod whole;

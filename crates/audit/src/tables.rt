@@ -3,12 +3,13 @@
 ghost use Rattle.std.specs.Prelude.{◌≡◌, ℕ};
 
 use crate::audited::Audited;
+use crate::dated_list::DatedList;
 use crate::open_shifts::ShiftList;
-use crate::rows::{BaseRow, DatedStepRow, LastId, MeterRow, MonthTenths, ShiftTotals, StepRow};
+use crate::rows::{BaseRow, LastId, MeterRow, MonthTenths, ShiftTotals};
 use crate::sales::SaleCount;
 use crate::source::Source;
+use crate::tariff_list::TariffList;
 use sqlite::Alter;
-use vend_core::TariffName;
 
 /// What is read of all tables of a format.
 pub(crate) trait Tables<S: Alter>: Source<S> {
@@ -28,8 +29,8 @@ pub(crate) trait Tables<S: Alter>: Source<S> {
 
 // Those of the first format,
 pub(crate) type First = (
-    Vec<TariffName>,
-    (Vec<StepRow>, (Vec<MeterRow>, (ShiftList, SaleCount))),
+    TariffList,
+    (Vec<MeterRow>, (ShiftList, SaleCount)),
 );
 
 // with the totals,
@@ -39,16 +40,16 @@ pub(crate) type Second = (First, (Vec<LastId>, (Vec<MonthTenths>, Vec<ShiftTotal
 pub(crate) type Third = (Second, Vec<BaseRow>);
 
 // and with the steps of later days.
-pub(crate) type Fourth = (Third, Vec<DatedStepRow>);
+pub(crate) type Fourth = (Third, DatedList);
 
 impl<S: Alter> Tables<S> for First {
     ghost format = { 1 };
 
     fn counts(self) -> Audited {
-        let (tariffs, (_steps, (meters, (shifts, sales)))) = self;
+        let (tariffs, (meters, (shifts, sales))) = self;
         Audited {
             format: 1,
-            tariffs: tariffs.len(),
+            tariffs: tariffs.tariffs.len(),
             meters: meters.len(),
             shifts: shifts.shifts.len(),
             sales: sales.count,
@@ -56,14 +57,8 @@ impl<S: Alter> Tables<S> for First {
     }
 
     ghost has = { λ db has. (
-      has.tables.1.0,
-      (
-        has.tables.1.1.0,
-        (
-          has.tables.1.1.1.0,
-          (has.tables.1.1.1.1.0, has.tables.1.1.1.1.1.0),
-        ),
-      ),
+      (has.tables.1.0, has.tables.1.1.0),
+(has.tables.1.1.1.0, (has.tables.1.1.1.1.0, has.tables.1.1.1.1.1.0)),
     ) };
 }
 
@@ -81,14 +76,8 @@ impl<S: Alter> Tables<S> for Second {
 
     ghost has = { λ db has. (
       (
-        has.tables.1.0,
-        (
-          has.tables.1.1.0,
-          (
-            has.tables.1.1.1.0,
-            (has.tables.1.1.1.1.0, has.tables.1.1.1.1.1.0),
-          ),
-        ),
+        (has.tables.1.0, has.tables.1.1.0),
+(has.tables.1.1.1.0, (has.tables.1.1.1.1.0, has.tables.1.1.1.1.1.0)),
       ),
       (has.tables.1.1.1.1.1.1.0, (has.tables.1.1.1.1.1.1.1.0, has.tables.1.1.1.1.1.1.1.1.0)),
     ) };
@@ -109,14 +98,8 @@ impl<S: Alter> Tables<S> for Third {
     ghost has = { λ db has. (
       (
         (
-          has.tables.1.0,
-          (
-            has.tables.1.1.0,
-            (
-              has.tables.1.1.1.0,
-              (has.tables.1.1.1.1.0, has.tables.1.1.1.1.1.0),
-            ),
-          ),
+          (has.tables.1.0, has.tables.1.1.0),
+(has.tables.1.1.1.0, (has.tables.1.1.1.1.0, has.tables.1.1.1.1.1.0)),
         ),
         (has.tables.1.1.1.1.1.1.0, (has.tables.1.1.1.1.1.1.1.0, has.tables.1.1.1.1.1.1.1.1.0)),
       ),
@@ -140,14 +123,8 @@ impl<S: Alter> Tables<S> for Fourth {
       (
         (
           (
-            has.tables.1.0,
-            (
-              has.tables.1.1.0,
-              (
-                has.tables.1.1.1.0,
-                (has.tables.1.1.1.1.0, has.tables.1.1.1.1.1.0),
-              ),
-            ),
+            (has.tables.1.0, has.tables.1.1.0),
+(has.tables.1.1.1.0, (has.tables.1.1.1.1.0, has.tables.1.1.1.1.1.0)),
           ),
           (has.tables.1.1.1.1.1.1.0, (has.tables.1.1.1.1.1.1.1.0, has.tables.1.1.1.1.1.1.1.1.0)),
         ),
