@@ -16,6 +16,7 @@ pub mod FillingLemmas
 pub mod FindLemmas
 pub mod FirstSalesLemmas
 pub mod FormatLemmas
+pub mod GatheredLemmas
 pub mod FoundLemmas
 pub mod HiddenWriteLemmas
 pub mod HoldsLemmas

@@ -3,6 +3,7 @@ pub mod Failing
 pub mod Filling
 pub mod Format
 pub mod Found
+pub mod Gathered
 pub mod Holds
 pub mod Kept
 pub mod Looking

@@ -18,6 +18,8 @@ mod error;
 mod filling;
 pub mod format;
 mod formats;
+mod gathered;
+mod gathering;
 mod laws;
 mod listed;
 mod looking;

@@ -8,6 +8,7 @@ ghost use Rattle.sts_token.specs.Key.{IsKeyText};
 ghost use Rattle.book_tables.specs.Rows.{dated_columns, last_id_columns, meter_columns, month_columns, number, optional, sale_columns, shift_columns, step_columns, tariff_columns};
 ghost use Rattle.sqlite_value.specs.Value.{owned};
 
+use crate::totals::Totals;
 use sqlite::types::ValueRef;
 use sts_fields::{Base, Day, Moment, month_of};
 use tariff::Step;
@@ -217,4 +218,27 @@ pub(crate) fn sale_total_values(shift: u32, tenths: u32, price: u32) -> [ValueRe
     ensures { bound result ≡ number shift ∷ number tenths ∷ number price ∷ [] }
 {
     [whole(shift), whole(tenths), whole(price)]
+}
+
+fn total(sum: u64) -> ValueRef<'static> {
+    ValueRef::Int(i64::try_from(sum).unwrap_or(i64::MAX))
+}
+
+/// The number of a meter, a month, and the sum of the meter's tenths in it.
+pub(crate) fn month_total_values(meter: &MeterNo, month: u32, tenths: u64) -> [ValueRef<'_>; 3] {
+    [
+        ValueRef::Text(meter.as_bytes()),
+        whole(month),
+        total(tenths),
+    ]
+}
+
+/// The number of a shift, and its totals.
+pub(crate) fn shift_total_values(shift: u32, totals: &Totals) -> [ValueRef<'static>; 4] {
+    [
+        whole(shift),
+        total(totals.sales),
+        total(totals.tenths),
+        total(totals.cash),
+    ]
 }
