@@ -1,8 +1,9 @@
 -- What is kept in memory of the totals of sales.
-use Rattle.std.specs.Prelude.{◌≡◌, ℕ, List, Option, Some, Ordering, option_map}
+use Rattle.std.specs.Prelude.{◌≡◌, ℕ, List, Option, Some, option_map}
 use Rattle.std.specs.BTreeMap.{BTreeMap, IsOrdered, get}
 use Rattle.std.specs.Cmp.Lexicographic.{slice_cmp}
 use Rattle.std.specs.Ordering.{nat_cmp, ordering_then}
+use Rattle.std.specs.declared.cmp.Ordering.{Ordering}
 use Rattle.sts_fields.specs.Base.{year_of}
 use Rattle.sts_fields.specs.declared.base.Base.{Base}
 use Rattle.book_tables.specs.declared.gathered.LastId.{LastId}
