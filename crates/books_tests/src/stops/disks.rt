@@ -3,7 +3,7 @@
 use crate::shown::all_shown;
 use books::{Books, OpenFault};
 use office_testing::both::serve_all;
-use sqlite::{Alter, Connection, FileStore, Files, Options};
+use sqlite::{Alter, Connection, Files, Options};
 use sqlite_disk::{Disk, Fuse, Memory};
 use std::alloc::{AllocError, Global};
 use std::io;
@@ -90,8 +90,6 @@ pub(crate) struct Ended {
     pub(crate) kept: Kept,
 }
 
-type Stored = Connection<FileStore<Fuse<Memory>>>;
-
 /// No file yet.
 pub(crate) fn nothing(alloc: Global) -> Kept {
     Kept {
@@ -132,8 +130,24 @@ fn options(room: Room) -> Options {
     }
 }
 
-// The connection to what was kept, or what is left where it cannot be opened.
-fn connect(alloc: Global, kept: &Kept, stop: Stop) -> Result<Result<Stored, Kept>, Fail> {
+/// What is done on a connection, which comes to an `R`.
+///
+/// It is over any store, so that a proof carries neither what the books promise nor what a store of
+/// files is.
+trait Act<R> {
+    fn act<S: Alter + Drop>(self, conn: Connection<S>) -> Result<(R, Connection<S>), Fail>;
+}
+
+// What comes of an act on the files of what was kept, and what it leaves; or what is left where
+// they cannot be opened. The log is copied into the database or not. This alone names the store:
+// its proof takes long.
+fn act_on<R: Drop, A: Act<R> + Drop>(
+    alloc: Global,
+    kept: &Kept,
+    stop: Stop,
+    act: A,
+    copies: bool,
+) -> Result<(Option<R>, Kept), Fail> {
     let files = Files {
         log: disk(alloc, &kept.log, stop.log)?,
         db: disk(alloc, &kept.db, stop.db)?,
@@ -141,22 +155,30 @@ fn connect(alloc: Global, kept: &Kept, stop: Stop) -> Result<Result<Stored, Kept
     if !files.may_be_used() {
         return Err("the disks are spoiled".into());
     }
-    match Connection::open_files(alloc, files, options(stop.room)) {
-        Ok(conn) => Ok(Ok(conn)),
-        Err((_, left)) => Ok(Err(keep(alloc, &left.into_files())?)),
+    let conn = match Connection::open_files(alloc, files, options(stop.room)) {
+        Ok(conn) => conn,
+        Err((_, left)) => return Ok((None, keep(alloc, &left.into_files())?)),
+    };
+    let (result, conn) = act.act(conn)?;
+    if !copies {
+        return Ok((Some(result), keep(alloc, &conn.into_store().close())?));
+    }
+    match conn.close_files() {
+        Ok(files) => Ok((Some(result), keep(alloc, &files)?)),
+        Err((_, store)) => {
+            drop(store.close());
+            Err("not closed on sound disks".into())
+        }
     }
 }
 
-// The connection to what was kept, on sound disks.
-fn connected(alloc: Global, kept: &Kept) -> Result<Stored, Fail> {
-    match connect(alloc, kept, SOUND)? {
-        Ok(conn) => Ok(conn),
-        Err(_) => Err("not opened on sound disks".into()),
-    }
+// The same on sound disks.
+fn act_on_sound<R: Drop, A: Act<R> + Drop>(alloc: Global, kept: &Kept, act: A) -> Result<R, Fail> {
+    let (result, _) = act_on(alloc, kept, SOUND, act, false)?;
+    Ok(result.ok_or("not opened on sound disks")?)
 }
 
-// These have no clause and are over any store, so that the proof of a life carries neither what the
-// books promise nor what a store of files is.
+// It has no clause, so that the proof of a life does not carry what the books promise.
 fn opened<S: Alter + Drop>(
     alloc: Global,
     conn: Connection<S>,
@@ -167,14 +189,6 @@ fn opened<S: Alter + Drop>(
     Ok(Books::open_from(alloc, conn, Plain))
 }
 
-fn store_of<S: Alter + Drop>(conn: Connection<S>) -> S {
-    conn.into_store()
-}
-
-fn store_of_books<S: Alter + Drop>(books: Books<S, Plain>) -> S {
-    store_of(books.into_connection())
-}
-
 // What a life on a store ends with, but for what is kept.
 #[derive(Drop)]
 struct Lived {
@@ -183,35 +197,35 @@ struct Lived {
     is_stopped: bool,
 }
 
-// The replies to these requests, and the store: no replies where it holds no office.
-fn live<S: Alter + Drop>(
+/// Requests, which are sent to the office on the connection.
+#[derive(Drop)]
+struct Sending<'a> {
     alloc: Global,
-    conn: Connection<S>,
-    script: &[Stamped],
-) -> Result<(Lived, S), Fail> {
-    match opened(alloc, conn)? {
-        Ok(mut books) => {
-            let lived = Lived {
-                replies: Some(serve_all(&mut books, script)?),
-                fault: None,
-                is_stopped: books.is_stopped(),
-            };
-            Ok((lived, store_of_books(books)))
-        }
-        Err((fault, conn)) => {
-            let lived = Lived {
-                replies: None,
-                fault: Some(fault),
-                is_stopped: false,
-            };
-            Ok((lived, store_of(conn)))
-        }
-    }
+    script: &'a [Stamped],
 }
 
-fn number_of<S: Alter + Drop>(conn: Connection<S>, sql: &str) -> Result<i64, Fail> {
-    let mut conn = conn;
-    Ok(conn.query_row(sql, &[])?.get(0)?)
+impl Act<Lived> for Sending<'_> {
+    // There are no replies where there is no office.
+    fn act<S: Alter + Drop>(self, conn: Connection<S>) -> Result<(Lived, Connection<S>), Fail> {
+        match opened(self.alloc, conn)? {
+            Ok(mut books) => {
+                let lived = Lived {
+                    replies: Some(serve_all(&mut books, self.script)?),
+                    fault: None,
+                    is_stopped: books.is_stopped(),
+                };
+                Ok((lived, books.into_connection()))
+            }
+            Err((fault, conn)) => {
+                let lived = Lived {
+                    replies: None,
+                    fault: Some(fault),
+                    is_stopped: false,
+                };
+                Ok((lived, conn))
+            }
+        }
+    }
 }
 
 /// A life on disks that stop, in which these requests are sent.
@@ -221,66 +235,94 @@ pub(crate) fn life(
     stop: Stop,
     script: &[Stamped],
 ) -> Result<Ended, Fail> {
-    match connect(alloc, kept, stop)? {
-        Ok(conn) => {
-            let (lived, store) = live(alloc, conn, script)?;
-            let Lived {
-                replies,
-                fault,
-                is_stopped,
-            } = lived;
-            Ok(Ended {
-                replies,
-                fault,
-                is_stopped,
-                kept: keep(alloc, &store.close())?,
-            })
-        }
-        Err(kept) => Ok(Ended {
+    let (lived, kept) = act_on(alloc, kept, stop, Sending { alloc, script }, false)?;
+    let Some(lived) = lived else {
+        return Ok(Ended {
             replies: None,
             fault: None,
             is_stopped: false,
             kept,
-        }),
-    }
+        });
+    };
+    let Lived {
+        replies,
+        fault,
+        is_stopped,
+    } = lived;
+    Ok(Ended {
+        replies,
+        fault,
+        is_stopped,
+        kept,
+    })
 }
 
-fn shown_of<S: Alter + Drop>(alloc: Global, conn: Connection<S>) -> Result<String, Fail> {
-    let mut conn = conn;
-    all_shown(alloc, &mut conn)
+/// What the tables of the connection show.
+#[derive(Clone, Copy)]
+struct Showing {
+    alloc: Global,
+}
+
+impl Act<String> for Showing {
+    fn act<S: Alter + Drop>(self, conn: Connection<S>) -> Result<(String, Connection<S>), Fail> {
+        let mut conn = conn;
+        Ok((all_shown(self.alloc, &mut conn)?, conn))
+    }
 }
 
 /// What the tables of what was kept show.
 pub(crate) fn kept_tables(alloc: Global, kept: &Kept) -> Result<String, Fail> {
-    shown_of(alloc, connected(alloc, kept)?)
+    act_on_sound(alloc, kept, Showing { alloc })
+}
+
+/// The number that a query gives.
+#[derive(Clone, Copy)]
+struct Counting<'a> {
+    sql: &'a str,
+}
+
+impl Act<i64> for Counting<'_> {
+    fn act<S: Alter + Drop>(self, conn: Connection<S>) -> Result<(i64, Connection<S>), Fail> {
+        let mut conn = conn;
+        let count = conn.query_row(self.sql, &[])?.get(0)?;
+        Ok((count, conn))
+    }
 }
 
 /// How many rows a table of what was kept has.
 pub(crate) fn count(alloc: Global, kept: &Kept, sql: &str) -> Result<i64, Fail> {
-    number_of(connected(alloc, kept)?, sql)
+    act_on_sound(alloc, kept, Counting { sql })
 }
 
-/// The same, where the log was copied into the database.
-pub(crate) fn closed(alloc: Global, kept: &Kept) -> Result<Kept, Fail> {
-    match connected(alloc, kept)?.close_files() {
-        Ok(files) => Ok(keep(alloc, &files)?),
-        Err((_, store)) => {
-            drop(store.close());
-            Err("not closed on sound disks".into())
+/// Statements, which may be none.
+#[derive(Clone, Copy)]
+struct Making<'a> {
+    parts: &'a [&'a str],
+}
+
+impl Act<()> for Making<'_> {
+    fn act<S: Alter + Drop>(self, conn: Connection<S>) -> Result<((), Connection<S>), Fail> {
+        let mut conn = conn;
+        for sql in self.parts {
+            conn.execute_batch(sql)?;
         }
+        Ok(((), conn))
     }
 }
 
-fn batch<S: Alter + Drop>(conn: Connection<S>, parts: &[&str]) -> Result<S, Fail> {
-    let mut conn = conn;
-    for sql in parts {
-        conn.execute_batch(sql)?;
-    }
-    Ok(store_of(conn))
+// On sound disks, and what they leave.
+fn made_of(alloc: Global, kept: &Kept, parts: &[&str], copies: bool) -> Result<Kept, Fail> {
+    let (made, kept) = act_on(alloc, kept, SOUND, Making { parts }, copies)?;
+    made.ok_or("not opened on sound disks")?;
+    Ok(kept)
+}
+
+/// What was kept, where the log was copied into the database.
+pub(crate) fn closed(alloc: Global, kept: &Kept) -> Result<Kept, Fail> {
+    made_of(alloc, kept, &[], true)
 }
 
 /// A file that these statements make. What they write stands in its log.
 pub(crate) fn made(alloc: Global, parts: &[&str]) -> Result<Kept, Fail> {
-    let store = batch(connected(alloc, &nothing(alloc))?, parts)?;
-    Ok(keep(alloc, &store.close())?)
+    made_of(alloc, &nothing(alloc), parts, false)
 }
