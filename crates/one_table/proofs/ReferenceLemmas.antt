@@ -16,7 +16,7 @@ use Rattle.sqlite_catalog.proofs.SoundLemmas.{lowered}
 use Rattle.sqlite_catalog.proofs.StepLemmas.{no_table, table_below}
 use Rattle.sqlite.specs.Does.{lacks_sequence}
 use Rattle.one_table.specs.Making.{counters, made}
-use Rattle.one_table.specs.Referring.{is_among, is_apart, is_unreferred, is_idle, is_harmless, points_to, is_left_alone, AreUntaken}
+use Rattle.one_table.specs.Referring.{is_among, is_apart, is_unreferred, is_idle, is_harmless, points_to, is_left_alone}
 use Rattle.one_table.proofs.GrowthLemmas.{below_differs, above_differs}
 use Rattle.one_table.proofs.NewTableLemmas.{next_after}
 
@@ -133,15 +133,3 @@ module _ (s : Schema) (t : Table) (b : Schema) (added : Added s t b) where
         | inl idles ↦ or_left _ _ idles
         | inr apart ↦ or_right _ _ (ap not (apart_from_new names r ours (not-true _ apart)))
       ]) (λ r idles. or_left _ _ idles) idle
-
--- Where no object has one of these names and nobody refers to them, no action can touch them.
-pub untaken_harmless : (names : List (List ℕ)) (s : Schema) → AreUntaken names s → is_harmless names s ≡ true
-untaken_harmless names s h = test_from (λ t. list_all (λ r. is_idle r || not (is_among names r.parent)) t.references) s.tables (λ t k.
-    test_from (λ r. is_idle r || not (is_among names r.parent)) t.references (λ r l.
-    elim (or_cases (is_among names t.name) (list_all (λ r. not (is_among names r.parent)) t.references) (test_has (is_apart names) s.tables t h.unreferred k)) [
-      | inl ours ↦
-          let it = some_has (λ n. same_name t.name n) names ours in
-          let free = test_has (λ n. not (is_used s n)) names it.0 h.free it.1 in
-          absurd (let e = none_placed (λ (u : Table). same_name u.name it.0) s.tables 0 t (no_table s it.0 (not-true _ free)) k in let f = it.2 in cc)
-      | inr elsewhere ↦ or_right _ _ (test_has (λ r. not (is_among names r.parent)) t.references r elsewhere l)
-    ]))

@@ -45,8 +45,3 @@ points_to s tree r =
 abbrev pub is_left_alone : Schema → ℕ → Bool
 is_left_alone s tree =
     list_all (λ t. list_all (λ r. is_idle r || not (points_to s tree r)) t.references) s.tables
-
--- no object has one of these names, and no table refers to one
-pub record AreUntaken (names : List (List ℕ)) (s : Schema) : Type 0 where
-  pub free : list_all (λ name. not (is_used s name)) names ≡ true
-  pub unreferred : is_unreferred names s ≡ true

@@ -6,7 +6,7 @@ ghost use Rattle.std.specs.Option.{option_copied};
 ghost use Rattle.sqlite_value.specs.Keys.{plain};
 ghost use Rattle.sqlite_catalog.specs.Change.{is_used};
 ghost use Rattle.one_table.specs.Comparing.{IsPlainTable, IsOwnTree, StandsAt};
-ghost use Rattle.one_table.specs.Referring.{is_among, is_apart, is_unreferred, is_no_action, is_idle, points_to, is_harmless, is_left_alone, AreUntaken};
+ghost use Rattle.one_table.specs.Referring.{is_among, is_apart, is_unreferred, is_no_action, is_idle, points_to, is_harmless, is_left_alone};
 ghost use Rattle.one_table.specs.Standing.{Key, key_of, own_keys, keys_on, place_in, tree_in, Stands};
 
 use crate::compare::{is_table, same_places};
@@ -76,14 +76,6 @@ pub fn is_unreferred(schema: &Schema, names: &[&str]) -> bool
         }
     }
     true
-}
-
-/// Whether tables of these names can be made with nobody else referring to them.
-pub fn are_untaken(schema: &Schema, names: &[&str]) -> bool
-    ensures told { IsTrue result ↔ AreUntaken (map (λ n. n.now) names.now) schema.now }
-    ensures harmless { IsTrue result → is_harmless (map (λ n. n.now) names.now) schema.now ≡ true }
-{
-    are_free(schema, names) && is_unreferred(schema, names)
 }
 
 fn is_no_action(action: Action) -> bool

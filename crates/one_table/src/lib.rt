@@ -7,7 +7,7 @@
 
 pub use committing::{Change, CommitFault, change_once};
 pub use folding::fold_rows;
-pub use from_row::{FromRow, column};
+pub use from_row::FromRow;
 pub use gathering::Gather;
 pub use inserting::insert;
 pub use probing::test_open;

@@ -10,7 +10,8 @@ ghost use Rattle.book_tables.specs.reading.Reading.{OnlyReads};
 ghost use Rattle.book_states.specs.Members.{SaysOfOffice};
 
 use crate::facts::steps::steps_on;
-use book_tables::{TableError, members_law, meters, sold};
+use book_tables::reading::{meters, totals};
+use book_tables::{TableError, members_law};
 use sqlite::{Alter, Connection};
 use std::alloc::Global;
 use sts_fields::{LAST_TID, day_of, month_of};
@@ -62,9 +63,9 @@ fn account_at<S: Alter>(
         (state S.Store conn.old) (state S.Store conn.new) result }
 {
     store_law();
-    let last = sold::greatest_tid(conn, number, meter.base)?;
+    let last = totals::greatest_tid(conn, number, meter.base)?;
     let month = month_of(moment).unwrap();
-    let prior = sold::tenths_in_month(conn, number, month)?;
+    let prior = totals::tenths_in_month(conn, number, month)?;
     if last.unwrap_or(0) > LAST_TID || prior > MAX_PRIOR {
         // What an office sold to a meter is within both.
         return Err(TableError::RowOfNoOffice);

@@ -12,7 +12,8 @@ ghost use Rattle.book_tables.specs.reading.Reading.{OnlyReads};
 ghost use Rattle.book_states.specs.Members.{SaysOfOffice};
 ghost use Rattle.book_states.specs.Same.{IsSame};
 
-use book_tables::{TableError, dated, members_law, meters, tariffs};
+use book_tables::reading::{dated_steps, meters, tariffs};
+use book_tables::{TableError, members_law};
 use sqlite::{Alter, Connection};
 use std::alloc::{AllocError, Global};
 use sts_fields::Day;
@@ -94,7 +95,7 @@ fn steps_row_facts<S: Alter>(
         (state S.Store conn.old) (state S.Store conn.new) result }
 {
     let has_tariff = tariffs::has_tariff(conn, name)?;
-    let steps = dated::steps_from(alloc, conn, name, day)?;
+    let steps = dated_steps::steps_from(alloc, conn, name, day)?;
     Ok(RowFacts::Steps(has_tariff, steps))
 }
 

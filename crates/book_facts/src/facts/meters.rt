@@ -7,7 +7,8 @@ ghost use Rattle.vend_core.specs.Decision.Facts.{AreMeterFacts, AreSettingFacts}
 ghost use Rattle.book_tables.specs.reading.Reading.{OnlyReads};
 ghost use Rattle.book_states.specs.Members.{SaysOfOffice};
 
-use book_tables::{TableError, members_law, meters, tariffs};
+use book_tables::reading::{meters, tariffs};
+use book_tables::{TableError, members_law};
 use sqlite::{Alter, Connection};
 use std::alloc::Global;
 use vend_core::{Facts, Meter, MeterNo, TariffName};

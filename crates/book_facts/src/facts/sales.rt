@@ -9,7 +9,8 @@ ghost use Rattle.book_tables.specs.reading.Reading.{OnlyReads};
 ghost use Rattle.book_states.specs.Members.{SaysOfOffice};
 
 use crate::facts::accounts::account_numbered;
-use book_tables::{TableError, sales, shifts};
+use book_tables::TableError;
+use book_tables::reading::{sales, shifts};
 use sqlite::{Alter, Connection};
 use std::alloc::Global;
 use vend_core::{Facts, Moment, Order};

@@ -9,7 +9,8 @@ ghost use Rattle.book_tables.specs.reading.Reading.{OnlyReads};
 ghost use Rattle.book_states.specs.Members.{SaysOfOffice};
 ghost use Rattle.book_facts.specs.Totals.{shift_totals};
 
-use book_tables::{TableError, Totals, sale_lists, shifts, sold};
+use book_tables::reading::{sale_lists, shifts, totals};
+use book_tables::{TableError, Totals};
 use sqlite::{Alter, Connection};
 use std::alloc::Global;
 use vend_core::{Facts, Operator, Sales};
@@ -92,6 +93,6 @@ pub(crate) fn totals_of<S: Alter>(
     if found.is_none() {
         return Ok(None);
     }
-    let totals = sold::totals_of_shift(conn, number)?;
+    let totals = totals::totals_of_shift(conn, number)?;
     Ok(Some(totals))
 }

@@ -9,7 +9,8 @@ ghost use Rattle.vend_core.specs.Office.Lookup.{latest};
 ghost use Rattle.book_tables.specs.reading.Reading.{OnlyReads};
 ghost use Rattle.book_states.specs.Members.{SaysOfOffice};
 
-use book_tables::{TableError, dated, tariffs};
+use book_tables::TableError;
+use book_tables::reading::{dated_steps, tariffs};
 use sqlite::{Alter, Connection};
 use std::alloc::Global;
 use sts_fields::Day;
@@ -29,7 +30,7 @@ pub(crate) fn steps_on<S: Alter>(
     ensures reads { OnlyReads IsUnchanged
         (state S.Store conn.old) (state S.Store conn.new) result }
 {
-    let begun = dated::latest_steps(alloc, conn, name, day)?;
+    let begun = dated_steps::latest_steps(alloc, conn, name, day)?;
     if begun.is_some() {
         return Ok(begun);
     }
@@ -53,7 +54,7 @@ pub(crate) fn dated_facts<S: Alter>(
     if !has_tariff {
         return Ok(Facts::none());
     }
-    let dated_steps = dated::steps_from(alloc, conn, name, day)?;
+    let dated_steps = dated_steps::steps_from(alloc, conn, name, day)?;
     Ok(Facts {
         has_tariff,
         dated_steps,

@@ -19,25 +19,6 @@ use Rattle.book_tables.proofs.WritingLemmas.MeterEditLemmas.{base_moved, meter_a
 use Rattle.book_tables.proofs.WritingLemmas.PutLemmas.{none_some, same_totals}
 use Rattle.book_tables.proofs.WritingLemmas.TariffEditLemmas.{steps_added, tariff_added}
 
--- ---- a sale, with its totals
-
-pub sold_members : (rows totals : Rows) (o : Office) (s : Sale) → AreMembersOf rows o → AreTotalsOf (o.sales ++ s ∷ []) totals → AreMembersOf (with_totals_of totals (edited (edits.AddSale s) rows)) (applied (edits.AddSale s) o)
-sold_members rows totals o s are sums = record {
-  tariffs = are.tariffs;
-  steps = are.steps;
-  meters = are.meters;
-  bases = are.bases;
-  dated_steps = are.dated_steps;
-  shifts = are.shifts;
-  sales = ap (λ xs. xs ++ s ∷ []) are.sales;
-  totals = same_totals (o.sales ++ s ∷ []) totals _ refl refl refl sums;
-  tariffs_once = are.tariffs_once;
-  steps_once = are.steps_once;
-  meters_once = are.meters_once;
-  bases_once = are.bases_once;
-  dated_once = are.dated_once;
-}
-
 -- ---- every edit
 
 row_members : (rows : Rows) (o : Office) (row : Row) → AreMembersOf rows o → MeetsRow row o → AreMembersOf (row_added row rows) (with_row row o)

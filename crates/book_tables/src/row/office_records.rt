@@ -10,7 +10,7 @@ ghost use Rattle.book_tables.specs.row.Rows.{shown_meter, shown_number, shown_sa
 ghost use Rattle.std.specs.Prelude.{◌∷◌, [], ℕ};
 ghost use Rattle.sqlite_value.specs.Order.{column};
 ghost use Rattle.vend_core.specs.Name.{IsName};
-ghost use Rattle.book_tables.specs.row.Values.{AreMeterValues, AreSaleValues, AreShiftValues, AreStepValues, IsNumber, IsSoldAmount};
+ghost use Rattle.book_tables.specs.row.Values.{AreMeterValues, AreSaleValues, AreShiftValues, AreStepValues, IsNumber};
 
 use crate::row::cells;
 use crate::row::record::Record;
@@ -30,20 +30,6 @@ impl Record for u32 {
             return None;
         }
         cells::number_at(row, 0)
-    }
-}
-
-// The amount of a sale.
-impl Record for Amount {
-    ghost shown = { shown_number };
-
-    ghost keeps = { IsSoldAmount };
-
-    fn of_row(row: &Row) -> Option<Amount> {
-        if row.column_count() != 1 {
-            return None;
-        }
-        cells::amount_at(row, 0)
     }
 }
 

@@ -1,8 +1,8 @@
 //! Tables of older formats that have no sales, or rows that are no office's.
 use crate::office_tables::made::{batch, count, file};
 use book_tables::format::number::format_number;
-use book_tables::format::upgrade::bring;
 use book_tables::format::presence::format_here;
+use book_tables::format::upgrade::bring;
 use book_tables::{PRESENT_FORMAT, TableError};
 use sqlite::{Connection, Error, ErrorCode, MemStore};
 use std::alloc::Global;

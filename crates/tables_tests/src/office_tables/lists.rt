@@ -2,7 +2,8 @@
 
 use crate::office_tables::made::batch;
 use crate::office_tables::rows::{ROWS, TABLES};
-use book_tables::{TableError, tariffs};
+use book_tables::TableError;
+use book_tables::reading::tariffs;
 use sqlite::Connection;
 use std::alloc::Global;
 use std::test::Fail;

@@ -1,6 +1,7 @@
 //! Rows whose values are outside their rules or at the ends of them, beside other tables.
 use crate::office_tables::made::batch;
-use book_tables::{TableError, meters, sales, shifts};
+use book_tables::TableError;
+use book_tables::reading::{meters, sales, shifts};
 use sqlite::{Connection, Error, ErrorCode, MemStore};
 use std::alloc::Global;
 use std::test::Fail;
