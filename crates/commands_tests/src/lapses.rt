@@ -123,7 +123,10 @@ fn count_in(text: &str, part: &str) -> usize {
 // Whether a request met the failure. Each that was asked for again has its one right reply.
 fn has_failed(ran: &Outcome) -> Result<bool, Fail> {
     let replies = ran.replies.as_str();
-    if ran.end == CommandEnd::Refused && ran.errors.as_str() == "open 3 Store\n" && replies.is_empty() {
+    if ran.end == CommandEnd::Refused
+        && ran.errors.as_str() == "open 3 Store\n"
+        && replies.is_empty()
+    {
         return Ok(true);
     }
     let failed = count_in(replies, FAILED);

@@ -11,7 +11,9 @@ const FAILED_REPLY: &str = "HTTP/1.1 503 Service Unavailable\r\nContent-Type: ap
 
 // The calls of the opening fail: nobody is served.
 fn is_unopened(ran: &Outcome) -> bool {
-    ran.end == CommandEnd::Refused && ran.errors.as_str() == "open 3 Store\n" && ran.replies.is_empty()
+    ran.end == CommandEnd::Refused
+        && ran.errors.as_str() == "open 3 Store\n"
+        && ran.replies.is_empty()
 }
 
 // The file cannot be opened again after a connection that is not the last.
@@ -132,7 +134,10 @@ fn nobody_is_served_where_it_is_not_told(rt: HostRuntime) -> Result<(), Fail> {
     for room in 0..LISTENING.len() {
         let ran = served(&rt, calls_fail(true, 0, 0), room)?;
         let told = LISTENING.get(..room).unwrap_or("no text ends here");
-        if ran.end != CommandEnd::Refused || ran.errors.as_str() != told || !ran.replies.is_empty() {
+        if ran.end != CommandEnd::Refused
+            || ran.errors.as_str() != told
+            || !ran.replies.is_empty()
+        {
             return Err(Fail::new(format_args!("{room}: {ran:?}")));
         }
     }

@@ -8,7 +8,7 @@ use sqlite_disk::Memory;
 use std::alloc::Global;
 use std::fs::OpenOptions;
 use std::io::{self, Read, Write};
-use vend_commands::{Door, OfficeFile, FileFault, SaltSource, TextFiles};
+use vend_commands::{Door, FileFault, OfficeFile, SaltSource, TextFiles};
 
 /// What fails of an office's file: some calls of its log, or of its database file.
 #[derive(Clone, Copy)]
