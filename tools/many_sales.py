@@ -4,6 +4,7 @@ from importlib.machinery import SourceFileLoader
 from importlib.util import module_from_spec, spec_from_loader
 
 from cut_outputs import Ran, limited, run, same
+from shared import FORMAT
 from program import (AT, METER, OLDER, RECEIPT, TOP, change, expect, is_sound, prepare, query,
                      sell_words, vend)
 
@@ -46,7 +47,6 @@ def rows():
     yield f"UPDATE shift_totals SET sales = {SALES}, tenths = {SALES}, cash = {10 * SALES};"
     for number in range(2, SHIFTS + 2):
         yield f"INSERT INTO shifts VALUES ({number}, 'bob', {AT}, {AT});"
-        yield f"INSERT INTO shift_totals VALUES ({number}, 0, 0, 0);"
 
 
 def export():
@@ -94,6 +94,13 @@ def check_many_meters(folder):
     csv.write_text(header + "".join(rows) + rows[0])
     expect(vend(*bring), 1, b"", b"refused 14 ImportRow 10001 TooManyRows\n")
     is_sound(file)
+    expect(vend("audit", "--file", str(file)), 0, sound(FORMAT, meters=10_002, shifts=1, sales=0), b"")
+
+
+def sound(number, meters, shifts, sales):
+    """What an audit prints of a file of a format with one tariff."""
+    counts = f"tariffs 1 meters {meters} shifts {shifts} sales {sales}"
+    return f"sound format {number} {counts}\n".encode()
 
 
 def check_many(folder):
@@ -118,8 +125,11 @@ def check_many(folder):
     with limited():
         for room in (40_000, 100_000, len(whole) - 1):
             same(room, run(folder, [*of, "sales"], room), Ran(1, whole[:room], b""))
-    for older in OLDER:
+    audit = ["audit", "--file", str(file)]
+    expect(vend(*audit), 0, sound(FORMAT, 2, SHIFTS + 1, SALES), b"")
+    for number, older in enumerate(OLDER, start=1):
         change(file, older)
+        expect(vend(*audit), 0, sound(number, 2, SHIFTS + 1, SALES), b"")
         expect(vend(*of, "sales"), 0, whole, b"")
         expect(vend(*of, "totals"), 0, totals, b"")
     # The last order again, whose meter has the next sale too.

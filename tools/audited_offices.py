@@ -1,0 +1,290 @@
+"""Files that `audit` is asked about, offices and others: a part of tools/check_program. It is no script
+of its own."""
+import http.client
+import json
+import random
+import shutil
+import subprocess
+
+from many_sales import meter_of
+from program import METER, OLDER, VEND, change, expect, vend
+from shared import FORMAT
+
+AT = 1388534430
+DAY = 86400
+OTHER = "10000000009"
+TARIFFS = "name,steps,from\nflat,:100,\nblock,5:90;50:100;:120,\nflat,:110,2030-01-01\n" \
+    "block,10:95;:130,2031-06-01\n"
+METERS = f"meter,base,tariff,key\n{METER},2014,flat,0000000000000000\n" \
+    f"{OTHER},1993,block,0123456789abcdef\n"
+METERS_DRAWN = [meter_of(f"{30 + number:010}") for number in range(12)]
+COUNTS = "tariffs 2 meters 2 shifts 3 sales 4"
+NEW_SALE = ("INSERT INTO sales VALUES (5, 1391990460, 253, 1, 'ann', 'A-3', '12345678903', 2014, 57601, 5,"
+            " 2, 20, 20, '00288477766268123565');")
+# What is done to the rows of the office, a table after another, and the row that is found to break
+# a rule. Each column is spoilt in turn; then there is a row too many, or one too few.
+SPOILT = [
+    ("UPDATE tariffs SET name = 'bl ock' WHERE name = 'block'; UPDATE tariff_steps SET tariff ="
+     " 'bl ock' WHERE tariff = 'block'; UPDATE dated_steps SET tariff = 'bl ock' WHERE tariff ="
+     " 'block'; UPDATE meters SET tariff = 'bl ock' WHERE tariff = 'block';", "tariffs ? value"),
+    ("INSERT INTO tariffs VALUES ('none');", "tariffs none steps"),
+    # Steps of a tariff.
+    ("UPDATE tariff_steps SET place = -1 WHERE tariff = 'flat';", "tariff_steps flat value"),
+    ("UPDATE tariff_steps SET ends = -1 WHERE tariff = 'flat';", "tariff_steps flat value"),
+    ("UPDATE tariff_steps SET price = 0 WHERE tariff = 'flat';", "tariff_steps flat value"),
+    ("UPDATE tariff_steps SET price = 1000001 WHERE tariff = 'flat';", "tariff_steps flat value"),
+    ("UPDATE tariff_steps SET place = 1 WHERE tariff = 'flat';", "tariff_steps flat steps"),
+    ("UPDATE tariff_steps SET place = 3 WHERE tariff = 'block' AND place = 2;",
+     "tariff_steps block steps"),
+    ("UPDATE tariff_steps SET ends = NULL WHERE tariff = 'block' AND place = 0;",
+     "tariffs block steps"),
+    ("UPDATE tariff_steps SET ends = 50 WHERE tariff = 'block' AND place = 0;", "tariffs block steps"),
+    ("UPDATE tariff_steps SET ends = 200 WHERE tariff = 'block' AND place = 2;",
+     "tariffs block steps"),
+    ("DELETE FROM tariff_steps WHERE tariff = 'flat';", "tariffs flat steps"),
+    ("DELETE FROM tariff_steps WHERE tariff = 'block' AND place = 1;", "tariff_steps block steps"),
+    ("DELETE FROM tariff_steps WHERE tariff = 'block' AND place = 2;", "tariffs block steps"),
+    ("INSERT INTO tariff_steps VALUES ('flat', 1, NULL, 50);", "tariffs flat steps"),
+    ("DELETE FROM tariff_steps WHERE tariff = 'flat';" + "".join(
+        f"INSERT INTO tariff_steps VALUES ('flat', {place}, {place + 1 if place < 8 else 'NULL'}, 9);"
+        for place in range(9)), "tariffs flat steps"),
+    # Meters.
+    (f"UPDATE meters SET meter = '12345678904' WHERE meter = '{METER}'; UPDATE sales SET meter ="
+     f" '12345678904' WHERE meter = '{METER}'; UPDATE meter_bases SET meter = '12345678904' WHERE"
+     f" meter = '{METER}';", "meters 12345678904 value"),
+    (f"UPDATE meters SET base = 2000 WHERE meter = '{METER}';", f"meters {METER} value"),
+    (f"UPDATE meters SET secret = '0123456789ABCDEF' WHERE meter = '{METER}';",
+     f"meters {METER} value"),
+    (f"UPDATE meters SET base = 2035 WHERE meter = '{METER}';", f"meters {METER} base"),
+    (f"UPDATE meters SET base = 1993 WHERE meter = '{OTHER}';", f"meter_bases {OTHER} base"),
+    ("INSERT INTO meters VALUES ('20000000008', 2014, 'flat', '0000000000000000');",
+     "meters 20000000008 base"),
+    # Shifts.
+    ("UPDATE shifts SET number = 4 WHERE number = 3;", "shifts 4 gap"),
+    ("UPDATE shifts SET operator = 'bo b' WHERE number = 2;", "shifts 2 value"),
+    ("UPDATE shifts SET opened = 725846399 WHERE number = 2;", "shifts 2 value"),
+    ("UPDATE shifts SET closed = 4102444800 WHERE number = 1;", "shifts 1 value"),
+    ("UPDATE shifts SET closed = NULL WHERE number = 1;", "shifts 3 open"),
+    ("UPDATE shifts SET operator = 'ann' WHERE number = 2;", "shifts 3 open"),
+    ("INSERT INTO shifts VALUES (5, 'eve', 1391990460, NULL);", "shifts 5 gap"),
+    # Sales.
+    ("UPDATE sales SET number = 6 WHERE number = 4;", "sales 6 gap"),
+    ("UPDATE sales SET moment = 725846399 WHERE number = 1;", "sales 1 value"),
+    ("UPDATE sales SET month = 251 WHERE number = 1;", "sales 1 month"),
+    ("UPDATE sales SET moment = 1391990430 WHERE number = 1;", "sales 1 month"),
+    ("UPDATE sales SET operator = 'ann ' WHERE number = 1;", "sales 1 value"),
+    ("UPDATE sales SET ref = '' WHERE number = 1;", "sales 1 value"),
+    ("UPDATE sales SET base = 2015 WHERE number = 1;", "sales 1 value"),
+    ("UPDATE sales SET base = 2035 WHERE number = 1;", "sales 1 base"),
+    ("UPDATE sales SET tid = 16777216 WHERE number = 1;", "sales 1 value"),
+    ("UPDATE sales SET tid = 57601 WHERE number = 4;", f"last_ids {METER} total"),
+    ("UPDATE sales SET rnd = 16 WHERE number = 1;", "sales 1 value"),
+    ("UPDATE sales SET tenths = 16385 WHERE number = 1;", "sales 1 value"),
+    ("UPDATE sales SET tenths = 2 WHERE number = 1;", f"month_tenths {METER} total"),
+    ("UPDATE sales SET price = 11 WHERE number = 1;", "sales 1 value"),
+    ("UPDATE sales SET price = 9 WHERE number = 1;", "shift_totals 1 total"),
+    ("UPDATE sales SET shift = 2 WHERE number = 1;", "shift_totals 1 total"),
+    ("UPDATE sales SET tender = 100000001 WHERE number = 1;", "sales 1 value"),
+    ("UPDATE sales SET digits = '0007205760262798169' WHERE number = 1;", "sales 1 value"),
+    ("DELETE FROM sales WHERE number = 2;", "sales 3 gap"),
+    ("DELETE FROM sales WHERE number = 4;", f"last_ids {METER} total"),
+    (NEW_SALE, f"last_ids {METER} total"),
+    # Totals.
+    (f"UPDATE last_ids SET meter = '12345678904' WHERE meter = '{METER}';",
+     "last_ids 12345678904 value"),
+    (f"UPDATE last_ids SET base = 2015 WHERE meter = '{METER}';", f"last_ids {METER} value"),
+    (f"UPDATE last_ids SET base = 2035 WHERE meter = '{METER}';", f"last_ids {METER} surplus"),
+    (f"UPDATE last_ids SET tid = 16777216 WHERE meter = '{METER}';", f"last_ids {METER} value"),
+    (f"UPDATE last_ids SET tid = 57599 WHERE meter = '{METER}';", f"last_ids {METER} total"),
+    (f"INSERT INTO last_ids VALUES ('{METER}', 1993, 2);", f"last_ids {METER} surplus"),
+    (f"DELETE FROM last_ids WHERE meter = '{METER}';", f"last_ids {METER} missing"),
+    (f"UPDATE month_tenths SET meter = '12345678904' WHERE meter = '{OTHER}';",
+     "month_tenths 12345678904 value"),
+    (f"UPDATE month_tenths SET month = -1 WHERE meter = '{OTHER}';", f"month_tenths {OTHER} value"),
+    (f"UPDATE month_tenths SET month = 254 WHERE meter = '{OTHER}';",
+     f"month_tenths {OTHER} surplus"),
+    (f"UPDATE month_tenths SET tenths = -1 WHERE meter = '{OTHER}';", f"month_tenths {OTHER} value"),
+    (f"UPDATE month_tenths SET tenths = 59 WHERE meter = '{OTHER}';", f"month_tenths {OTHER} total"),
+    (f"INSERT INTO month_tenths VALUES ('{OTHER}', 253, 1);", f"month_tenths {OTHER} surplus"),
+    (f"DELETE FROM month_tenths WHERE meter = '{OTHER}';", f"month_tenths {OTHER} missing"),
+    ("UPDATE shift_totals SET shift = 3 WHERE shift = 2;", "shift_totals 3 surplus"),
+    ("UPDATE shift_totals SET shift = 0 WHERE shift = 2;", "shift_totals 0 value"),
+    ("UPDATE shift_totals SET sales = 3 WHERE shift = 2;", "shift_totals 2 total"),
+    ("UPDATE shift_totals SET tenths = 57 WHERE shift = 2;", "shift_totals 2 total"),
+    ("UPDATE shift_totals SET cash = -1 WHERE shift = 2;", "shift_totals 2 value"),
+    ("UPDATE shift_totals SET cash = 590 WHERE shift = 2;", "shift_totals 2 total"),
+    ("INSERT INTO shift_totals VALUES (3, 0, 0, 0);", "shift_totals 3 surplus"),
+    ("DELETE FROM shift_totals WHERE shift = 1;", "shift_totals 1 missing"),
+    # Bases.
+    (f"UPDATE meter_bases SET base = 2000 WHERE meter = '{METER}';", f"meter_bases {METER} value"),
+    (f"UPDATE meter_bases SET base = 1993 WHERE meter = '{METER}';", f"meters {METER} base"),
+    (f"INSERT INTO meter_bases VALUES ('{METER}', 2035);", f"meter_bases {METER} base"),
+    (f"DELETE FROM meter_bases WHERE meter = '{METER}';", f"meters {METER} base"),
+    (f"DELETE FROM meter_bases WHERE meter = '{OTHER}' AND base = 1993;", "sales 2 base"),
+    # Steps of later days.
+    ("UPDATE dated_steps SET day = -1 WHERE tariff = 'flat';", "dated_steps flat value"),
+    ("UPDATE dated_steps SET day = 39081 WHERE tariff = 'flat';", "dated_steps flat value"),
+    ("UPDATE dated_steps SET day = 13515 WHERE tariff = 'block' AND place = 1;",
+     "dated_steps block steps"),
+    ("UPDATE dated_steps SET place = 1 WHERE tariff = 'flat';", "dated_steps flat steps"),
+    ("UPDATE dated_steps SET ends = 10 WHERE tariff = 'flat';", "dated_steps flat steps"),
+    ("UPDATE dated_steps SET price = 0 WHERE tariff = 'flat';", "dated_steps flat value"),
+    ("INSERT INTO dated_steps VALUES ('flat', 13514, 1, NULL, 5);", "dated_steps flat steps"),
+    ("DELETE FROM dated_steps WHERE tariff = 'block' AND place = 0;", "dated_steps block steps"),
+    ("DELETE FROM dated_steps WHERE tariff = 'block' AND place = 1;", "dated_steps block steps"),
+]
+# What leaves an office: the rules ask nothing of it.
+STILL_SOUND = [
+    ("UPDATE sales SET digits = '00000000000000000000' WHERE number = 1;", COUNTS),
+    (f"UPDATE meters SET tariff = 'block' WHERE meter = '{METER}';", COUNTS),
+    ("DELETE FROM shifts WHERE number = 3;", "tariffs 2 meters 2 shifts 2 sales 4"),
+    ("DELETE FROM dated_steps WHERE tariff = 'block';", COUNTS),
+    ("INSERT INTO dated_steps VALUES ('flat', 13600, 0, NULL, 5);", COUNTS),
+    ("CREATE TABLE other (id INTEGER PRIMARY KEY); INSERT INTO other VALUES (7);", COUNTS),
+]
+# What an opening refuses for every command.
+REFUSED = [
+    ("UPDATE about SET format = 3;", b"open 1 NotAnOffice\n"),
+    ("DELETE FROM about;", b"open 1 NotAnOffice\n"),
+    ("DROP TABLE meter_bases;", b"open 1 NotAnOffice\n"),
+    # A row that names none of another table.
+    ("UPDATE sales SET shift = 9 WHERE number = 1;", b"open 3 Store\n"),
+    ("UPDATE meters SET tariff = 'none';", b"open 3 Store\n"),
+    ("DELETE FROM tariffs;", b"open 3 Store\n"),
+]
+
+
+def done(file, *words):
+    ran = vend(*words[:1], "--file", str(file), *words[1:])
+    expect(ran, 0, err=b"")
+
+
+def full_office(file, folder):
+    """An office with a row of each kind in each table."""
+    for name, text in (("tariffs", TARIFFS), ("meters", METERS)):
+        (folder / f"{name}.csv").write_text(text)
+        done(file, "import", "--at", str(AT), name, str(folder / f"{name}.csv"))
+    later = AT + 40 * DAY
+    sold = [("ann", "A-1", METER, 10, AT), ("bob", "A-1", OTHER, 100, AT + 60),
+            ("bob", "B-2", OTHER, 500, AT + 180), ("ann", "A-2", METER, 20, later)]
+    for operator in ("ann", "bob"):
+        done(file, "shift", "--operator", operator, "--at", str(AT), "open")
+    for operator, ref, meter, tender, at in sold:
+        if ref == "B-2":
+            done(file, "base", "--meter", OTHER, "--base", "2014", "--at", str(AT + 120))
+        done(file, "sell", "--operator", operator, "--ref", ref, "--meter", meter, "--tender",
+             str(tender), "--at", str(at))
+    done(file, "shift", "--operator", "ann", "--at", str(later + 60), "close")
+    done(file, "shift", "--operator", "ann", "--at", str(later + DAY), "open")
+    change(file, "PRAGMA wal_checkpoint(TRUNCATE);")
+
+
+def is_told(file, status, out=b"", err=b""):
+    """Compares what is printed of a file, which is left as it was."""
+    before = file.read_bytes()
+    expect(vend("audit", "--file", str(file)), status, out, err)
+    if file.read_bytes() != before:
+        raise SystemExit(f"wrong: {file} has changed when it was audited")
+
+
+def is_sound_office(file, number, counts):
+    is_told(file, 0, f"sound format {number} {counts}\n".encode())
+
+
+def check_formats(whole, folder):
+    for number in range(1, FORMAT + 1):
+        file = folder / f"format-{number}.db"
+        shutil.copy(whole, file)
+        text = OLDER[number - 1] if number < FORMAT else ""
+        if number < 3:
+            # A meter has one base in them.
+            text += f"UPDATE sales SET base = 2014 WHERE meter = '{OTHER}';"
+        if number == 2:
+            text += f"DELETE FROM last_ids WHERE base = 1993; UPDATE last_ids SET tid = 11044802" \
+                f" WHERE meter = '{OTHER}';"
+        change(file, text + "PRAGMA wal_checkpoint(TRUNCATE);")
+        is_sound_office(file, number, COUNTS)
+
+
+def drawn(generator, refs):
+    """A request of a till: its path and its body."""
+    operator = generator.choice("abc")
+    kind = generator.random()
+    if kind < 0.04:
+        return "/shifts", {"operator": operator}
+    if kind < 0.06:
+        return "/shifts/close", {"operator": operator}
+    if kind < 0.08:
+        name = f"t{generator.randrange(9)}"
+        return "/tariffs", {"name": name, "steps": generator.choice((":9", "5:90;:120", "9:3;4:5;:6"))}
+    if kind < 0.10:
+        day = f"{generator.randrange(2090, 2099)}-0{generator.randrange(1, 10)}-01"
+        return f"/tariffs/t{generator.randrange(9)}/steps", {"from": day, "steps": ":7"}
+    meter = generator.choice(METERS_DRAWN)
+    if kind < 0.13:
+        return "/meters", {"base": generator.choice((1993, 2014)), "key": "00" * 8, "meter": meter,
+                           "tariff": f"t{generator.randrange(9)}"}
+    if kind < 0.15:
+        return f"/meters/{meter}/base", {"base": generator.choice((1993, 2014, 2035))}
+    if kind < 0.17:
+        return f"/meters/{meter}/tariff", {"tariff": f"t{generator.randrange(9)}"}
+    ref = f"R-{generator.choice(refs) if refs and generator.random() < 0.1 else len(refs)}"
+    refs.append(len(refs))
+    return "/sales", {"meter": meter, "operator": operator, "ref": ref,
+                      "tender": generator.randrange(1, 5000)}
+
+
+
+
+def check_drawn(folder, count):
+    """Requests that are drawn, asked of a desk in six lives, with an audit after each."""
+    file, generator, refs, sold = folder / "drawn.db", random.Random(7), [], 0
+    for _ in range(6):
+        words = [VEND, "serve", "--file", str(file), "--listen", "127.0.0.1:0", "--connections", "1"]
+        with subprocess.Popen(words, stderr=subprocess.PIPE, text=True) as desk:
+            port = int(desk.stderr.readline().rpartition(":")[2])
+            talk = http.client.HTTPConnection("127.0.0.1", port, timeout=30)
+            for _ in range(count // 6):
+                path, body = drawn(generator, refs)
+                talk.request("POST", path, json.dumps(body))
+                reply = talk.getresponse()
+                reply.read()
+                sold += path == "/sales" and reply.status == 200
+            talk.close()
+            if desk.wait(30):
+                raise SystemExit(f"wrong: a desk ended with {desk.returncode}")
+        ran = vend("audit", "--file", str(file))
+        if ran.returncode or not ran.stdout.startswith(f"sound format {FORMAT} ".encode()):
+            raise SystemExit(f"wrong: after drawn requests {ran}")
+    if sold < count // 10:
+        raise SystemExit(f"only {sold} of {count} drawn requests sold")
+    return sold
+
+
+def check_audits(folder):
+    """What is an office is sound, and what is none is broken where it was spoilt."""
+    folder = folder / "audits"
+    folder.mkdir()
+    missing = folder / "missing.db"
+    expect(vend("audit", "--file", str(missing)), 1, b"", b"file\n")
+    if list(folder.iterdir()):
+        raise SystemExit("wrong: an audit made a file")
+    whole, file = folder / "whole.db", folder / "office.db"
+    full_office(whole, folder)
+    is_sound_office(whole, FORMAT, COUNTS)
+    for text, found in SPOILT:
+        shutil.copy(whole, file)
+        change(file, text + "PRAGMA wal_checkpoint(TRUNCATE);")
+        is_told(file, 1, f"broken {found}\n".encode())
+    for text, counts in STILL_SOUND:
+        shutil.copy(whole, file)
+        change(file, text + "PRAGMA wal_checkpoint(TRUNCATE);")
+        is_sound_office(file, FORMAT, counts)
+    for text, said in REFUSED:
+        shutil.copy(whole, file)
+        change(file, text + "PRAGMA wal_checkpoint(TRUNCATE);")
+        is_told(file, 1, err=said)
+    check_formats(whole, folder)
+    sold = check_drawn(folder, 3000)
+    print(f"audits: {len(SPOILT)} spoilt offices, each found and named; {len(STILL_SOUND) + FORMAT} sound"
+          f" ones; 3000 drawn requests, {sold} of them sales, sound")
