@@ -61,7 +61,6 @@ pub fn connection_order_law<S: KeepsOrder>(conn: &Connection<S>)
     ensures now { IsTrue (state S.Store conn.now).is_open → conn.now.in_transaction ≡ false
         → HasTablesInOrder (state S.Store conn.now).now }
 {
-    order_law::<S>();
     let _live = conn.schema();
     let _settled = conn.is_autocommit();
 }
