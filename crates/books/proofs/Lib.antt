@@ -1,5 +1,6 @@
 mod AlongLemmas
 mod AttemptLemmas
+mod FoundLemmas
 mod FreshLemmas
 mod HeadlineLemmas
 mod NothingLemmas

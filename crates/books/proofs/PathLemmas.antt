@@ -9,16 +9,17 @@ use Rattle.sqlite_store.specs.FileStore.{view}
 use Rattle.sqlite_store.specs.declared.store.FileStore.{FileStore}
 use Rattle.sqlite_wal.specs.Recovery.{Image}
 use Rattle.vend_core.specs.Office.{Office}
-use Rattle.book_states.specs.Stores.{RecoversTo, StoreStandsFor}
+use Rattle.book_states.specs.Stores.{StoreStandsFor}
 use Rattle.book_opening.specs.Opening.{LeavesBrought, LeavesRefused, OpensAs}
+use Rattle.books.specs.Found.{FindsOffice}
 use Rattle.books.specs.Path.{IsConnected, OpensFiles, RefusesConnection, StandsIn}
 use Rattle.book_states.specs.Same.{IsSame}
 use Rattle.book_opening.specs.declared.fault.OpenFault.{OpenFault}
 use Rattle.book_opening.specs.declared.fault.OpenFault.TheVariants.{NotAnOffice}
 
--- a connection stands for what its trees stand for
+-- a connection that was just opened stands for the office that its trees show
 abbrev pub OpensAgain : (D : Type 0) → (g : Ghosts D) → Type 0
-OpensAgain D g = (c : Held (FileStore D g)) (o : Office) → Opens (file_state c) → IsLive (file_state c) → RecoversTo (file_state c).committed.trees o → StoreStandsFor (file_state c) o
+OpensAgain D g = (c : Held (FileStore D g)) (o : Office) → Opens (file_state c) → IsLive (file_state c) → FindsOffice (file_state c).committed.trees o → StoreStandsFor (file_state c) o
 
 module _ {D : Type 0} {g : Ghosts D} where
   module _ (image : Image) (first last : Held (FileStore D g)) (opens : HasCleanDisk (file_state first) → Opens (file_state first) × IsLive (file_state first))

@@ -13,7 +13,9 @@ use Rattle.sqlite_wal.specs.Recovery.{Image}
 use Rattle.vend_core.specs.Office.{Office, empty_office}
 use Rattle.book_tables.specs.Holds.{IsUntaken, StandsFor}
 use Rattle.book_states.specs.Stores.{RecoversTo, StoreStandsFor}
+use Rattle.books.specs.Found.{FindsOffice}
 use Rattle.books.specs.Path.{StandsIn}
+use Rattle.books.proofs.FoundLemmas.{AreTablesInOrder, shows_if_stands, stands_if_ordered}
 use Rattle.books.proofs.FreshLemmas.{bare, bare_untaken}
 
 same_parts : (a b : Database) → a.schema ≡ b.schema → a.trees ≡ b.trees → a ≡ b
@@ -42,9 +44,18 @@ one_office_left once trees o p a b =
     let same = same_database a.0 b.0 a.1 b.1 (sym a.2 ∙ b.2) in
     once b.0 o p (subst (λ (db : Database). StandsFor db o) same a.3) b.3
 
+-- what stands for an office shows it
+pub finds_if_left : (trees : Trees) (o : Office) → RecoversTo trees o → FindsOffice trees o
+finds_if_left trees o left = (left.0, left.1, left.2, shows_if_stands left.0 o left.3)
+
+-- what a stop may leave of a store that keeps order stands for the office that it shows
+pub left_if_found : (Leaves : Trees → Type 0) → ((db : Database) → Leaves db.trees → IsDatabase db → AreTablesInOrder db) → (trees : Trees) (o : Office) → Leaves trees → FindsOffice trees o → RecoversTo trees o
+left_if_found Leaves ordered trees o may found =
+    (found.0, found.1, found.2, stands_if_ordered found.0 o (ordered found.0 (subst Leaves found.2 may) found.1) found.3)
+
 -- files that hold a database stand for what it stands for
 pub held_stands : (image : Image) (trees : Trees) (o : Office) → HoldsDatabase image trees → RecoversTo trees o → StandsIn image o
-held_stands image trees o held left found may = subst (λ (t : Trees). RecoversTo t o) (sym (may.holds trees held)) left
+held_stands image trees o held left found may = subst (λ (t : Trees). FindsOffice t o) (sym (may.holds trees held)) (finds_if_left trees o left)
 
 -- trees with nothing in them stand for the empty office
 pub empty_stands : ((db : Database) → IsUntaken db.schema → StandsFor db empty_office) → (trees : Trees) → IsEmpty trees → RecoversTo trees empty_office

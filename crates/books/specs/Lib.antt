@@ -1,4 +1,5 @@
 pub mod Asking
+pub mod Found
 pub mod Headline
 pub mod Keeps
 pub mod Path

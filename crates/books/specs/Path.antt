@@ -13,11 +13,12 @@ use Rattle.sqlite_store.specs.declared.store.FileStore.{FileStore}
 use Rattle.sqlite_trees.specs.Tree.{Trees}
 use Rattle.sqlite_wal.specs.Recovery.{Image}
 use Rattle.vend_core.specs.Office.{Office}
-use Rattle.book_states.specs.Stores.{RecoversTo, StoreStandsFor}
+use Rattle.book_states.specs.Stores.{StoreStandsFor}
 use Rattle.book_opening.specs.Opening.{LeavesBrought, LeavesRefused, OpensAs, fault_of}
 use Rattle.book_states.specs.Same.{IsSame}
 use Rattle.book_opening.specs.declared.fault.OpenFault.{OpenFault}
 use Rattle.book_opening.specs.declared.fault.OpenFault.TheVariants.{NotAnOffice, Store, Memory}
+use Rattle.books.specs.Found.{FindsOffice}
 use Rattle.books.specs.declared.refused_files.RefusedFiles.{RefusedFiles}
 use Rattle.books.specs.declared.refused_files.RefusedFiles.TheVariants.{Connected, Unconnected}
 
@@ -27,9 +28,10 @@ pub record MayFind (image : Image) (trees : Trees) : Type 0 where
   pub holds : (db : Trees) → HoldsDatabase image db → trees ≡ db
   pub reads : AreFoundIn image trees
 
--- the files stand for the office: so does whatever an opening of them may find
+-- The files stand for the office: whatever an opening of them may find shows it. The hidden numbers
+-- of rows need not be looked at, since a store keeps rows in their order (`found_law`).
 abbrev pub StandsIn : Image → Office → Type 0
-StandsIn image o = (trees : Trees) → MayFind image trees → RecoversTo trees o
+StandsIn image o = (trees : Trees) → MayFind image trees → FindsOffice trees o
 
 -- a connection was just made to the files, and has what they hold
 pub record IsConnected (image : Image) (s : State) : Type 0 where

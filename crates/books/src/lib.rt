@@ -10,7 +10,7 @@ pub use book_tables::Totals;
 pub use books::Books;
 pub use headline::headline_law;
 pub use refused_files::RefusedFiles;
-pub use reopening::opening_law;
+pub use reopening::{found_law, opening_law};
 
 mod books;
 mod headline;

@@ -6,9 +6,11 @@ ghost use Rattle.sqlite.specs.Held.{Held, state};
 ghost use Rattle.sqlite.specs.State.{IsLive, Opens};
 ghost use Rattle.vend_core.specs.Office.{Office, empty_office};
 ghost use Rattle.book_states.specs.Stores.{RecoversTo, StoreStandsFor};
+ghost use Rattle.books.specs.Found.{FindsOffice};
 ghost use Rattle.books.specs.Path.{StandsIn};
 
 use book_tables::stands_law;
+use kept_order::{KeepsOrder, order_law};
 use sqlite::Alter;
 
 /// What an opening finds of what a stop left.
@@ -27,4 +29,20 @@ pub fn opening_law<S: Alter>()
     ensures new { (image : Image) → IsNothing image → StandsIn image empty_office }
 {
     stands_law();
+}
+
+/// What an opening finds of what nobody wrote down, over a store that keeps the rows of each table
+/// in the order of their numbers: it stands for the office that its tables show.
+pub fn found_law<S: KeepsOrder>()
+    ensures left { (c : Held S) (trees : Trees) (o : Office)
+        → (state S.Store c).may_leave trees → FindsOffice trees o → RecoversTo trees o }
+    ensures opens { (c : Held S) (o : Office)
+        → Opens (state S.Store c) → IsLive (state S.Store c)
+        → FindsOffice (state S.Store c).committed.trees o → StoreStandsFor (state S.Store c) o }
+
+    // What stands for an office shows it, over any store.
+    ensures shows { (trees : Trees) (o : Office) → RecoversTo trees o → FindsOffice trees o }
+{
+    opening_law::<S>();
+    order_law::<S>();
 }

@@ -9,7 +9,7 @@ ghost use Rattle.books.specs.Path.{OpensFiles, RefusesFiles, StandsIn};
 
 use crate::books::Books;
 use crate::refused_files::RefusedFiles;
-use crate::reopening::opening_law;
+use crate::reopening::found_law;
 use book_opening::{OpenFault, fault_of};
 use sqlite::{Connection, FileStore, Options};
 use sqlite_disk::{Disk, Files};
@@ -39,7 +39,7 @@ impl<D: Disk + Drop, T: BlockTransform + Drop> Books<FileStore<D>, T> {
         ensures running { IfOk result (λ books. books.stopped ≡ false) }
         ensures refused { IfErr result (λ e. RefusesFiles files e.0 e.1) }
     {
-        opening_law::<FileStore<D>>();
+        found_law::<FileStore<D>>();
         // A file that is made here has no sums, so that any SQLite may read and write it.
         let conn = match Connection::open_files(alloc, files, options) {
             Ok(conn) => conn,

@@ -9,7 +9,7 @@ ghost use Rattle.books.specs.Keeps.{BooksHaveTables, Represents, seen};
 ghost use Rattle.books.specs.Path.{OpensFiles, RefusedAt, RefusesPath, StandsIn};
 
 use crate::books::Books;
-use crate::reopening::opening_law;
+use crate::reopening::found_law;
 use book_opening::{OpenFault, fault_of};
 use sqlite::{Connection, FileFrom, FileStore, Start};
 use sqlite_disk::Disk;
@@ -69,7 +69,7 @@ impl<B: Start, T: BlockTransform + Drop> Books<FileStore<FileFrom<B>>, T> {
         ensures no_memory { path.now ≡ codes ":memory:"
             → IsErrAnd result (λ e. e.0 ≡ OpenFault.Store) }
     {
-        opening_law::<FileStore<FileFrom<B>>>();
+        found_law::<FileStore<FileFrom<B>>>();
         // A file that is made here has no sums, so that any SQLite may read and write it.
         let conn = match Connection::open_from(rt, path, false, start) {
             Ok(conn) => conn,

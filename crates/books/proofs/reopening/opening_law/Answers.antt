@@ -1,6 +1,6 @@
 use Rattle.sqlite.specs.Held.{state}
 use Rattle.books.proofs.NothingLemmas.{found_nothing}
-use Rattle.books.proofs.ReopenLemmas.{empty_stands, held_stands, one_office_left, opened_stands}
+use Rattle.books.proofs.ReopenLemmas.{empty_stands, finds_if_left, held_stands, one_office_left, opened_stands}
 use Rattle.books.proofs.reopening.opening_law.Goals as goal
 
 pub returns-clause-one_office : goal.returns-clause-one_office
@@ -13,4 +13,4 @@ pub returns-clause-held : goal.returns-clause-held
 returns-clause-held g c = held_stands
 
 pub returns-clause-new : goal.returns-clause-new
-returns-clause-new g c = λ image nothing trees may. empty_stands c.stands_law.ensures.untaken trees (found_nothing image trees nothing may.reads)
+returns-clause-new g c = λ image nothing trees may. finds_if_left trees _ (empty_stands c.stands_law.ensures.untaken trees (found_nothing image trees nothing may.reads))

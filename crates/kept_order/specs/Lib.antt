@@ -1,0 +1,4 @@
+pub mod FileLaws
+pub mod InOrder
+pub mod ListedLaws
+pub mod MemoryLaws
