@@ -14,4 +14,5 @@ pub mod writing;
 pub use error::TableError;
 pub use format::tables::PRESENT_FORMAT;
 pub use laws::{members_law, stands_law};
+pub use row::gathered::Gathered;
 pub use row::totals::{SaleTotals, Totals};
