@@ -1,0 +1,5 @@
+pub mod Faults
+pub mod Keys
+pub mod RowKeys
+pub mod Rules
+pub mod Steps
