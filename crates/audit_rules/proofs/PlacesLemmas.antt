@@ -2,7 +2,6 @@
 use Rattle.std.proofs.Common.{◌≡◌, ◌≢◌, ◌<◌, ◌≤◌, ◌+◌, ℕ, Bool, true, false, List, [], Option, Some, None, slice_get, inl, inr, refl, sym, ap, subst, ◌∙◌, arith}
 use Rattle.std.specs.Prelude.{MatchOption, cond, length}
 use Rattle.std.specs.BTreeMap.{BTreeMap, Updates}
-use Rattle.std.specs.Map.{lookup}
 use Rattle.std.proofs.lemmas.Bool.{cases_lt, false≢true}
 use Rattle.std.proofs.lemmas.Option.{none-some, same_Some}
 use Rattle.audit_rules.specs.Keys.{AreApart, ArePlaces, HasKeyAt, IsTwice, Key, LentKey, told, under}
@@ -29,16 +28,6 @@ module _ {T : Type 0} (key : T → Key) where
 
   pub some_under : (places : BTreeMap LentKey ℕ) (rows : List T) (n : ℕ) → ArePlaces key places rows n → (q : Key) (i : ℕ) → under places q ≡ Some i → SomeAt rows n q i
   some_under places rows n are q i some = at_some rows n q i (under places q) some (are q)
-
-  -- nothing is under any key of a map that is empty
-  pub no_place : (places : BTreeMap LentKey ℕ) (rows : List T) → places.entries ≡ [] → ArePlaces key places rows 0
-  no_place places rows empty q = by (under places q) none
-    where
-      none : under places q ≡ None
-      none = ap (λ (es : List (LentKey × ℕ)). under (record places { entries := es }) q) empty
-      by : (o : Option ℕ) → o ≡ None → MatchOption o (NoneAt rows 0 q) (SomeAt rows 0 q)
-      by None e = λ i row low there same. omega (arith, low)
-      by (Some i) e = absurd (none-some i (sym e))
 
   module _ (rows : List T) (m : BTreeMap LentKey ℕ) (at : ℕ) (row : T) (there : slice_get rows at ≡ Some row) (k : LentKey) (is : told k ≡ key row) (are : ArePlaces key m rows at) where
     -- the row has the key of an earlier one

@@ -1,6 +1,6 @@
 -- The rules of whole lists: what lists of rows keep that are the members of an office, beside the
 -- rules of each row's own values; and what a row breaks.
-use Rattle.std.specs.Prelude.{◌≡◌, ◌≢◌, ◌+◌, ◌<◌, ◌≤◌, ◌⊎◌, ⊥, ℕ, List, Some, length, slice_get}
+use Rattle.std.specs.Prelude.{◌≡◌, ◌≢◌, ◌+◌, ◌<◌, ◌≤◌, ◌⊎◌, ℕ, List, Some, length, slice_get}
 use Rattle.sts_fields.specs.Base.{year_of}
 use Rattle.tariff.specs.declared.step.Step.{Step}
 use Rattle.vend_core.specs.Office.{AreNumbered, greatest_count}

@@ -5,6 +5,7 @@
 #![tactic(auto)]
 
 pub use finding::{Finding, Rule, RulesFault, TableName};
+pub use laws::{broken_law, passed_law, totals_law};
 pub use lists::Lists;
 pub use rows::{BaseRow, DatedStepRow, MeterRow, StepRow};
 pub use rules::test_rules;
@@ -12,6 +13,7 @@ pub use rules::test_rules;
 mod bases;
 mod finding;
 mod key;
+mod laws;
 mod lists;
 mod numbers;
 mod places;

@@ -1,8 +1,8 @@
 //! The places of rows under their keys.
 
-ghost use Rattle.std.specs.Prelude.{◌≡◌, ℕ, IfErr, IfOk, None, OnOk, Some, IsSome, length, slice_get};
+ghost use Rattle.std.specs.Prelude.{◌≡◌, IfErr, IfOk, OnOk, length};
 ghost use Rattle.audit_rules.specs.Faults.{IsFault};
-ghost use Rattle.audit_rules.specs.Keys.{AreApart, ArePlaces, IsTwice, told, under};
+ghost use Rattle.audit_rules.specs.Keys.{AreApart, AreNamed, ArePlaces, IsAstray, IsTwice, told, under};
 
 use crate::finding::{Rule, RulesFault, TableName, found_at};
 use crate::key::{KeyOf, LentKey};
@@ -45,21 +45,24 @@ pub(crate) fn places_of<'a, T, K: KeyOf<T>>(
     Ok(places)
 }
 
-/// Nothing where each of the rows names one of those whose places these are; or the first that
+/// Nothing where each of the rows names one of the others, whose places these are; or the first that
 /// names none, as one that breaks this rule.
+///
+/// Only the contract reads the others.
 ///
 /// # Errors
 /// A finding.
-pub(crate) fn test_names<'a, T, K: KeyOf<T>>(
+pub(crate) fn test_names<'a, T, K: KeyOf<T>, U, N: KeyOf<U>>(
     rows: &'a [T],
+    others: &'a [U],
     places: &Places<'a>,
     table: TableName,
     rule: Rule,
 ) -> Result<(), RulesFault>
-    ensures passes { OnOk result ((i : ℕ) (row : T) → slice_get rows.now i ≡ Some row
-        → IsSome (under places.now (K.key row))) }
-    ensures found { IfErr result (IsFault table rule (λ i. (row : T)
-        × (slice_get rows.now i ≡ Some row) × (under places.now (K.key row) ≡ None))) }
+    requires { ArePlaces N.key places.now others.now (length others.now) }
+    ensures passes { OnOk result (AreNamed K.key rows.now N.key others.now) }
+    ensures found { IfErr result (IsFault table rule
+        (λ i. IsAstray K.key rows.now i N.key others.now)) }
 {
     'rows: for at in 0..rows.len() {
         match place_of(places, K::of(&rows[at])) {

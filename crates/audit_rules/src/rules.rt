@@ -21,37 +21,45 @@ use vend_core::{Sale, Shift, TariffName};
 
 // The places of the tariffs' names, where tariffs and their steps keep the rules.
 fn test_tariffs<'a>(alloc: Global, lists: Lists<'a>) -> Result<Places<'a>, RulesFault>
-    ensures passes { OnOk result (AreTariffs lists.tariffs.now lists.steps.now) }
+    ensures passes { OnOk result (AreTariffs lists.entry.tariffs.now lists.entry.steps.now) }
     ensures places { IfOk result (λ names.
-        ArePlaces name_key names lists.tariffs.now (length lists.tariffs.now)) }
+        ArePlaces name_key names lists.entry.tariffs.now (length lists.entry.tariffs.now)) }
     ensures found { IfErr result (Tells lists.entry) }
 {
     let (tariffs, rows) = (lists.tariffs, lists.steps);
     let names = places_of::<TariffName, Name>(alloc, tariffs, TableName::Tariffs, Rule::Twice)?;
     let steps = places_of::<StepRow, Place>(alloc, rows, TableName::TariffSteps, Rule::Twice)?;
-    test_names::<StepRow, Tariff>(rows, &names, TableName::TariffSteps, Rule::Missing)?;
-    test_names::<StepRow, Before>(rows, &steps, TableName::TariffSteps, Rule::Steps)?;
-    test_steps::<StepRow, Place, TariffName, Name>(alloc, rows, &steps, tariffs, TableName::Tariffs)?;
+    let table = TableName::TariffSteps;
+    test_names::<StepRow, Tariff, TariffName, Name>(rows, tariffs, &names, table, Rule::Missing)?;
+    test_names::<StepRow, Before, StepRow, Place>(rows, rows, &steps, table, Rule::Steps)?;
+    let table = TableName::Tariffs;
+    test_steps::<StepRow, Place, TariffName, Name>(alloc, rows, &steps, tariffs, table)?;
     Ok(names)
 }
 
 // Nothing where dated steps keep the rules.
 fn test_dated<'a>(alloc: Global, lists: Lists<'a>, names: &Places<'a>) -> Result<(), RulesFault>
     requires { ArePlaces name_key names.now lists.tariffs.now (length lists.tariffs.now) }
-    ensures passes { OnOk result (AreDated lists.tariffs.now lists.dated_steps.now) }
+    ensures passes { OnOk result (AreDated lists.entry.tariffs.now lists.entry.dated_steps.now) }
     ensures found { IfErr result (Tells lists.entry) }
 {
-    let rows = lists.dated_steps;
-    let steps = places_of::<DatedStepRow, Place>(alloc, rows, TableName::DatedSteps, Rule::Twice)?;
-    test_names::<DatedStepRow, Tariff>(rows, names, TableName::DatedSteps, Rule::Missing)?;
-    test_names::<DatedStepRow, Before>(rows, &steps, TableName::DatedSteps, Rule::Steps)?;
-    test_steps::<DatedStepRow, Place, DatedStepRow, First>(
-        alloc,
+    let (tariffs, rows, table) = (lists.tariffs, lists.dated_steps, TableName::DatedSteps);
+    let steps = places_of::<DatedStepRow, Place>(alloc, rows, table, Rule::Twice)?;
+    test_names::<DatedStepRow, Tariff, TariffName, Name>(
+        rows,
+        tariffs,
+        names,
+        table,
+        Rule::Missing,
+    )?;
+    test_names::<DatedStepRow, Before, DatedStepRow, Place>(
+        rows,
         rows,
         &steps,
-        rows,
-        TableName::DatedSteps,
-    )
+        table,
+        Rule::Steps,
+    )?;
+    test_steps::<DatedStepRow, Place, DatedStepRow, First>(alloc, rows, &steps, rows, table)
 }
 
 // The places of the bases, where meters and their bases keep the rules.
@@ -62,24 +70,30 @@ fn test_meters<'a>(
 ) -> Result<Places<'a>, RulesFault>
     requires { ArePlaces name_key names.now lists.tariffs.now (length lists.tariffs.now) }
     ensures passes { OnOk result
-        (AreMeters lists.tariffs.now lists.meters.now lists.bases.now) }
+        (AreMeters lists.entry.tariffs.now lists.entry.meters.now lists.entry.bases.now) }
     ensures places { IfOk result (λ bases.
-        ArePlaces base_key bases lists.bases.now (length lists.bases.now)) }
+        ArePlaces base_key bases lists.entry.bases.now (length lists.entry.bases.now)) }
     ensures found { IfErr result (Tells lists.entry) }
 {
     let rows = lists.meters;
     let meters = places_of::<MeterRow, Number>(alloc, rows, TableName::Meters, Rule::Twice)?;
-    let bases =
-        places_of::<BaseRow, UnderBase>(alloc, lists.bases, TableName::MeterBases, Rule::Twice)?;
-    test_names::<MeterRow, Tariff>(rows, names, TableName::Meters, Rule::Missing)?;
-    test_names::<MeterRow, UnderBase>(rows, &bases, TableName::Meters, Rule::Base)?;
+    let bases = places_of::<BaseRow, UnderBase>(
+        alloc,
+        lists.bases,
+        TableName::MeterBases,
+        Rule::Twice,
+    )?;
+    let (tariffs, table) = (lists.tariffs, TableName::Meters);
+    test_names::<MeterRow, Tariff, TariffName, Name>(rows, tariffs, names, table, Rule::Missing)?;
+    let others = lists.bases;
+    test_names::<MeterRow, UnderBase, BaseRow, UnderBase>(rows, others, &bases, table, Rule::Base)?;
     test_bases(lists.bases, rows, &meters)?;
     Ok(bases)
 }
 
 // Nothing where shifts keep the rules.
 fn test_shifts<'a>(alloc: Global, lists: Lists<'a>) -> Result<(), RulesFault>
-    ensures passes { OnOk result (AreShifts lists.shifts.now) }
+    ensures passes { OnOk result (AreShifts lists.entry.shifts.now) }
     ensures found { IfErr result (Tells lists.entry) }
 {
     test_count(lists.shifts.len(), TableName::Shifts)?;
@@ -107,7 +121,7 @@ fn test_in_shifts(sales: &[Sale], shifts: usize) -> Result<(), RulesFault>
 fn test_sales<'a>(alloc: Global, lists: Lists<'a>, bases: &Places<'a>) -> Result<(), RulesFault>
     requires { ArePlaces base_key bases.now lists.bases.now (length lists.bases.now) }
     ensures passes { OnOk result
-        (AreSales (length lists.shifts.now) lists.bases.now lists.sales.now) }
+        (AreSales (length lists.entry.shifts.now) lists.entry.bases.now lists.entry.sales.now) }
     ensures found { IfErr result (Tells lists.entry) }
 {
     let sales = lists.sales;
@@ -116,7 +130,8 @@ fn test_sales<'a>(alloc: Global, lists: Lists<'a>, bases: &Places<'a>) -> Result
     places_of::<Sale, Tid>(alloc, sales, TableName::Sales, Rule::Twice)?;
     places_of::<Sale, OrderRef>(alloc, sales, TableName::Sales, Rule::Twice)?;
     test_in_shifts(sales, lists.shifts.len())?;
-    test_names::<Sale, UnderBase>(sales, bases, TableName::Sales, Rule::Base)
+    let (others, table) = (lists.bases, TableName::Sales);
+    test_names::<Sale, UnderBase, BaseRow, UnderBase>(sales, others, bases, table, Rule::Base)
 }
 
 /// Nothing where the lists keep the rules of an office's members, which tie rows to one another; or
