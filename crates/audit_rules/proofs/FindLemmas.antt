@@ -1,9 +1,9 @@
 -- The row of a key, found among rows; and the keys of rows that name others.
-use Rattle.std.proofs.Common.{◌≡◌, ℕ, zero, suc, Bool, true, false, List, [], ◌∷◌, Option, Some, None, slice_get, refl, sym, ap, subst, ◌∙◌}
+use Rattle.std.proofs.Common.{◌≡◌, ℕ, zero, suc, Bool, true, false, List, [], ◌∷◌, Option, Some, None, slice_get, refl, sym, ap, ◌∙◌}
 use Rattle.std.specs.Prelude.{IsSome, cond, is_some}
 use Rattle.std.proofs.lemmas.Bool.{false≢true}
 use Rattle.std.proofs.lemmas.Option.{none-some, same_Some}
-use Rattle.audit_rules.specs.Keys.{HasKey, HasKeyAt, Key}
+use Rattle.audit_rules.specs.Keys.{HasKey, Key}
 use Rattle.audit_rules.specs.Rules.{AreAllApart}
 use Rattle.audit_rules.proofs.KeyLemmas.{key_same, one_key, same_key}
 use Rattle.audit_rules.proofs.ListLemmas.{one_row}

@@ -1,6 +1,6 @@
 -- The office whose members lists are that keep the rules.
-use Rattle.std.proofs.Common.{◌≡◌, ◌≢◌, ◌<◌, ◌≤◌, ◌+◌, ◌-◌, ◌^◌, ℕ, zero, suc, Bool, true, false, List, [], Option, Some, None, slice_get, refl, sym, ap, subst, ◌∙◌, arith, map}
-use Rattle.std.specs.Prelude.{◌↔◌, All, AllPairs, Contains, IsNone, IsSome, is_some, length, if◌then◌else◌}
+use Rattle.std.proofs.Common.{◌≡◌, ◌≢◌, ◌<◌, ◌≤◌, ◌+◌, ◌-◌, ◌^◌, ℕ, suc, Bool, true, false, List, [], Option, Some, None, slice_get, refl, sym, ap, subst, ◌∙◌, arith, map}
+use Rattle.std.specs.Prelude.{◌↔◌, AllPairs, Contains, IsNone, IsSome, is_some, if◌then◌else◌}
 use Rattle.std.specs.Option.{option_map}
 use Rattle.std.proofs.lemmas.Option.{slice_get_within}
 use Rattle.sts_fields.specs.Base.{year_of}
@@ -13,12 +13,11 @@ use Rattle.vend_core.specs.Name.{IsMeterNo}
 use Rattle.vend_core.specs.Office.{IsBaseRow, IsBefore, IsDatedRow, IsMeterRow, IsOffice, IsSaleRow, IsShiftRow, IsTariffRow, NotBothOpen, Office}
 use Rattle.vend_core.specs.declared.office.meter.Meter.{Meter}
 use Rattle.vend_core.specs.declared.office.sale.Sale.{Sale}
-use Rattle.vend_core.specs.declared.office.shift.Shift.{Shift}
 use Rattle.book_tables.specs.Stands.{AreApart, AreDatedApart, HasDatedStep, HasStep}
 use Rattle.book_tables.specs.row.Rows as stored
 use Rattle.audit_rules.specs.Keys.{HasKey, Key}
 use Rattle.audit_rules.specs.Members.{AreMembersButTotals, AreMembersOfLists, KeepValues, TotalRows, base_row, dated_row, meter_row, rows_of, step_row}
-use Rattle.audit_rules.specs.RowKeys.{base_key, dated_before_key, dated_first_key, dated_key, meter_key, name_key, open_key, place_key, ref_key, step_before_key, step_key, tid_key}
+use Rattle.audit_rules.specs.RowKeys.{base_key, dated_before_key, dated_first_key, dated_key, meter_key, name_key, place_key, step_before_key, step_key}
 use Rattle.audit_rules.specs.Rules.{KeepRules, dated_step_of, step_of}
 use Rattle.audit_rules.specs.Steps.{AreSteps, at_place}
 use Rattle.audit_rules.specs.declared.lists.Lists.{Lists}

@@ -1,6 +1,5 @@
 -- What is found of some rows.
 use Rattle.std.specs.Prelude.{◌≡◌, ◌⊎◌, ℕ}
-use Rattle.audit_rules.specs.declared.finding.Finding.{Finding}
 use Rattle.audit_rules.specs.declared.finding.Rule.{Rule}
 use Rattle.audit_rules.specs.declared.finding.RulesFault.{RulesFault}
 use Rattle.audit_rules.specs.declared.finding.RulesFault.TheVariants as fault

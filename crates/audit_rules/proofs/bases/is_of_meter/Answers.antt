@@ -1,4 +1,4 @@
-use Rattle.std.proofs.Common.{◌∙◌, [], inl, length, sym, ap}
+use Rattle.std.proofs.Common.{◌∙◌, inl, length, sym, ap}
 use Rattle.std.proofs.lemmas.Option.{slice_get_within}
 use Rattle.audit_rules.specs.RowKeys.{meter_key, name_key}
 use Rattle.audit_rules.proofs.PlacesLemmas.{none_under}

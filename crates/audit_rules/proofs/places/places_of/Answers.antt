@@ -1,4 +1,4 @@
-use Rattle.std.proofs.Common.{◌≡◌, ◌<◌, ◌∙◌, Some, length, slice_get, inr, sym, arith}
+use Rattle.std.proofs.Common.{◌<◌, ◌∙◌, length, inr, sym, arith}
 use Rattle.audit_rules.proofs.EachLemmas.{row_at}
 use Rattle.audit_rules.proofs.PlacesLemmas.{apart_more, is_twice, places_more}
 use Rattle.audit_rules.proofs.places.places_of.Goals as goal

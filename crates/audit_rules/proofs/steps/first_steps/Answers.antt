@@ -1,7 +1,7 @@
-use Rattle.std.proofs.Common.{◌≡◌, ◌<◌, ◌∙◌, ◌++◌, ◌∷◌, [], ℕ, List, Some, inl, inr, length, slice_get, refl, sym, ap, subst, arith}
+use Rattle.std.proofs.Common.{◌≡◌, ◌∙◌, ◌++◌, ◌∷◌, [], List, inl, inr, length, slice_get, sym, ap, arith}
 use Rattle.std.proofs.lemmas.Option.{same_Some, slice_get_within}
 use Rattle.tariff.specs.declared.step.Step.{Step}
-use Rattle.audit_rules.specs.Keys.{Key, told}
+use Rattle.audit_rules.specs.Keys.{told}
 use Rattle.audit_rules.specs.Steps.{at_place}
 use Rattle.audit_rules.proofs.EachLemmas.{get_push, row_at}
 use Rattle.audit_rules.proofs.PlacesLemmas.{none_under, some_under}
