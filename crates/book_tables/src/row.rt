@@ -1,6 +1,6 @@
 //! The values of a row: as the office's types, and as parameters of a statement.
 
-pub(crate) mod cells;
+pub mod cells;
 pub(crate) mod office_records;
 pub(crate) mod record;
 pub(crate) mod total_records;

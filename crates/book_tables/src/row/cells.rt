@@ -54,14 +54,14 @@ fn text_at(row: &Row, at: usize) -> Option<&[u8]>
 }
 
 /// A number of 32 bits.
-pub(crate) fn word_at(row: &Row, at: usize) -> Option<u32>
+pub fn word_at(row: &Row, at: usize) -> Option<u32>
     ensures { ReadsBack number (λ n. n < 2 ^ 32) (column row.now at) result }
 {
     whole_at(row, at).and_then(|whole| u32::try_from(whole).ok())
 }
 
 /// A number from the least to the greatest.
-pub(crate) fn between_at(row: &Row, at: usize, least: u32, greatest: u32) -> Option<u32>
+pub fn between_at(row: &Row, at: usize, least: u32, greatest: u32) -> Option<u32>
     ensures { ReadsBack number (IsFromTo least greatest) (column row.now at) result }
 {
     match word_at(row, at) {
@@ -71,14 +71,14 @@ pub(crate) fn between_at(row: &Row, at: usize, least: u32, greatest: u32) -> Opt
 }
 
 /// The number of a shift or of a sale.
-pub(crate) fn number_at(row: &Row, at: usize) -> Option<u32>
+pub fn number_at(row: &Row, at: usize) -> Option<u32>
     ensures { ReadsBack number IsNumber (column row.now at) result }
 {
     between_at(row, at, 1, GREATEST_COUNT as u32)
 }
 
 /// An identifier of 24 bits.
-pub(crate) fn tid_at(row: &Row, at: usize) -> Option<u32>
+pub fn tid_at(row: &Row, at: usize) -> Option<u32>
     ensures { ReadsBack number IsTid (column row.now at) result }
 {
     between_at(row, at, 0, 16_777_215)
@@ -92,7 +92,7 @@ fn long_at(row: &Row, at: usize) -> Option<u64>
 }
 
 /// A running total.
-pub(crate) fn total_at(row: &Row, at: usize) -> Option<u64>
+pub fn total_at(row: &Row, at: usize) -> Option<u64>
     ensures { ReadsBack number IsTotal (column row.now at) result }
 {
     match long_at(row, at) {
@@ -102,14 +102,14 @@ pub(crate) fn total_at(row: &Row, at: usize) -> Option<u64>
 }
 
 /// A number of four bits.
-pub(crate) fn nibble_at(row: &Row, at: usize) -> Option<u8>
+pub fn nibble_at(row: &Row, at: usize) -> Option<u8>
     ensures { ReadsBack number (λ nibble. nibble < 2 ^ 4) (column row.now at) result }
 {
     between_at(row, at, 0, 15).map(|nibble| nibble as u8)
 }
 
 /// The upper end of a step, where NULL is none.
-pub(crate) fn end_at(row: &Row, at: usize) -> Option<Option<u32>>
+pub fn end_at(row: &Row, at: usize) -> Option<Option<u32>>
     ensures { ReadsBack optional IsEnd (column row.now at) result }
 {
     match value_at(row, at) {
@@ -119,7 +119,8 @@ pub(crate) fn end_at(row: &Row, at: usize) -> Option<Option<u32>>
     }
 }
 
-pub(crate) fn moment_at(row: &Row, at: usize) -> Option<Moment>
+/// A moment, by its seconds.
+pub fn moment_at(row: &Row, at: usize) -> Option<Moment>
     ensures { ReadsBack number IsMoment (column row.now at) result }
 {
     whole_at(row, at).and_then(Moment::of_secs)
@@ -137,21 +138,21 @@ pub(crate) fn closing_at(row: &Row, at: usize) -> Option<Option<Moment>>
 }
 
 /// A day, by its number.
-pub(crate) fn day_at(row: &Row, at: usize) -> Option<Day>
+pub fn day_at(row: &Row, at: usize) -> Option<Day>
     ensures { ReadsBack number IsDay (column row.now at) result }
 {
     word_at(row, at).and_then(Day::of_days)
 }
 
 /// A base date, by its year.
-pub(crate) fn base_at(row: &Row, at: usize) -> Option<Base>
+pub fn base_at(row: &Row, at: usize) -> Option<Base>
     ensures { ReadsBack (λ base. number (year_of base)) (λ _. ⊤) (column row.now at) result }
 {
     word_at(row, at).and_then(Base::of_year)
 }
 
 /// The amount of a sale, in tenths of a kWh.
-pub(crate) fn amount_at(row: &Row, at: usize) -> Option<Amount>
+pub fn amount_at(row: &Row, at: usize) -> Option<Amount>
     ensures { ReadsBack number IsSoldAmount (column row.now at) result }
 {
     amount_law();
@@ -162,38 +163,42 @@ pub(crate) fn amount_at(row: &Row, at: usize) -> Option<Amount>
 }
 
 /// A tender, in whole cents.
-pub(crate) fn tender_at(row: &Row, at: usize) -> Option<Tender>
+pub fn tender_at(row: &Row, at: usize) -> Option<Tender>
     ensures { ReadsBack number IsTender (column row.now at) result }
 {
     word_at(row, at).and_then(|cents| Tender::read(u64::from(cents)))
 }
 
-pub(crate) fn operator_at(row: &Row, at: usize) -> Option<Operator>
+/// The name of an operator.
+pub fn operator_at(row: &Row, at: usize) -> Option<Operator>
     ensures { ReadsBack Text IsOperator (column row.now at) result }
 {
     text_at(row, at).and_then(Operator::read)
 }
 
-pub(crate) fn ref_at(row: &Row, at: usize) -> Option<Ref>
+/// The ref of an order.
+pub fn ref_at(row: &Row, at: usize) -> Option<Ref>
     ensures { ReadsBack Text IsName (column row.now at) result }
 {
     text_at(row, at).and_then(Ref::read)
 }
 
-pub(crate) fn tariff_at(row: &Row, at: usize) -> Option<TariffName>
+/// The name of a tariff.
+pub fn tariff_at(row: &Row, at: usize) -> Option<TariffName>
     ensures { ReadsBack Text IsName (column row.now at) result }
 {
     text_at(row, at).and_then(TariffName::read)
 }
 
-pub(crate) fn meter_no_at(row: &Row, at: usize) -> Option<MeterNo>
+/// The number of a meter.
+pub fn meter_no_at(row: &Row, at: usize) -> Option<MeterNo>
     ensures { ReadsBack Text IsMeterNo (column row.now at) result }
 {
     text_at(row, at).and_then(MeterNo::read)
 }
 
 /// A key, by its sixteen digits.
-pub(crate) fn key_at(row: &Row, at: usize) -> Option<u64>
+pub fn key_at(row: &Row, at: usize) -> Option<u64>
     ensures { ReadsBack (λ key. Text (secret_of key)) IsKey (column row.now at) result }
 {
     match text_at(row, at) {
@@ -203,7 +208,7 @@ pub(crate) fn key_at(row: &Row, at: usize) -> Option<u64>
 }
 
 /// The twenty digits of a token.
-pub(crate) fn digits_at(row: &Row, at: usize) -> Option<[u8; 20]>
+pub fn digits_at(row: &Row, at: usize) -> Option<[u8; 20]>
     ensures { ReadsBack Text AreTwentyDigits (column row.now at) result }
 {
     let text = text_at(row, at)?;

@@ -16,7 +16,7 @@ use sqlite::types::ValueRef;
 use sqlite::{Alter, Connection, Row};
 
 /// A record that a row of an answer may show.
-pub(crate) trait Record: Sized {
+pub trait Record: Sized {
     // The columns of a record, and the rules that its values keep.
     ghost shown: { Self → Row };
 

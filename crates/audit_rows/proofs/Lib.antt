@@ -1,0 +1,13 @@
+pub mod ByNumberLemmas
+pub mod FitLemmas
+pub mod FormatLemmas
+pub mod FoundLemmas
+pub mod OpenShiftLemmas
+pub mod PartLemmas
+pub mod PassedLemmas
+pub mod RowsLaw
+pub mod RowsLemmas
+pub mod SaleListLemmas
+pub mod StoredLemmas
+pub mod ValueLaw
+pub mod WholeLemmas

@@ -1,0 +1,13 @@
+pub mod Breaks
+pub mod Fails
+pub mod Gaps
+pub mod ListTexts
+pub mod Listing
+pub mod OpenShifts
+pub mod Parts
+pub mod Records
+pub mod Sales
+pub mod Tables
+pub mod Texts
+pub mod Values
+pub mod Whole

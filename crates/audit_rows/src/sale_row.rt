@@ -1,0 +1,117 @@
+//! The whole row of a sale.
+
+ghost use Rattle.vend_core.specs.Decision.Requests.{IsOrder};
+ghost use Rattle.book_tables.specs.row.ReadBack.{ReadsBack};
+ghost use Rattle.audit_rows.specs.Parts.{AreEntryValues, AreTokenValues, entry_columns, order_columns, shown_entry, shown_order, shown_token, token_columns};
+ghost use Rattle.audit_rows.specs.Sales.{AreSaleRowValues, shown_sale_row};
+
+use book_tables::{Record, cells};
+use sqlite::Row;
+use sts_fields::{Amount, Base, Moment};
+use vend_core::{Order, Sale};
+
+/// A sale, and the month that its row tells.
+#[derive(Clone, Copy, Debug)]
+pub struct SaleRow {
+    /// The sale.
+    pub sale: Sale,
+    /// The month that the row tells, which should be that of the sale's moment.
+    pub month: u32,
+}
+
+// What the row says of the sale as an entry in the books.
+#[derive(Clone, Copy)]
+struct Entry {
+    number: u32,
+    moment: Moment,
+    month: u32,
+    shift: u32,
+}
+
+fn entry_of(row: &Row) -> Option<Entry>
+    ensures { ReadsBack shown_entry AreEntryValues (entry_columns row.now) result }
+{
+    Some(Entry {
+        number: cells::number_at(row, 0)?,
+        moment: cells::moment_at(row, 1)?,
+        month: cells::word_at(row, 2)?,
+        shift: cells::number_at(row, 3)?,
+    })
+}
+
+fn order_of(row: &Row) -> Option<Order>
+    ensures { ReadsBack shown_order IsOrder (order_columns row.now) result }
+{
+    Some(Order {
+        operator: cells::operator_at(row, 4)?,
+        order_ref: cells::ref_at(row, 5)?,
+        meter: cells::meter_no_at(row, 6)?,
+        tender: cells::tender_at(row, 12)?,
+    })
+}
+
+// What the row says of the sale's token.
+#[derive(Clone, Copy)]
+struct Token {
+    base: Base,
+    tid: u32,
+    rnd: u8,
+    tenths: Amount,
+    digits: [u8; 20],
+}
+
+fn token_of(row: &Row) -> Option<Token>
+    ensures { ReadsBack shown_token AreTokenValues (token_columns row.now) result }
+{
+    Some(Token {
+        base: cells::base_at(row, 7)?,
+        tid: cells::tid_at(row, 8)?,
+        rnd: cells::nibble_at(row, 9)?,
+        tenths: cells::amount_at(row, 10)?,
+        digits: cells::digits_at(row, 13)?,
+    })
+}
+
+impl Record for SaleRow {
+    ghost shown = { shown_sale_row };
+
+    ghost keeps = { AreSaleRowValues };
+
+    fn of_row(row: &Row) -> Option<SaleRow> {
+        if row.column_count() != 14 {
+            return None;
+        }
+        let Some(entry) = entry_of(row) else {
+            return None;
+        };
+        let Some(order) = order_of(row) else {
+            return None;
+        };
+        let Some(token) = token_of(row) else {
+            return None;
+        };
+        let (tender, digits) = (order.tender, token.digits);
+        let Some(price) = cells::between_at(row, 11, 0, tender.cents()) else {
+            return None;
+        };
+        let sale = Sale {
+            number: entry.number,
+            moment: entry.moment,
+            shift: entry.shift,
+            operator: order.operator,
+            order_ref: order.order_ref,
+            meter: order.meter,
+            base: token.base,
+            tid: token.tid,
+            rnd: token.rnd,
+            tenths: token.tenths,
+            price,
+            tender,
+            digits,
+        };
+        Some(SaleRow {
+            sale,
+            month: entry.month,
+        })
+    }
+}

@@ -1,0 +1,4 @@
+pub mod AllStoredLemmas
+pub mod OnlyLemmas
+pub mod ReorderLemmas
+pub mod TableLemmas

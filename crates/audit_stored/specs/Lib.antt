@@ -1,0 +1,3 @@
+pub mod AllRows
+pub mod Entries
+pub mod Order
