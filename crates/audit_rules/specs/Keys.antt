@@ -1,0 +1,66 @@
+-- Rows under keys: what tells rows of a list apart, and which rows name one that is there.
+use Rattle.std.specs.Prelude.{◌≡◌, ◌≢◌, ◌<◌, ℕ, List, Option, Some, MatchOption, slice_get}
+use Rattle.std.specs.BTreeMap.{BTreeMap, get_by}
+use Rattle.std.specs.Cmp.Lexicographic.{slice_cmp}
+use Rattle.std.specs.Ordering.{nat_cmp, ordering_then}
+use Rattle.std.specs.declared.cmp.Ordering.{Ordering}
+use denote.Ref.{Bor}
+
+-- two texts and two numbers; where a row has fewer, the rest are empty and 0
+abbrev pub Key : Type 0
+Key = List ℕ × List ℕ × ℕ × ℕ
+
+-- a key as the code holds it: its texts are lent by a row
+abbrev pub LentKey : Type 0
+LentKey = Bor (List ℕ) × Bor (List ℕ) × ℕ × ℕ
+
+abbrev pub told : LentKey → Key
+told k = (k.0.now, k.1.now, k.2, k.3)
+
+-- the order of keys
+abbrev pub key_cmp : Key → LentKey → Ordering
+key_cmp q k =
+    ordering_then
+    (ordering_then (ordering_then (slice_cmp nat_cmp q.0 k.0.now) (slice_cmp nat_cmp q.1 k.1.now))
+    (nat_cmp q.2 k.2))
+    (nat_cmp q.3 k.3)
+
+-- the place that a map has under a key
+abbrev pub under : BTreeMap LentKey ℕ → Key → Option ℕ
+under places q = get_by (key_cmp q) places
+
+-- one of the rows, at this place, has the key
+abbrev pub HasKeyAt : {T : Type 0} → (T → Key) → List T → Key → ℕ → Type 0
+HasKeyAt {T} key rows q i = (row : T) × (slice_get rows i ≡ Some row) × (key row ≡ q)
+
+-- one of the rows has the key
+abbrev pub HasKey : {T : Type 0} → (T → Key) → List T → Key → Type 0
+HasKey key rows q = (i : ℕ) × HasKeyAt key rows q i
+
+-- no two of the first rows have one key
+abbrev pub AreApart : {T : Type 0} → (T → Key) → List T → ℕ → Type 0
+AreApart {T} key rows n =
+    (i j : ℕ) (a b : T) → i < j → j < n → slice_get rows i ≡ Some a → slice_get rows j ≡ Some b
+    → key a ≢ key b
+
+-- under each key a map has the place of one of the first rows that has it, where one has
+abbrev pub ArePlaces : {T : Type 0} → (T → Key) → BTreeMap LentKey ℕ → List T → ℕ → Type 0
+ArePlaces {T} key places rows n =
+    (q : Key) → MatchOption (under places q)
+    ((i : ℕ) (row : T) → i < n → slice_get rows i ≡ Some row → key row ≢ q)
+    (λ i. (i < n) × HasKeyAt key rows q i)
+
+-- the row at this place has the key of an earlier one
+abbrev pub IsTwice : {T : Type 0} → (T → Key) → List T → ℕ → Type 0
+IsTwice {T} key rows i =
+    (row : T) × (slice_get rows i ≡ Some row) × (j : ℕ) × (j < i) × HasKeyAt key rows (key row) j
+
+-- each row names one of the others
+abbrev pub AreNamed : {T U : Type 0} → (T → Key) → List T → (U → Key) → List U → Type 0
+AreNamed {T} names rows key others =
+    (i : ℕ) (row : T) → slice_get rows i ≡ Some row → HasKey key others (names row)
+
+-- the row at this place names none of the others
+abbrev pub IsAstray : {T U : Type 0} → (T → Key) → List T → ℕ → (U → Key) → List U → Type 0
+IsAstray {T} names rows i key others =
+    (row : T) × (slice_get rows i ≡ Some row) × ¬ HasKey key others (names row)

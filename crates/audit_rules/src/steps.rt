@@ -1,0 +1,110 @@
+//! The steps of tariffs, each at its place from 0.
+
+ghost use Rattle.std.specs.Prelude.{◌≡◌, ℕ, IfErr, IfOk, Ok, OnOk, Some, false, length, slice_get, true};
+ghost use Rattle.tariff.specs.declared.step.Step.{Step};
+ghost use Rattle.audit_rules.specs.Faults.{IsFault};
+ghost use Rattle.audit_rules.specs.Keys.{ArePlaces, told};
+ghost use Rattle.audit_rules.specs.Steps.{AreFirst, AreNoSteps, AreSteps};
+ghost use Rattle.audit_rules.specs.declared.finding.Rule.TheVariants as rule;
+
+use crate::finding::{Rule, RulesFault, TableName, found_at};
+use crate::key::{KeyOf, LentKey};
+use crate::places::{Places, place_of};
+use crate::rows::{DatedStepRow, StepRow};
+use std::alloc::{AllocError, Global};
+use tariff::{Step, Steps, StepsFault};
+
+/// A row that has a step.
+pub(crate) trait HasStep {
+    ghost use Rattle.tariff.specs.declared.step.Step.{Step};
+
+    ghost step: { Self → Step };
+
+    fn step(&self) -> Step
+        ensures { result ≡ step self.now };
+}
+
+impl HasStep for StepRow {
+    ghost step = { λ r. r.step };
+
+    fn step(&self) -> Step {
+        self.step
+    }
+}
+
+impl HasStep for DatedStepRow {
+    ghost step = { λ r. r.step };
+
+    fn step(&self) -> Step {
+        self.step
+    }
+}
+
+// The steps at the places from 0 on, up to the first that has none, and nine at the most.
+fn first_steps<'a, T: HasStep, K: KeyOf<T>>(
+    alloc: Global,
+    rows: &'a [T],
+    places: &Places<'a>,
+    key: LentKey<'a>,
+) -> Result<Vec<Step>, AllocError>
+    requires { ArePlaces K.key places.now rows.now (length rows.now) }
+    ensures { IfOk result (λ steps. AreFirst T.step K.key rows.now (told key.entry) steps.items) }
+{
+    let (text, more, number, _) = key;
+    let mut steps = Vec::new(alloc);
+    'places: for place in 0..9 {
+        let Some(at) = place_of(places, (text, more, number, place)) else {
+            return Ok(steps);
+        };
+        steps.push(rows[at].step())?;
+    }
+    Ok(steps)
+}
+
+// Whether they are steps that a tariff may have.
+fn are_steps<'a, T: HasStep, K: KeyOf<T>>(
+    alloc: Global,
+    rows: &'a [T],
+    places: &Places<'a>,
+    key: LentKey<'a>,
+) -> Result<bool, AllocError>
+    requires { ArePlaces K.key places.now rows.now (length rows.now) }
+    ensures yes { result ≡ Ok true → AreSteps T.step K.key rows.now (told key.entry) }
+    ensures no { result ≡ Ok false → AreNoSteps T.step K.key rows.now (told key.entry) }
+{
+    let steps = first_steps::<T, K>(alloc, rows, places, key)?;
+    match Steps::read(alloc, &steps) {
+        Ok(_read) => Ok(true),
+        Err(StepsFault::Memory) => Err(AllocError),
+        Err(_fault) => Ok(false),
+    }
+}
+
+/// Nothing where under each key of some others the steps are those that a tariff may have; or the
+/// first of these where they are not.
+///
+/// # Errors
+/// A finding, and want of memory.
+pub(crate) fn test_steps<'a, T: HasStep, K: KeyOf<T>, U, G: KeyOf<U>>(
+    alloc: Global,
+    rows: &'a [T],
+    places: &Places<'a>,
+    others: &'a [U],
+    table: TableName,
+) -> Result<(), RulesFault>
+    requires { ArePlaces K.key places.now rows.now (length rows.now) }
+    ensures passes { OnOk result ((i : ℕ) (other : U) → slice_get others.now i ≡ Some other
+        → AreSteps T.step K.key rows.now (G.key other)) }
+    ensures found { IfErr result (IsFault table rule.Steps (λ i. (other : U)
+        × (slice_get others.now i ≡ Some other)
+        × AreNoSteps T.step K.key rows.now (G.key other))) }
+{
+    'others: for at in 0..others.len() {
+        match are_steps::<T, K>(alloc, rows, places, G::of(&others[at])) {
+            Ok(true) => {}
+            Ok(false) => return Err(found_at(table, Rule::Steps, at)),
+            Err(AllocError) => return Err(RulesFault::Memory),
+        }
+    }
+    Ok(())
+}
