@@ -114,7 +114,7 @@ pub(crate) fn fill_totals<S: Alter>(
     first_sale_inside(alloc, tx)?;
     let mut done = 0;
     'pages: for turn in 0..u32::MAX {
-        let last = match total_page(alloc, tx, done) { Err(TableError::RowOfNoOffice) => return Ok(()), page => page? };
+        let last = total_page(alloc, tx, done)?;
         if last == done {
             return Ok(());
         }
