@@ -4,7 +4,8 @@
 //! A list is a file `NAME.txt` in the folder that the program runs in. `lists.txt` has a line for
 //! each list: its name, and the formats that the tables are taken back to between its lives, if
 //! any. For each list a line is printed, after a line for each reply that is another. A list that
-//! cannot be read ends the program with status 1.
+//! cannot be read ends the program with status 1, and so does a file of no office that is opened, or
+//! is not left as it was.
 //!
 //! No function has a contract beyond that it returns.
 #![tactic(auto)]
@@ -12,10 +13,12 @@
 mod list;
 mod offices;
 mod outcome;
+mod refused;
 
 use crate::list::read;
 use crate::offices::replay;
 use crate::outcome::Outcome;
+use crate::refused::refuse;
 use office_testing::older::OLDER;
 use std::alloc::Global;
 use std::fs;
@@ -27,6 +30,8 @@ fn main(rt: HostRuntime) -> Result<(), Fail> {
         let (name, formats) = line.split_once(' ').unwrap_or((line, ""));
         replay_list(&rt, name, formats)?;
     }
+    let count = refuse(&rt)?;
+    println!(rt; "{count} files of no office refused, and left as they were")?;
     Ok(())
 }
 
