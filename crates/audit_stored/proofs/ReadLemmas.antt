@@ -89,7 +89,9 @@ module _ (db : Database) (r : OfficeRows) where
       (steps : AreListed shown_step_row AreStepRowValues [] steps_kept db r.steps.items)
       (meters : AreListed shown_meter_row AreMeterRowValues [] meters_kept db r.meters.items)
       (shifts : AreShifts db r.shifts.items)
-      (sales : AreSaleRows db r.sales.items)
+      (read : List SaleRow)
+      (sales : AreSaleRows db read)
+      (are : r.sales.items ≡ map sale_entry read)
       (bases : r.bases.items ≡ map present_base r.meters.items)
       (dated_steps : r.dated_steps.items ≡ []) where
     pub first_read : IsReadAs 1 db rows
@@ -99,7 +101,7 @@ module _ (db : Database) (r : OfficeRows) where
         steps = λ _. has_rows shown_step_row AreStepRowValues step_columns step_entry steps_kept db r.steps.items (shows_entry shown_step_row step_columns step_entry (λ t. refl) r.steps.items) steps;
         meters = λ _. has_rows shown_meter_row AreMeterRowValues meter_columns meter_entry meters_kept db r.meters.items (shows_entry shown_meter_row meter_columns meter_entry (λ t. refl) r.meters.items) meters;
         shifts = λ _. record { has = shifts.records.records.rows; rises = shifts.records.rises refl refl };
-        sales = λ _. has_numbered shown_sale_row AreSaleRowValues sale_columns sale_entry sales_kept db r.sales.items (in_months r.sales.items sales.months) sales.records refl;
+        sales = λ _. subst (HasNumberedRowsOf sale_columns sales_kept db) (sym are) (has_numbered shown_sale_row AreSaleRowValues sale_columns sale_entry sales_kept db read (in_months read sales.months) sales.records refl);
         last_ids = λ come. absurd (omega (arith, come));
         month_tenths = λ come. absurd (omega (arith, come));
         shift_totals = λ come. absurd (omega (arith, come));
@@ -112,7 +114,7 @@ module _ (db : Database) (r : OfficeRows) where
         steps = All-map (λ (s : StepRow). IsName s.tariff × AreStepValues s.step) step_entry r.steps.items (All-weaker AreStepRowValues (λ (s : StepRead). IsName s.tariff × AreStepValues s.step) (λ s values. (values.tariff, values.step)) r.steps.items steps.records.kept);
         meters = All-map (λ (m : List ℕ × Meter). IsMeterNo m.0 × AreMeterValues m.1) meter_entry r.meters.items meters.records.kept;
         shifts = shifts.records.records.kept;
-        sales = All-map AreSaleValues sale_entry r.sales.items (All-weaker AreSaleRowValues (λ (s : SaleRow). AreSaleValues s.sale) (λ s values. values.sale) r.sales.items sales.records.records.kept);
+        sales = subst (All AreSaleValues) (sym are) (All-map AreSaleValues sale_entry read (All-weaker AreSaleRowValues (λ (s : SaleRow). AreSaleValues s.sale) (λ s values. values.sale) read sales.records.records.kept));
         bases = bases_keep meters.records.kept bases;
         dated_steps = subst (All (λ (s : DatedStepRow). IsName s.tariff × (IsDay s.day × AreStepValues s.step))) (sym (ap (map dated_entry) dated_steps)) (λ i d low. absurd (omega (arith, low)));
       };

@@ -1,16 +1,16 @@
 //! What is read of the tables of each format.
 
 ghost use Rattle.std.specs.Prelude.{◌≡◌, ℕ, IfOk, map};
-ghost use Rattle.audit_stored.specs.Entries.{present_base};
+ghost use Rattle.audit_stored.specs.Entries.{present_base, sale_entry};
 
 use crate::office_rows::OfficeRows;
 use audit_rows::{
-    BaseRow, DatedStepRow, LastId, MeterRow, MonthTenths, SaleList, ShiftList, ShiftTotals, Source,
-    StepRow,
+    BaseRow, DatedStepRow, LastId, MeterRow, MonthTenths, SaleList, SaleRow, ShiftList,
+    ShiftTotals, Source, StepRow,
 };
 use sqlite::Alter;
 use std::alloc::{AllocError, Global};
-use vend_core::TariffName;
+use vend_core::{Sale, TariffName};
 
 /// What is read of all tables of a format.
 pub(crate) trait Tables<S: Alter>: Source<S> {
@@ -58,18 +58,30 @@ fn present_bases(alloc: Global, meters: &[MeterRow]) -> Result<Vec<BaseRow>, All
     Ok(bases)
 }
 
+// The sales of some rows.
+fn sales_of(alloc: Global, rows: &[SaleRow]) -> Result<Vec<Sale>, AllocError>
+    ensures { IfOk result (λ sales. sales.items ≡ map sale_entry rows.now) }
+{
+    let mut sales = Vec::new(alloc);
+    'rows: for row in rows {
+        sales.push(row.sale)?;
+    }
+    Ok(sales)
+}
+
 impl<S: Alter> Tables<S> for First {
     ghost format = { 1 };
 
     fn into_rows(self, alloc: Global) -> Result<OfficeRows, AllocError> {
         let (tariffs, (steps, (meters, (shifts, sales)))) = self;
         let bases = present_bases(alloc, &meters)?;
+        let sales = sales_of(alloc, &sales.sales)?;
         Ok(OfficeRows {
             tariffs,
             steps,
             meters,
             shifts: shifts.shifts,
-            sales: sales.sales,
+            sales,
             last_ids: Vec::new(alloc),
             month_tenths: Vec::new(alloc),
             shift_totals: Vec::new(alloc),
