@@ -1,4 +1,5 @@
 pub mod AllStoredLemmas
 pub mod OnlyLemmas
+pub mod ReadLemmas
 pub mod ReorderLemmas
 pub mod TableLemmas

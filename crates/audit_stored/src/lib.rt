@@ -5,6 +5,9 @@
 
 pub use laws::stored_law;
 pub use office_rows::OfficeRows;
+pub use reading::read_office_rows;
 
 mod laws;
 mod office_rows;
+mod reading;
+mod tables;

@@ -1,9 +1,7 @@
 //! The rows of all tables.
 
-use audit_rows::{
-    BaseRow, DatedStepRow, LastId, MeterRow, MonthTenths, SaleRow, ShiftTotals, StepRow,
-};
-use vend_core::{Shift, TariffName};
+use audit_rows::{BaseRow, DatedStepRow, LastId, MeterRow, MonthTenths, ShiftTotals, StepRow};
+use vend_core::{Sale, Shift, TariffName};
 
 /// The rows of all tables, each table read whole.
 ///
@@ -20,7 +18,7 @@ pub struct OfficeRows {
     /// The shifts.
     pub shifts: Vec<Shift>,
     /// The sales.
-    pub sales: Vec<SaleRow>,
+    pub sales: Vec<Sale>,
     /// The last identifiers of meters under their bases.
     pub last_ids: Vec<LastId>,
     /// The tenths that were sold to meters in each month.
