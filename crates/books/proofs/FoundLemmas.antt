@@ -38,11 +38,15 @@ module _ (db : Database) where
       office = it.office;
       format = it.format;
       known = it.known;
-      held = (it.rows, record {
-        has = it.shown.has;
-        are = each_stored ordered it.format it.rows (upto it.format) it.shown.has.tables it.shown.are;
-        of_format = it.shown.of_format;
-      }, it.members);
+      held = (
+        it.rows,
+        record {
+          has = it.shown.has;
+          are = each_stored ordered it.format it.rows (upto it.format) it.shown.has.tables it.shown.are;
+          of_format = it.shown.of_format;
+        },
+        it.members,
+      );
       empty = it.empty;
     }
 
