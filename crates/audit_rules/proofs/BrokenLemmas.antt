@@ -21,8 +21,8 @@ use Rattle.audit_rules.specs.declared.finding.Rule.TheVariants as rule
 use Rattle.audit_rules.specs.declared.finding.TableName.{TableName}
 use Rattle.audit_rules.specs.declared.finding.TableName.TheVariants as table
 use Rattle.audit_rules.specs.declared.lists.Lists.{Lists}
-use Rattle.audit_rules.specs.declared.rows.DatedStepRow.{DatedStepRow}
-use Rattle.audit_rules.specs.declared.rows.StepRow.{StepRow}
+use Rattle.audit_rows.specs.declared.rows.DatedStepRow.{DatedStepRow}
+use Rattle.audit_rows.specs.declared.rows.StepRow.{StepRow}
 use Rattle.audit_rules.proofs.FindLemmas.{is_some_at, some_is}
 use Rattle.audit_rules.proofs.ListLemmas.{all_at, at_contains, at_pairs, contains_at, contains_map, map_at, map_contains}
 use Rattle.audit_rules.proofs.OfficeLemmas.{base_place, one_year, open_is, stored_dated, stored_step}
@@ -192,11 +192,13 @@ module _ (l : Lists) (totals : TotalRows) (o : Office) (m : AreMembersButTotals 
 
   -- ---- shifts
 
-  no_shift_surplus : greatest_count < length l.shifts.now → ⊥
-  no_shift_surplus many =
+  no_shift_surplus : (i : ℕ) → (i ≡ greatest_count) × (i < length l.shifts.now) → ⊥
+  no_shift_surplus i many =
+      let count = many.0 in
+      let more = many.1 in
       let few = keeps.shift_count in
       let same : length l.shifts.now ≡ length o.shifts = ap length m.shifts in
-      omega (arith, few, same, many)
+      omega (arith, few, same, count, more)
 
   shift_numbers : AreNumbered (λ (s : Shift). s.number) l.shifts.now
   shift_numbers = subst (AreNumbered (λ (s : Shift). s.number)) (sym m.shifts) keeps.shift_numbers
@@ -222,11 +224,13 @@ module _ (l : Lists) (totals : TotalRows) (o : Office) (m : AreMembersButTotals 
 
   -- ---- sales
 
-  no_sale_surplus : greatest_count < length l.sales.now → ⊥
-  no_sale_surplus many =
+  no_sale_surplus : (i : ℕ) → (i ≡ greatest_count) × (i < length l.sales.now) → ⊥
+  no_sale_surplus i many =
+      let count = many.0 in
+      let more = many.1 in
       let few = keeps.sale_count in
       let same : length l.sales.now ≡ length o.sales = ap length m.sales in
-      omega (arith, few, same, many)
+      omega (arith, few, same, count, more)
 
   sale_numbers : AreNumbered (λ (s : Sale). s.number) l.sales.now
   sale_numbers = subst (AreNumbered (λ (s : Sale). s.number)) (sym m.sales) keeps.sale_numbers
@@ -272,10 +276,10 @@ module _ (l : Lists) (totals : TotalRows) (o : Office) (m : AreMembersButTotals 
   broken table.Meters rule.Base i b = no_meter_base i b
   broken table.MeterBases rule.Twice i b = no_base_twice i b
   broken table.MeterBases rule.Base i b = no_late_base i b
-  broken table.Shifts rule.Surplus i b = no_shift_surplus b
+  broken table.Shifts rule.Surplus i b = no_shift_surplus i b
   broken table.Shifts rule.Gap i b = b.2 (shift_numbers i b.0 b.1)
   broken table.Shifts rule.TwoOpen i b = no_two_open i b
-  broken table.Sales rule.Surplus i b = no_sale_surplus b
+  broken table.Sales rule.Surplus i b = no_sale_surplus i b
   broken table.Sales rule.Gap i b = b.2 (sale_numbers i b.0 b.1)
   broken table.Sales rule.Twice i (inl b) = no_tid_twice i b
   broken table.Sales rule.Twice i (inr b) = no_ref_twice i b

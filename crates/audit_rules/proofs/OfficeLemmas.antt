@@ -2,31 +2,34 @@
 use Rattle.std.proofs.Common.{◌≡◌, ◌≢◌, ◌<◌, ◌≤◌, ◌+◌, ◌-◌, ◌^◌, ℕ, suc, Bool, true, false, List, [], Option, Some, None, slice_get, refl, sym, ap, subst, ◌∙◌, arith, map}
 use Rattle.std.specs.Prelude.{◌↔◌, AllPairs, Contains, IsNone, IsSome, is_some, if◌then◌else◌}
 use Rattle.std.specs.Option.{option_map}
-use Rattle.std.proofs.lemmas.Option.{slice_get_within}
+use Rattle.std.proofs.lemmas.Option.{none-some, same_Some, slice_get_within}
 use Rattle.sts_fields.specs.Base.{year_of}
 use Rattle.sts_fields.specs.Day.{IsDay}
+use Rattle.sts_fields.specs.Moment.{IsMoment}
 use Rattle.sts_fields.specs.declared.base.Base.{Base}
 use Rattle.sts_fields.specs.declared.base.Base.TheVariants.{Y1993, Y2014, Y2035}
 use Rattle.tariff.specs.Steps.{IsSteps}
 use Rattle.tariff.specs.declared.step.Step.{Step}
-use Rattle.vend_core.specs.Name.{IsMeterNo}
+use Rattle.vend_core.specs.Name.{IsMeterNo, IsName}
 use Rattle.vend_core.specs.Office.{IsBaseRow, IsBefore, IsDatedRow, IsMeterRow, IsOffice, IsSaleRow, IsShiftRow, IsTariffRow, NotBothOpen, Office}
 use Rattle.vend_core.specs.declared.office.meter.Meter.{Meter}
 use Rattle.vend_core.specs.declared.office.sale.Sale.{Sale}
+use Rattle.vend_core.specs.declared.office.shift.Shift.{Shift}
 use Rattle.book_tables.specs.Stands.{AreApart, AreDatedApart, HasDatedStep, HasStep}
 use Rattle.book_tables.specs.row.Rows as stored
+use Rattle.book_tables.specs.row.Values.{AreMeterValues, AreSaleValues, AreShiftValues, AreStepValues, IsClosing}
 use Rattle.audit_rules.specs.Keys.{HasKey, Key}
 use Rattle.audit_rules.specs.Members.{AreMembersButTotals, AreMembersOfLists, KeepValues, TotalRows, base_row, dated_row, meter_row, rows_of, step_row}
 use Rattle.audit_rules.specs.RowKeys.{base_key, dated_before_key, dated_first_key, dated_key, meter_key, name_key, place_key, step_before_key, step_key}
-use Rattle.audit_rules.specs.Rules.{KeepRules, dated_step_of, step_of}
+use Rattle.audit_rules.specs.Rules.{Each, KeepRules, dated_step_of, step_of}
 use Rattle.audit_rules.specs.Steps.{AreSteps, at_place}
 use Rattle.audit_rules.specs.declared.lists.Lists.{Lists}
-use Rattle.audit_rules.specs.declared.rows.BaseRow.{BaseRow}
-use Rattle.audit_rules.specs.declared.rows.DatedStepRow.{DatedStepRow}
-use Rattle.audit_rules.specs.declared.rows.MeterRow.{MeterRow}
-use Rattle.audit_rules.specs.declared.rows.StepRow.{StepRow}
+use Rattle.audit_rows.specs.declared.rows.BaseRow.{BaseRow}
+use Rattle.audit_rows.specs.declared.rows.DatedStepRow.{DatedStepRow}
+use Rattle.book_tables.specs.declared.reading.pages.MeterRow.{MeterRow}
+use Rattle.audit_rows.specs.declared.rows.StepRow.{StepRow}
 use Rattle.audit_rules.proofs.FindLemmas.{find_is, find_row, found_row, given, given_from, given_some, is_some_at, row_found, some_is, some_true, true_at}
-use Rattle.audit_rules.proofs.ListLemmas.{all_from, at_contains, contains_at, contains_map, map_contains, mapped_from, pairs_at, pairs_map}
+use Rattle.audit_rules.proofs.ListLemmas.{all_at, all_from, at_contains, contains_at, contains_map, map_at, map_contains, mapped_from, pairs_at, pairs_map}
 use Rattle.audit_rules.proofs.StepLemmas.{earlier, place_there}
 
 pub one_year : (a b : Base) → year_of a ≡ year_of b → a ≡ b
@@ -74,6 +77,32 @@ open_is (Some secs) none = absurd (cc)
 pub closed_is : (o : Option ℕ) → IsNone o → is_some o ≡ false
 closed_is None none = refl
 closed_is (Some secs) none = absurd (cc)
+
+-- the values of each row, by its place
+pub record HasValues (l : Lists) : Type 0 where
+  pub tariffs : Each IsName l.tariffs.now
+  pub days : Each (λ r. IsDay r.day) l.dated_steps.now
+  pub numbers : Each (λ r. IsMeterNo r.number) l.meters.now
+  pub keys : Each (λ r. r.meter.key < 2 ^ 64) l.meters.now
+  pub shifts : Each IsShiftRow l.shifts.now
+  pub sales : Each AreSaleValues l.sales.now
+
+closing : (o : Option ℕ) → IsClosing o → (secs : ℕ) → o ≡ Some secs → IsMoment secs
+closing None is secs e = absurd (none-some secs e)
+closing (Some at) is secs e = subst IsMoment (same_Some at secs e) is
+
+shift_values : (s : Shift) → AreShiftValues s → IsShiftRow s
+shift_values s are = record { operator = are.operator; opened = are.opened; closed = closing s.closed are.closed }
+
+values_of : (l : Lists) (totals : TotalRows) → KeepValues (rows_of l totals) → HasValues l
+values_of l totals v = record {
+  tariffs = all_at IsName l.tariffs.now v.tariffs;
+  days = λ i r there. (all_at (λ (x : stored.DatedStepRow). IsName x.tariff × (IsDay x.day × AreStepValues x.step)) (map dated_row l.dated_steps.now) v.dated_steps i (dated_row r) (map_at dated_row l.dated_steps.now i r there)).1.0;
+  numbers = λ i r there. (all_at (λ (x : List ℕ × Meter). IsMeterNo x.0 × AreMeterValues x.1) (map meter_row l.meters.now) v.meters i (meter_row r) (map_at meter_row l.meters.now i r there)).0;
+  keys = λ i r there. (all_at (λ (x : List ℕ × Meter). IsMeterNo x.0 × AreMeterValues x.1) (map meter_row l.meters.now) v.meters i (meter_row r) (map_at meter_row l.meters.now i r there)).1.key;
+  shifts = λ i s there. shift_values s (all_at AreShiftValues l.shifts.now v.shifts i s there);
+  sales = all_at AreSaleValues l.sales.now v.sales;
+}
 
 module _ (l : Lists) (k : KeepRules l) where
   abbrev names : List (List ℕ)
@@ -264,7 +293,7 @@ module _ (l : Lists) (k : KeepRules l) where
 
   -- ---- what they keep
 
-  module _ (v : KeepValues l) where
+  module _ (v : HasValues l) where
     tariffs_keep : (name : List ℕ) (s : List Step) → tariff_steps name ≡ Some s → IsTariffRow name s
     tariffs_keep name s e =
         let t = tariff_is name s e in
@@ -359,5 +388,5 @@ module _ (l : Lists) (k : KeepRules l) where
       sale_count = k.sales.count;
     }
 
-pub passed : (l : Lists) (totals : TotalRows) → KeepRules l → KeepValues l → (o : Office) × AreMembersOfLists l totals o
-passed l totals k v = (office l k, (members l k totals, office_keeps l k v))
+pub passed : (l : Lists) (totals : TotalRows) → KeepRules l → KeepValues (rows_of l totals) → (o : Office) × AreMembersOfLists l totals o
+passed l totals k v = (office l k, (members l k totals, office_keeps l k (values_of l totals v)))

@@ -1,25 +1,19 @@
 -- The rows of an office's tables that lists of records are, and the offices whose members they are.
-use Rattle.std.specs.Prelude.{◌≡◌, ◌≢◌, ◌↔◌, ◌<◌, ◌^◌, ◌≤◌, ℕ, true, List, Some, IsSome, AllPairs, Contains, map}
-use Rattle.sts_fields.specs.Amount.{IsRepresentable}
+use Rattle.std.specs.Prelude.{◌≡◌, ◌≢◌, ◌↔◌, ℕ, true, List, Some, IsSome, All, AllPairs, Contains, map}
 use Rattle.sts_fields.specs.Day.{IsDay}
-use Rattle.sts_fields.specs.Moment.{IsMoment}
-use Rattle.sts_fields.specs.Tid.{last_tid}
 use Rattle.sts_fields.specs.declared.base.Base.{Base}
-use Rattle.sts_token.specs.Token.{AreTwentyDigits}
-use Rattle.tariff.specs.Tender.{IsTender}
-use Rattle.vend_core.specs.Name.{IsMeterNo, IsName, IsOperator}
-use Rattle.vend_core.specs.Office.{IsOffice, IsShiftRow, Office}
+use Rattle.vend_core.specs.Name.{IsMeterNo, IsName}
+use Rattle.vend_core.specs.Office.{IsOffice, Office}
 use Rattle.vend_core.specs.declared.office.meter.Meter.{Meter}
-use Rattle.vend_core.specs.declared.office.sale.Sale.{Sale}
 use Rattle.book_tables.specs.Stands.{AreApart, AreDatedApart, HasDatedStep, HasStep}
 use Rattle.book_tables.specs.declared.row.totals.Totals.{Totals}
 use Rattle.book_tables.specs.row.Rows as stored
-use Rattle.audit_rules.specs.Rules.{Each}
+use Rattle.book_tables.specs.row.Values.{AreMeterValues, AreSaleValues, AreShiftValues, AreStepValues}
 use Rattle.audit_rules.specs.declared.lists.Lists.{Lists}
-use Rattle.audit_rules.specs.declared.rows.BaseRow.{BaseRow}
-use Rattle.audit_rules.specs.declared.rows.DatedStepRow.{DatedStepRow}
-use Rattle.audit_rules.specs.declared.rows.MeterRow.{MeterRow}
-use Rattle.audit_rules.specs.declared.rows.StepRow.{StepRow}
+use Rattle.audit_rows.specs.declared.rows.BaseRow.{BaseRow}
+use Rattle.audit_rows.specs.declared.rows.DatedStepRow.{DatedStepRow}
+use Rattle.book_tables.specs.declared.reading.pages.MeterRow.{MeterRow}
+use Rattle.audit_rows.specs.declared.rows.StepRow.{StepRow}
 
 -- a record as the row that the tables' definitions speak of
 abbrev pub step_row : StepRow → stored.StepRow
@@ -72,26 +66,14 @@ pub record AreMembersButTotals (rows : stored.Rows) (o : Office) : Type 0 where
   pub bases_once : AllPairs (λ a b. a ≢ b) rows.bases
   pub dated_once : AllPairs AreDatedApart rows.dated_steps
 
--- the values of a sale's row, whatever else an office holds
-pub record AreSaleValues (s : Sale) : Type 0 where
-  pub moment : IsMoment s.moment
-  pub operator : IsOperator s.operator
-  pub order_ref : IsName s.order_ref
-  pub tid : s.tid ≤ last_tid
-  pub rnd : s.rnd < 2 ^ 4
-  pub tenths : IsRepresentable s.tenths
-  pub tender : IsTender s.tender
-  pub price : s.price ≤ s.tender
-  pub digits : AreTwentyDigits s.digits
-
--- the values of each row keep their own rules
-pub record KeepValues (l : Lists) : Type 0 where
-  pub tariffs : Each IsName l.tariffs.now
-  pub days : Each (λ r. IsDay r.day) l.dated_steps.now
-  pub numbers : Each (λ r. IsMeterNo r.number) l.meters.now
-  pub keys : Each (λ r. r.meter.key < 2 ^ 64) l.meters.now
-  pub shifts : Each IsShiftRow l.shifts.now
-  pub sales : Each AreSaleValues l.sales.now
+-- the values of each row keep their own rules, as far as an office asks it
+pub record KeepValues (rows : stored.Rows) : Type 0 where
+  pub tariffs : All IsName rows.tariffs
+  pub meters : All (λ m. IsMeterNo m.0 × AreMeterValues m.1) rows.meters
+  pub shifts : All AreShiftValues rows.shifts
+  pub sales : All AreSaleValues rows.sales
+  pub dated_steps : All (λ r. IsName r.tariff × (IsDay r.day × AreStepValues r.step))
+      rows.dated_steps
 
 -- the lists, with some totals, are the members of the office
 abbrev pub AreMembersOfLists : Lists → TotalRows → Office → Type 0

@@ -3,10 +3,10 @@ use Rattle.std.specs.Prelude.{ℕ, ◌-◌, List, [], is_some, if◌then◌else�
 use Rattle.sts_fields.specs.Base.{year_of}
 use Rattle.vend_core.specs.declared.office.sale.Sale.{Sale}
 use Rattle.vend_core.specs.declared.office.shift.Shift.{Shift}
-use Rattle.audit_rules.specs.declared.rows.BaseRow.{BaseRow}
-use Rattle.audit_rules.specs.declared.rows.DatedStepRow.{DatedStepRow}
-use Rattle.audit_rules.specs.declared.rows.MeterRow.{MeterRow}
-use Rattle.audit_rules.specs.declared.rows.StepRow.{StepRow}
+use Rattle.audit_rows.specs.declared.rows.BaseRow.{BaseRow}
+use Rattle.audit_rows.specs.declared.rows.DatedStepRow.{DatedStepRow}
+use Rattle.book_tables.specs.declared.reading.pages.MeterRow.{MeterRow}
+use Rattle.audit_rows.specs.declared.rows.StepRow.{StepRow}
 use Rattle.audit_rules.specs.Keys.{Key}
 
 -- a name or a number alone

@@ -17,10 +17,10 @@ use Rattle.audit_rules.specs.declared.finding.RulesFault.TheVariants as fault
 use Rattle.audit_rules.specs.declared.finding.TableName.{TableName}
 use Rattle.audit_rules.specs.declared.finding.TableName.TheVariants as table
 use Rattle.audit_rules.specs.declared.lists.Lists.{Lists}
-use Rattle.audit_rules.specs.declared.rows.BaseRow.{BaseRow}
-use Rattle.audit_rules.specs.declared.rows.DatedStepRow.{DatedStepRow}
-use Rattle.audit_rules.specs.declared.rows.MeterRow.{MeterRow}
-use Rattle.audit_rules.specs.declared.rows.StepRow.{StepRow}
+use Rattle.audit_rows.specs.declared.rows.BaseRow.{BaseRow}
+use Rattle.audit_rows.specs.declared.rows.DatedStepRow.{DatedStepRow}
+use Rattle.book_tables.specs.declared.reading.pages.MeterRow.{MeterRow}
+use Rattle.audit_rows.specs.declared.rows.StepRow.{StepRow}
 
 abbrev pub step_of : StepRow → Step
 step_of r = r.step
@@ -70,7 +70,8 @@ IsOfNone meters b =
     × (year_of m.meter.base < year_of b.base))
 
 -- meters and their bases
-pub record AreMeters (names : List (List ℕ)) (meters : List MeterRow) (bases : List BaseRow) : Type 0 where
+pub record AreMeters (names : List (List ℕ)) (meters : List MeterRow) (bases : List BaseRow)
+    : Type 0 where
   pub meters_once : AreAllApart meter_key meters
   pub bases_once : AreAllApart base_key bases
   pub named : AreNamed meter_tariff_key meters name_key names
@@ -125,10 +126,10 @@ Breaks l table.Meters rule.Missing i =
 Breaks l table.Meters rule.Base i = IsAstray meter_base_key l.meters.now i base_key l.bases.now
 Breaks l table.MeterBases rule.Twice i = IsTwice base_key l.bases.now i
 Breaks l table.MeterBases rule.Base i = At (IsOfNone l.meters.now) l.bases.now i
-Breaks l table.Shifts rule.Surplus i = greatest_count < length l.shifts.now
+Breaks l table.Shifts rule.Surplus i = (i ≡ greatest_count) × (i < length l.shifts.now)
 Breaks l table.Shifts rule.Gap i = At (λ s. s.number ≢ i + 1) l.shifts.now i
 Breaks l table.Shifts rule.TwoOpen i = IsTwice open_key l.shifts.now i
-Breaks l table.Sales rule.Surplus i = greatest_count < length l.sales.now
+Breaks l table.Sales rule.Surplus i = (i ≡ greatest_count) × (i < length l.sales.now)
 Breaks l table.Sales rule.Gap i = At (λ s. s.number ≢ i + 1) l.sales.now i
 Breaks l table.Sales rule.Twice i =
     IsTwice tid_key l.sales.now i ⊎ IsTwice ref_key l.sales.now i

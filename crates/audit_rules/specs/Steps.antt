@@ -18,19 +18,22 @@ abbrev pub IsLong : List Step → Type 0
 IsLong steps = 9 ≤ length steps
 
 -- the steps at the first places, up to one that has none, and nine at the most
-pub record AreFirst {T : Type 0} (step : T → Step) (key : T → Key) (rows : List T) (q : Key) (steps : List Step) : Type 0 where
+pub record AreFirst {T : Type 0} (step : T → Step) (key : T → Key) (rows : List T) (q : Key)
+    (steps : List Step) : Type 0 where
   pub there : (place : ℕ) (s : Step) → slice_get steps place ≡ Some s
       → HasStepAt step key rows (at_place q place) s
   pub ended : IsLong steps ⊎ ¬ HasKey key rows (at_place q (length steps))
 
 -- they are steps that a tariff may have
-pub record AreSteps {T : Type 0} (step : T → Step) (key : T → Key) (rows : List T) (q : Key) : Type 0 where
+pub record AreSteps {T : Type 0} (step : T → Step) (key : T → Key) (rows : List T) (q : Key)
+    : Type 0 where
   pub steps : List Step
   pub first : AreFirst step key rows q steps
   pub priced : IsSteps steps
 
 -- they are none that a tariff may have
-pub record AreNoSteps {T : Type 0} (step : T → Step) (key : T → Key) (rows : List T) (q : Key) : Type 0 where
+pub record AreNoSteps {T : Type 0} (step : T → Step) (key : T → Key) (rows : List T) (q : Key)
+    : Type 0 where
   pub steps : List Step
   pub first : AreFirst step key rows q steps
   pub unpriced : ¬ IsSteps steps

@@ -10,7 +10,7 @@ ghost use Rattle.audit_rules.specs.declared.finding.TableName.TheVariants as tab
 
 use crate::finding::{Rule, RulesFault, TableName, found_at};
 use crate::places::{Places, place_of};
-use crate::rows::{BaseRow, MeterRow};
+use audit_rows::{BaseRow, MeterRow};
 
 // Whether the base is of one of the meters, whose present base is no earlier one.
 fn is_of_meter<'a>(base: &'a BaseRow, meters: &'a [MeterRow], places: &Places<'a>) -> bool

@@ -6,7 +6,7 @@ ghost use Rattle.vend_core.specs.declared.office.shift.Shift.{Shift};
 ghost use Rattle.audit_rules.specs.Keys.{Key, told};
 ghost use Rattle.audit_rules.specs.RowKeys.{base_key, dated_before_key, dated_first_key, dated_key, dated_tariff_key, meter_base_key, meter_key, meter_tariff_key, name_key, open_key, ref_key, sale_base_key, step_before_key, step_key, step_tariff_key, tid_key};
 
-use crate::rows::{BaseRow, DatedStepRow, MeterRow, StepRow};
+use audit_rows::{BaseRow, DatedStepRow, MeterRow, StepRow};
 use vend_core::{Sale, Shift, TariffName};
 
 /// A key of rows: two texts and two numbers; where a row has fewer, the rest are empty and 0.

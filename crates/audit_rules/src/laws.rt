@@ -4,7 +4,7 @@ ghost use Rattle.std.specs.Prelude.{ℕ};
 ghost use Rattle.vend_core.specs.Office.{Office};
 ghost use Rattle.book_tables.specs.Stands.{AreMembersOf, AreTotalsOf};
 ghost use Rattle.book_tables.specs.row.Rows.{Rows};
-ghost use Rattle.audit_rules.specs.Members.{AreMembersButTotals, AreMembersOfLists, KeepValues, TotalRows};
+ghost use Rattle.audit_rules.specs.Members.{AreMembersButTotals, AreMembersOfLists, KeepValues, TotalRows, rows_of};
 ghost use Rattle.audit_rules.specs.Rules.{Breaks, KeepRules};
 ghost use Rattle.audit_rules.specs.declared.finding.Rule.{Rule};
 ghost use Rattle.audit_rules.specs.declared.finding.TableName.{TableName};
@@ -12,7 +12,7 @@ ghost use Rattle.audit_rules.specs.declared.lists.Lists.{Lists};
 
 /// Lists that keep the rules, of rows whose values keep their own, are the members of an office.
 pub fn passed_law()
-    ensures { (l : Lists) (totals : TotalRows) → KeepRules l → KeepValues l
+    ensures { (l : Lists) (totals : TotalRows) → KeepRules l → KeepValues (rows_of l totals)
         → (o : Office) × AreMembersOfLists l totals o }
 {}
 

@@ -7,7 +7,6 @@
 pub use finding::{Finding, Rule, RulesFault, TableName};
 pub use laws::{broken_law, passed_law, totals_law};
 pub use lists::Lists;
-pub use rows::{BaseRow, DatedStepRow, MeterRow, StepRow};
 pub use rules::test_rules;
 
 mod bases;
@@ -17,6 +16,5 @@ mod laws;
 mod lists;
 mod numbers;
 mod places;
-mod rows;
 mod rules;
 mod steps;

@@ -1,4 +1,4 @@
-use crate::rows::{BaseRow, DatedStepRow, MeterRow, StepRow};
+use audit_rows::{BaseRow, DatedStepRow, MeterRow, StepRow};
 use vend_core::{Sale, Shift, TariffName};
 
 /// The rows of each table but the totals, in the order of their numbers where they have any.

@@ -51,13 +51,14 @@ pub(crate) fn test_numbers<T: Numbered>(rows: &[T], table: TableName) -> Result<
     Ok(())
 }
 
-/// Nothing where there are no more rows than an office holds.
+/// Nothing where there are no more rows than an office holds; or the first that it cannot hold.
 ///
 /// # Errors
 /// A finding.
 pub(crate) fn test_count(count: usize, table: TableName) -> Result<(), RulesFault>
     ensures passes { OnOk result (count ≤ greatest_count) }
-    ensures found { IfErr result (IsFault table rule.Surplus (λ _. greatest_count < count)) }
+    ensures found { IfErr result (IsFault table rule.Surplus
+        (λ i. (i ≡ greatest_count) × (i < count))) }
 {
     if count as u64 <= GREATEST_COUNT {
         Ok(())

@@ -45,8 +45,8 @@ pub(crate) fn places_of<'a, T, K: KeyOf<T>>(
     Ok(places)
 }
 
-/// Nothing where each of the rows names one of the others, whose places these are; or the first that
-/// names none, as one that breaks this rule.
+/// Nothing where each of the rows names one of the others, whose places these are; or the first
+/// that names none, as one that breaks this rule.
 ///
 /// Only the contract reads the others.
 ///

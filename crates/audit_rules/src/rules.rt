@@ -14,8 +14,8 @@ use crate::key::{Before, First, Name, Number, Open, OrderRef, Place, Tariff, Tid
 use crate::lists::Lists;
 use crate::numbers::{test_count, test_numbers};
 use crate::places::{Places, places_of, test_names};
-use crate::rows::{BaseRow, DatedStepRow, MeterRow, StepRow};
 use crate::steps::test_steps;
+use audit_rows::{BaseRow, DatedStepRow, MeterRow, StepRow};
 use std::alloc::Global;
 use vend_core::{Sale, Shift, TariffName};
 

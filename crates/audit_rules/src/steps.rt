@@ -10,7 +10,7 @@ ghost use Rattle.audit_rules.specs.declared.finding.Rule.TheVariants as rule;
 use crate::finding::{Rule, RulesFault, TableName, found_at};
 use crate::key::{KeyOf, LentKey};
 use crate::places::{Places, place_of};
-use crate::rows::{DatedStepRow, StepRow};
+use audit_rows::{DatedStepRow, StepRow};
 use std::alloc::{AllocError, Global};
 use tariff::{Step, Steps, StepsFault};
 
