@@ -18,7 +18,7 @@ use Rattle.book_tables.specs.row.Rows.{DatedStepRow, Rows, base_columns, dated_c
 use Rattle.book_tables.proofs.HoldsLemmas.{of_upto}
 use Rattle.audit_rows.specs.Whole.{columns_of}
 use Rattle.audit_stored.specs.AllRows.{AreReordered, HasAllRows}
-use Rattle.audit_stored.specs.Order.{AreInOrder, HaveAllColumns}
+use Rattle.audit_stored.specs.Order.{AreKeptInOrder, HaveAllColumns}
 use Rattle.audit_stored.proofs.TableLemmas.{StoredAs, hidden_found, long_so, numbered_so, numbered_stored}
 
 -- what holds of each table that came up to a format holds of all of them
@@ -79,12 +79,12 @@ about_holds (suc n) db rows some tells = tells
 abbrev present_base : List ℕ × Meter → List ℕ × Base
 present_base r = (r.0, r.1.base)
 
-module _ (n : ℕ) (db : Database) (sound : IsDatabase db) (has : HasOfficeOf n db.schema) (tells : TellsFormat n db) (order : AreInOrder n db) (whole : 1 ≤ n → HaveAllColumns db) (rows : Rows) (read : HasAllRows n db rows) where
+module _ (n : ℕ) (db : Database) (sound : IsDatabase db) (has : HasOfficeOf n db.schema) (tells : TellsFormat n db) (order : AreKeptInOrder db) (whole : 1 ≤ n → HaveAllColumns db) (rows : Rows) (read : HasAllRows n db rows) where
   there : (k : Kept) → Member kept k → k.since ≤ n → IsKept db.schema k
   there k at come = of_upto (IsKept db.schema) n k kept at (le-leb k.since n come) has.tables
 
   in_order : (k : Kept) → Member kept k → k.since ≤ n → IsInOrder (rows_in db k.table.name)
-  in_order k at come = of_upto (λ (j : Kept). IsInOrder (rows_in db j.table.name)) n k kept at (le-leb k.since n come) order
+  in_order k at come = order k (there k at come)
 
   -- ---- tables whose rows have no numbers of their own
 

@@ -16,14 +16,12 @@ use Rattle.sts_fields.specs.Day.{IsDay}
 use Rattle.sts_fields.specs.declared.base.Base.{Base}
 use Rattle.vend_core.specs.Name.{IsMeterNo, IsName}
 use Rattle.vend_core.specs.declared.office.meter.Meter.{Meter}
-use Rattle.vend_core.specs.declared.office.sale.Sale.{Sale}
-use Rattle.vend_core.specs.declared.office.shift.Shift.{Shift}
 use Rattle.one_table.specs.Listed.{rising}
 use Rattle.one_table.specs.ReadsOnly.{ReadsOnly}
-use Rattle.book_tables.specs.Kept.{Kept, bases_kept, dated_steps_kept, last_ids_kept, meters_kept, month_tenths_kept, sales_kept, shift_totals_kept, shifts_kept, steps_kept, tariffs_kept}
+use Rattle.book_tables.specs.Kept.{Kept, bases_kept, dated_steps_kept, last_ids_kept, meters_kept, month_tenths_kept, sales_kept, shift_totals_kept, steps_kept, tariffs_kept}
 use Rattle.book_tables.specs.declared.reading.pages.MeterRow.{MeterRow}
-use Rattle.book_tables.specs.row.Rows.{DatedStepRow, Rows, StepRow, base_columns, dated_columns, last_id_columns, meter_columns, month_columns, sale_columns, shift_columns, shown_shift, step_columns, tariff_columns, totals_columns}
-use Rattle.book_tables.specs.row.Values.{AreMeterValues, AreSaleValues, AreShiftValues, AreStepValues}
+use Rattle.book_tables.specs.row.Rows.{DatedStepRow, Rows, StepRow, base_columns, dated_columns, last_id_columns, meter_columns, month_columns, sale_columns, step_columns, tariff_columns, totals_columns}
+use Rattle.book_tables.specs.row.Values.{AreMeterValues, AreSaleValues, AreStepValues}
 use Rattle.audit_rows.specs.Fails.{FailsToAudit, IsKnown}
 use Rattle.audit_rows.specs.OpenShifts.{AreShifts}
 use Rattle.audit_rows.specs.declared.finding.AuditFault.TheVariants.{Failed}
@@ -38,7 +36,7 @@ use Rattle.audit_rows.specs.declared.rows.MonthTenths.{MonthTenths}
 use Rattle.audit_rows.specs.declared.rows.ShiftTotals.{ShiftTotals}
 use Rattle.audit_rows.specs.declared.rows.StepRow.{StepRow as StepRead}
 use Rattle.audit_rows.specs.declared.sale_row.SaleRow.{SaleRow}
-use Rattle.audit_stored.specs.AllRows.{HasAllRows, HasNumberedRowsOf, HasRowsOf, IsReadAs, KeepRules}
+use Rattle.audit_stored.specs.AllRows.{HasNumberedRowsOf, HasRowsOf, IsReadAs}
 use Rattle.audit_stored.specs.Entries.{base_entry, dated_entry, last_id_entry, meter_entry, month_entry, present_base, rows_of, sale_entry, step_entry, totals_entry}
 use Rattle.audit_stored.specs.declared.office_rows.OfficeRows.{OfficeRows}
 

@@ -8,7 +8,7 @@ ghost use Rattle.book_tables.specs.Stands.{AreMembersOf};
 ghost use Rattle.book_tables.specs.format.Format.{TellsFormat};
 ghost use Rattle.book_tables.specs.row.Rows.{Rows, present_format};
 ghost use Rattle.audit_stored.specs.AllRows.{AreReordered, HasAllRows, KeepRules, with_totals};
-ghost use Rattle.audit_stored.specs.Order.{AreInOrder, HaveAllColumns};
+ghost use Rattle.audit_stored.specs.Order.{AreKeptInOrder, HaveAllColumns};
 
 use book_tables::stands_law;
 
@@ -18,7 +18,7 @@ pub fn stored_law()
     // in the order of their numbers, and no row of a shift lacks a column.
     ensures stands { (n : ℕ) (db : Database) (rows : Rows) (o : Office)
         → n ≤ present_format → IsDatabase db → HasOfficeOf n db.schema → TellsFormat n db
-        → AreInOrder n db → (1 ≤ n → HaveAllColumns db) → HasAllRows n db rows
+        → AreKeptInOrder db → (1 ≤ n → HaveAllColumns db) → HasAllRows n db rows
         → IsOffice o → AreMembersOf rows o → (n ≡ 0 → o ≡ empty_office) → StandsFor db o }
 
     // No other: the rows that were read are the members of any office that it stands for, with
