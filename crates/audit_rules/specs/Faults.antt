@@ -5,6 +5,7 @@ use Rattle.audit_rules.specs.declared.finding.RulesFault.{RulesFault}
 use Rattle.audit_rules.specs.declared.finding.RulesFault.TheVariants as fault
 use Rattle.audit_rules.specs.declared.finding.TableName.{TableName}
 
+-- the row at a place of the table breaks the rule
 abbrev pub found_at : TableName → Rule → ℕ → RulesFault
 found_at table rule row = fault.Found (record { table = table; rule = rule; row = row })
 

@@ -14,6 +14,7 @@ Key = List ℕ × List ℕ × ℕ × ℕ
 abbrev pub LentKey : Type 0
 LentKey = Bor (List ℕ) × Bor (List ℕ) × ℕ × ℕ
 
+-- the key, wherever its texts stand
 abbrev pub told : LentKey → Key
 told k = (k.0.now, k.1.now, k.2, k.3)
 

@@ -13,20 +13,23 @@ use Rattle.audit_rules.specs.Keys.{Key}
 abbrev pub name_key : List ℕ → Key
 name_key name = (name, [], 0, 0)
 
--- a place of a tariff, and one of a tariff and a first day
+-- a place of a tariff and a first day; the steps that have no day stand under 0
 abbrev pub place_key : List ℕ → ℕ → ℕ → Key
 place_key tariff day place = (tariff, [], day, place)
 
+-- a step by its place
 abbrev pub step_key : StepRow → Key
 step_key r = place_key r.tariff 0 r.place
 
--- the place before, or the first one itself
+-- the place before it, or its own where it is the first
 abbrev pub step_before_key : StepRow → Key
 step_before_key r = place_key r.tariff 0 (r.place - 1)
 
+-- its tariff
 abbrev pub step_tariff_key : StepRow → Key
 step_tariff_key r = name_key r.tariff
 
+-- the same of a step from a day on
 abbrev pub dated_key : DatedStepRow → Key
 dated_key r = place_key r.tariff r.day r.place
 

@@ -22,6 +22,7 @@ use Rattle.audit_rows.specs.declared.rows.DatedStepRow.{DatedStepRow}
 use Rattle.book_tables.specs.declared.reading.pages.MeterRow.{MeterRow}
 use Rattle.audit_rows.specs.declared.rows.StepRow.{StepRow}
 
+-- the step of a row
 abbrev pub step_of : StepRow → Step
 step_of r = r.step
 
@@ -78,6 +79,7 @@ pub record AreMeters (names : List (List ℕ)) (meters : List MeterRow) (bases :
   pub present : AreNamed meter_base_key meters base_key bases
   pub of_meters : Each (IsOfMeter meters) bases
 
+-- shifts: no more than an office holds, numbered, and of each operator one that is open at most
 pub record AreShifts (shifts : List Shift) : Type 0 where
   pub count : length shifts ≤ greatest_count
   pub numbers : AreNumbered (λ s. s.number) shifts
@@ -87,6 +89,8 @@ pub record AreShifts (shifts : List Shift) : Type 0 where
 abbrev pub IsInShift : ℕ → Sale → Type 0
 IsInShift count s = (1 ≤ s.shift) × (s.shift ≤ count)
 
+-- sales of so many shifts: no more than an office holds, numbered, each identifier of a meter under a
+-- base and each ref of an operator once, each in a shift and under a base that its meter had
 pub record AreSales (shifts : ℕ) (bases : List BaseRow) (sales : List Sale) : Type 0 where
   pub count : length sales ≤ greatest_count
   pub numbers : AreNumbered (λ s. s.number) sales
