@@ -1,7 +1,7 @@
 -- What is gathered of the sales page by page, and what is left where it is put into the tables.
-use Rattle.std.proofs.Common.{◌≡◌, ◌≤◌, ◌<◌, ◌<ℤ◌, ◌+◌, ◌^◌, ℕ, ℤ, zero, suc, pos, Bool, List, [], ◌∷◌, ◌++◌, append_assoc, drop, filter, get_or, length, map, nat_lt, not, sum_by, take, unwrap_or, Option, None, Some, IsTrue, inl, Result, Ok, Err, IsErrAnd, Ordering, Less, arith, refl, sym, ap, subst, ◌∙◌, codes}
+use Rattle.std.proofs.Common.{◌≡◌, ◌≤◌, ◌<◌, ◌<ℤ◌, ◌+◌, ◌^◌, ℕ, ℤ, zero, suc, pos, Bool, List, [], ◌∷◌, ◌++◌, drop, filter, get_or, length, map, nat_lt, not, sum_by, take, unwrap_or, Option, None, Some, IsTrue, inl, Result, Ok, Err, IsErrAnd, Less, arith, refl, sym, ap, subst, ◌∙◌, codes}
 use Rattle.std.specs.Prelude.{◌==◌, ◌&&◌, All, Contains, bytes_eq}
-use Rattle.std.specs.BTreeMap.{BTreeMap, values}
+use Rattle.std.specs.BTreeMap.{values}
 use Rattle.std.specs.List.{AllByRecursion}
 use Rattle.std.specs.List.Sorted.{IsStrictlySortedBy}
 use Rattle.std.specs.Ordering.{nat_cmp}
@@ -24,7 +24,6 @@ use Rattle.sts_fields.specs.Amount.{IsRepresentable}
 use Rattle.sts_fields.specs.Calendar.{month_at}
 use Rattle.sts_fields.specs.declared.base.Base.{Base}
 use Rattle.vend_core.specs.Law.Cash.{cash_of}
-use Rattle.vend_core.specs.Office.Lookup.{greatest_of}
 use Rattle.vend_core.specs.declared.office.sale.Sale.{Sale}
 use Rattle.one_table.specs.InTransaction.{IsUnderWay, KeepsTransaction, StaysInside}
 use Rattle.one_table.proofs.ChangeLemmas.{keeps_inside, keeps_then, on_ok, stays_then, transaction_off}
@@ -33,9 +32,9 @@ use Rattle.book_tables.specs.format.Looking.{Looks}
 use Rattle.book_tables.specs.Holds.{HasOffice, HoldsOf}
 use Rattle.book_tables.specs.Kept.{Kept, sales_kept}
 use Rattle.book_tables.specs.reading.Reading.{AreOfOffice, HasAllTables, HasTableRows}
-use Rattle.book_tables.specs.row.Gathered.{HoldsAt, IsGathered, base_place, key_cmp, own_place}
+use Rattle.book_tables.specs.row.Gathered.{IsGathered, base_place, key_cmp, own_place}
 use Rattle.book_tables.specs.row.Rows.{Rows, present_format}
-use Rattle.book_tables.specs.Stands.{AreRowsOf, AreTotalsOf, sales_in_month, sales_in_shift, sales_under, tenths_of, totals_of}
+use Rattle.book_tables.specs.Stands.{AreRowsOf, AreTotalsOf, sales_in_month, sales_in_shift, tenths_of, totals_of}
 use Rattle.book_tables.specs.writing.Putting.{AreAnyIds, FitMonths, FitShifts, PutsNext, with_last_ids, with_month_tenths, with_shift_totals}
 use Rattle.book_tables.specs.writing.Writing.{FitColumns, HasRoomFor, IsOfNone, no_totals, totals_names}
 use Rattle.book_tables.specs.declared.error.TableError.{TableError}

@@ -1,5 +1,5 @@
 -- What the texts mean that put a row of the running totals in, and what the rows are then.
-use Rattle.std.proofs.Common.{◌≡◌, ◌<◌, ◌^◌, true, ℕ, ℤ, pos, ◌<ℤ◌, Ordering, Less, List, [], ◌∷◌, ◌++◌, refl, sym, ap, subst, map, ◌∙◌, codes}
+use Rattle.std.proofs.Common.{◌≡◌, ◌<◌, ◌^◌, ℕ, ℤ, pos, ◌<ℤ◌, Ordering, List, [], ◌∷◌, ◌++◌, refl, ap, subst, map, ◌∙◌, codes}
 use Rattle.std.specs.List.{AllByRecursion}
 use Rattle.std.specs.Ordering.{match_ordering}
 use Rattle.std.proofs.lemmas.List.Elements.{All-contains, Contains-push}

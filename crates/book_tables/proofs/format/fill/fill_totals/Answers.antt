@@ -1,8 +1,8 @@
-use Rattle.std.proofs.Common.{◌≡◌, ◌∙◌, arith, Ok}
+use Rattle.std.proofs.Common.{arith, Ok}
 use Rattle.sqlite.specs.Held.{state}
 use Rattle.sqlite.specs.State.{HasCleanDisk}
 use Rattle.one_table.proofs.ChangeLemmas.{transaction_off, transaction_on}
-use Rattle.book_tables.specs.writing.Putting.{AreAnyIds, FitMonths, FitShifts, with_last_ids, with_month_tenths, with_shift_totals}
+use Rattle.book_tables.specs.writing.Putting.{AreAnyIds, FitMonths, with_last_ids, with_month_tenths}
 use Rattle.book_tables.specs.writing.Writing.{totals_names}
 use Rattle.book_tables.specs.declared.error.TableError.TheVariants.{RowOfNoOffice}
 use Rattle.std.specs.BTreeMap.{values}
