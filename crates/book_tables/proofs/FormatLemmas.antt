@@ -2,6 +2,7 @@ pub mod AboutLemmas
 pub mod BringingLemmas
 pub mod FillingBasesLemmas
 pub mod FillingLemmas
+pub mod GatheringLemmas
 pub mod LookLemmas
 pub mod LookingLemmas
 pub mod MakingLemmas

@@ -112,6 +112,9 @@ module _ {K V : Type 0} (is_key : K → K → Bool) (tells : (key k : K) → (is
   found_more : found (of (sales ++ s ∷ []) (key_of s)) ≡ Some value → (k : K) → found (of (sales ++ s ∷ []) k) ≡ put_under (is_key (key_of s)) value (λ x. found (of sales x)) k
   found_more own k = by_test k (is_key (key_of s) k) refl own
 
+pub sum_of_some : (p : Sale → Bool) (f : Sale → ℕ) (xs : List Sale) → sum_by f (filter p xs) ≤ sum_by f xs
+sum_of_some p f xs = omega (arith, sum_by-filter_both p (λ x. not (p x)) (λ _. refl) f xs)
+
 module _ (sales : List Sale) (s : Sale) where
   abbrev pub base_key : Sale → List ℕ × Base
   base_key t = (t.meter, t.base)
@@ -145,9 +148,6 @@ module _ (sales : List Sale) (s : Sale) where
   shift_more = found_more (λ n k. k == n) tells_number (λ t. t.shift) totals_of sales s shift_sum shift_own
 
   -- ---- what a column can hold
-
-  sum_of_some : (p : Sale → Bool) (f : Sale → ℕ) (xs : List Sale) → sum_by f (filter p xs) ≤ sum_by f xs
-  sum_of_some p f xs = omega (arith, sum_by-filter_both p (λ x. not (p x)) (λ _. refl) f xs)
 
   -- what is added up of a month is some of all
   pub month_within : month_sum ≤ sum_by (λ t. t.tenths) (sales ++ s ∷ [])

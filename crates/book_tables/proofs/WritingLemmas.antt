@@ -8,6 +8,7 @@ pub mod HiddenWriteLemmas
 pub mod MeterEditLemmas
 pub mod OnlyLemmas
 pub mod PutLemmas
+pub mod PuttingLemmas
 pub mod RefusalLemmas
 pub mod TariffEditLemmas
 pub mod TariffWriteLemmas

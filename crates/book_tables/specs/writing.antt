@@ -1,3 +1,4 @@
 pub mod Edited
 pub mod Failing
+pub mod Putting
 pub mod Writing

@@ -150,6 +150,14 @@ pub(crate) const MONTH_TENTHS: &str =
 pub(crate) const SHIFT_TOTALS: &str =
     "SELECT sales, tenths, cash FROM shift_totals WHERE shift = ?1";
 
+pub(crate) const NEW_LAST_ID: &str = "INSERT INTO last_ids (meter, base, tid) VALUES (?1, ?2, ?3)";
+
+pub(crate) const NEW_MONTH_TENTHS: &str =
+    "INSERT INTO month_tenths (meter, month, tenths) VALUES (?1, ?2, ?3)";
+
+pub(crate) const NEW_SHIFT_TOTALS: &str =
+    "INSERT INTO shift_totals (shift, sales, tenths, cash) VALUES (?1, ?2, ?3, ?4)";
+
 pub(crate) const LAST_ID_SET: &str = "INSERT INTO last_ids (meter, base, tid) VALUES (?1, ?2, ?3) \
     ON CONFLICT (meter, base) DO UPDATE SET tid = excluded.tid RETURNING tid";
 

@@ -1,15 +1,13 @@
 -- What a look at a table says, from what its reads say.
-use Rattle.std.proofs.Common.{◌≡◌, ◌≢◌, ◌≤◌, ◌+◌, ◌∙◌, ℕ, suc, List, [], drop, filter, length, map, nat_lt, take, arith, refl, sym, ap, subst, codes, slice_get, Some, Result, Ok, Err, IsErrAnd}
+use Rattle.std.proofs.Common.{◌≡◌, ◌≤◌, ◌+◌, ◌∙◌, ℕ, List, [], filter, length, nat_lt, take, arith, refl, sym, ap, subst, Result, Ok, Err, IsErrAnd}
 use Rattle.std.proofs.lemmas.List.{take_all}
 use Rattle.sqlite.specs.Effect.{Database}
 use Rattle.sqlite.specs.Order.{Row}
 use Rattle.sqlite.specs.State.{HasCleanDisk, IsUnchanged, State}
-use Rattle.sqlite.proofs.Callers.{unchanged_then}
 use Rattle.one_table.specs.Numbered.{IsInOrder}
-use Rattle.vend_core.specs.Office.{greatest_count}
 use Rattle.vend_core.specs.declared.office.sale.Sale.{Sale}
 use Rattle.book_tables.specs.Holds.{IsKept, rows_in}
-use Rattle.book_tables.specs.Kept.{Kept, sales_kept}
+use Rattle.book_tables.specs.Kept.{Kept}
 use Rattle.book_tables.specs.format.Looking.{AreFrom1, AreNext, AreSales, Looks, ShowFirst, ShowSales, ShowsPage, ShowsUpto}
 use Rattle.book_tables.specs.reading.Reading.{AreOfOffice, FailsToReadOf, HasTable, HasTableRows, ReadsTableInside, TableHolds}
 use Rattle.book_tables.specs.row.Rows.{Rows}

@@ -1,5 +1,5 @@
 -- What the rows of a table are, whoever wrote them, by what is read of them.
-use Rattle.std.proofs.Common.{◌≡◌, ◌≤◌, ◌<◌, ◌+◌, ◌<ℤ◌, ℕ, ℤ, zero, suc, pos, negsuc, Bool, true, IsTrue, List, [], ◌∷◌, ◌++◌, Option, Some, None, drop, filter, length, map, nat_lt, slice_get, take, arith, refl, sym, ap, ap₂, subst, ◌∙◌, IsPermutation, Less, codes, Result, Ok, Err, IfOk, OnOk}
+use Rattle.std.proofs.Common.{◌≡◌, ◌≤◌, ◌<◌, ◌+◌, ◌<ℤ◌, ℕ, ℤ, zero, suc, pos, negsuc, true, IsTrue, List, [], ◌∷◌, ◌++◌, Some, drop, filter, length, map, nat_lt, slice_get, take, arith, refl, sym, ap, ap₂, subst, ◌∙◌, IsPermutation, Less, codes, Result, Ok, Err, IfOk, OnOk}
 use Rattle.std.specs.Prelude.{All}
 use Rattle.std.specs.List.{AllByRecursion, AllZip}
 use Rattle.std.proofs.lemmas.Bool.{false≢true, le-ltb, lt-ltb}
@@ -15,7 +15,7 @@ use Rattle.sqlite_keyed.proofs.KeyedLemmas.{lt_from_Less}
 use Rattle.sqlite_keyed.proofs.ListLemmas.{all_weaker, ascending_from_map, ascending_weaker, map-map}
 use Rattle.sqlite_sql.specs.Query.{IsAnswer}
 use Rattle.sqlite_sql.specs.Term.{col, lit}
-use Rattle.sqlite_trees.specs.Tree.{IsAscending, IsTable, Trees, rowid}
+use Rattle.sqlite_trees.specs.Tree.{IsTable, Trees, rowid}
 use Rattle.sqlite_trees.specs.View.{is_int}
 use Rattle.sqlite_typed.proofs.TestLemmas.{last_term}
 use Rattle.sqlite_value.proofs.OrderLemmas.{value_cmp-Int}
@@ -24,10 +24,9 @@ use Rattle.one_table.specs.Numbered.{IsInOrder}
 use Rattle.one_table.proofs.ListedLemmas.{all_rows, first_by_key}
 use Rattle.one_table.proofs.TestsLemmas.{number_above}
 use Rattle.vend_core.specs.Name.{IsMeterNo}
-use Rattle.vend_core.specs.Office.{AreNumbered}
 use Rattle.vend_core.specs.declared.office.meter.Meter.{Meter}
 use Rattle.vend_core.specs.declared.office.sale.Sale.{Sale}
-use Rattle.book_tables.specs.format.Looking.{AreFrom1, AreMeters, AreNext, AreSales, ShowFirst, ShowMeters, ShowsPage, ShowsUpto, StartsFrom1, meter_values, sale_values}
+use Rattle.book_tables.specs.format.Looking.{AreFrom1, AreNext, ShowFirst, ShowMeters, ShowsPage, ShowsUpto, StartsFrom1, meter_values, sale_values}
 use Rattle.book_tables.specs.reading.Reading.{HasTable, IsShown}
 use Rattle.book_tables.specs.Holds.{rows_in}
 use Rattle.book_tables.specs.Kept.{meters_kept, sales_kept}
@@ -35,7 +34,7 @@ use Rattle.one_table.specs.Answer.{GivesAll}
 use Rattle.one_table.specs.Standing.{tree_in}
 use Rattle.sqlite.specs.State.{IsUnchanged, State}
 use Rattle.book_tables.proofs.ReadingLemmas.ReadLemmas.{answer_is}
-use Rattle.book_tables.specs.row.Rows.{meter_columns, number, sale_columns, shown_booked, shown_number}
+use Rattle.book_tables.specs.row.Rows.{meter_columns, number, sale_columns, shown_number}
 use Rattle.book_tables.specs.row.Values.{AreMeterValues, AreSaleValues, IsNumber}
 use Rattle.book_tables.specs.declared.reading.pages.MeterRow.{MeterRow}
 use Rattle.book_tables.specs.declared.row.office_records.Booked.{Booked}

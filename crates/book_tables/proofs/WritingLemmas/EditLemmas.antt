@@ -9,11 +9,9 @@ use Rattle.vend_core.specs.declared.decision.change.Edit.{Edit}
 use Rattle.vend_core.specs.declared.decision.change.Edit.TheVariants as edits
 use Rattle.vend_core.specs.declared.office.row.Row.{Row}
 use Rattle.vend_core.specs.declared.office.row.Row.TheVariants as kinds
-use Rattle.vend_core.specs.declared.office.sale.Sale.{Sale}
 use Rattle.book_tables.specs.writing.Edited.{edited, is_sale, no_rows, row_added, rows_added, shift_closed}
 use Rattle.book_tables.specs.row.Rows.{Rows}
 use Rattle.book_tables.specs.Stands.{AreApart, AreDatedApart, AreMembersOf, AreRowsOf, AreTotalsOf}
-use Rattle.book_tables.specs.writing.Writing.{with_totals_of}
 use Rattle.book_tables.proofs.ListLemmas.{contains_none, no_pairs}
 use Rattle.book_tables.proofs.WritingLemmas.MeterEditLemmas.{base_moved, meter_added, tariff_set}
 use Rattle.book_tables.proofs.WritingLemmas.PutLemmas.{none_some, same_totals}

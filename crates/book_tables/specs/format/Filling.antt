@@ -1,14 +1,18 @@
 -- The filling of tables that a format lacked, from the rows that its tables have: what is known of
 -- the rows, and what each step makes of them, whatever format `about` tells.
-use Rattle.std.specs.Prelude.{◌≡◌, ◌≤◌, ℕ, suc, List, [], ◌∷◌, Some, IsPermutation, codes, length, map, slice_get, take}
+use Rattle.std.specs.Prelude.{◌≡◌, ◌≤◌, ℕ, List, [], ◌∷◌, IsPermutation, IsTrue, OnOk, Result, codes, length, map, take}
 use Rattle.sqlite.specs.Effect.{IsDatabase}
-use Rattle.sqlite.specs.State.{State}
+use Rattle.sqlite.specs.State.{HasCleanDisk, KeepsCommit, State, Survives}
 use Rattle.sts_fields.specs.declared.base.Base.{Base}
 use Rattle.vend_core.specs.declared.office.meter.Meter.{Meter}
 use Rattle.vend_core.specs.declared.office.sale.Sale.{Sale}
+use Rattle.one_table.specs.InTransaction.{IsUnderWay, StaysInside}
 use Rattle.book_tables.specs.Holds.{HoldsOf}
 use Rattle.book_tables.specs.reading.Reading.{AreOfOffice}
+use Rattle.book_tables.specs.row.Gathered.{IsGathered}
 use Rattle.book_tables.specs.row.Rows.{Rows, present_format}
+use Rattle.book_tables.specs.declared.error.TableError.{TableError}
+use Rattle.book_tables.specs.declared.row.gathered.Gathered.{Gathered}
 use Rattle.book_tables.specs.Stands.{AreTotalsOf}
 use Rattle.book_tables.specs.writing.Writing.{WritesOnly, totals_names, with_totals_of}
 
@@ -19,22 +23,6 @@ pub record KeepsAllBut (names : List (List ℕ)) (old new : State) : Type 0 wher
   pub only : IsDatabase old.now → WritesOnly names old new
 
 -- ---- totals
-
--- the sale is one of an office's, and the totals are those of the sales before it
-pub record FollowsTotals (s : Sale) (format : ℕ) (rows : Rows) : Type 0 where
-  pub full : Rows
-  pub office : AreOfOffice full
-  pub place : ℕ
-  pub stands : slice_get full.sales place ≡ Some s
-  pub totals : AreTotalsOf (take place full.sales) rows
-
--- the totals are those with this sale too
-pub record TotalsSale (s : Sale) (old new : State) : Type 0 where
-  pub only : WritesOnly totals_names old new
-  pub rows : (told : ℕ) (rows : Rows) → HoldsOf present_format told old.now rows
-      → (known : FollowsTotals s told rows)
-      → (totals : Rows) × HoldsOf present_format told new.now (with_totals_of totals rows)
-      × AreTotalsOf (take (suc known.place) known.full.sales) totals
 
 -- the sales are an office's, and the totals are those of the first of them up to this number
 pub record HasTotalsUpto (number : ℕ) (full rows : Rows) : Type 0 where
@@ -47,21 +35,30 @@ pub record HasTotalsUpto (number : ℕ) (full rows : Rows) : Type 0 where
 abbrev pub HasSomeTotals : ℕ → ℕ → Rows → Type 0
 HasSomeTotals number format rows = (full : Rows) × HasTotalsUpto number full rows
 
--- the totals are those up to the second number, where they were those up to the first
-pub record TotalsUpto (from to : ℕ) (old new : State) : Type 0 where
-  pub others : KeepsAllBut totals_names old new
-  pub rows : (told : ℕ) (rows full : Rows) → HoldsOf present_format told old.now rows
-      → HasTotalsUpto from full rows
-      → (totals : Rows) × HoldsOf present_format told new.now (with_totals_of totals rows)
-      × HasTotalsUpto to full (with_totals_of totals rows)
+-- What was gathered of the first sales up to a number is that of those up to another one, which is
+-- the same only where there are no more.
+pub record GathersUpto (sales : List Sale) (done last : ℕ) (g h : Gathered) : Type 0 where
+  pub within : last ≤ length sales
+  pub ended : last ≡ done → length sales ≤ done
+  pub gathered : IsGathered (take done sales) g → IsGathered (take last sales) h
 
--- the same of a page, after which there are more sales only where it was not empty
-pub record TotalsPage (from to : ℕ) (old new : State) : Type 0 where
-  pub totals : TotalsUpto from to old new
-  pub not_before : (told : ℕ) (rows full : Rows) → HoldsOf present_format told old.now rows
-      → HasTotalsUpto from full rows → from ≤ to
-  pub last : (told : ℕ) (rows full : Rows) → HoldsOf present_format told old.now rows
-      → HasTotalsUpto from full rows → to ≡ from → length full.sales ≡ from
+-- The rows of a table of totals are these, where it had none and they are such as is asked. All but
+-- the totals is as it was.
+pub record PutsFirst {R : Type 0} (set : List R → Rows → Rows) (Are : List R → Type 0)
+    (list : List R) (old new : State) : Type 0 where
+  pub was_open : IsTrue new.is_open → IsTrue old.is_open
+  pub schema : new.now.schema ≡ old.now.schema
+  pub others : IsDatabase old.now → IsTrue old.is_open → IsUnderWay old
+      → WritesOnly totals_names old new
+  pub rows : (told : ℕ) (rows : Rows) → HoldsOf present_format told old.now (set [] rows)
+      → Are list → HoldsOf present_format told new.now (set list rows)
+
+-- what several statements, or none, leave inside a transaction, where the connection is open
+pub record GoesOn (old new : State) (result : Result (Unit {0}) TableError) : Type 0 where
+  pub inside : HasCleanDisk new → IsUnderWay old → IsTrue old.is_open
+      → OnOk result (StaysInside old new)
+  pub kept : HasCleanDisk new → IsUnderWay old → IsTrue old.is_open → KeepsCommit old new
+  pub survives : Survives old new (λ _. ⊥)
 
 -- the totals are those of all sales, where there were none
 pub record FillsTotals (old new : State) : Type 0 where

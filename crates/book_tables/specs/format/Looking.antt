@@ -1,6 +1,6 @@
 -- What is seen of the rows of `sales` and of `meters`, whoever wrote them, before tables of an
 -- older format are brought up.
-use Rattle.std.specs.Prelude.{◌≡◌, ◌≢◌, ◌≤◌, ◌+◌, ℕ, zero, suc, List, [], ◌∷◌, All, codes, drop, length, map, slice_get, take, Option, Some, Result, Err, IfOk, OnOk}
+use Rattle.std.specs.Prelude.{◌≡◌, ◌≢◌, ◌≤◌, ◌+◌, ℕ, zero, suc, List, [], ◌∷◌, All, codes, drop, length, map, slice_get, take, Some, Result, Err, IfOk, OnOk}
 use Rattle.std.specs.List.{AllByRecursion}
 use Rattle.sqlite.specs.Effect.{Database}
 use Rattle.sqlite.specs.Order.{Row, column}

@@ -1,93 +1,80 @@
 //! The filling of tables that a format lacked, from the rows that its tables have.
 
-ghost use Rattle.std.specs.Prelude.{◌≡◌, IfOk, OnOk, codes, max, unwrap_or};
+ghost use Rattle.std.specs.Prelude.{◌≡◌, ◌≢◌, IfErr, OnOk, codes};
+ghost use Rattle.std.specs.BTreeMap.{values};
 ghost use Rattle.sqlite.specs.Effect.{IsDatabase};
 ghost use Rattle.sqlite.specs.Held.{state};
 ghost use Rattle.sqlite.specs.State.{HasCleanDisk};
 ghost use Rattle.one_table.specs.InTransaction.{IsUnderWay, KeepsTransaction};
-ghost use Rattle.book_tables.specs.format.Filling.{AwaitsSomeBases, FillsBases, FillsTotals, FollowsTotals, HasSomeTotals, TotalsPage, TotalsSale};
+ghost use Rattle.book_tables.specs.format.Filling.{AwaitsSomeBases, FillsBases, FillsTotals, GoesOn, HasSomeTotals, PutsFirst};
 ghost use Rattle.book_tables.specs.Holds.{rows_in};
-ghost use Rattle.book_tables.specs.Kept.{sales_kept};
-ghost use Rattle.book_tables.specs.format.Looking.{ShowMeters, ShowSales, ShowsUpto};
-ghost use Rattle.book_tables.specs.reading.Reading.{HasTable, HasAllTables};
+ghost use Rattle.book_tables.specs.format.Looking.{ShowMeters, ShowSales};
+ghost use Rattle.book_tables.specs.reading.Reading.{HasAllTables};
+ghost use Rattle.book_tables.specs.writing.Putting.{AreAnyIds, FitMonths, FitShifts, with_last_ids, with_month_tenths, with_shift_totals};
 ghost use Rattle.book_tables.specs.writing.Writing.{FindsNoFalseRow};
 
 use crate::error::TableError;
-use crate::format::look::{PAGE, last_of};
-use crate::reading::pages::{first_sale_inside, greatest_inside, meters_inside, sales_inside};
+use crate::format::gather::gather;
+use crate::reading::pages::meters_inside;
+use crate::row::gathered::{LastIds, MonthTenths, ShiftTotals};
 use crate::writing::bases::add_base;
-use crate::writing::totals::add_totals;
+use crate::writing::first_totals::{put_last_id, put_month_tenths, put_shift_totals};
 use sqlite::{Alter, Transaction};
 use std::alloc::Global;
 use sts_fields::amount_law;
-use vend_core::Sale;
 
-// The greater of two identifiers, of which the first may be missing.
-fn later_tid(greatest: Option<u32>, tid: u32) -> u32
-    ensures { result ≡ max (unwrap_or greatest 0) tid }
-{
-    match greatest {
-        Some(other) if tid < other => other,
-        _ => tid,
-    }
-}
-
-// Adds a sale to the totals of the sales before it. Its identifier need not be above theirs.
-fn total_sale<S: Alter>(
-    alloc: Global,
-    tx: &mut Transaction<'_, S>,
-    sale: &Sale,
-) -> Result<(), TableError>
+// Puts the last identifiers in.
+fn put_last_ids<S: Alter>(tx: &mut Transaction<'_, S>, ids: &LastIds) -> Result<(), TableError>
     ensures same_reference { tx.new.conn.ghost_name ≡ tx.old.conn.ghost_name }
-    ensures adds { HasCleanDisk (state S.Store tx.new.conn.now)
-        → IsUnderWay (state S.Store tx.old.conn.now)
+    ensures puts { HasCleanDisk (state S.Store tx.new.conn.now)
         → HasAllTables (state S.Store tx.old.conn.now)
-        → OnOk result (TotalsSale sale.now
+        → OnOk result (PutsFirst with_last_ids AreAnyIds (values ids.now)
         (state S.Store tx.old.conn.now) (state S.Store tx.new.conn.now)) }
-    ensures transaction { KeepsTransaction
+    ensures goes_on { GoesOn
         (state S.Store tx.old.conn.now) (state S.Store tx.new.conn.now) result }
-    ensures no_false_row { FindsNoFalseRow (FollowsTotals sale.now)
-        (state S.Store tx.old.conn.now) (state S.Store tx.new.conn.now) result }
+    ensures database { IfErr result (λ e. e ≢ TableError.RowOfNoOffice) }
 {
-    amount_law();
-    let greatest = greatest_inside(alloc, tx, &sale.meter, sale.base)?;
-    add_totals(tx, sale, later_tid(greatest, sale.tid))?;
+    'rows: for row in ids.values() {
+        put_last_id(tx, &row.0.0, row.0.1, row.1)?;
+    }
     Ok(())
 }
 
-// Adds the next sales to the totals, a page of them after those up to a number, and answers the
-// number of the last one.
-fn total_page<S: Alter>(
-    alloc: Global,
-    tx: &mut Transaction<'_, S>,
-    done: u32,
-) -> Result<u32, TableError>
+// Puts the tenths of the meters in the months in.
+fn put_months<S: Alter>(tx: &mut Transaction<'_, S>, months: &MonthTenths) -> Result<(), TableError>
     ensures same_reference { tx.new.conn.ghost_name ≡ tx.old.conn.ghost_name }
-    ensures adds { HasCleanDisk (state S.Store tx.new.conn.now)
-        → IsUnderWay (state S.Store tx.old.conn.now)
+    ensures puts { HasCleanDisk (state S.Store tx.new.conn.now)
         → HasAllTables (state S.Store tx.old.conn.now)
-        → IfOk result (λ last. TotalsPage done last
-        (state S.Store tx.old.conn.now) (state S.Store tx.new.conn.now)) }
-    ensures shows { HasCleanDisk (state S.Store tx.new.conn.now)
-        → HasTable sales_kept (state S.Store tx.old.conn.now)
-        → IfOk result (λ last. ShowsUpto done last
-        (rows_in (state S.Store tx.old.conn.now).now (codes "sales"))) }
-    ensures transaction { KeepsTransaction
+        → OnOk result (PutsFirst with_month_tenths FitMonths
+        (values months.now) (state S.Store tx.old.conn.now) (state S.Store tx.new.conn.now)) }
+    ensures goes_on { GoesOn
         (state S.Store tx.old.conn.now) (state S.Store tx.new.conn.now) result }
-    ensures no_false_row { FindsNoFalseRow (HasSomeTotals done)
-        (state S.Store tx.old.conn.now) (state S.Store tx.new.conn.now) result }
+    ensures database { IfErr result (λ e. e ≢ TableError.RowOfNoOffice) }
 {
-    let page = sales_inside(alloc, tx, done, PAGE)?;
-    let Some(last) = last_of(&page, done) else {
-        return Err(TableError::RowOfNoOffice);
-    };
-    'sales: for sale in &page {
-        total_sale(alloc, tx, sale)?;
+    'rows: for row in months.values() {
+        put_month_tenths(tx, &row.0.0, row.0.1, row.1)?;
     }
-    Ok(last)
+    Ok(())
 }
 
-/// Makes the totals of all sales, page by page, where there are none.
+// Puts the totals of the shifts in.
+fn put_shifts<S: Alter>(tx: &mut Transaction<'_, S>, shifts: &ShiftTotals) -> Result<(), TableError>
+    ensures same_reference { tx.new.conn.ghost_name ≡ tx.old.conn.ghost_name }
+    ensures puts { HasCleanDisk (state S.Store tx.new.conn.now)
+        → HasAllTables (state S.Store tx.old.conn.now)
+        → OnOk result (PutsFirst with_shift_totals FitShifts
+        (values shifts.now) (state S.Store tx.old.conn.now) (state S.Store tx.new.conn.now)) }
+    ensures goes_on { GoesOn
+        (state S.Store tx.old.conn.now) (state S.Store tx.new.conn.now) result }
+    ensures database { IfErr result (λ e. e ≢ TableError.RowOfNoOffice) }
+{
+    'rows: for row in shifts.values() {
+        put_shift_totals(tx, row.0, &row.1)?;
+    }
+    Ok(())
+}
+
+/// Makes the totals of all sales, where there are none: one row for each key.
 ///
 /// # Errors
 /// What the database refuses, want of memory, and a row that is no office's.
@@ -111,17 +98,12 @@ pub(crate) fn fill_totals<S: Alter>(
     ensures no_false_row { FindsNoFalseRow (HasSomeTotals 0)
         (state S.Store tx.old.conn.now) (state S.Store tx.new.conn.now) result }
 {
-    first_sale_inside(alloc, tx)?;
-    let mut done = 0;
-    'pages: for turn in 0..u32::MAX {
-        let last = total_page(alloc, tx, done)?;
-        if last == done {
-            return Ok(());
-        }
-        done = last;
-    }
-    // No office has so many sales.
-    Err(TableError::RowOfNoOffice)
+    amount_law();
+    let gathered = gather(alloc, tx)?;
+    put_last_ids(tx, &gathered.last_ids)?;
+    put_months(tx, &gathered.month_tenths)?;
+    put_shifts(tx, &gathered.shift_totals)?;
+    Ok(())
 }
 
 /// Makes the present base of each meter one that it had, where no base is there.

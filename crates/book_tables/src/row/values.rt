@@ -1,13 +1,15 @@
 //! The values of the columns of a row, in the order of its table, as a write binds them.
 
-ghost use Rattle.std.specs.Prelude.{◌≡◌, ◌∷◌, []};
+ghost use Rattle.std.specs.Prelude.{◌≡◌, ◌<◌, ◌^◌, ◌∷◌, []};
 ghost use Rattle.sqlite.specs.Values.{bound};
 ghost use Rattle.sqlite.specs.declared.types.Value.TheVariants.{Text};
 ghost use Rattle.sts_fields.specs.Base.{year_of};
 ghost use Rattle.sts_token.specs.Key.{IsKeyText};
-ghost use Rattle.book_tables.specs.row.Rows.{dated_columns, last_id_columns, meter_columns, month_columns, number, optional, sale_columns, shift_columns, step_columns, tariff_columns};
+ghost use Rattle.book_tables.specs.row.Rows.{dated_columns, last_id_columns, meter_columns, month_columns, number, optional, sale_columns, shift_columns, step_columns, tariff_columns, totals_columns};
 ghost use Rattle.sqlite_value.specs.Value.{owned};
+ghost use Rattle.book_tables.specs.writing.Writing.{HasRoomFor};
 
+use crate::row::totals::Totals;
 use sqlite::types::ValueRef;
 use sts_fields::{Base, Day, Moment, month_of};
 use tariff::Step;
@@ -217,4 +219,35 @@ pub(crate) fn sale_total_values(shift: u32, tenths: u32, price: u32) -> [ValueRe
     ensures { bound result ≡ number shift ∷ number tenths ∷ number price ∷ [] }
 {
     [whole(shift), whole(tenths), whole(price)]
+}
+
+// A sum, where a column can hold it.
+fn total(sum: u64) -> ValueRef<'static>
+    ensures { sum < 2 ^ 63 → owned result ≡ number sum }
+{
+    ValueRef::Int(i64::try_from(sum).unwrap_or(i64::MAX))
+}
+
+/// The number of a meter, a month, and the sum of the meter's tenths in it, where a column can hold
+/// it.
+pub(crate) fn month_total_values(meter: &MeterNo, month: u32, tenths: u64) -> [ValueRef<'_>; 3]
+    ensures { tenths < 2 ^ 63 → bound result ≡ month_columns ((meter.now, month), tenths) }
+{
+    [
+        ValueRef::Text(meter.as_bytes()),
+        whole(month),
+        total(tenths),
+    ]
+}
+
+/// The number of a shift, and its totals, where the columns can hold them.
+pub(crate) fn shift_total_values(shift: u32, totals: &Totals) -> [ValueRef<'static>; 4]
+    ensures { HasRoomFor totals.now → bound result ≡ totals_columns (shift, totals.now) }
+{
+    [
+        whole(shift),
+        total(totals.sales),
+        total(totals.tenths),
+        total(totals.cash),
+    ]
 }

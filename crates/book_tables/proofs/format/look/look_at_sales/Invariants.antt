@@ -1,4 +1,4 @@
-use Rattle.std.proofs.Common.{◌≡◌, ◌≤◌, ℕ, length, codes, Ok}
+use Rattle.std.proofs.Common.{◌≡◌, ◌≤◌, length, codes, Ok}
 use Rattle.sqlite.specs.Held.{state}
 use Rattle.sqlite.specs.State.{HasCleanDisk, IsUnchanged}
 use Rattle.one_table.specs.InTransaction.{KeepsTransaction}

@@ -1,4 +1,4 @@
-use Rattle.std.proofs.Common.{◌≡◌, ◌<◌, ◌∙◌, ◌^◌, List, [], ◌∷◌, ◌++◌, append-nil, append_assoc, ap, arith, length, subst, sym, take}
+use Rattle.std.proofs.Common.{◌<◌, ◌∙◌, ◌^◌, List, [], ◌∷◌, ◌++◌, append-nil, append_assoc, ap, arith, length, subst, sym, take}
 use Rattle.std.proofs.lemmas.List.{length-append, length-take-le, take_all, take_more}
 use Rattle.vend_core.specs.declared.office.sale.Sale.{Sale}
 use Rattle.book_tables.specs.row.Gathered.{IsGathered}

@@ -1,0 +1,21 @@
+use Rattle.std.proofs.Common.{◌≡◌, ◌++◌, ℕ, List, Ok}
+use Rattle.std.specs.BTreeMap.{values}
+use Rattle.sqlite.specs.Held.{state}
+use Rattle.sqlite.specs.State.{HasCleanDisk}
+use Rattle.sts_fields.specs.declared.base.Base.{Base}
+use Rattle.book_tables.specs.format.Filling.{GoesOn, PutsFirst}
+use Rattle.book_tables.specs.reading.Reading.{HasAllTables}
+use Rattle.book_tables.specs.writing.Putting.{AreAnyIds, with_last_ids}
+use Rattle.book_tables.proofs.format.fill.put_last_ids.Given as goal
+
+abbrev pub invariant-rows : goal.invariant-rows
+invariant-rows g l =
+    let old = state g.S.Store l.fn.tx.conn.now in
+    let now = state g.S.Store l.tx.conn.now in
+    record {
+      same : l.tx.conn.ghost_name ≡ l.fn.tx.conn.ghost_name;
+      goes_on : GoesOn old now (Ok tt);
+      before : List ((List ℕ × Base) × ℕ);
+      split : before ++ l.row-iterator ≡ values l.ids;
+      puts : HasCleanDisk now → HasAllTables old → PutsFirst with_last_ids AreAnyIds before old now;
+    }

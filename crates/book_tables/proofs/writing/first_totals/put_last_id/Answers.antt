@@ -1,0 +1,15 @@
+use Rattle.std.specs.Prelude.{codes}
+use Rattle.sqlite.specs.Held.{state}
+use Rattle.one_table.proofs.ChangeLemmas.{on_ok}
+use Rattle.one_table.specs.Standing.{place_in, tree_in}
+use Rattle.book_tables.specs.Tables.{last_ids_table}
+use Rattle.book_tables.proofs.OfficeTableLemmas.{last_ids_in}
+use Rattle.book_tables.proofs.WritingLemmas.PuttingLemmas.{new_last_id_means, puts_last_id, three_terms}
+use Rattle.book_tables.proofs.writing.first_totals.put_last_id.Goals as goal
+
+pub returns-clause-puts : goal.returns-clause-puts
+returns-clause-puts g c clean has =
+    let s = c.args.tx.now.conn.now.schema in
+    let tree = tree_in s (codes "last_ids") in
+    on_ok c.put.result (puts_last_id (state g.S.Store c.args.tx.now.conn.now) (state g.S.Store c.put.new.tx.conn.now) ((c.args.meter.now, c.args.base), c.args.tid) _ c.last_id_values.ensures)
+    (c.put.ensures.added clean (last_ids_table tree) (place_in s (codes "last_ids")) three_terms (new_last_id_means tree) (λ runs. (last_ids_in.there s (has runs)).0.has))
