@@ -1,3 +1,4 @@
+pub mod GatheredLemmas
 pub mod KeyTextLemmas
 pub mod PartLemmas
 pub mod RecordLemmas

@@ -150,7 +150,7 @@ module _ (sales : List Sale) (s : Sale) where
   sum_of_some p f xs = omega (arith, sum_by-filter_both p (λ x. not (p x)) (λ _. refl) f xs)
 
   -- what is added up of a month is some of all
-  month_within : month_sum ≤ sum_by (λ t. t.tenths) (sales ++ s ∷ [])
+  pub month_within : month_sum ≤ sum_by (λ t. t.tenths) (sales ++ s ∷ [])
   month_within =
       let of_month = sales_in_month sales (month_key s) in
       omega (
@@ -161,7 +161,7 @@ module _ (sales : List Sale) (s : Sale) where
       )
 
   -- and so of a shift
-  shift_within : (shift_sum.sales ≤ length (sales ++ s ∷ [])) × (shift_sum.tenths ≤ sum_by (λ t. t.tenths) (sales ++ s ∷ [])) × (shift_sum.cash ≤ cash_of (sales ++ s ∷ []))
+  pub shift_within : (shift_sum.sales ≤ length (sales ++ s ∷ [])) × (shift_sum.tenths ≤ sum_by (λ t. t.tenths) (sales ++ s ∷ [])) × (shift_sum.cash ≤ cash_of (sales ++ s ∷ []))
   shift_within =
       let of_shift = sales_in_shift sales s.shift in
       let total = totals_sum of_shift in

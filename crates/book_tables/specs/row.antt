@@ -1,3 +1,4 @@
+pub mod Gathered
 pub mod Parts
 pub mod ReadBack
 pub mod Rows

@@ -15,5 +15,6 @@ pub use error::TableError;
 pub use format::tables::PRESENT_FORMAT;
 pub use laws::{members_law, stands_law};
 pub use row::cells;
+pub use row::gathered::Gathered;
 pub use row::record::Record;
 pub use row::totals::{SaleTotals, Totals};

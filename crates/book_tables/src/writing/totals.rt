@@ -4,13 +4,13 @@
 ghost use Rattle.std.specs.Prelude.{◌≡◌, IfErr, IfOk};
 ghost use Rattle.sqlite.specs.Held.{state};
 ghost use Rattle.sqlite.specs.State.{HasCleanDisk};
-ghost use Rattle.sts_fields.specs.Calendar.{month_at};
 ghost use Rattle.one_table.specs.InTransaction.{IsUnderWay, KeepsTransaction};
 ghost use Rattle.book_tables.specs.writing.Failing.{FailsToMergeAll};
 ghost use Rattle.book_tables.specs.reading.Reading.{HasAllTables};
 ghost use Rattle.book_tables.specs.writing.Writing.{AddsTenths, AddsToShift, FindsNoFalseRow, MayAddSold, MayAddTenths, MayAddToShift, MayAddTotals, MaySetLastId, MergesTables, SetsLastId, TellsSold, TellsTotals};
 
 use crate::error::TableError;
+use crate::row::gathered::month_of_sale;
 use crate::row::total_records::{Tenths, Tid};
 use crate::row::totals::{SaleTotals, Totals};
 use crate::row::values::{last_id_values, sale_total_values, tenths_values};
@@ -18,7 +18,7 @@ use crate::texts::{LAST_ID_SET, SALE_COUNTED, TENTHS_ADDED};
 use crate::writing::additions::add_sale;
 use crate::writing::merge::merge;
 use sqlite::{Alter, Transaction};
-use sts_fields::{Base, amount_law, month_of};
+use sts_fields::{Base, amount_law};
 use vend_core::{MeterNo, Sale};
 
 /// Sets the last identifier of a meter under a base.
@@ -82,12 +82,6 @@ pub fn add_to_shift<S: Alter>(
 {
     let all: Totals = merge(tx, SALE_COUNTED, &sale_total_values(shift, tenths, price))?;
     Ok(all)
-}
-
-fn month_of_sale(sale: &Sale) -> u32
-    ensures { result ≡ month_at sale.now.moment }
-{
-    month_of(sale.moment).unwrap()
 }
 
 /// Adds a sale to the totals, after which this is the last identifier of its meter under its base,
