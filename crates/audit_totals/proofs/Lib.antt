@@ -1,0 +1,10 @@
+pub mod BrokenLemmas
+pub mod FallenLemmas
+pub mod FoundLemmas
+pub mod KeyLemmas
+pub mod MadeLemmas
+pub mod PlaceLemmas
+pub mod SeenLemmas
+pub mod StepLemmas
+pub mod TableLemmas
+pub mod WholeLemmas

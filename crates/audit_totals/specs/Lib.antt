@@ -1,0 +1,5 @@
+pub mod Broken
+pub mod Finding
+pub mod Places
+pub mod Seen
+pub mod Totalled
