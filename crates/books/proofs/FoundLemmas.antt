@@ -10,7 +10,7 @@ use Rattle.vend_core.specs.Office.{Office}
 use Rattle.book_tables.specs.Holds.{AreStoredRows, HoldsRows, IsKept, StandsFor, rows_in}
 use Rattle.book_tables.specs.Kept.{Kept, upto}
 use Rattle.book_tables.specs.row.Rows.{Rows}
-use Rattle.books.specs.Found.{AreShownRows, ShowsOffice, ShowsRows}
+use Rattle.books.specs.Found.{AreShownRows, ShowsOffice, ShowsTable}
 
 stored_if_ordered : (numbered : Bool) (rows stored : List Row) → IsInOrder rows → AreShownRows numbered rows stored → AreStoredRows numbered rows stored
 stored_if_ordered true rows stored order same = same
@@ -24,11 +24,11 @@ module _ (db : Database) where
   abbrev pub AreTablesInOrder : Type 0
   AreTablesInOrder = (t : Table) → Stands db.schema t → IsInOrder (rows_in db t.name)
 
-  each_stored : AreTablesInOrder → (n : ℕ) (rows : Rows) (ks : List Kept) → AllByRecursion (IsKept db.schema) ks → AllByRecursion (ShowsRows db n rows) ks → AllByRecursion (HoldsRows db n rows) ks
+  each_stored : AreTablesInOrder → (n : ℕ) (rows : Rows) (ks : List Kept) → AllByRecursion (IsKept db.schema) ks → AllByRecursion (ShowsTable db n rows) ks → AllByRecursion (HoldsRows db n rows) ks
   each_stored ordered n rows [] has shown = tt
   each_stored ordered n rows (k ∷ ks) has shown = (stored_if_ordered k.is_numbered _ _ (ordered k.table has.0.0) shown.0, each_stored ordered n rows ks has.1 shown.1)
 
-  each_shown : (n : ℕ) (rows : Rows) (ks : List Kept) → AllByRecursion (HoldsRows db n rows) ks → AllByRecursion (ShowsRows db n rows) ks
+  each_shown : (n : ℕ) (rows : Rows) (ks : List Kept) → AllByRecursion (HoldsRows db n rows) ks → AllByRecursion (ShowsTable db n rows) ks
   each_shown n rows [] held = tt
   each_shown n rows (k ∷ ks) held = (shown_if_stored k.is_numbered _ _ held.0, each_shown n rows ks held.1)
 

@@ -8,6 +8,7 @@ use Rattle.sqlite_disk.specs.declared.Disk.{Ghosts}
 use Rattle.sqlite_store.specs.FileStore.{view}
 use Rattle.sqlite_store.specs.declared.store.FileStore.{FileStore}
 use Rattle.sqlite_wal.specs.Recovery.{Image}
+use Rattle.kept_order.specs.InOrder.{HasTablesInOrder}
 use Rattle.vend_core.specs.Office.{Office}
 use Rattle.book_states.specs.Stores.{StoreStandsFor}
 use Rattle.book_opening.specs.Opening.{LeavesBrought, LeavesRefused, OpensAs}
@@ -21,14 +22,18 @@ use Rattle.book_opening.specs.declared.fault.OpenFault.TheVariants.{NotAnOffice}
 abbrev pub OpensAgain : (D : Type 0) → (g : Ghosts D) → Type 0
 OpensAgain D g = (c : Held (FileStore D g)) (o : Office) → Opens (file_state c) → IsLive (file_state c) → FindsOffice (file_state c).committed.trees o → StoreStandsFor (file_state c) o
 
+-- it has its tables in order
+abbrev pub OpensInOrder : (D : Type 0) → (g : Ghosts D) → Type 0
+OpensInOrder D g = (c : Held (FileStore D g)) → Opens (file_state c) → IsLive (file_state c) → HasTablesInOrder (file_state c).now
+
 module _ {D : Type 0} {g : Ghosts D} where
   module _ (image : Image) (first last : Held (FileStore D g)) (opens : HasCleanDisk (file_state first) → Opens (file_state first) × IsLive (file_state first))
-      (finds : HasCleanDisk (file_state first) → FindsIn image (file_state first)) where
+      (finds : HasCleanDisk (file_state first) → FindsIn image (file_state first)) (ordered : OpensInOrder D g) where
     pub connected : HasCleanDisk (file_state first) → IsConnected image (file_state first)
     connected clean =
         let it = finds clean in
         let open_is = opens clean in
-        record { opens = open_is.0; live = open_is.1; found = record { holds = it.holds; reads = it.reads } }
+        record { opens = open_is.0; live = open_is.1; in_order = ordered first open_is.0 open_is.1; found = record { holds = it.holds; reads = it.reads } }
 
     pub opens_files : (HasCleanDisk (file_state first) → IsBlankAs false image → (view first.store).has_sums ≡ false) → (file_state first).step_limit ≡ None → (HasCleanDisk (file_state last) → OpensAs (file_state first) (file_state last))
         → Survives (file_state first) (file_state last) (LeavesBrought (file_state first)) → OpensFiles image last

@@ -17,13 +17,13 @@ AreShownRows true rows stored = rows ≡ stored
 AreShownRows false rows stored = map (drop 1) rows ≡ stored
 
 -- the table shows what is stored of these rows in a format
-abbrev pub ShowsRows : Database → ℕ → Rows → Kept → Type 0
-ShowsRows db n rows k = AreShownRows k.is_numbered (rows_in db k.table.name) (k.stored n rows)
+abbrev pub ShowsTable : Database → ℕ → Rows → Kept → Type 0
+ShowsTable db n rows k = AreShownRows k.is_numbered (rows_in db k.table.name) (k.stored n rows)
 
 -- the database has the tables of a format, which show these rows
-pub record ShowsOf (n : ℕ) (db : Database) (rows : Rows) : Type 0 where
+pub record ShowsTables (n : ℕ) (db : Database) (rows : Rows) : Type 0 where
   pub has : HasOfficeOf n db.schema
-  pub are : AllByRecursion (ShowsRows db n rows) (upto n)
+  pub are : AllByRecursion (ShowsTable db n rows) (upto n)
   pub of_format : IsOfFormat n rows
 
 -- The database shows the members of the office in the tables of a format, and where that has none
@@ -33,7 +33,7 @@ pub record ShowsOffice (db : Database) (o : Office) : Type 0 where
   pub format : ℕ
   pub known : format ≤ present_format
   pub rows : Rows
-  pub shown : ShowsOf format db rows
+  pub shown : ShowsTables format db rows
   pub members : AreMembersOf rows o
   pub empty : format ≡ 0 → o ≡ empty_office
 

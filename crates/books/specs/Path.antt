@@ -12,6 +12,7 @@ use Rattle.sqlite_store.specs.FileStore.{files as store_files, view}
 use Rattle.sqlite_store.specs.declared.store.FileStore.{FileStore}
 use Rattle.sqlite_trees.specs.Tree.{Trees}
 use Rattle.sqlite_wal.specs.Recovery.{Image}
+use Rattle.kept_order.specs.InOrder.{HasTablesInOrder}
 use Rattle.vend_core.specs.Office.{Office}
 use Rattle.book_states.specs.Stores.{StoreStandsFor}
 use Rattle.book_opening.specs.Opening.{LeavesBrought, LeavesRefused, OpensAs, fault_of}
@@ -33,10 +34,12 @@ pub record MayFind (image : Image) (trees : Trees) : Type 0 where
 abbrev pub StandsIn : Image → Office → Type 0
 StandsIn image o = (trees : Trees) → MayFind image trees → FindsOffice trees o
 
--- a connection was just made to the files, and has what they hold
+-- A connection was just made to the files, and has what they hold. The rows of each table are in
+-- the order of their numbers.
 pub record IsConnected (image : Image) (s : State) : Type 0 where
   pub opens : Opens s
   pub live : IsLive s
+  pub in_order : HasTablesInOrder s.now
   pub found : MayFind image s.committed.trees
 
 module _ {D : Type 0} {g : Ghosts D} where

@@ -4,6 +4,7 @@ ghost use Rattle.sqlite_wal.specs.Recovery.{Image};
 ghost use Rattle.sqlite.specs.Files.{HoldsDatabase, IsNothing};
 ghost use Rattle.sqlite.specs.Held.{Held, state};
 ghost use Rattle.sqlite.specs.State.{IsLive, Opens};
+ghost use Rattle.kept_order.specs.InOrder.{HasTablesInOrder};
 ghost use Rattle.vend_core.specs.Office.{Office, empty_office};
 ghost use Rattle.book_states.specs.Stores.{RecoversTo, StoreStandsFor};
 ghost use Rattle.books.specs.Found.{FindsOffice};
@@ -39,6 +40,8 @@ pub fn found_law<S: KeepsOrder>()
     ensures opens { (c : Held S) (o : Office)
         → Opens (state S.Store c) → IsLive (state S.Store c)
         → FindsOffice (state S.Store c).committed.trees o → StoreStandsFor (state S.Store c) o }
+    ensures in_order { (c : Held S) → Opens (state S.Store c) → IsLive (state S.Store c)
+        → HasTablesInOrder (state S.Store c).now }
 
     // What stands for an office shows it, over any store.
     ensures shows { (trees : Trees) (o : Office) → RecoversTo trees o → FindsOffice trees o }
