@@ -24,6 +24,8 @@ mod steps;
 ///
 /// # Errors
 /// What the database refuses, want of memory, and a row that is no office's.
+// The facts are large: they stay where they are written, and no other function has room for them.
+#[inline(never)]
 pub(crate) fn facts_of<S: Alter>(
     alloc: Global,
     conn: &mut Connection<S>,

@@ -96,7 +96,7 @@ fn answer_all<O, S: Service<O>, L: Line<R, W>, R: Read, W: Write, C: Clock>(
         (W.contents writer.new, L.uses line.new) input.now result }
 {
     let mut len = 0;
-    'messages: loop {
+    'messages: while len < input.len() {
         let wants = match next_of(&input[len..]) {
             Next::Whole(message) => {
                 if let Err(end) = answer_one(
@@ -116,6 +116,10 @@ fn answer_all<O, S: Service<O>, L: Line<R, W>, R: Read, W: Write, C: Clock>(
         };
         return Ok(Awaiting { len, wants });
     }
+    Ok(Awaiting {
+        len,
+        wants: Wants::Head(MAX_HEAD),
+    })
 }
 
 // Answers one message, and writes the reply.

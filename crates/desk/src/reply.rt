@@ -6,4 +6,5 @@ mod head;
 pub(crate) mod law;
 mod members;
 pub(crate) mod outcome;
+mod sale_text;
 pub(crate) mod text;

@@ -19,6 +19,7 @@ use tariff::{MAX_PRIOR, Steps};
 use vend_core::{Meter, MeterAccount, MeterNo, Moment, store_law};
 
 /// What a sale at a moment looks at of the meter of a number.
+#[inline(never)]
 pub(crate) fn account_numbered<S: Alter>(
     alloc: Global,
     conn: &mut Connection<S>,

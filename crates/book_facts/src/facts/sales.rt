@@ -17,6 +17,8 @@ use vend_core::{Facts, Moment, Order};
 
 /// What Sell looks at: the rest only where no sale was made under the order's ref. The count of
 /// sales is the caller's, which knows the number of the next one.
+// A function of its own, so that no other request takes the room of its facts.
+#[inline(never)]
 pub(crate) fn sale_facts<S: Alter>(
     alloc: Global,
     conn: &mut Connection<S>,

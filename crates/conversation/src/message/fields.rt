@@ -39,7 +39,7 @@ pub(crate) fn asks_to_close(input: &[u8], spans: &[HeaderSpan]) -> bool
         ≡ list_any is_close (values_of (codes "connection") (fields_at input.now spans.now)) }
 {
     for field in spans {
-        if is_same(field.name.of(input), b"connection")
+        if is_same(field.name.of(input), b"Connection")
             && is_same(field.value.of(input), b"close")
         {
             return true;
@@ -48,9 +48,10 @@ pub(crate) fn asks_to_close(input: &[u8], spans: &[HeaderSpan]) -> bool
     false
 }
 
-// Whether the bytes are the same, but for the case of ASCII letters.
+// Whether the bytes are the same, but for the case of ASCII letters. Most names have the case that
+// they are asked for in, which takes fewer steps to see.
 fn is_same(a: &[u8], b: &[u8]) -> bool
     ensures { result ≡ str_eq_ignore_ascii_case a.now b.now }
 {
-    a.eq_ignore_ascii_case(b)
+    a == b || a.eq_ignore_ascii_case(b)
 }

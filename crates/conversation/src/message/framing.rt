@@ -65,7 +65,7 @@ fn names_its_host(minor: u8, input: &[u8], spans: &[HeaderSpan]) -> bool
     requires { All (IsHeaderWithin (length input.now)) spans.now }
     ensures { result ≡ names_its_host minor (fields_at input.now spans.now) }
 {
-    minor == 0 || matches!(only_value(input, spans, b"host"), Only::One(_))
+    minor == 0 || matches!(only_value(input, spans, b"Host"), Only::One(_))
 }
 
 // Whether there is no `Transfer-Encoding` field.
@@ -73,7 +73,7 @@ fn is_uncoded(input: &[u8], spans: &[HeaderSpan]) -> bool
     requires { All (IsHeaderWithin (length input.now)) spans.now }
     ensures { result ≡ is_uncoded (fields_at input.now spans.now) }
 {
-    matches!(only_value(input, spans, b"transfer-encoding"), Only::Absent)
+    matches!(only_value(input, spans, b"Transfer-Encoding"), Only::Absent)
 }
 
 // The length of the body.
@@ -82,7 +82,7 @@ fn body_len(input: &[u8], spans: &[HeaderSpan]) -> Result<usize, MessageFault>
     ensures { result
         ≡ body_len (values_of (codes "content-length") (fields_at input.now spans.now)) }
 {
-    match only_value(input, spans, b"content-length") {
+    match only_value(input, spans, b"Content-Length") {
         Only::Absent => Ok(0),
         Only::One(digits) => length_of(digits),
         Only::Several => Err(MessageFault::Length),

@@ -1,14 +1,14 @@
 ghost use Rattle.std.specs.Prelude.{◌≡◌, IfOk};
-ghost use Rattle.papers.specs.Text.{change_of};
 ghost use Rattle.desk.specs.reply.Members.{json_text};
 ghost use Rattle.desk.specs.reply.Body.{answer_body, body_of, fault_members, name_members, refusal_members, row_members, sale_body, sale_members};
 
 use crate::reply::form::Form;
 use crate::reply::members::{Member, object_text};
 use crate::reply::outcome::Outcome;
+use crate::reply::sale_text::{change, sale_text, seconds};
 use papers::{receipt, shift_report};
 use std::alloc::{AllocError, Global};
-use vend_core::{Answer, Category, Moment, Refusal, Sale};
+use vend_core::{Answer, Category, Refusal, Sale};
 
 // The body for what came of a message.
 pub(crate) fn body_of(alloc: Global, outcome: &Outcome) -> Result<Vec<u8>, AllocError>
@@ -97,13 +97,26 @@ fn sale_body(alloc: Global, form: Form, sale: &Sale) -> Result<Vec<u8>, AllocErr
     ensures { IfOk result (λ body. body.items ≡ sale_body form sale.now) }
 {
     match form {
-        Form::Json => sale_text(alloc, sale),
+        Form::Json => sale_json(alloc, sale),
         Form::Paper => receipt(alloc, sale),
     }
 }
 
-// A sale as JSON.
-fn sale_text(alloc: Global, sale: &Sale) -> Result<Vec<u8>, AllocError>
+// A sale as JSON. A token that is no digits, as no office has, is told as the library does it.
+fn sale_json(alloc: Global, sale: &Sale) -> Result<Vec<u8>, AllocError>
+    ensures { IfOk result (λ body. body.items ≡ json_text (sale_members sale.now)) }
+{
+    if sale.digits.iter().all(|byte| byte.is_ascii_digit()) {
+        Vec::from_slice(alloc, &sale_text(sale))
+    } else {
+        sale_object(alloc, sale)
+    }
+}
+
+// A sale as JSON, by an object of its members.
+#[cold]
+#[inline(never)]
+fn sale_object(alloc: Global, sale: &Sale) -> Result<Vec<u8>, AllocError>
     ensures { IfOk result (λ body. body.items ≡ json_text (sale_members sale.now)) }
 {
     let members = [
@@ -122,18 +135,4 @@ fn sale_text(alloc: Global, sale: &Sale) -> Result<Vec<u8>, AllocError>
         ("token", Member::Text(sale.digits.as_slice())),
     ];
     object_text(alloc, &members)
-}
-
-// What a customer gets back of the tender; a price is at most its tender, so nothing is cut off.
-fn change(sale: &Sale) -> u32
-    ensures { result ≡ change_of sale.now }
-{
-    sale.tender.cents().saturating_sub(sale.price)
-}
-
-// The Unix seconds of a moment, none of which lies before 1970.
-fn seconds(moment: Moment) -> u64
-    ensures { result ≡ moment }
-{
-    moment.secs() as u64
 }

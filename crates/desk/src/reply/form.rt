@@ -1,5 +1,5 @@
-ghost use Rattle.std.specs.Prelude.{◌≡◌};
-ghost use Rattle.desk.specs.reply.Text.{media_type};
+ghost use Rattle.std.specs.Prelude.{◌≡◌, ◌++◌, codes};
+ghost use Rattle.desk.specs.reply.Text.{field_line, media_type};
 ghost use Rattle.desk.specs.reply.Head.{answer_form};
 
 use vend_core::Answer;
@@ -26,13 +26,14 @@ impl Form {
         }
     }
 
-    // The media type of a body.
-    pub(crate) fn media_type(self) -> &'static str
-        ensures { result.now ≡ media_type self }
+    // The fields that tell of a body, up to its length.
+    pub(crate) fn content_front(self) -> &'static str
+        ensures { result.now ≡ field_line (codes "Content-Type") (media_type self)
+            ++ codes "Content-Length: " }
     {
         match self {
-            Form::Json => "application/json",
-            Form::Paper => "text/plain",
+            Form::Json => "Content-Type: application/json\r\nContent-Length: ",
+            Form::Paper => "Content-Type: text/plain\r\nContent-Length: ",
         }
     }
 }

@@ -1,12 +1,14 @@
-ghost use Rattle.std.specs.Prelude.{◌≡◌, ◌++◌, IfOk, OnOk};
+ghost use Rattle.std.specs.Prelude.{◌≡◌, ◌++◌, IfOk, OnOk, codes, decimal};
 ghost use Rattle.http.specs.StatusCode.{IsStatusCode};
-ghost use Rattle.desk.specs.reply.Text.{allow_line, connection_line, field_line, reply_bytes_of, reply_text, status_line};
+ghost use Rattle.desk.specs.reply.Text.{allow_line, connection_line, field_line, media_type, reply_bytes_of, reply_text, status_line};
 
 use crate::reply::body::body_of;
+use crate::reply::form::Form;
 use crate::reply::head::ReplyHead;
 use crate::reply::outcome::Outcome;
 use conversation::Method;
 use http::StatusCode;
+use itoa::Buffer;
 use std::alloc::{AllocError, Global};
 
 // More bytes than the longest head takes.
@@ -27,11 +29,9 @@ fn reply_text(alloc: Global, head: ReplyHead, body: &[u8]) -> Result<Vec<u8>, Al
     requires { IsStatusCode head.status }
     ensures { IfOk result (λ text. text.items ≡ reply_text head body.now) }
 {
-    let len = format!(in alloc; "{}", body.len())?;
     let mut text = Vec::with_capacity(alloc, HEAD_ROOM + body.len())?;
     put_status(alloc, &mut text, head.status)?;
-    put_field(&mut text, "Content-Type", head.form.media_type())?;
-    put_field(&mut text, "Content-Length", &len)?;
+    put_content(&mut text, head.form, body.len())?;
     put_allowed(&mut text, head.allowed)?;
     put_closing(&mut text, head.closes)?;
     text.extend_from_slice(b"\r\n")?;
@@ -39,8 +39,23 @@ fn reply_text(alloc: Global, head: ReplyHead, body: &[u8]) -> Result<Vec<u8>, Al
     Ok(text)
 }
 
-// Adds the line of a status.
+// Adds the line of a status. That of 200, which most replies have, is written out.
 fn put_status(alloc: Global, text: &mut Vec<u8>, status: u16) -> Result<(), AllocError>
+    requires { IsStatusCode status }
+    ensures { OnOk result (text.new.items ≡ text.old.items ++ status_line status) }
+{
+    if status == 200 {
+        text.extend_from_slice(b"HTTP/1.1 200 OK\r\n")?;
+        Ok(())
+    } else {
+        put_any_status(alloc, text, status)
+    }
+}
+
+// Adds the line of any status.
+#[cold]
+#[inline(never)]
+fn put_any_status(alloc: Global, text: &mut Vec<u8>, status: u16) -> Result<(), AllocError>
     requires { IsStatusCode status }
     ensures { OnOk result (text.new.items ≡ text.old.items ++ status_line status) }
 {
@@ -49,6 +64,19 @@ fn put_status(alloc: Global, text: &mut Vec<u8>, status: u16) -> Result<(), Allo
     text.extend_from_slice(b"HTTP/1.1 ")?;
     text.extend_from_slice(shown.as_bytes())?;
     text.extend_from_slice(b"\r\n")
+}
+
+// Adds the fields that tell of a body: its media type and its length.
+fn put_content(text: &mut Vec<u8>, form: Form, len: usize) -> Result<(), AllocError>
+    ensures { OnOk result (text.new.items ≡ text.old.items
+        ++ field_line (codes "Content-Type") (media_type form)
+        ++ field_line (codes "Content-Length") (decimal len)) }
+{
+    let mut digits = Buffer::new();
+    text.extend_from_slice(form.content_front().as_bytes())?;
+    text.extend_from_slice(digits.format(len).as_bytes())?;
+    text.extend_from_slice(b"\r\n")?;
+    Ok(())
 }
 
 // Adds the line of a field.

@@ -1,5 +1,9 @@
-use Rattle.std.proofs.Common.{[], ◌+◌, ◌++◌, drop, subst, arith}
+use Rattle.std.proofs.Common.{◌≡◌, [], ◌+◌, ◌++◌, drop, subst, sym, arith}
+use Rattle.std.proofs.Math.ListN.{drop_of_length-le}
 use Rattle.std.proofs.lemmas.List.{drop-drop, length-drop, take_rest}
+use Rattle.conversation.specs.message.Heads.{longest_head}
+use Rattle.conversation.specs.Wants.{IsAwaited}
+use Rattle.conversation.specs.declared.wants.Wants.TheVariants.{Head}
 use Rattle.conversation.specs.declared.end.End.TheVariants.{Closed}
 use Rattle.conversation.specs.Exchanges.{timed}
 use Rattle.conversation.specs.message.Messages.{BeginsMessage}
@@ -7,6 +11,7 @@ use Rattle.conversation.specs.message.Next.{message_of}
 use Rattle.conversation.proofs.EndLemmas.{answered_end, closed_end, told_end, end_after}
 use Rattle.conversation.proofs.ProgressLemmas.{progress_none, progress_one, progress_trans}
 use Rattle.conversation.proofs.ReadingLemmas.{message_takes}
+use Rattle.conversation.proofs.RunLemmas.{awaits_nothing}
 use Rattle.conversation.proofs.UsesLemmas.{whole_after, whole_none}
 use Rattle.conversation.proofs.conversation.answer_all.Goals as goal
 
@@ -78,3 +83,11 @@ returns-in-Refused g c =
     let ever = rw (take_rest input len) at c.in-Refused.ensures.next in
     end_after step refusal _ _ _ _ _ _ input (drop len input) inv.text c.refuse.result inv.wrote inv.progress
     (told_end step refusal _ _ _ (drop len input) c.in-Refused.fault c.refuse.result ever c.refuse.ensures)
+
+pub returns : goal.returns
+returns g c =
+    let input = c.args.input.now in
+    let len = c.messages.len in
+    let inv = c.messages.invariant in
+    let none : drop len input ≡ [] = drop_of_length-le input (omega arith) in
+    (inv.text, inv.wrote, inv.within, inv.progress, subst (λ rest. IsAwaited rest (Head longest_head)) (sym none) awaits_nothing)

@@ -1,7 +1,5 @@
-use Rattle.std.proofs.Common.{arith, append_assoc}
-use Rattle.desk.specs.reply.Text.{status_line}
+use Rattle.desk.proofs.ReplyLemmas.{ok_line}
 use Rattle.desk.proofs.reply.text.put_status.Goals as goal
 
-pub returns : goal.returns
-unfolding status_line
-returns c = grind (arith, append_assoc)
+pub returns-in_ok-extend_from_slice : goal.returns-in_ok-extend_from_slice
+returns-in_ok-extend_from_slice c = rw (c.if-status-eq200.true, ok_line) c.in_ok-extend_from_slice.ensures.items

@@ -1,7 +1,7 @@
 use Rattle.std.proofs.Common.{◌≡◌, ◌∙◌, IfOk, List, subst}
 use Rattle.desk.specs.reply.Members.{Pair, json_text}
 use Rattle.desk.proofs.SaleLemmas.{sale_members-are}
-use Rattle.desk.proofs.reply.body.sale_text.Goals as goal
+use Rattle.desk.proofs.reply.body.sale_object.Goals as goal
 
 pub returns : goal.returns
 returns c =
