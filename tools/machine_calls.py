@@ -1,0 +1,253 @@
+"""What the program asks of the system: which files it opens, when it has to do with sockets, and which salt
+it gives the log of a file: a part of tools/check_program. It is no script of its own. tools/watch_calls.c
+watches; cc builds it."""
+import http.client
+import json
+import os
+import re
+import resource
+import signal
+import subprocess
+from pathlib import Path
+
+from file_names import program
+from program import AT, METER, TOP, WAIT, expect, prepare, sell_words
+
+DRAWN = bytes(range(16))
+# The toolchain draws a key of its own first, when it opens a file.
+FIRST_SALT = 1
+# How often the toolchain makes a salt of the number that it was given, at the most: when it opens a
+# file, when it copies a log into the database, and when it closes the file.
+SALTS = 8
+IN_64_BITS = 2**64 - 1
+HAS = ["socket", "bind", "listen"]
+SELFCHECK = HAS + ["socket", "connect", "accept"]
+KEY = "0" * 16
+TOKEN = "00072057602627981690"
+
+
+class Watcher:
+    """Runs of the program that is watched, in a folder."""
+
+    def __init__(self, folder):
+        self.folder, self.told = folder, folder / "told"
+        self.library = folder / "watch_calls.so"
+        subprocess.run(["cc", "-Wall", "-Wextra", "-Werror", "-O2", "-shared", "-fPIC", "-o",
+                        self.library, TOP / "tools" / "watch_calls.c", "-ldl"], check=True)
+
+    def options(self):
+        self.told.write_bytes(b"")
+        return {"cwd": self.folder, "stdin": subprocess.DEVNULL,
+                "env": {**os.environ, "LC_ALL": "C", "LD_PRELOAD": str(self.library),
+                        "CALLS_TOLD": str(self.told), "CALLS_DRAWN": DRAWN.hex()}}
+
+    def run(self, words):
+        return subprocess.run([program(), *words], capture_output=True, timeout=WAIT, **self.options())
+
+    def calls(self):
+        """The files that the last run opened, how often it drew random bytes, and what it had to do
+        with sockets."""
+        lines = self.told.read_text().splitlines()
+        opened = {os.path.realpath(self.folder / line.removeprefix("open ")) for line in lines
+                  if line.startswith("open ")}
+        others = [line for line in lines if not line.startswith("open ")]
+        return opened, others.count("draw"), [line for line in others if line != "draw"]
+
+
+def files_of(file):
+    """What is opened of an office: its two files, and their folder."""
+    return {os.path.realpath(it) for it in (file, f"{file}-wal", file.parent)}
+
+
+def sip_hash(low, high, data):
+    """SipHash-1-3 of some bytes, under a key of two halves."""
+    def turned(number, places):
+        return (number << places | number >> 64 - places) & IN_64_BITS
+
+    def mix(a, b, c, d):
+        a = a + b & IN_64_BITS
+        b, a = turned(b, 13) ^ a, turned(a, 32)
+        c = c + d & IN_64_BITS
+        d = turned(d, 16) ^ c
+        a = a + d & IN_64_BITS
+        d = turned(d, 21) ^ a
+        c = c + b & IN_64_BITS
+        return a, turned(b, 17) ^ c, turned(c, 32), d
+
+    a, b = low ^ 0x736F6D6570736575, high ^ 0x646F72616E646F6D
+    c, d = low ^ 0x6C7967656E657261, high ^ 0x7465646279746573
+    data = data + bytes(-(len(data) + 1) % 8) + bytes([len(data) % 256])
+    for place in range(0, len(data), 8):
+        word = int.from_bytes(data[place:place + 8], "little")
+        a, b, c, d = mix(a, b, c, d ^ word)
+        a ^= word
+    c ^= 0xFF
+    for _ in range(3):
+        a, b, c, d = mix(a, b, c, d)
+    return a ^ b ^ c ^ d
+
+
+def salts_of(draw):
+    """The second halves of the salts that the toolchain makes, one after another, where the program
+    gives it the number of this draw: the hash of a byte under the key that was drawn."""
+    drawn = bytes([DRAWN[0] + draw]) + DRAWN[1:]
+    given = sip_hash(*(int.from_bytes(drawn[at:at + 8], "little") for at in (0, 8)), b"\0")
+    seed = max(1, sip_hash(0, 0, given.to_bytes(8, "little") + b"salt"))
+    for _ in range(SALTS):
+        seed = seed * 0x5851F42D4C957F2D + 0x14057B7EF767814F & IN_64_BITS
+        yield seed.to_bytes(8, "little")[4:]
+
+
+def salt_in(file):
+    """The second half of the salt that the head of a file's log has. The first counts."""
+    return Path(f"{file}-wal").read_bytes()[20:24]
+
+
+def expect_salt(file, draw, what):
+    if salt_in(file) not in list(salts_of(draw)):
+        raise SystemExit(f"wrong: {what} gave its log the salt {salt_in(file).hex()}, which is not of the "
+                         f"number that was drawn: {[it.hex() for it in salts_of(draw)]}")
+
+
+def check_salts(folder, watcher):
+    """The log of a file has the salt of the number that was drawn for it, with each command and each time
+    that it is opened again; where nothing is put in place of what is drawn it is another each time."""
+    file = folder / "salts.db"
+    shift = ["shift", "--file", str(file), "--operator", "ann", "--at", AT]
+    for state in ("open", "close", "open"):
+        expect(watcher.run([*shift, state]), 0, err=b"")
+        expect_salt(file, FIRST_SALT, f"shift {state}")
+    expect(watcher.run(["report", "--file", str(file), "--kind", "sales"]), 0, err=b"")
+    expect_salt(file, FIRST_SALT, "a report")
+    found = set()
+    for _ in range(8):
+        expect(subprocess.run([program(), *shift, "open"], capture_output=True), 1, b"",
+               b"refused 3 ShiftOpen\n")
+        found.add(salt_in(file))
+    if len(found) != 8:
+        raise SystemExit(f"wrong: of eight commands some gave the log the same salt: {found}")
+
+
+def check_calls(folder, watcher):
+    """A command opens its own file, and `import` its file of rows, and nothing else; what needs no office
+    opens none. Only `serve` listens, only `selfcheck` connects too, and each takes the connections that
+    it was asked for."""
+    file = folder / "calls.db"
+    office, rows = files_of(file), str(TOP / "examples" / "tariffs.csv")
+    none = os.path.realpath(watcher.folder / "none.csv")
+    prepare(file)
+    given = ["--file", str(file), "--at", AT]
+    for words, status, opened, sockets in (
+            (sell_words(file, "A-1"), 0, office, []),
+            (sell_words(file, "A-1", "20"), 1, office, []),
+            (["shift", *given, "--operator", "bob", "open"], 0, office, []),
+            (["base", *given, "--meter", METER, "--base", "2014"], 0, office, []),
+            (["report", "--file", str(file), "--kind", "sales"], 0, office, []),
+            (["import", *given, "tariffs", rows], 0, office | {os.path.realpath(rows)}, []),
+            (["import", *given, "meters", rows], 1, {os.path.realpath(rows)}, []),
+            (["import", *given, "tariffs", "none.csv"], 1, {none}, []),
+            (["trial", "--key", KEY, "--base", "2014", "--at", AT, "1"], 0, set(), []),
+            (["meter", "--key", KEY, TOKEN], 0, set(), []),
+            (["quote", ":100", "0", "10"], 0, set(), []),
+            (["quote", ":0", "0", "10"], 2, set(), []),
+            (["sell", *given], 2, set(), []), (["--help"], 0, set(), []), ([], 2, set(), []),
+            (["selfcheck"], 0, set(), SELFCHECK)):
+        ran = watcher.run(words)
+        expect(ran, status)
+        found = watcher.calls()
+        if found != (opened, FIRST_SALT + 1 if opened & office else 0, sockets):
+            raise SystemExit(f"wrong: {words} asked of the system {found}\nexpected {opened}, {sockets}")
+    with Served(watcher, file, 3) as served:
+        for _ in range(3):
+            served.ask("GET", "/sales/1")
+        served.finish()
+    found = watcher.calls()
+    if found != (office, FIRST_SALT + 1, HAS + ["accept"] * 3):
+        raise SystemExit(f"wrong: serve asked of the system {found}")
+
+
+class Served:
+    """`serve` for so many connections, watched."""
+
+    def __init__(self, watcher, file, connections, **options):
+        words = ["serve", "--file", str(file), "--listen", "127.0.0.1:0",
+                 "--connections", str(connections)]
+        self.process = subprocess.Popen([program(), *words], stderr=subprocess.PIPE,
+                                        stdout=subprocess.PIPE, **watcher.options(), **options)
+        line = self.process.stderr.readline()
+        told = re.fullmatch(rb"listening 127\.0\.0\.1:([0-9]+)\n", line)
+        if not told:
+            self.process.kill()
+            raise SystemExit(f"wrong: serve began with {line}")
+        self.port = int(told[1])
+
+    def __enter__(self):
+        return self
+
+    def __exit__(self, *_):
+        self.process.kill()
+        self.process.communicate()
+
+    def connect(self):
+        return http.client.HTTPConnection("127.0.0.1", self.port, timeout=WAIT)
+
+    def ask(self, method, target, body=None):
+        """The status and the text of the reply, on a connection of its own."""
+        client = self.connect()
+        found = asked(client, method, target, body)
+        client.close()
+        return found
+
+    def finish(self):
+        out, err = self.process.communicate(timeout=WAIT)
+        if (self.process.returncode, out, err) != (0, b"", b""):
+            raise SystemExit(f"wrong: serve ended with {self.process.returncode}, {out}, {err}")
+
+
+def asked(client, method, target, body=None):
+    client.request(method, target, body)
+    reply = client.getresponse()
+    return reply.status, reply.read()
+
+
+def order(number):
+    return json.dumps({"meter": METER, "operator": "ann", "ref": f"S-{number}", "tender": 10})
+
+
+def check_opened_again(folder, watcher):
+    """A file that cannot grow is opened again for the next connection, with a salt that is drawn anew."""
+    file = folder / "again.db"
+    prepare(file)
+    size = max(Path(f"{file}{end}").stat().st_size for end in ("", "-wal"))
+
+    def no_growth():
+        signal.signal(signal.SIGXFSZ, signal.SIG_IGN)
+        resource.setrlimit(resource.RLIMIT_FSIZE, (size + 400000, size + 400000))
+
+    with Served(watcher, file, 2, preexec_fn=no_growth) as served:
+        client = served.connect()
+        for number in range(1000):
+            status, text = asked(client, "POST", "/sales", order(number))
+            if status != 200:
+                break
+        if status != 503 or b'"refusal":16' not in text:
+            raise SystemExit(f"wrong: a file that cannot grow: {status} {text}")
+        client.close()
+        if served.ask("GET", "/sales/1")[0] != 200:
+            raise SystemExit("wrong: a file that was opened again")
+        served.finish()
+    found = watcher.calls()
+    if found != (files_of(file), FIRST_SALT + 2, HAS + ["accept"] * 2):
+        raise SystemExit(f"wrong: a file that was opened again: {found}")
+    expect_salt(file, FIRST_SALT + 1, "a file that was opened again")
+
+
+def check_machine_calls(folder):
+    """Files, sockets and salts."""
+    folder = folder / "machine"
+    folder.mkdir()
+    watcher = Watcher(folder)
+    check_salts(folder, watcher)
+    check_calls(folder, watcher)
+    check_opened_again(folder, watcher)
+    print("calls of the system: no file, socket or salt but those of the words")
