@@ -4,6 +4,7 @@ use office_testing::both::Both;
 use office_testing::in_file::{Life, live_and_change, live_and_stop, remove};
 use sqlite::Alter;
 use std::fs;
+use std::process::Termination;
 use std::test::Fail;
 use sts_token::{BlockTransform, Plain};
 use vend_core::Lists;
@@ -11,7 +12,8 @@ use vend_core::Lists;
 const PATH: &str = "refused.db";
 
 // No database, and longer than the head of one.
-const TEXT: &str = "This is no database, and has more than a hundred bytes, so that nobody takes it \
+const TEXT: &str =
+    "This is no database, and has more than a hundred bytes, so that nobody takes it \
     for an empty file or for the beginning of one.";
 
 // What makes an office's file that of no office.
@@ -49,8 +51,12 @@ pub(crate) fn refuse(rt: &HostRuntime) -> Result<usize, Fail> {
 fn refuse_one(rt: &HostRuntime) -> Result<(), Fail> {
     let before = fs::read(rt, PATH)?;
     let lists = Lists::new(rt.alloc(), Plain);
-    if live_and_stop(rt, PATH, Plain, lists, Idle).is_ok() {
-        return Err("a file of no office was opened".into());
+    match live_and_stop(rt, PATH, Plain, lists, Idle) {
+        Ok(_) => return Err("a file of no office was opened".into()),
+        // A failure cannot be let go, so it is told on standard error.
+        Err(refusal) => {
+            let _ = Err::<(), Fail>(refusal).report(rt);
+        }
     }
     if fs::read(rt, PATH)? != before {
         return Err("a file that was refused has changed".into());
