@@ -1,0 +1,61 @@
+use audit_rows::TableName;
+use sqlite::Row;
+use vend_core::{MeterNo, TariffName};
+
+/// The rules that a row may break. `docs/OFFICE.md`, "Audit", has them in words.
+#[derive(Clone, Copy, Debug, PartialEq, Eq)]
+pub enum Rule {
+    /// The values of its columns are those of no record.
+    Value,
+    /// In the order of their numbers, the row at its place has another number.
+    Gap,
+    /// The month is not that of the moment.
+    Month,
+    /// The shift is open beside another one of its operator.
+    TwoOpen,
+    /// No row is at the place before it, or the steps are none that a tariff may have.
+    Steps,
+    /// The base is none that the meter had, or a later one than its present base.
+    Base,
+    /// Another row of the table has its key.
+    Twice,
+    /// It names a row that is not there; or it is itself not there, a row of totals.
+    Missing,
+    /// A row of totals has a key of no sale; or there are too many rows.
+    Surplus,
+    /// A row of totals tells another value than the sales.
+    Total,
+}
+
+/// Which row of a table it is.
+#[derive(Debug, Drop)]
+pub enum RowKey {
+    /// The one of this number, from 1.
+    Number(u64),
+    /// One of this tariff.
+    Tariff(TariffName),
+    /// One of this meter.
+    Meter(MeterNo),
+    /// One of these columns, in the order of the table.
+    Columns(Row),
+}
+
+/// A row that no office has.
+#[derive(Debug, Drop)]
+pub struct Finding {
+    /// The table that has it.
+    pub table: TableName,
+    /// The rule that it breaks.
+    pub rule: Rule,
+    /// Which one it is.
+    pub row: RowKey,
+}
+
+/// Why rows are not said to be those of an office.
+#[derive(Debug, Drop)]
+pub enum OfficeFault {
+    /// A row is no office's.
+    Found(Finding),
+    /// There was no memory.
+    Memory,
+}

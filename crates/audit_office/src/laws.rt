@@ -1,0 +1,28 @@
+//! What holds of a database of whose rows there is a finding.
+
+ghost use Rattle.std.specs.Prelude.{◌≤◌, ℕ};
+ghost use Rattle.sqlite.specs.Effect.{Database};
+ghost use Rattle.vend_core.specs.Office.{Office};
+ghost use Rattle.book_tables.specs.Holds.{HasOfficeOf, StandsFor};
+ghost use Rattle.book_tables.specs.row.Rows.{present_format};
+ghost use Rattle.audit_stored.specs.AllRows.{IsReadAs};
+ghost use Rattle.audit_stored.specs.Entries.{rows_of};
+ghost use Rattle.audit_stored.specs.declared.office_rows.OfficeRows.{OfficeRows};
+ghost use Rattle.audit_office.specs.Told.{IsBroken};
+ghost use Rattle.audit_office.specs.declared.finding.Finding.{Finding};
+
+use audit_rules::{broken_law, totals_law};
+use audit_stored::stored_law;
+use audit_totals::sums_law;
+
+/// A database of whose rows there is a finding stands for no office.
+pub fn office_law()
+    ensures { (n : ℕ) (db : Database) (rows : OfficeRows) (f : Finding) (o : Office)
+        → 1 ≤ n → n ≤ present_format → HasOfficeOf n db.schema → IsReadAs n db (rows_of rows)
+        → IsBroken n rows f → StandsFor db o → ⊥ }
+{
+    broken_law();
+    totals_law();
+    sums_law();
+    stored_law();
+}
