@@ -1,6 +1,7 @@
-use Rattle.std.proofs.Common.{◌≡◌, ◌≤◌, ◌<◌, ◌∙◌, ℕ, refl, sym, subst}
+use Rattle.std.proofs.Common.{List, sym, subst}
 use Rattle.sqlite.specs.Effect.{Database}
 use Rattle.vend_core.specs.Office.{Office}
+use Rattle.vend_core.specs.declared.office.sale.Sale.{Sale}
 use Rattle.book_tables.specs.Holds.{HasOfficeOf, StandsFor}
 use Rattle.book_tables.specs.Stands.{AreMembersOf, AreTotalsOf}
 use Rattle.book_tables.specs.row.Rows.{Rows, present_format}
@@ -18,8 +19,8 @@ pub returns : goal.returns
 returns c n db rows f o some known has read (by_rules l shows t b i breaks named) stands =
     let only = c.stored_law.ensures.only n db (rows_of rows) o some known has read.has read.keep stands in
     let members = c.totals_law.ensures.part (with_totals (rows_of rows) only.0.0) o only.0.1 in
-    c.broken_law.ensures l (totals_in only.0.0) t b i breaks o (subst (λ (all : Rows). AreMembersButTotals all o) members (sym (same_rows rows l only.0.0 shows)), stands.office)
+    c.broken_law.ensures l (totals_in only.0.0) t b i breaks o (subst (λ (all : Rows). AreMembersButTotals all o) (sym (same_rows rows l only.0.0 shows)) members, stands.office)
 returns c n db rows f o some known has read (by_totals two t breaks named) stands =
     let only = c.stored_law.ensures.only n db (rows_of rows) o some known has read.has read.keep stands in
     let members = only.1 two in
-    c.sums_law.ensures.found rows.sales.items (rows_of rows) t breaks (subst (λ sales. AreTotalsOf sales (rows_of rows)) members.totals (sym members.sales))
+    c.sums_law.ensures.found rows.sales.items (rows_of rows) t breaks (subst (λ (sales : List Sale). AreTotalsOf sales (rows_of rows)) (sym members.sales) members.totals)
