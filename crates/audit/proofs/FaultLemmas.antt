@@ -1,0 +1,95 @@
+-- Why an audit stops, from why the reading does.
+use Rattle.std.proofs.Common.{◌≡◌, ◌≤◌, ℕ, IsTrue, Result, Ok, Err, inl, inr, refl, sym, subst, arith}
+use Rattle.sqlite.specs.Effect.{Database}
+use Rattle.sqlite.specs.State.{HasCleanDisk, IsUnchanged, State, Survives}
+use Rattle.sqlite.specs.declared.error.Error.TheVariants.{SqliteFailure}
+use Rattle.sqlite.specs.declared.error.ErrorCode.TheVariants.{OutOfMemory}
+use Rattle.one_table.specs.ReadsOnly.{ReadsOnly}
+use Rattle.vend_core.specs.Office.{Office}
+use Rattle.book_tables.specs.Holds.{HasOfficeOf, StandsFor}
+use Rattle.book_tables.specs.row.Rows.{present_format}
+use Rattle.audit_office.specs.Told.{IsBroken}
+use Rattle.audit_office.specs.declared.finding.Finding.{Finding}
+use Rattle.audit_rows.specs.Breaks.{Breaks}
+use Rattle.audit_rows.specs.Fails.{FailsToAudit as FailsToRead, IsKnown}
+use Rattle.audit_rows.specs.declared.finding.AuditFault.{AuditFault as ReadFault}
+use Rattle.audit_rows.specs.declared.finding.AuditFault.TheVariants as read
+use Rattle.audit_rows.specs.declared.finding.Finding.{Finding as ReadFinding}
+use Rattle.audit_stored.specs.AllRows.{IsReadAs}
+use Rattle.audit_stored.specs.Entries.{rows_of}
+use Rattle.audit_stored.specs.declared.office_rows.OfficeRows.{OfficeRows}
+use Rattle.audit.specs.Audited.{IsToldAs}
+use Rattle.audit.specs.Fails.{FailsToAudit, IsNoOffices, IsSoundOf, by_office, by_row, read_fault}
+use Rattle.audit.specs.declared.fault.AuditFault.{AuditFault}
+use Rattle.audit.specs.declared.fault.AuditFault.TheVariants.{Failed, Found}
+
+as_read : (old new : State) (e : ReadFault) → FailsToRead old new e → FailsToAudit old new (read_fault e)
+as_read old new (read.Found g) why = (by_row g why.0 refl, why.1)
+as_read old new read.NoOffice why = why
+as_read old new (read.Failed e) why = why
+
+module _ {old new : State} where
+  -- the reading stops
+  pub read_stops : {K : State → Type 0} {T U : Type 0} (e : ReadFault) (fault : AuditFault) → fault ≡ read_fault e → ReadsOnly {T = T} K IsUnchanged FailsToRead old new (Err e) → ReadsOnly {T = U} K IsUnchanged FailsToAudit old new (Err fault)
+  read_stops e fault is this = record {
+    same = λ _ _. tt;
+    kept = this.kept;
+    mode = this.mode;
+    faults = λ clean known. subst (FailsToAudit old new) (sym is) (as_read old new e (this.faults clean known));
+    survives = this.survives;
+  }
+
+  -- it succeeds, and what is read is no office's
+  pub office_stops : {n : ℕ} {U : Type 0} {rows : OfficeRows} → 1 ≤ n → n ≤ present_format → (f : Finding) → IsBroken n rows f
+      → (HasCleanDisk new → IsKnown (IsSoundOf n) old → IsToldAs n old.now rows) → ReadsOnly (IsKnown (IsSoundOf n)) IsUnchanged FailsToRead old new (Ok rows)
+      → ReadsOnly {T = U} (IsKnown (IsSoundOf n)) IsUnchanged FailsToAudit old new (Err (Found f))
+  office_stops {n} {U} {rows} some within f broken told this = record {
+    same = λ _ _. tt;
+    kept = λ clean known. inl (this.same clean known);
+    mode = this.mode;
+    faults = λ clean known.
+        let same = this.same clean known in
+        (by_office n some within (known same.0.was_open).has rows (told clean known).read broken, same);
+    survives = this.survives;
+  }
+
+  -- it succeeds, and memory is lacking then
+  pub memory_stops : {K : State → Type 0} {T U : Type 0} {x : T} → ReadsOnly K IsUnchanged FailsToRead old new (Ok x) → ReadsOnly {T = U} K IsUnchanged FailsToAudit old new (Err (Failed (SqliteFailure OutOfMemory)))
+  memory_stops this = record {
+    same = λ _ _. tt;
+    kept = λ clean known. inl (this.same clean known);
+    mode = this.mode;
+    faults = λ clean known. inr (refl, this.same clean known);
+    survives = this.survives;
+  }
+
+-- ---- where nothing is read
+
+pub unread : (s : State) → IsTrue s.is_open → IsUnchanged s s
+unread s runs = (record { was_open = runs; is_open = runs; now_is = refl; committed_is = refl; mode = refl }, record { changes = refl; last_rowid = refl }, refl)
+
+pub unread_survives : (s : State) → Survives s s (λ _. ⊥)
+unread_survives s = record { clean = omega arith; shield = λ k. k; counts = omega arith; limit = refl; closes = λ _ k. inl k; crash = λ _ db k. inl k }
+
+pub unread_reads : {T : Type 0} (s : State) (x : T) → ReadsOnly (λ (s : State). IsTrue s.is_open) IsUnchanged FailsToAudit s s (Ok x)
+unread_reads s x = record { same = λ clean runs. unread s runs; kept = λ _ _. tt; mode = λ outside. outside; faults = λ _ _. tt; survives = λ _. unread_survives s }
+
+pub unread_stops : {T : Type 0} (s : State) (e : AuditFault) → (IsTrue s.is_open → IsUnchanged s s → FailsToAudit s s e) → ReadsOnly {T = T} (λ (s : State). IsTrue s.is_open) IsUnchanged FailsToAudit s s (Err e)
+unread_stops s e why = record { same = λ _ _. tt; kept = λ clean runs. inl (unread s runs); mode = λ outside. outside; faults = λ clean runs. why runs (unread s runs); survives = λ _. unread_survives s }
+
+-- what is known is known of a connection that is open
+pub when_open : (Known : Database → Type 0) {T : Type 0} {old new : State} (r : Result T AuditFault) → IsKnown Known old → ReadsOnly (IsKnown Known) IsUnchanged FailsToAudit old new r → ReadsOnly (λ (s : State). IsTrue s.is_open) IsUnchanged FailsToAudit old new r
+when_open Known r known this = record {
+  same = λ clean _. this.same clean known;
+  kept = λ clean _. this.kept clean known;
+  mode = this.mode;
+  faults = λ clean _. this.faults clean known;
+  survives = λ _. this.survives known;
+}
+
+-- ---- what a finding says
+
+pub none_of : (f : Finding) (db : Database) (o : Office) → StandsFor db o → ((g : ReadFinding) → Breaks g db → StandsFor db o → ⊥)
+    → ((n : ℕ) (rows : OfficeRows) → 1 ≤ n → n ≤ present_format → HasOfficeOf n db.schema → IsReadAs n db (rows_of rows) → IsBroken n rows f → StandsFor db o → ⊥) → IsNoOffices f db → ⊥
+none_of f db o stands row_law office_law (by_row g breaks is) = row_law g breaks stands
+none_of f db o stands row_law office_law (by_office n some known has rows read broken) = office_law n rows some known has read broken stands

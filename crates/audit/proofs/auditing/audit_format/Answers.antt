@@ -1,0 +1,10 @@
+use Rattle.audit.proofs.FaultLemmas.{read_stops}
+use Rattle.audit.proofs.auditing.audit_format.Goals as goal
+
+pub returns-in-Err-clause-reads : goal.returns-in-Err-clause-reads
+returns-in-Err-clause-reads g c = read_stops c.in-Err.fault c.read_fault.result c.read_fault.ensures c.in-Err.ensures.reads
+
+pub returns-in-Ok-test_office-clause-given : goal.returns-in-Ok-test_office-clause-given
+returns-in-Ok-test_office-clause-given g c clean known =
+    let told = c.in-Ok.ensures.given clean known in
+    record { rows = c.in-Ok.rows; told = told; shows = c.in-Ok-test_office.ensures.passes told.read.keep; counts = c.counted.ensures }

@@ -1,0 +1,140 @@
+//! The audit of a database: all rows of all its tables.
+
+ghost use Rattle.std.specs.Prelude.{◌≡◌, ◌≤◌, false, IfOk, IsTrue, OnOk};
+ghost use Rattle.sqlite.specs.State.{HasCleanDisk, IsUnchanged, Survives};
+ghost use Rattle.sqlite.specs.Held.{state};
+ghost use Rattle.one_table.specs.ReadsOnly.{ReadsOnly};
+ghost use Rattle.book_tables.specs.format.Format.{HasFormat};
+ghost use Rattle.book_tables.specs.row.Rows.{present_format};
+ghost use Rattle.audit_rows.specs.Fails.{FailsToAudit as FailsToRead, IsKnown};
+ghost use Rattle.audit.specs.Audited.{HaveWholeShifts, IsTested, IsToldAs, Passes};
+ghost use Rattle.audit.specs.Fails.{FailsToAudit, IsSoundOf, failed};
+
+use crate::audited::{Audited, counted, no_tables};
+use crate::fault::{AuditFault, read_fault};
+use audit_office::{OfficeFault, test_office};
+use audit_rows::AuditFault as ReadFault;
+use audit_stored::{OfficeRows, read_office_rows, stored_law};
+use book_tables::TableError;
+use book_tables::format::number::format_number;
+use book_tables::format::presence::format_here;
+use kept_order::{KeepsOrder, connection_order_law, order_law};
+use sqlite::{Alter, Connection, Error, ErrorCode};
+use std::alloc::Global;
+
+fn failed(error: TableError) -> ReadFault
+    ensures { result ≡ failed error }
+{
+    match error {
+        TableError::Database(error) => ReadFault::Failed(error),
+        TableError::RowOfNoOffice => {
+            ReadFault::Failed(Error::SqliteFailure(ErrorCode::OutOfMemory))
+        }
+    }
+}
+
+// The tables of a format have to tell that format.
+fn test_told<S: Alter>(
+    alloc: Global,
+    conn: &mut Connection<S>,
+    format: u32,
+) -> Result<(), ReadFault>
+    requires some { 1 ≤ format }
+    requires known { format ≤ present_format }
+    ensures tells { HasCleanDisk (state S.Store conn.new)
+        → IsKnown (IsSoundOf format) (state S.Store conn.old)
+        → OnOk result (HasFormat (state S.Store conn.old).now format) }
+    ensures reads { ReadsOnly (IsKnown (IsSoundOf format)) IsUnchanged FailsToRead
+        (state S.Store conn.old) (state S.Store conn.new) result }
+{
+    let told = match format_number(alloc, conn) {
+        Ok(told) => told,
+        Err(error) => return Err(failed(error)),
+    };
+    if told == Some(format) {
+        Ok(())
+    } else {
+        Err(ReadFault::NoOffice)
+    }
+}
+
+// The rows of the tables of a format that tell it.
+fn read_told<S: Alter>(
+    alloc: Global,
+    conn: &mut Connection<S>,
+    format: u32,
+) -> Result<OfficeRows, ReadFault>
+    requires some { 1 ≤ format }
+    requires known { format ≤ present_format }
+    ensures given { HasCleanDisk (state S.Store conn.new)
+        → IsKnown (IsSoundOf format) (state S.Store conn.old)
+        → IfOk result (IsToldAs format (state S.Store conn.old).now) }
+    ensures reads { ReadsOnly (IsKnown (IsSoundOf format)) IsUnchanged FailsToRead
+        (state S.Store conn.old) (state S.Store conn.new) result }
+{
+    test_told(alloc, conn, format)?;
+    read_office_rows(alloc, conn, format)
+}
+
+// The audit of the tables of a format.
+fn audit_format<S: Alter>(
+    alloc: Global,
+    conn: &mut Connection<S>,
+    format: u32,
+) -> Result<Audited, AuditFault>
+    requires some { 1 ≤ format }
+    requires known { format ≤ present_format }
+    ensures given { HasCleanDisk (state S.Store conn.new)
+        → IsKnown (IsSoundOf format) (state S.Store conn.old)
+        → IfOk result (IsTested format (state S.Store conn.old).now) }
+    ensures reads { ReadsOnly (IsKnown (IsSoundOf format)) IsUnchanged FailsToAudit
+        (state S.Store conn.old) (state S.Store conn.new) result }
+{
+    let rows = match read_told(alloc, conn, format) {
+        Ok(rows) => rows,
+        Err(fault) => return Err(read_fault(fault)),
+    };
+    match test_office(alloc, format, &rows) {
+        Ok(()) => Ok(counted(format, &rows)),
+        Err(OfficeFault::Found(found)) => Err(AuditFault::Found(found)),
+        Err(OfficeFault::Memory) => {
+            Err(AuditFault::Failed(Error::SqliteFailure(ErrorCode::OutOfMemory)))
+        }
+    }
+}
+
+/// Looks at all rows of all tables, of whatever format they are, and counts them.
+///
+/// Where it passes outside a transaction, the database stands for an office (`Passes`), as long as
+/// no row of a shift lacks a column, which nothing that reads by SQL can see.
+///
+/// # Errors
+/// A row that is no office's, so that the database stands for none (`audit_law`); tables of no
+/// format; what the database refuses, and want of memory. In each case the database is as it was.
+pub fn audit<S: KeepsOrder>(alloc: Global, conn: &mut Connection<S>) -> Result<Audited, AuditFault>
+    ensures given { HasCleanDisk (state S.Store conn.new)
+        → IsTrue (state S.Store conn.old).is_open
+        → (state S.Store conn.old).in_transaction ≡ false
+        → HaveWholeShifts (state S.Store conn.old).now
+        → IfOk result (Passes (state S.Store conn.old).now) }
+    ensures reads { ReadsOnly (λ s. IsTrue s.is_open) IsUnchanged FailsToAudit
+        (state S.Store conn.old) (state S.Store conn.new) result }
+    ensures survives { Survives (state S.Store conn.old) (state S.Store conn.new) (λ _. ⊥) }
+{
+    stored_law();
+    order_law::<S>();
+    connection_order_law(conn);
+    let found = match format_here(alloc, conn.schema()) {
+        Ok(found) => found,
+        Err(_) => {
+            return Err(AuditFault::Failed(Error::SqliteFailure(ErrorCode::OutOfMemory)));
+        }
+    };
+    let Some(format) = found else {
+        return Err(AuditFault::NoOffice);
+    };
+    if format == 0 {
+        return Ok(no_tables());
+    }
+    audit_format(alloc, conn, format)
+}
