@@ -76,10 +76,7 @@ impl OfficeFile for LapsingOffice {
         Ok((sound, lapsing))
     }
 
-    fn find_present(
-        self,
-        path: &str,
-    ) -> Result<Option<(Lapse<Memory>, Lapse<Memory>)>, OpenFault> {
+    fn find_present(self, path: &str) -> Result<Option<(Lapse<Memory>, Lapse<Memory>)>, OpenFault> {
         match self.find(path) {
             Ok(files) => Ok(Some(files)),
             Err(fault) => Err(fault),

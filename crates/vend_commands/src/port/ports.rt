@@ -71,10 +71,7 @@ pub trait OfficeFile: Drop {
 
     /// Opens the log and the database file at a path where that file is there, and makes neither
     /// where it is not.
-    fn find_present(
-        self,
-        path: &str,
-    ) -> Result<Option<(Self::Medium, Self::Medium)>, OpenFault>
+    fn find_present(self, path: &str) -> Result<Option<(Self::Medium, Self::Medium)>, OpenFault>
         ensures image { IfOk result (λ found. IfSome found
             (λ pair. seen_image Self.Medium.Disk pair.0 pair.1 ≡ image self path.now)) }
         ensures log { IfOk result (λ found. IfSome found
