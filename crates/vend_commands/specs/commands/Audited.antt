@@ -1,8 +1,8 @@
 -- What `audit` prints of the file that it is asked to look at.
 use Rattle.std.specs.Prelude.{[], Result, Ok, Err}
 use Rattle.audit.specs.declared.audited.Audited.{Audited}
-use Rattle.audit.specs.declared.finding.AuditFault.{AuditFault}
-use Rattle.audit.specs.declared.finding.AuditFault.TheVariants.{Failed, Found, NoOffice}
+use Rattle.audit.specs.declared.fault.AuditFault.{AuditFault}
+use Rattle.audit.specs.declared.fault.AuditFault.TheVariants.{Failed, Found, NoOffice}
 use Rattle.book_opening.specs.Opening.{fault_of}
 use Rattle.book_opening.specs.declared.fault.OpenFault.{OpenFault}
 use Rattle.book_opening.specs.declared.fault.OpenFault.TheVariants.{NotAnOffice}

@@ -1,6 +1,6 @@
 //! A file that is looked at where it is there: it is not made, and no office is opened in it.
 
-ghost use Rattle.std.specs.Prelude.{IfErr, IfNone, IfOk, IfSome};
+ghost use Rattle.std.specs.Prelude.{◌≡◌, false, IfErr, IfNone, IfOk, IfSome};
 ghost use Rattle.sqlite.specs.Files.{file_state};
 ghost use Rattle.sqlite.specs.State.{HasCleanDisk};
 ghost use Rattle.books.specs.Path.{IsConnected};
@@ -28,6 +28,8 @@ pub(crate) fn connect<H: OfficeFile>(
 ) -> Result<Option<Connection<FileStore<H::Medium>>>, OpenFault>
     ensures connected { IfOk result (λ found. IfSome found (λ conn. HasCleanDisk (file_state conn)
         → IsConnected (H.image office path.now) (file_state conn))) }
+    ensures rests { IfOk result
+        (λ found. IfSome found (λ conn. conn.in_transaction ≡ false)) }
     ensures meets { IfOk result (λ found. IfSome found
         (λ _. (places_of H.Medium.Disk H.Salts.SaltSource H.OfficeFile office path.now).meets)) }
     ensures misses { IfOk result (λ found. IfNone found

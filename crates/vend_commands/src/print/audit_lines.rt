@@ -45,12 +45,21 @@ pub(crate) fn put_broken<W: Write>(finding: &Finding, out: &mut Watched<'_, W>)
     ensures { (row : Text) × TellsRow finding.now.row row
         × Takes (sink W.contents out.old) (sink W.contents out.new) (broken_line finding.now row) }
 {
+    let table = finding.table.name().as_bytes();
+    let rule = rule_name(finding.rule);
     match &finding.row {
         RowKey::Number(place) => {
             let mut number = Buffer::new();
             let place = number.format(*place).as_bytes();
-            let table = finding.table.name().as_bytes();
-            put_line(&[b"broken", table, place, rule_name(finding.rule)], out);
+            put_line(&[b"broken", table, place, rule], out);
+        }
+        RowKey::Tariff(name) => {
+            let name = *name;
+            put_line(&[b"broken", table, name.as_bytes(), rule], out);
+        }
+        RowKey::Meter(meter) => {
+            let meter = *meter;
+            put_line(&[b"broken", table, meter.as_bytes(), rule], out);
         }
         RowKey::Columns(row) => put_key(finding, first_of(row), out),
     }
@@ -96,5 +105,11 @@ fn rule_name(rule: Rule) -> &'static [u8]
         Rule::Gap => b"gap",
         Rule::Month => b"month",
         Rule::TwoOpen => b"open",
+        Rule::Steps => b"steps",
+        Rule::Base => b"base",
+        Rule::Twice => b"twice",
+        Rule::Missing => b"missing",
+        Rule::Surplus => b"surplus",
+        Rule::Total => b"total",
     }
 }
