@@ -2,10 +2,10 @@
 use Rattle.std.specs.Prelude.{◌≡◌, List, [], Option, Some, None, codes}
 use Rattle.clap.specs.Walk.{Row}
 use Rattle.sts_fields.specs.Text.{Text}
-use Rattle.command_line.specs.Commands.{SaysImport, SaysMeterCommand, SaysQuote, SaysReport, SaysRequestWords, SaysSelfcheck, SaysServe, SaysTrial}
+use Rattle.command_line.specs.Commands.{SaysAudit, SaysImport, SaysMeterCommand, SaysQuote, SaysReport, SaysRequestWords, SaysSelfcheck, SaysServe, SaysTrial}
 use Rattle.command_line.specs.Line.{command_in, faults_in}
 use Rattle.command_line.specs.declared.asked.Asked.{Asked}
-use Rattle.command_line.specs.declared.asked.Asked.TheVariants.{Trial, Import, Request, Report, Meter, Quote, Serve, Selfcheck}
+use Rattle.command_line.specs.declared.asked.Asked.TheVariants.{Trial, Import, Request, Report, Meter, Quote, Serve, Selfcheck, Audit}
 
 -- the command of this name asks for this, as its rows say
 abbrev pub ArgumentsSay : (name : Text) → List Row → Asked → Type 0
@@ -17,6 +17,7 @@ ArgumentsSay name rows (Meter words) = (name ≡ codes "meter") × SaysMeterComm
 ArgumentsSay name rows (Quote words) = (name ≡ codes "quote") × SaysQuote rows words
 ArgumentsSay name rows (Serve words) = (name ≡ codes "serve") × SaysServe rows words
 ArgumentsSay name rows (Selfcheck words) = (name ≡ codes "selfcheck") × SaysSelfcheck rows words
+ArgumentsSay name rows (Audit words) = (name ≡ codes "audit") × SaysAudit rows words
 
 -- the same of a command, where there is one
 abbrev pub CommandAsks : Option (Text × List Row) → Asked → Type 0

@@ -7,6 +7,7 @@ use Rattle.sts_fields.specs.Text.{Text}
 use Rattle.command_line.specs.Address.{SaysAddress}
 use Rattle.command_line.specs.Said.{IsArgument, IsOptionalArgument, parsed_arguments, parsed_argument}
 use Rattle.command_line.specs.Values.{SayEach, SaysAmount, SaysBase, SaysConnections, SaysItem, SaysKey, SaysMeterNo, SaysMoment, SaysOperator, SaysPrior, SaysRef, SaysSteps, SaysTender, SaysText, SaysTransform}
+use Rattle.command_line.specs.declared.commands.audit.AuditWords.{AuditWords}
 use Rattle.command_line.specs.declared.commands.import.ImportWords.{ImportWords}
 use Rattle.command_line.specs.declared.commands.meter.MeterWords.{MeterWords}
 use Rattle.command_line.specs.declared.commands.quote.QuoteWords.{QuoteWords}
@@ -48,6 +49,9 @@ pub record SaysQuote (rows : List Row) (words : QuoteWords) : Type 0 where
 pub record SaysSelfcheck (rows : List Row) (words : SelfcheckWords) : Type 0 where
   pub transform : IsArgument SaysTransform
       (parsed_argument (codes "transform") rows) words.transform
+
+pub record SaysAudit (rows : List Row) (words : AuditWords) : Type 0 where
+  pub file : IsArgument SaysText (parsed_argument (codes "file") rows) words.file
 
 -- the files of an import, by their kind
 abbrev pub kind_name : FileKind → Text

@@ -86,12 +86,16 @@ serve_command = command_named (codes "serve") (transform_option ∷ needed (code
 abbrev pub selfcheck_command : Shape
 selfcheck_command = command_named (codes "selfcheck") (transform_option ∷ [])
 
+abbrev pub audit_command : Shape
+audit_command = command_named (codes "audit") (needed (codes "file") ∷ [])
+
 -- ---- the line
 
 -- the commands, each of which has one level of words
 abbrev pub commands : List Shape
 commands = trial_command ∷ import_command ∷ base_command ∷ shift_command ∷ sell_command
-    ∷ report_command ∷ meter_command ∷ quote_command ∷ serve_command ∷ selfcheck_command ∷ []
+    ∷ report_command ∷ meter_command ∷ quote_command ∷ serve_command ∷ selfcheck_command
+    ∷ audit_command ∷ []
 
 abbrev pub has_none : List Shape → Bool
 has_none [] = true

@@ -2,6 +2,7 @@ ghost use Rattle.clap.specs.Simple.{subcommand_rows_of};
 ghost use Rattle.command_line.specs.Asked.{CommandAsks};
 ghost use Rattle.command_line.specs.Said.{ReadsOrFull};
 
+use crate::commands::audit::AuditWords;
 use crate::commands::import::ImportWords;
 use crate::commands::meter::MeterWords;
 use crate::commands::quote::QuoteWords;
@@ -26,6 +27,7 @@ pub enum Asked<'m, 'a> {
     Quote(QuoteWords),
     Serve(ServeWords<'a>),
     Selfcheck(SelfcheckWords),
+    Audit(AuditWords<'a>),
 }
 
 impl<'m, 'a> Asked<'m, 'a> {
@@ -54,6 +56,10 @@ impl<'m, 'a> Asked<'m, 'a> {
             },
             Some(("selfcheck", words)) => match SelfcheckWords::read(words) {
                 Some(words) => Ok(Asked::Selfcheck(words)),
+                None => Err(BadWords::Value),
+            },
+            Some(("audit", words)) => match AuditWords::read(words) {
+                Some(words) => Ok(Asked::Audit(words)),
                 None => Err(BadWords::Value),
             },
             Some((name, words)) => match RequestWords::read(name, words) {

@@ -5,7 +5,9 @@ ghost use Rattle.command_line.specs.Line.{IsDescribed, command_in, faults_in, li
 ghost use Rattle.command_line.specs.Line.{is_base_option, meant_by, sells_by_base};
 ghost use Rattle.sts_fields.specs.Text.{Text};
 
-use crate::commands::{base, import, meter, quote, report, selfcheck, sell, serve, shift, trial};
+use crate::commands::{
+    audit, base, import, meter, quote, report, selfcheck, sell, serve, shift, trial,
+};
 use clap::{ArgMatches, Command, Error};
 use std::alloc::{AllocError, Global};
 
@@ -72,7 +74,8 @@ fn describe<'a>(alloc: Global) -> Result<Command<'a>, AllocError>
     let line = with(line, meter::describe(alloc)?)?;
     let line = with(line, quote::describe(alloc)?)?;
     let line = with(line, serve::describe(alloc)?)?;
-    with(line, selfcheck::describe(alloc)?)
+    let line = with(line, selfcheck::describe(alloc)?)?;
+    with(line, audit::describe(alloc)?)
 }
 
 // The line without its commands.

@@ -1,3 +1,4 @@
+pub mod AuditLemmas
 pub mod ConnectionLemmas
 pub mod CourseLemmas
 pub mod ExportLemmas

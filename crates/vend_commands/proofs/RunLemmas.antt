@@ -5,6 +5,9 @@ use Rattle.clap.specs.Kinds.{HasKind, IsAmong}
 use Rattle.clap.specs.Values.{kind_of}
 use Rattle.clap.specs.declared.error.Error.{Error}
 use Rattle.sqlite_trees.specs.declared.store.Store.{Ghosts}
+use Rattle.audit.specs.declared.audited.Audited.{Audited}
+use Rattle.audit.specs.declared.fault.AuditFault.{AuditFault}
+use Rattle.audit.specs.declared.fault.AuditFault.TheVariants.{Failed, Found, NoOffice}
 use Rattle.books.specs.Keeps.{Seen}
 use Rattle.book_tables.specs.declared.row.totals.Totals.{Totals}
 use Rattle.book_opening.specs.declared.fault.OpenFault.{OpenFault}
@@ -19,6 +22,8 @@ use Rattle.papers.specs.declared.row_fault.RowFault.{RowFault}
 use Rattle.tariff.specs.Purchase.{purchase_of}
 use Rattle.command_line.specs.Asked.{AskFor}
 use Rattle.vend_commands.specs.commands.Asked.{IsAskedAt}
+use Rattle.vend_commands.specs.commands.Audited.{IsAudited, TellsAudit}
+use Rattle.vend_commands.specs.commands.Audited.IsAudited.{absent, looked, unopened as audits_unopened}
 use Rattle.vend_commands.specs.print.Exported.{export_stop_end}
 use Rattle.vend_commands.specs.commands.Imported.{AreAdded, IsFileImported}
 use Rattle.command_line.specs.Line.{faults_in}
@@ -130,6 +135,17 @@ serving_ends store way at door answers words err_old err_new end (serves_unopene
 serving_ends store way at door answers words err_old err_new end (unheard old opens finds last deaf shut closes ends) = end_low how.Refused end (omega arith) ends
 serving_ends store way at door answers words err_old err_new end (was_open old opens finds were) = end_low (serving_end were.served) end (served_low were.served) were.ends
 
+answer_told_ends : (answer : Result Audited AuditFault) (o : Outputs) (end : CommandEnd) → TellsAudit answer o end → exit_status_of end ≤ 1
+answer_told_ends (Ok audited) o end told = told_ends o _ _ how.Done end (omega arith) told
+answer_told_ends (Err (Found finding)) o end (row, tells, told) = told_ends o _ _ how.Refused end (omega arith) told
+answer_told_ends (Err NoOffice) o end told = told_ends o _ _ how.Refused end (omega arith) told
+answer_told_ends (Err (Failed error)) o end told = told_ends o _ _ how.Refused end (omega arith) told
+
+audit_ends : (place : Place) (o : Outputs) (end : CommandEnd) → IsAudited place o end → exit_status_of end ≤ 1
+audit_ends place o end (absent misses told) = told_ends o _ _ how.Refused end (omega arith) told
+audit_ends place o end (audits_unopened fault refuses told) = told_ends o _ _ how.Refused end (omega arith) told
+audit_ends place o end (looked answer meets audits told) = answer_told_ends answer o end told
+
 done_ends : (Idle : Type 0) (At : ℕ → Type 0) (o : Outputs) (end : CommandEnd) (moment : Option ℕ) → ((moment : ℕ) → At moment → exit_status_of end ≤ 1) → IsDoneAt Idle At o end moment → exit_status_of end ≤ 1
 done_ends Idle At o end (Some moment) ends done = ends moment done
 done_ends Idle At o end None ends (idle, told) = told_ends o _ _ how.Refused end (omega arith) told
@@ -149,6 +165,7 @@ answer_ends store m (asks.Quote words) o end (idle, done) =
 answer_ends store m (asks.Serve words) o end (left, done) = serving_ends store m.way m.at m.door m.answers words o.err_old o.err_new end done.1
 answer_ends store m (asks.Selfcheck words) o end (untouched, shut, agreed has told) = told_ends o _ _ how.Done end (omega arith) told
 answer_ends store m (asks.Selfcheck words) o end (untouched, shut, failed fault why told) = told_ends o _ _ how.Refused end (omega arith) told
+answer_ends store m (asks.Audit words) o end (shut, done) = audit_ends (m.at words.file.now) o end done
 
 -- words that ask for something never end as bad words
 run_ends : {S D R W : Type 0} (store : Ghosts S) (m : Machine D R W) (words : List Text) (o : Outputs) (end : CommandEnd) (asked : Asked) → AskFor words asked → IsProgramRun store m words o end → exit_status_of end ≤ 1

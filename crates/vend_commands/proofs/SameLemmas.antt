@@ -4,6 +4,9 @@ use Rattle.std.specs.Prelude.{⊤}
 use Rattle.clap.specs.declared.error.kind.ErrorKind.{ErrorKind}
 use Rattle.clap.specs.declared.error.kind.ErrorKind.TheVariants.{DisplayHelp, DisplayVersion, OutOfMemory}
 use Rattle.sqlite_trees.specs.declared.store.Store.{Ghosts}
+use Rattle.audit.specs.declared.audited.Audited.{Audited}
+use Rattle.audit.specs.declared.fault.AuditFault.{AuditFault}
+use Rattle.audit.specs.declared.fault.AuditFault.TheVariants.{Failed, Found, NoOffice}
 use Rattle.books.specs.Keeps.{Seen}
 use Rattle.book_tables.specs.declared.row.totals.Totals.{Totals}
 use Rattle.sts_fields.specs.Text.{Text}
@@ -21,6 +24,8 @@ use Rattle.command_line.specs.declared.commands.report.Paper.TheVariants as pape
 use Rattle.command_line.specs.declared.commands.serve.ServeWords.{ServeWords}
 use Rattle.command_line.specs.declared.transform.Shipped.{Shipped}
 use Rattle.vend_commands.specs.commands.Asked.{IsAskedAt}
+use Rattle.vend_commands.specs.commands.Audited.{IsAudited, TellsAudit}
+use Rattle.vend_commands.specs.commands.Audited.IsAudited.{absent, looked, unopened as audits_unopened}
 use Rattle.vend_commands.specs.commands.Imported.{AreAdded, IsFileImported}
 use Rattle.vend_commands.specs.serving.Listening.{IsDeaf, IsServing}
 use Rattle.vend_commands.specs.serving.Listening.IsDeaf.{no_listener, no_room as deaf_for_room, no_text, not_told}
@@ -89,6 +94,17 @@ serving_same store way at door answers words old new end (serves_unopened fault 
 serving_same store way at door answers words old new end (unheard books opens finds last deaf shut closes ends) = deaf_same way words.listen door last old new deaf
 serving_same store way at door answers words old new end (was_open books opens finds were) = were.told.same ∙ were.listens.told.same
 
+answer_told_same : (answer : Result Audited AuditFault) (o : Outputs) (end : CommandEnd) → TellsAudit answer o end → AreSame o
+answer_told_same (Ok audited) o end told = told_same o _ _ _ end told
+answer_told_same (Err (Found finding)) o end (row, tells, told) = told_same o _ _ _ end told
+answer_told_same (Err NoOffice) o end told = told_same o _ _ _ end told
+answer_told_same (Err (Failed error)) o end told = told_same o _ _ _ end told
+
+audit_same : (place : Place) (o : Outputs) (end : CommandEnd) → IsAudited place o end → AreSame o
+audit_same place o end (absent misses told) = told_same o _ _ _ end told
+audit_same place o end (audits_unopened fault refuses told) = told_same o _ _ _ end told
+audit_same place o end (looked answer meets audits told) = answer_told_same answer o end told
+
 done_same : (Idle : Type 0) (At : ℕ → Type 0) (o : Outputs) (end : CommandEnd) (moment : Option ℕ) → ((moment : ℕ) → At moment → AreSame o) → IsDoneAt Idle At o end moment → AreSame o
 done_same Idle At o end (Some moment) same done = same moment done
 done_same Idle At o end None same (idle, told) = told_same o _ _ _ end told
@@ -107,6 +123,7 @@ answer_same store m (asks.Serve words) o end (left, done) =
     record { out = ap (λ s. s.name) done.0; err = serving_same store m.way m.at m.door m.answers words o.err_old o.err_new end done.1 }
 answer_same store m (asks.Selfcheck words) o end (untouched, shut, agreed has told) = told_same o _ _ _ end told
 answer_same store m (asks.Selfcheck words) o end (untouched, shut, failed fault why told) = told_same o _ _ _ end told
+answer_same store m (asks.Audit words) o end (shut, done) = audit_same (m.at words.file.now) o end done
 
 explained_same : (kind : ErrorKind) (text : Text) (o : Outputs) (end : CommandEnd) → IsExplained kind text o end → AreSame o
 explained_same OutOfMemory text o end none = absurd none

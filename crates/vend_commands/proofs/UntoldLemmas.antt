@@ -20,6 +20,8 @@ use Rattle.vend_commands.specs.Run.IsProgramRun.{answered, bad_word, explained, 
 use Rattle.vend_commands.specs.commands.Selfchecked.{HasReplies}
 use Rattle.vend_commands.specs.print.Told.{Outputs, Sink}
 use Rattle.vend_commands.proofs.RunLemmas.{selfcheck_done}
+use Rattle.vend_commands.specs.commands.Audited.{IsAudited}
+use Rattle.vend_commands.specs.commands.Audited.IsAudited.{absent, looked, unopened as audits_unopened}
 use Rattle.vend_commands.specs.commands.Imported.{AreAdded, IsFileImported}
 use Rattle.vend_commands.specs.commands.Timed.{IsTimed}
 use Rattle.vend_commands.specs.office.Visited.{IsVisited}
@@ -33,11 +35,16 @@ use Rattle.vend_core.specs.declared.office.row.Row.{Row}
 use Rattle.vend_commands.specs.declared.port.file_fault.FileFault.{FileFault}
 
 abbrev bare_place : Place → Place
-bare_place place = untold_place place.image place.opens place.closes
+bare_place place = untold_place place.image place.opens place.closes place.audits
 
 visited_bare : {S : Type 0} (store : Ghosts S) (place : Place) (transform : Shipped) (Does : (old new : Seen) → Type 0) (o : Outputs) (end : CommandEnd) → IsVisited store place transform Does o end → IsVisited store (bare_place place) transform Does o end
 visited_bare store place transform Does o end (unvisited fault fails told) = unvisited fault tt told
 visited_bare store place transform Does o end (visited old new opens finds done closes) = visited old new opens tt done closes
+
+audited_bare : (place : Place) (o : Outputs) (end : CommandEnd) → IsAudited place o end → IsAudited (bare_place place) o end
+audited_bare place o end (absent misses told) = absent tt told
+audited_bare place o end (audits_unopened fault refuses told) = audits_unopened fault tt told
+audited_bare place o end (looked answer meets audits told) = looked answer tt audits told
 
 added_bare : {S : Type 0} (store : Ghosts S) (at : Text → Place) (untouched : Type 0) (words : ImportWords) (moment : ℕ) (rows : Result (List Row) RowFault) (o : Outputs) (end : CommandEnd)
     → AreAdded store at untouched words moment rows o end → AreAdded store (λ path. bare_place (at path)) ⊤ words moment rows o end
@@ -139,6 +146,7 @@ module _ {S D R W : Type 0} (store : Ghosts S) (way : Way D R W) (at : Text → 
     carried_bare (asks.Quote words) o end (idle, done) = ((tt, (tt, tt)), done)
     carried_bare (asks.Serve words) o end (left, done) = (tt, (done.0, serving_bare answers words o.err_old o.err_new end done.1))
     carried_bare (asks.Selfcheck words) o end (left, shut, done) = (tt, tt, selfcheck_done o end _ _ _ _ (less words.transform) (λ fault why. tt) done)
+    carried_bare (asks.Audit words) o end (left, done) = ((tt, tt), audited_bare (at words.file.now) o end done)
 
     -- a run of the program, of which nothing is told but that
     pub run_bare : (words : List Text) (o : Outputs) (end : CommandEnd) → IsProgramRun store (machine at untouched reads lacks answers way door loop) words o end

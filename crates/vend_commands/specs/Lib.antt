@@ -1,5 +1,6 @@
 pub mod Run
 pub mod Selling
+pub mod Sound
 pub mod Status
 pub mod port
 pub mod print

@@ -9,6 +9,7 @@ use Rattle.vend_core.specs.declared.decision.refusal.Refusal.TheVariants.{Memory
 use Rattle.command_line.specs.Asked.{AskFor}
 use Rattle.command_line.specs.Line.{faults_in}
 use Rattle.vend_commands.specs.commands.Asked.{IsAskedAt}
+use Rattle.vend_commands.specs.commands.Audited.{IsAudited}
 use Rattle.vend_commands.specs.commands.Imported.{IsFileImported}
 use Rattle.vend_commands.specs.serving.Listening.{IsServedTo}
 use Rattle.vend_commands.specs.commands.Metered.{IsMetered}
@@ -21,7 +22,7 @@ use Rattle.vend_commands.specs.commands.Timed.{IsTimed}
 use Rattle.vend_commands.specs.print.Told.{Outputs, IsTold}
 use Rattle.vend_commands.specs.commands.Tried.{IsTried}
 use Rattle.command_line.specs.declared.asked.Asked.{Asked}
-use Rattle.command_line.specs.declared.asked.Asked.TheVariants.{Trial, Import, Request, Report, Meter, Quote, Serve, Selfcheck}
+use Rattle.command_line.specs.declared.asked.Asked.TheVariants.{Trial, Import, Request, Report, Meter, Quote, Serve, Selfcheck, Audit}
 use Rattle.vend_commands.specs.declared.command_end.CommandEnd.{CommandEnd}
 use Rattle.vend_commands.specs.declared.command_end.CommandEnd.TheVariants.{Done, Refused, BadWords}
 
@@ -42,6 +43,7 @@ IsCarriedOut store m (Serve words) o end =
     m.loop.leaves × IsServedTo store m.way m.at m.door m.answers words o end
 IsCarriedOut store m (Selfcheck words) o end = m.untouched × IsShut m
     × IsSelfchecked (m.loop.agrees words.transform) (m.loop.disagrees words.transform) o end
+IsCarriedOut store m (Audit words) o end = IsOffline m × IsAudited (m.at words.file.now) o end
 
 -- what is said of words that are no command's: help, which goes to the output, or what is wrong
 -- with them, which goes to the error output

@@ -1,3 +1,4 @@
+pub mod Audits
 pub mod Closed
 pub mod Opened
 pub mod Refused

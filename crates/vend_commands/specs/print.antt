@@ -1,3 +1,4 @@
+pub mod AuditLines
 pub mod Exported
 pub mod Printed
 pub mod Told

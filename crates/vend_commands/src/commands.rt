@@ -1,4 +1,5 @@
 //! The commands: what each does.
+pub mod file_audit;
 pub mod import;
 pub mod meter;
 pub mod quote;

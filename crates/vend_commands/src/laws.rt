@@ -7,7 +7,9 @@ ghost use Rattle.books.specs.Path.{StandsIn};
 ghost use Rattle.books.specs.declared.books.Books.{Books};
 ghost use Rattle.sqlite_store.specs.declared.store.FileStore.{FileStore as Files};
 ghost use Rattle.command_line.specs.declared.transform.Shipped.{Shipped};
+ghost use Rattle.vend_commands.specs.Sound.{EndsSound};
 ghost use Rattle.vend_commands.specs.commands.Asked.{IsAskedAt};
+ghost use Rattle.vend_commands.specs.commands.Audited.{IsAudited};
 ghost use Rattle.vend_commands.specs.office.Closed.{IsClosed};
 ghost use Rattle.vend_commands.specs.serving.Connections.{AreHeld, Service, service};
 ghost use Rattle.vend_commands.specs.serving.Courses.{Course, LiveOn};
@@ -49,6 +51,15 @@ pub fn sell_law<H: OfficeFile>()
 {
     office_law();
 }
+
+/// What `audit` has shown where it ends as done: it printed what it counted, and where the disk
+/// returned what was written, that is the count of a database that an opening of the files may
+/// find, which passes.
+pub fn sound_law<H: OfficeFile>()
+    ensures { (file : H) (path : Text) (o : Outputs)
+        → IsAudited (places_of H.Medium.Disk H.Salts.SaltSource H.OfficeFile file path) o Done
+        → EndsSound H.Medium.Disk (H.image file path) H.lets_go o }
+{}
 
 /// What holds of connections that are served one after another, and of the openings between them:
 /// while the disk returns what was written, they are lives of one office. Each connection went on

@@ -1,5 +1,6 @@
 //! What is printed.
 
+pub(crate) mod audit_lines;
 pub(crate) mod explanation;
 pub(crate) mod lines;
 pub(crate) mod sales;

@@ -204,6 +204,10 @@ fn answer<H: OfficeFile, F: TextFiles, C: Clock + Drop, D: Door, L: Loopback, O:
             ports.door.leave();
             run_selfcheck(&words, alloc, ports.loopback, out, err)
         }
+        Asked::Audit(words) => {
+            go_offline(ports.door, ports.loopback);
+            commands::file_audit::run(&words, alloc, ports.office, out, err)
+        }
     }
 }
 

@@ -50,6 +50,10 @@ impl OfficeFile for LapsingOffice {
 
     ghost fails = { λ _ _ _. ⊤ };
 
+    ghost meets = { λ _ _ _ _. ⊤ };
+
+    ghost misses = { λ _ _. ⊤ };
+
     ghost lets_go = { λ _ _. ⊤ };
 
     ghost leaves = { λ _. ⊤ };
@@ -70,6 +74,13 @@ impl OfficeFile for LapsingOffice {
             return Ok((lapsing, sound));
         }
         Ok((sound, lapsing))
+    }
+
+    fn find_present(self, path: &str) -> Result<Option<(Lapse<Memory>, Lapse<Memory>)>, OpenFault> {
+        match self.find(path) {
+            Ok(files) => Ok(Some(files)),
+            Err(fault) => Err(fault),
+        }
     }
 
     fn let_go(log: Lapse<Memory>, db: Lapse<Memory>)

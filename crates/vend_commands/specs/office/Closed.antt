@@ -1,4 +1,4 @@
--- What comes of closing the files of books.
+-- What comes of closing the files of a connection, and of books.
 use Rattle.std.specs.Prelude.{◌≡◌}
 use Rattle.sqlite.specs.Closing.{IsCopied}
 use Rattle.sqlite.specs.Files.{FailsToClose, IsClosed as ClosesAs, file_state}
@@ -25,17 +25,20 @@ pub record IsSeenAs {D : Type 0} {g : Ghosts D} (conn : Held (FileStore D g))
   pub left : (trees : Trees) → s.may_leave trees → (file_state conn).may_leave trees
   pub leaves : (trees : Trees) → (file_state conn).may_leave trees → s.may_leave trees
 
--- They were closed, the database file alone holds what the books last committed, and holds it after
--- a crash too; or there is a cause why they could not be closed. Either way a crash leaves of the
--- files nothing that it could not leave of the books, and these files were let go.
-pub data IsClosed {D : Type 0} (g : Ghosts D) (LetsGo : D → D → Type 0)
-    (books : Seen) : Type 0 where
+-- The files of a connection were closed: the database file alone holds what it last committed, and
+-- holds it after a crash too; or there is a cause why they could not be closed. Either way a crash
+-- leaves of the files nothing that it could not leave of the connection, and these files were let go.
+pub data AreClosed {D : Type 0} (g : Ghosts D) (LetsGo : D → D → Type 0) (s : State) : Type 0 where
   closed : (conn : Held (FileStore D g)) (last : FileStore D g) (here : Files D)
-      → IsSeenAs conn books.state
+      → IsSeenAs conn s
       → ClosesAs conn last → files last ≡ (here.log, here.db)
       → (AreClean g here.log here.db → IsCopied conn here) → LetsGo here.log here.db
-      → IsClosed g LetsGo books
+      → AreClosed g LetsGo s
   unclosed : (conn : Held (FileStore D g)) (last : FileStore D g) (error : Error)
-      → IsSeenAs conn books.state → ClosesAs conn last
+      → IsSeenAs conn s → ClosesAs conn last
       → (IsClean (view last) → FailsToClose conn last error)
-      → LetsGo (files last).0 (files last).1 → IsClosed g LetsGo books
+      → LetsGo (files last).0 (files last).1 → AreClosed g LetsGo s
+
+-- so were those of books
+abbrev pub IsClosed : {D : Type 0} → (g : Ghosts D) → (LetsGo : D → D → Type 0) → Seen → Type 0
+IsClosed g LetsGo books = AreClosed g LetsGo books.state

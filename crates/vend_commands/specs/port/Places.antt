@@ -1,9 +1,11 @@
 -- What a command has of the machine beside its outputs.
-use Rattle.std.specs.Prelude.{◌≡◌, ◌⊎◌, ℕ, ℤ, ⊤, List, Option, None}
+use Rattle.std.specs.Prelude.{◌≡◌, ◌⊎◌, ℕ, ℤ, ⊤, List, Option, None, Result}
 use Rattle.sqlite.specs.Steps.{over_memory}
 use Rattle.sqlite_disk.specs.declared.Disk as disk
 use Rattle.sqlite_disk.specs.declared.Files.{Files}
 use Rattle.sqlite_wal.specs.Recovery.{Image}
+use Rattle.audit.specs.declared.audited.Audited.{Audited}
+use Rattle.audit.specs.declared.fault.AuditFault.{AuditFault}
 use Rattle.books.specs.Keeps.{Seen, seen}
 use Rattle.books.specs.Path.{AreTakenFrom, RefusesFiles}
 use Rattle.book_opening.specs.declared.fault.OpenFault.{OpenFault}
@@ -13,6 +15,7 @@ use Rattle.sts_fields.specs.Text.{Text}
 use Rattle.command_line.specs.Transform.{forward_of}
 use Rattle.command_line.specs.declared.address.Address.{Address}
 use Rattle.command_line.specs.declared.transform.Shipped.{Shipped}
+use Rattle.vend_commands.specs.office.Audits.{AuditsIn}
 use Rattle.vend_commands.specs.office.Closed.{IsClosed}
 use Rattle.vend_commands.specs.office.Opened.{OpensIn}
 use Rattle.vend_commands.specs.commands.Selfchecked.{AgreesOver, Disagrees, HasReplies}
@@ -43,7 +46,8 @@ IsUnreopened {S} salts fault = (it : S)
     × ((salts.lacks it × (fault ≡ Store)) ⊎ ((salt : ℕ) × salts.draws it salt))
 
 -- a file at a path: what it holds, that it was found, how an office was opened there and why none
--- was, how it is closed, and why it is not opened again
+-- was, how it is closed, and why it is not opened again; and where it is looked for and is not made:
+-- that it was there, or that it was not, why no connection was made to it, and what its audit answered
 pub record Place : Type 1 where
   pub image : Image
   pub finds : Type 0
@@ -51,6 +55,10 @@ pub record Place : Type 1 where
   pub fails : OpenFault → Type 0
   pub closes : Seen → Type 0
   pub loses : OpenFault → Type 0
+  pub meets : Type 0
+  pub misses : Type 0
+  pub refuses : OpenFault → Type 0
+  pub audits : Result Audited AuditFault → Type 0
 
 -- What a door tells: where it listens or that it could not, which connection came in or that none
 -- could be had, that it was let go, and that the door was left; and what is known of the bytes of
@@ -116,6 +124,10 @@ places_of {H} {D} {S} disk salts of office path = record {
   fails = IsUnopened disk salts (of.finds office path) of.lets_go (of.fails office path);
   closes = IsClosed disk of.lets_go;
   loses = IsUnreopened salts;
+  meets = (log : D) × (db : D) × of.meets office path log db;
+  misses = of.misses office path;
+  refuses = IsUnopened disk salts (of.meets office path) of.lets_go (of.fails office path);
+  audits = AuditsIn disk (of.image office path) of.lets_go;
 }
 
 -- nobody was listened to: the door was left as it was
@@ -161,19 +173,26 @@ untold_way = record {
 abbrev pub untold_loop : Loop
 untold_loop = record { leaves = ⊤; agrees = HasReplies; disagrees = λ transform fault. ⊤ }
 
--- a file of which nothing is told but what it holds, and how an office is opened there and closed
-abbrev pub untold_place : Image → (opens closes : Seen → Type 0) → Place
-untold_place image opens closes = record {
+-- a file of which nothing is told but what it holds, how an office is opened there and closed, and
+-- what an audit answers
+abbrev pub untold_place : Image → (opens closes : Seen → Type 0)
+    → (audits : Result Audited AuditFault → Type 0) → Place
+untold_place image opens closes audits = record {
   image = image;
   finds = ⊤;
   opens = opens;
   fails = λ fault. ⊤;
   closes = closes;
   loses = λ fault. ⊤;
+  meets = ⊤;
+  misses = ⊤;
+  refuses = λ fault. ⊤;
+  audits = audits;
 }
 
 -- a machine of which nothing is told but that, and the bytes of each connection
 abbrev pub untold : {D : Type 0} → disk.Ghosts D → Image → Machine ⊤ Held Held
 untold disk image = machine
-    (λ path. untold_place image (OpensIn disk image) (IsClosed disk (λ log db. ⊤))) ⊤
+    (λ path. untold_place image (OpensIn disk image) (IsClosed disk (λ log db. ⊤))
+    (AuditsIn disk image (λ log db. ⊤))) ⊤
     (λ path bytes. ⊤) (λ path fault. ⊤) None untold_way tt untold_loop

@@ -1,7 +1,8 @@
 //! An office in a file: how it is opened, and closed.
 
 ghost use Rattle.std.specs.Prelude.{◌≡◌, IfErr, IfOk};
-ghost use Rattle.vend_commands.specs.office.Closed.{IsClosed};
+ghost use Rattle.sqlite.specs.Files.{file_state};
+ghost use Rattle.vend_commands.specs.office.Closed.{AreClosed, IsClosed};
 ghost use Rattle.vend_commands.specs.office.Opened.{OpensIn};
 ghost use Rattle.vend_commands.specs.port.Places.{places_of};
 ghost use Rattle.vend_commands.specs.office.Visited.{IsOpened, seen_in};
@@ -9,7 +10,7 @@ ghost use Rattle.vend_commands.specs.office.Visited.{IsOpened, seen_in};
 use crate::port::ports::{OfficeFile, SaltSource};
 use books::{Books, OpenFault};
 use command_line::Shipped;
-use sqlite::{FileStore, Options};
+use sqlite::{Connection, FileStore, Options};
 use sqlite_disk::Files;
 use std::alloc::Global;
 
@@ -68,7 +69,14 @@ pub(crate) fn open_office<H: OfficeFile>(
 pub(crate) fn close_office<H: OfficeFile>(books: Books<FileStore<H::Medium>, Shipped>)
     ensures { IsClosed H.Medium.Disk H.lets_go (seen_in books) }
 {
-    match books.into_connection().close_files() {
+    close_connection::<H>(books.into_connection());
+}
+
+/// Closes the files of a connection, as it is left.
+pub(crate) fn close_connection<H: OfficeFile>(conn: Connection<FileStore<H::Medium>>)
+    ensures { AreClosed H.Medium.Disk H.lets_go (file_state conn) }
+{
+    match conn.close_files() {
         Ok(files) => H::let_go(files.log, files.db),
         Err((_, store)) => {
             let files = store.close();

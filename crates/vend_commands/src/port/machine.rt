@@ -48,6 +48,10 @@ impl<'a, B: Start> OfficeFile for MachineFile<'a, B> {
 
     ghost fails = { λ _ _ _. ⊤ };
 
+    ghost meets = { λ _ _ _ _. ⊤ };
+
+    ghost misses = { λ _ _. ⊤ };
+
     ghost lets_go = { λ _ _. ⊤ };
 
     ghost leaves = { λ _. ⊤ };
@@ -64,6 +68,18 @@ impl<'a, B: Start> OfficeFile for MachineFile<'a, B> {
         match sqlite_std_file::open(self.rt, path, self.start) {
             Ok(files) => Ok((files.log, files.db)),
             Err(error) => Err(refused_files_fault(error)),
+        }
+    }
+
+    // Where the file is taken away once its name was looked at, an empty one is made.
+    fn find_present(self, path: &str) -> Result<Option<(FileFrom<B>, FileFrom<B>)>, OpenFault> {
+        match fs::exists(self.rt, path) {
+            Ok(true) => match self.find(path) {
+                Ok(files) => Ok(Some(files)),
+                Err(fault) => Err(fault),
+            },
+            Ok(false) => Ok(None),
+            Err(error) => Err(refused_files_fault(OpenError::Io(error))),
         }
     }
 

@@ -45,6 +45,12 @@ pub trait OfficeFile: Drop {
     /// At this path no files were opened, for this fault.
     ghost fails: { Self → Text → OpenFault → Type 0 };
 
+    /// At this path there was a database file, and these were opened, the log and that file.
+    ghost meets: { Self → Text → Self.Medium → Self.Medium → Type 0 };
+
+    /// At this path there was no file, and none was made.
+    ghost misses: { Self → Text → Type 0 };
+
     /// The log and the database file were let go, as their last use left them.
     ghost lets_go: { Self.Medium → Self.Medium → Type 0 };
 
@@ -61,6 +67,20 @@ pub trait OfficeFile: Drop {
         ensures log { IfOk result (λ pair. IsTrue (Self.Medium.Disk.is_usable pair.0)) }
         ensures db { IfOk result (λ pair. IsTrue (Self.Medium.Disk.is_usable pair.1)) }
         ensures finds { IfOk result (λ pair. finds self path.now pair.0 pair.1) }
+        ensures fails { IfErr result (fails self path.now) };
+
+    /// Opens the log and the database file at a path where that file is there, and makes neither
+    /// where it is not.
+    fn find_present(self, path: &str) -> Result<Option<(Self::Medium, Self::Medium)>, OpenFault>
+        ensures image { IfOk result (λ found. IfSome found
+            (λ pair. seen_image Self.Medium.Disk pair.0 pair.1 ≡ image self path.now)) }
+        ensures log { IfOk result (λ found. IfSome found
+            (λ pair. IsTrue (Self.Medium.Disk.is_usable pair.0))) }
+        ensures db { IfOk result (λ found. IfSome found
+            (λ pair. IsTrue (Self.Medium.Disk.is_usable pair.1))) }
+        ensures meets { IfOk result (λ found. IfSome found
+            (λ pair. meets self path.now pair.0 pair.1)) }
+        ensures misses { IfOk result (λ found. IfNone found (misses self path.now)) }
         ensures fails { IfErr result (fails self path.now) };
 
     /// Lets the log and the database file go.

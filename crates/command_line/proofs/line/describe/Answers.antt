@@ -12,4 +12,5 @@ returns c =
     let after7 = c.in_ok-line-8.ensures _ _ after6 c.in_ok-describe-7.ensures in
     let after8 = c.in_ok-line-9.ensures _ _ after7 c.in_ok-describe-8.ensures in
     let after9 = c.in_ok-line-10.ensures _ _ after8 c.in_ok-describe-9.ensures in
-    c.with-10.ensures _ _ after9 c.in_ok-describe-10.ensures
+    let after10 = c.in_ok-line-11.ensures _ _ after9 c.in_ok-describe-10.ensures in
+    c.with-11.ensures _ _ after10 c.in_ok-describe-11.ensures

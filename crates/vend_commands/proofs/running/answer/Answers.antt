@@ -43,8 +43,8 @@ returns-in-Meter g c =
     done_so store m c.args.asked (asks.Meter c.in-Meter.words) o c.run-in-Meter.result c.in-Meter.is
     ((c.leave_all-in-Meter.ensures.office, (c.leave_all-in-Meter.ensures.door, c.leave_all-in-Meter.ensures.loopback)), (c.run-in-Meter.ensures.told, takes_none err, c.run-in-Meter.ensures.end))
 
-pub returns : goal.returns
-returns g c =
+pub returns-in-Selfcheck : goal.returns-in-Selfcheck
+returns-in-Selfcheck g c =
     let H = g.H.OfficeFile in
     let D = g.D.Door in
     let at = places_of g.H.Medium.Disk g.H.Salts.SaltSource H c.args.ports.office in
@@ -54,3 +54,14 @@ returns g c =
     let o = outputs (sink g.O.Write.contents c.args.out.now) (sink g.O.Write.contents c.run_selfcheck.new.out) (sink g.E.Write.contents c.args.err.now) (sink g.E.Write.contents c.run_selfcheck.new.err) in
     done_so store m c.args.asked (asks.Selfcheck c.in-Selfcheck.words) o c.run_selfcheck.result c.in-Selfcheck.is
     (c.leave-in-Selfcheck.ensures, c.leave-in-Selfcheck-2.ensures, c.run_selfcheck.ensures)
+
+pub returns : goal.returns
+returns g c =
+    let H = g.H.OfficeFile in
+    let D = g.D.Door in
+    let at = places_of g.H.Medium.Disk g.H.Salts.SaltSource H c.args.ports.office in
+    let store = over_files {g = g.H.Medium.Disk} in
+    let m = machine at (H.leaves c.args.ports.office) (g.F.TextFiles.reads c.args.ports.texts) (g.F.TextFiles.lacks c.args.ports.texts) (g.C.Clock.answers c.args.ports.clock)
+    (way D g.D.Reader.Read.remaining g.D.Writer.Write.contents) c.args.ports.door (loop_of g.L.Loopback g.L.Stream.Read.remaining g.L.Stream.Write.contents c.args.ports.loopback) in
+    let o = outputs (sink g.O.Write.contents c.args.out.now) (sink g.O.Write.contents c.run-in-Audit.new.out) (sink g.E.Write.contents c.args.err.now) (sink g.E.Write.contents c.run-in-Audit.new.err) in
+    done_so store m c.args.asked (asks.Audit c.in-Audit.words) o c.run-in-Audit.result c.in-Audit.is ((c.go_offline-in-Audit.ensures.door, c.go_offline-in-Audit.ensures.loopback), c.run-in-Audit.ensures)

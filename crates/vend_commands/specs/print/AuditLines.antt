@@ -1,0 +1,54 @@
+-- What is printed of an audit.
+use Rattle.std.specs.Prelude.{◌≡◌, ◌⊎◌, [], ◌∷◌, codes, decimal}
+use Rattle.std.specs.Fmt.{signed_decimal}
+use Rattle.sqlite_value.specs.Order.{column}
+use Rattle.sqlite_value.specs.declared.value.Value.{Value}
+use Rattle.sqlite_value.specs.declared.value.Value.TheVariants.{Int, Text as IsText}
+use Rattle.audit_rows.specs.Tables.{name_of}
+use Rattle.audit.specs.declared.audited.Audited.{Audited}
+use Rattle.audit_office.specs.declared.finding.Finding.{Finding}
+use Rattle.audit_office.specs.declared.finding.RowKey.{RowKey}
+use Rattle.audit_office.specs.declared.finding.RowKey.TheVariants.{Number, Tariff, Meter, Columns}
+use Rattle.audit_office.specs.declared.finding.Rule.{Rule}
+use Rattle.audit_office.specs.declared.finding.Rule.TheVariants as rule
+use Rattle.sts_fields.specs.Text.{Text}
+use Rattle.vend_core.specs.Name.{IsName}
+use Rattle.vend_commands.specs.print.Printed.{line_of}
+
+-- the file stands for an office: of this format, with so many of each
+abbrev pub sound_line : Audited → Text
+sound_line a = line_of (codes "sound" ∷ codes "format" ∷ decimal a.format
+    ∷ codes "tariffs" ∷ decimal a.tariffs ∷ codes "meters" ∷ decimal a.meters
+    ∷ codes "shifts" ∷ decimal a.shifts ∷ codes "sales" ∷ decimal a.sales ∷ [])
+
+-- the rule that a row breaks, in a word
+abbrev pub rule_text : Rule → Text
+rule_text rule.Value = codes "value"
+rule_text rule.Gap = codes "gap"
+rule_text rule.Month = codes "month"
+rule_text rule.TwoOpen = codes "open"
+rule_text rule.Steps = codes "steps"
+rule_text rule.Base = codes "base"
+rule_text rule.Twice = codes "twice"
+rule_text rule.Missing = codes "missing"
+rule_text rule.Surplus = codes "surplus"
+rule_text rule.Total = codes "total"
+
+-- a key is told where it is a number, or a text of 1 to 32 letters, digits or hyphens
+abbrev pub TellsKey : Value → (told : Text) → Type 0
+TellsKey (Int number) told = told ≡ signed_decimal number
+TellsKey (IsText text) told =
+    (IsName text × (told ≡ text)) ⊎ ((¬ IsName text) × (told ≡ codes "?"))
+TellsKey value told = told ≡ codes "?"
+
+-- a row is told by its number, by its tariff or its meter, or by its first column
+abbrev pub TellsRow : RowKey → (told : Text) → Type 0
+TellsRow (Number n) told = told ≡ decimal n
+TellsRow (Tariff name) told = told ≡ name
+TellsRow (Meter number) told = told ≡ number
+TellsRow (Columns row) told = TellsKey (column row 0) told
+
+-- this row of a table breaks a rule
+abbrev pub broken_line : Finding → (row : Text) → Text
+broken_line f row =
+    line_of (codes "broken" ∷ name_of f.table ∷ row ∷ rule_text f.rule ∷ [])

@@ -1,0 +1,79 @@
+ghost use Rattle.vend_commands.specs.commands.Audited.{IsAudited, TellsAudit};
+ghost use Rattle.vend_commands.specs.port.Places.{places_of};
+ghost use Rattle.vend_commands.specs.print.Told.{outputs, sink};
+
+use crate::command_end::CommandEnd;
+use crate::office::auditing::{audit_files, connect};
+use crate::office::opening::close_connection;
+use crate::port::ports::OfficeFile;
+use crate::print::audit_lines::{put_broken, put_sound};
+use crate::print::lines::{put_line, put_opening};
+use crate::print::watched::Watched;
+use audit::{AuditFault, Audited};
+use book_opening::fault_of;
+use books::OpenFault;
+use command_line::AuditWords;
+use std::alloc::Global;
+use std::io::Write;
+
+/// Looks at the file of the words, where it is there, and prints what it keeps, or the first row
+/// that is no office's; and closes it as it was.
+pub(crate) fn run<H: OfficeFile, O: Write, E: Write>(
+    words: &AuditWords,
+    alloc: Global,
+    office: H,
+    out: &mut Watched<'_, O>,
+    err: &mut Watched<'_, E>,
+) -> CommandEnd
+    ensures { IsAudited
+        (places_of H.Medium.Disk H.Salts.SaltSource H.OfficeFile office words.now.file.now)
+        (outputs (sink O.contents out.old) (sink O.contents out.new)
+        (sink E.contents err.old) (sink E.contents err.new)) result }
+{
+    let salts = office.salts();
+    match connect(alloc, office, &salts, words.file) {
+        Ok(Some(mut conn)) => {
+            let answer = audit_files(alloc, &mut conn);
+            let end = tell(answer, out, err);
+            close_connection::<H>(conn);
+            end
+        }
+        Ok(None) => {
+            put_line(&[b"file"], err);
+            CommandEnd::Refused
+        }
+        Err(fault) => {
+            put_opening(fault, err);
+            CommandEnd::Refused
+        }
+    }
+}
+
+// Tells what an audit answers.
+fn tell<O: Write, E: Write>(
+    answer: Result<Audited, AuditFault>,
+    out: &mut Watched<'_, O>,
+    err: &mut Watched<'_, E>,
+) -> CommandEnd
+    ensures { TellsAudit answer (outputs (sink O.contents out.old) (sink O.contents out.new)
+        (sink E.contents err.old) (sink E.contents err.new)) result }
+{
+    match answer {
+        Ok(audited) => {
+            put_sound(audited, out);
+            CommandEnd::Done
+        }
+        Err(AuditFault::Found(finding)) => {
+            put_broken(&finding, out);
+            CommandEnd::Refused
+        }
+        Err(AuditFault::NoOffice) => {
+            put_opening(OpenFault::NotAnOffice, err);
+            CommandEnd::Refused
+        }
+        Err(AuditFault::Failed(error)) => {
+            put_opening(fault_of(error), err);
+            CommandEnd::Refused
+        }
+    }
+}

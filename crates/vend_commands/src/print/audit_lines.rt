@@ -1,0 +1,115 @@
+//! The lines of an audit (`specs/AuditLines.antt`). None takes memory.
+
+ghost use Rattle.std.specs.Prelude.{◌≡◌};
+ghost use Rattle.sqlite_value.specs.Order.{column};
+ghost use Rattle.sqlite_value.specs.Value.{owned};
+ghost use Rattle.sts_fields.specs.Text.{Text};
+ghost use Rattle.vend_commands.specs.print.AuditLines.{TellsKey, TellsRow, broken_line, rule_text};
+ghost use Rattle.vend_commands.specs.print.AuditLines.{sound_line};
+ghost use Rattle.vend_commands.specs.print.Told.{Takes, sink};
+
+use crate::print::lines::put_line;
+use crate::print::watched::Watched;
+use audit::{Audited, Finding, RowKey, Rule};
+use itoa::Buffer;
+use sqlite::Row;
+use sqlite::types::ValueRef;
+use std::io::Write;
+use vend_core::Ref;
+
+/// Prints what a file keeps.
+pub(crate) fn put_sound<W: Write>(audited: Audited, out: &mut Watched<'_, W>)
+    ensures { Takes (sink W.contents out.old) (sink W.contents out.new) (sound_line audited) }
+{
+    let mut format = Buffer::new();
+    let mut tariffs = Buffer::new();
+    let mut meters = Buffer::new();
+    let mut shifts = Buffer::new();
+    let mut sales = Buffer::new();
+    let format = format.format(audited.format).as_bytes();
+    let tariffs = tariffs.format(audited.tariffs).as_bytes();
+    let meters = meters.format(audited.meters).as_bytes();
+    let shifts = shifts.format(audited.shifts).as_bytes();
+    let sales = sales.format(audited.sales).as_bytes();
+    put_line(
+        &[
+            b"sound", b"format", format, b"tariffs", tariffs, b"meters", meters, b"shifts", shifts,
+            b"sales", sales,
+        ],
+        out,
+    );
+}
+
+/// Prints which row breaks which rule.
+pub(crate) fn put_broken<W: Write>(finding: &Finding, out: &mut Watched<'_, W>)
+    ensures { (row : Text) × TellsRow finding.now.row row
+        × Takes (sink W.contents out.old) (sink W.contents out.new) (broken_line finding.now row) }
+{
+    let table = finding.table.name().as_bytes();
+    let rule = rule_name(finding.rule);
+    match &finding.row {
+        RowKey::Number(place) => {
+            let mut number = Buffer::new();
+            let place = number.format(*place).as_bytes();
+            put_line(&[b"broken", table, place, rule], out);
+        }
+        RowKey::Tariff(name) => {
+            let name = *name;
+            put_line(&[b"broken", table, name.as_bytes(), rule], out);
+        }
+        RowKey::Meter(meter) => {
+            let meter = *meter;
+            put_line(&[b"broken", table, meter.as_bytes(), rule], out);
+        }
+        RowKey::Columns(row) => put_key(finding, first_of(row), out),
+    }
+}
+
+// The same of a row by its key: a number, a name, or `?` for whatever else.
+fn put_key<W: Write>(finding: &Finding, key: ValueRef<'_>, out: &mut Watched<'_, W>)
+    ensures { (row : Text) × TellsKey (owned key.entry) row
+        × Takes (sink W.contents out.old) (sink W.contents out.new) (broken_line finding.now row) }
+{
+    let table = finding.table.name().as_bytes();
+    let rule = rule_name(finding.rule);
+    match key {
+        ValueRef::Int(whole) => {
+            let mut number = Buffer::new();
+            let whole = number.format(whole).as_bytes();
+            put_line(&[b"broken", table, whole, rule], out);
+        }
+        ValueRef::Text(text) => match Ref::read(text) {
+            Some(name) => put_line(&[b"broken", table, name.as_bytes(), rule], out),
+            None => put_line(&[b"broken", table, b"?", rule], out),
+        },
+        _ => put_line(&[b"broken", table, b"?", rule], out),
+    }
+}
+
+// The value in the first column, or NULL where there is none.
+fn first_of(row: &Row) -> ValueRef<'_>
+    ensures { owned result ≡ column row.now 0 }
+{
+    match row.get_ref(0) {
+        Ok(value) => value,
+        Err(_) => ValueRef::Null,
+    }
+}
+
+// The rule that a row breaks, in a word.
+fn rule_name(rule: Rule) -> &'static [u8]
+    ensures { result.now ≡ rule_text rule }
+{
+    match rule {
+        Rule::Value => b"value",
+        Rule::Gap => b"gap",
+        Rule::Month => b"month",
+        Rule::TwoOpen => b"open",
+        Rule::Steps => b"steps",
+        Rule::Base => b"base",
+        Rule::Twice => b"twice",
+        Rule::Missing => b"missing",
+        Rule::Surplus => b"surplus",
+        Rule::Total => b"total",
+    }
+}
