@@ -60,15 +60,15 @@ SPOILT = [
     ("INSERT INTO meters VALUES ('20000000008', 2014, 'flat', '0000000000000000');",
      "meters 20000000008 base"),
     # Shifts.
-    ("UPDATE shifts SET number = 4 WHERE number = 3;", "shifts 4 gap"),
+    ("UPDATE shifts SET number = 4 WHERE number = 3;", "shifts 3 gap"),
     ("UPDATE shifts SET operator = 'bo b' WHERE number = 2;", "shifts 2 value"),
     ("UPDATE shifts SET opened = 725846399 WHERE number = 2;", "shifts 2 value"),
     ("UPDATE shifts SET closed = 4102444800 WHERE number = 1;", "shifts 1 value"),
     ("UPDATE shifts SET closed = NULL WHERE number = 1;", "shifts 3 open"),
     ("UPDATE shifts SET operator = 'ann' WHERE number = 2;", "shifts 3 open"),
-    ("INSERT INTO shifts VALUES (5, 'eve', 1391990460, NULL);", "shifts 5 gap"),
+    ("INSERT INTO shifts VALUES (5, 'eve', 1391990460, NULL);", "shifts 4 gap"),
     # Sales.
-    ("UPDATE sales SET number = 6 WHERE number = 4;", "sales 6 gap"),
+    ("UPDATE sales SET number = 6 WHERE number = 4;", "sales 4 gap"),
     ("UPDATE sales SET moment = 725846399 WHERE number = 1;", "sales 1 value"),
     ("UPDATE sales SET month = 251 WHERE number = 1;", "sales 1 month"),
     ("UPDATE sales SET moment = 1391990430 WHERE number = 1;", "sales 1 month"),
@@ -86,7 +86,7 @@ SPOILT = [
     ("UPDATE sales SET shift = 2 WHERE number = 1;", "shift_totals 1 total"),
     ("UPDATE sales SET tender = 100000001 WHERE number = 1;", "sales 1 value"),
     ("UPDATE sales SET digits = '0007205760262798169' WHERE number = 1;", "sales 1 value"),
-    ("DELETE FROM sales WHERE number = 2;", "sales 3 gap"),
+    ("DELETE FROM sales WHERE number = 2;", "sales 2 gap"),
     ("DELETE FROM sales WHERE number = 4;", f"last_ids {METER} total"),
     (NEW_SALE, f"last_ids {METER} total"),
     # Totals.
