@@ -11,7 +11,7 @@ use crate::office::opening::options_of;
 use crate::port::ports::{OfficeFile, SaltSource};
 use audit::{AuditFault, Audited, audit};
 use book_opening::fault_of;
-use books::{OpenFault, RefusedFiles};
+use books::{OpenFault, RefusedFiles, found_law};
 use sqlite::{Connection, FileStore};
 use sqlite_disk::{Disk, Files};
 use std::alloc::Global;
@@ -37,6 +37,7 @@ pub(crate) fn connect<H: OfficeFile>(
     ensures refuses { IfErr result
         (places_of H.Medium.Disk H.Salts.SaltSource H.OfficeFile office path.now).refuses }
 {
+    found_law::<FileStore<H::Medium>>();
     let found = match office.find_present(path) {
         Ok(found) => found,
         Err(fault) => return Err(fault),

@@ -16,7 +16,7 @@ returns-in-Ok-open_files-clause-connected g c = λ clean.
     let held = subst (λ found. IfSome found (λ pair. seen_image g.H.Medium.Disk pair.0 pair.1 ≡ g.H.OfficeFile.image c.args.office c.args.path.now)) c.in-Some.is c.in-Ok.ensures.image in
     let opened = c.in-Ok-open_files.ensures.opened clean in
     let found = c.in-Ok-open_files.ensures.found clean in
-    subst (λ image. IsConnected image (file_state c.in-Ok-open_files.conn)) held (record { opens = opened.0; live = opened.1; found = record { holds = found.holds; reads = found.reads } })
+    subst (λ image. IsConnected image (file_state c.in-Ok-open_files.conn)) held (record { opens = opened.0; live = opened.1; found = record { holds = found.holds; reads = found.reads }; in_order = c.found_law.ensures.in_order c.in-Ok-open_files.conn opened.0 opened.1 })
 
 pub returns-in-Err-open_files-clause-refuses : goal.returns-in-Err-open_files-clause-refuses
 returns-in-Err-open_files-clause-refuses g c =
