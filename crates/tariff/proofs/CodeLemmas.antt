@@ -1,7 +1,7 @@
 -- The amounts of the codes, as far as purchases need them, by the law of amounts.
 use Rattle.std.proofs.Common.{◌≡◌, ℕ, ◌^◌, ◌<◌, ◌≤◌, inl, inr, arith}
 use Rattle.std.proofs.lemmas.Bool.{cases_lt}
-use Rattle.sts_fields.specs.Amount.{IsCode, IsRepresentable, amount_of_code, code_of}
+use Rattle.sts_fields.specs.Amount.{IsCode, IsRepresentable, amount_of_code, code_of, greatest_amount}
 
 -- what `amount_law` says of codes
 pub record AmountLaw : Type 0 where
@@ -9,6 +9,7 @@ pub record AmountLaw : Type 0 where
   pub each_amount : (t : ℕ) → IsRepresentable t → IsCode t (code_of t)
   pub one_amount : (t u c : ℕ) → IsCode t c → IsCode u c → t ≡ u
   pub sixteen_bits : (t c : ℕ) → IsCode t c → c < 2 ^ 16
+  pub greatest : (t : ℕ) → IsRepresentable t → t ≤ greatest_amount
   pub rises : (c d : ℕ) → c < d → d < 2 ^ 16 → amount_of_code c < amount_of_code d
 
 module _ (law : AmountLaw) where

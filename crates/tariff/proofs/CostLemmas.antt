@@ -58,11 +58,11 @@ prices_of-same steps others p (suc t) each =
 abbrev pub reach_of : Option ℕ → ℕ → ℕ
 reach_of ends end = option_map_or (λ e. min e end) ends end
 
-reach_of-le : (o : Option ℕ) (end : ℕ) → reach_of o end ≤ end
+pub reach_of-le : (o : Option ℕ) (end : ℕ) → reach_of o end ≤ end
 reach_of-le None end = omega arith
 reach_of-le (Some e) end = omega arith
 
-ends_after-below : (s : Step) (end i : ℕ) (o : Option ℕ) → s.ends ≡ o → i < reach_of o end
+pub ends_after-below : (s : Step) (end i : ℕ) (o : Option ℕ) → s.ends ≡ o → i < reach_of o end
     → ends_after i s ≡ true
 ends_after-below s end i None is below = ap (λ o. option_map_or (λ e. ltb i e) o true) is
 ends_after-below s end i (Some e) is below =
@@ -74,7 +74,7 @@ ends_after-above s end i None is above within = absurd (omega arith)
 ends_after-above s end i (Some e) is above within =
     ap (λ o. option_map_or (λ e. ltb i e) o true) is ∙ grind (arith, nat_tests)
 
-price_at-first : (s : Step) (rest : List Step) (i : ℕ) → ends_after i s ≡ true
+pub price_at-first : (s : Step) (rest : List Step) (i : ℕ) → ends_after i s ≡ true
     → price_at (s ∷ rest) i ≡ s.price
 price_at-first s rest i passes =
     ap (λ b. option_map_or (λ s. s.price) (cond b (Some s) (find (ends_after i) rest)) 0) passes

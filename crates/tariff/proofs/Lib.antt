@@ -1,5 +1,6 @@
 pub mod CodeLemmas
 pub mod CostLemmas
+pub mod MostLemmas
 pub mod OutcomeLemmas
 pub mod PiecesLemmas
 pub mod PriceLemmas

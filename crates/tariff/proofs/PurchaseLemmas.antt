@@ -7,8 +7,8 @@ use Rattle.tariff.specs.declared.bought.Buy.{Buy}
 use Rattle.tariff.specs.declared.step.Step.{Step}
 use Rattle.tariff.specs.Cost.{cost_of}
 use Rattle.tariff.specs.Purchase.{IsPurchase, bought, greatest_passing, purchase_of}
-use Rattle.tariff.specs.GreatestCode.{IsGreatestCode}
-use Rattle.sts_fields.specs.Amount.{amount_of_code}
+use Rattle.tariff.specs.MostTenths.{AreMost}
+use Rattle.sts_fields.specs.Amount.{IsFloor, amount_of_code}
 use Rattle.tariff.proofs.CodeLemmas.{AmountLaw, amount_of_code-representable, amount_of_code-rises, amount_of_code-some, code_from_representable}
 use Rattle.tariff.proofs.CostLemmas.{cost_of-rises}
 
@@ -52,8 +52,14 @@ greatest_passing-is test zero = λ j some within. absurd (omega arith)
 greatest_passing-is test (suc n) =
     passing_step test n (test (suc n)) (greatest_passing test n) refl (greatest_passing-is test n)
 
+-- a tender covers the amount of this code, from 1 on, and of no greater one
+record IsGreatestCode (steps : List Step) (prior tender code : ℕ) : Type 0 where
+  some : 1 ≤ code
+  covered : cost_of steps prior (amount_of_code code) ≤ tender
+  greatest : (k : ℕ) → code < k → k < 2 ^ 16 → tender < cost_of steps prior (amount_of_code k)
+
 -- the greatest code that a tender covers gives the purchase
-pub purchase_from_code : AmountLaw → (steps : List Step) (prior tender code : ℕ) → code < 2 ^ 16
+purchase_from_code : AmountLaw → (steps : List Step) (prior tender code : ℕ) → code < 2 ^ 16
     → IsGreatestCode steps prior tender code
     → IsPurchase steps prior tender (bought steps prior tender (amount_of_code code))
 purchase_from_code law steps prior tender code fits g = record {
@@ -173,9 +179,28 @@ more_for_more law steps prior less more b p rises =
           (omega (arith, p.price, p.within)),
     )
 
--- codes from one that the tender doesn't cover on are not covered
-pub dear_above : AmountLaw → (steps : List Step) (prior tender code k : ℕ)
-    → ¬ (cost_of steps prior (amount_of_code code) ≤ tender) → code ≤ k → k < 2 ^ 16
-    → tender < cost_of steps prior (amount_of_code k)
-dear_above law steps prior tender code k dear from fits =
-    omega (arith, dear, cost_of-rises steps prior _ _ (amount_of_code-rises law code k from fits))
+-- the greatest amount up to the most tenths that a tender covers is the purchase
+pub purchase_from_most : AmountLaw → (steps : List Step) (prior tender most a : ℕ)
+    → AreMost steps prior tender most → 1 ≤ most → IsFloor most a
+    → IsPurchase steps prior tender (bought steps prior tender a)
+purchase_from_most law steps prior tender most a m some f =
+    let covered : cost_of steps prior a ≤ tender =
+    omega (arith, cost_of-rises steps prior a most f.within, m.covered) in
+    let least = amount_of_code-representable law 1 (omega arith) in
+    record {
+      representable = f.representable;
+      some = elim (cases_lt a 1) [
+        | inl none ↦ absurd (f.none_between 1 least none some)
+        | inr more ↦ more
+      ];
+      price = refl;
+      within = covered;
+      greatest = λ t carried cheap. elim (cases_lt a t) [
+        | inl above ↦ absurd (f.none_between t carried above (elim (cases_lt most t) [
+          | inl dear ↦ absurd (omega (arith, m.greatest t dear (law.greatest t carried)))
+          | inr within ↦ within
+        ]))
+        | inr within ↦ within
+      ];
+      change = omega (arith, covered);
+    }

@@ -1,5 +1,5 @@
 pub mod Cost
-pub mod GreatestCode
+pub mod MostTenths
 pub mod Pieces
 pub mod Purchase
 pub mod Steps

@@ -33,7 +33,7 @@ pub fn price(steps: &Steps, prior: u64, tenths: u32) -> u64
 }
 
 // Where a step stops among the tenths before `end`.
-fn reach(step: Step, end: u64) -> u64
+pub(crate) fn reach(step: Step, end: u64) -> u64
     ensures { result ≡ option_map_or (λ e. min e end) step.ends end }
 {
     match step.ends {

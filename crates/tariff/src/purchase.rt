@@ -1,13 +1,12 @@
 ghost use Rattle.std.specs.Prelude.{◌≡◌, ◌≢◌, ◌+◌, ◌-◌, ◌*◌, ◌^◌, ◌<◌, ◌≤◌, ◌↔◌, ◌⊎◌, ℕ, List, Option, IsTrue, MatchOption};
 ghost use Rattle.tariff.specs.declared.bought.Buy.{Buy};
 ghost use Rattle.tariff.specs.declared.step.Step.{Step};
-ghost use Rattle.sts_fields.specs.Amount.{amount_of_code};
 ghost use Rattle.tariff.specs.Cost.{cost_of, greatest_prior};
-ghost use Rattle.tariff.specs.GreatestCode.{IsGreatestCode};
+ghost use Rattle.tariff.specs.MostTenths.{AreMost};
 ghost use Rattle.tariff.specs.Purchase.{IsPurchase, purchase_of};
 
 use crate::bought::Buy;
-use crate::cost::price;
+use crate::cost::{price, reach};
 use crate::steps::Steps;
 use crate::tender::Tender;
 use sts_fields::{Amount, amount_law};
@@ -25,10 +24,11 @@ pub fn buy(steps: &Steps, prior: u64, tender: Tender) -> Option<Buy>
 {
     amount_law();
     let cents = tender.cents();
-    if price(steps, prior, 1) > u64::from(cents) {
+    let most = most_tenths(steps, prior, cents);
+    if most == 0 {
         return None;
     }
-    let tenths = Amount::of_code(greatest_code(steps, prior, cents));
+    let tenths = Amount::floor(most);
     let price = price(steps, prior, tenths.tenths()) as u32;
     Some(Buy {
         tenths,
@@ -37,32 +37,26 @@ pub fn buy(steps: &Steps, prior: u64, tender: Tender) -> Option<Buy>
     })
 }
 
-// The greatest code whose amount costs at most so many cents, by halving the codes that are left.
-fn greatest_code(steps: &Steps, prior: u64, cents: u32) -> u16
-    requires prior { prior ≤ greatest_prior }
-    requires tenth { cost_of steps.now prior 1 ≤ cents }
-    ensures { IsGreatestCode steps.now prior cents result }
-{
-    amount_law();
-    let mut low: u16 = 1;
-    let mut high = u16::MAX;
-    while low < high {
-        let middle = high - (high - low) / 2;
-        if covers(steps, prior, cents, middle) {
-            low = middle;
-        } else {
-            high = middle - 1;
-        }
-    }
-    low
-}
-
-// Whether so many cents cover what the amount of a code costs.
-fn covers(steps: &Steps, prior: u64, cents: u32, code: u16) -> bool
+// The most tenths that so many cents pay for, up to what a token can carry: the tenths of each step
+// in turn, while the money lasts.
+fn most_tenths(steps: &Steps, prior: u64, cents: u32) -> u32
     requires { prior ≤ greatest_prior }
-    ensures { IsTrue result ↔ (cost_of steps.now prior (amount_of_code code) ≤ cents) }
+    ensures { AreMost steps.now prior cents result }
 {
-    price(steps, prior, Amount::of_code(code).tenths()) <= u64::from(cents)
+    let end = prior + u64::from(Amount::MAX_TENTHS);
+    let mut paid = prior;
+    // The price of ten tenths in cents is that of one in tenths of a cent.
+    let mut left = u64::from(cents) * 10;
+    for step in steps.as_slice() {
+        let upper = reach(*step, end).max(paid);
+        let affordable = left / u64::from(step.price);
+        if affordable < upper - paid {
+            return (paid - prior + affordable) as u32;
+        }
+        left -= (upper - paid) * u64::from(step.price);
+        paid = upper;
+    }
+    Amount::MAX_TENTHS
 }
 
 /// What prices and purchases mean.
