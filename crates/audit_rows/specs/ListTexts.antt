@@ -12,7 +12,12 @@ pub lists_tariffs : ListsAll tariffs_kept [] tariffs_list
 unfolding everything is_whole meant select_meant text_meant
 lists_tariffs = record {
   table = tariffs_table;
-  asks = record { is = λ tree. record { means = refl; from = refl }; bare = λ tree. refl; typed = λ tree. refl; whole = refl };
+  asks = record {
+    is = λ tree. record { means = refl; from = refl };
+    bare = λ tree. refl;
+    typed = λ tree. refl;
+    whole = refl;
+  };
   stands = λ s has. has.0.has;
 }
 
@@ -20,7 +25,12 @@ pub lists_steps : ListsAll steps_kept [] steps_list
 unfolding everything is_whole meant select_meant text_meant
 lists_steps = record {
   table = tariff_steps_table;
-  asks = record { is = λ tree. record { means = refl; from = refl }; bare = λ tree. refl; typed = λ tree. refl; whole = refl };
+  asks = record {
+    is = λ tree. record { means = refl; from = refl };
+    bare = λ tree. refl;
+    typed = λ tree. refl;
+    whole = refl;
+  };
   stands = λ s has. has.0.has;
 }
 
@@ -28,7 +38,12 @@ pub lists_meters : ListsAll meters_kept [] meters_list
 unfolding everything is_whole meant select_meant text_meant
 lists_meters = record {
   table = meters_table;
-  asks = record { is = λ tree. record { means = refl; from = refl }; bare = λ tree. refl; typed = λ tree. refl; whole = refl };
+  asks = record {
+    is = λ tree. record { means = refl; from = refl };
+    bare = λ tree. refl;
+    typed = λ tree. refl;
+    whole = refl;
+  };
   stands = λ s has. has.0.has;
 }
 
@@ -36,7 +51,12 @@ pub lists_shifts : ListsAll shifts_kept (rising 0) shifts_list
 unfolding everything is_whole meant select_meant text_meant
 lists_shifts = record {
   table = shifts_table;
-  asks = record { is = λ tree. record { means = refl; from = refl }; bare = λ tree. refl; typed = λ tree. refl; whole = refl };
+  asks = record {
+    is = λ tree. record { means = refl; from = refl };
+    bare = λ tree. refl;
+    typed = λ tree. refl;
+    whole = refl;
+  };
   stands = λ s has. has.0.has;
 }
 
@@ -44,7 +64,12 @@ pub lists_sales : ListsAll sales_kept (rising 0) sales_list
 unfolding everything is_whole meant select_meant text_meant
 lists_sales = record {
   table = sales_table;
-  asks = record { is = λ tree. record { means = refl; from = refl }; bare = λ tree. refl; typed = λ tree. refl; whole = refl };
+  asks = record {
+    is = λ tree. record { means = refl; from = refl };
+    bare = λ tree. refl;
+    typed = λ tree. refl;
+    whole = refl;
+  };
   stands = λ s has. has.0.has;
 }
 
@@ -52,7 +77,12 @@ pub lists_last_ids : ListsAll last_ids_kept [] last_ids_list
 unfolding everything is_whole meant select_meant text_meant
 lists_last_ids = record {
   table = last_ids_table;
-  asks = record { is = λ tree. record { means = refl; from = refl }; bare = λ tree. refl; typed = λ tree. refl; whole = refl };
+  asks = record {
+    is = λ tree. record { means = refl; from = refl };
+    bare = λ tree. refl;
+    typed = λ tree. refl;
+    whole = refl;
+  };
   stands = λ s has. has.0.has;
 }
 
@@ -60,7 +90,12 @@ pub lists_month_tenths : ListsAll month_tenths_kept [] month_tenths_list
 unfolding everything is_whole meant select_meant text_meant
 lists_month_tenths = record {
   table = month_tenths_table;
-  asks = record { is = λ tree. record { means = refl; from = refl }; bare = λ tree. refl; typed = λ tree. refl; whole = refl };
+  asks = record {
+    is = λ tree. record { means = refl; from = refl };
+    bare = λ tree. refl;
+    typed = λ tree. refl;
+    whole = refl;
+  };
   stands = λ s has. has.0.has;
 }
 
@@ -68,7 +103,12 @@ pub lists_shift_totals : ListsAll shift_totals_kept (rising 0) shift_totals_list
 unfolding everything is_whole meant select_meant text_meant
 lists_shift_totals = record {
   table = shift_totals_table;
-  asks = record { is = λ tree. record { means = refl; from = refl }; bare = λ tree. refl; typed = λ tree. refl; whole = refl };
+  asks = record {
+    is = λ tree. record { means = refl; from = refl };
+    bare = λ tree. refl;
+    typed = λ tree. refl;
+    whole = refl;
+  };
   stands = λ s has. has.0.has;
 }
 
@@ -76,7 +116,12 @@ pub lists_bases : ListsAll bases_kept [] bases_list
 unfolding everything is_whole meant select_meant text_meant
 lists_bases = record {
   table = meter_bases_table;
-  asks = record { is = λ tree. record { means = refl; from = refl }; bare = λ tree. refl; typed = λ tree. refl; whole = refl };
+  asks = record {
+    is = λ tree. record { means = refl; from = refl };
+    bare = λ tree. refl;
+    typed = λ tree. refl;
+    whole = refl;
+  };
   stands = λ s has. has.0.has;
 }
 
@@ -84,6 +129,11 @@ pub lists_dated_steps : ListsAll dated_steps_kept [] dated_steps_list
 unfolding everything is_whole meant select_meant text_meant
 lists_dated_steps = record {
   table = dated_steps_table;
-  asks = record { is = λ tree. record { means = refl; from = refl }; bare = λ tree. refl; typed = λ tree. refl; whole = refl };
+  asks = record {
+    is = λ tree. record { means = refl; from = refl };
+    bare = λ tree. refl;
+    typed = λ tree. refl;
+    whole = refl;
+  };
   stands = λ s has. has.0.has;
 }

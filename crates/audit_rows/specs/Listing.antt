@@ -31,7 +31,8 @@ column_names k = map (λ c. c.name) k.table.columns
 pub record ListsAll (k : Kept) (order : List (Term × Key)) (text : List ℕ) : Type 0 where
   pub table : ℕ → Table
   pub asks : Asks table (list_query k order) (column_names k) text []
-  pub stands : (s : Schema) → IsKept s k → Has s (place_in s k.table.name) (table (tree_in s k.table.name))
+  pub stands : (s : Schema) → IsKept s k
+      → Has s (place_in s k.table.name) (table (tree_in s k.table.name))
 
 -- why a table is not read: what the database refuses plainly, where it is open, or want of memory
 abbrev pub FailsToList : State → State → Error → Type 0

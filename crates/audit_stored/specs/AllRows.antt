@@ -66,7 +66,8 @@ pub record KeepRules (rows : Rows) : Type 0 where
   pub shifts : All AreShiftValues rows.shifts
   pub sales : All AreSaleValues rows.sales
   pub bases : All (λ b. IsMeterNo b.0) rows.bases
-  pub dated_steps : All (λ r. IsName r.tariff × (IsDay r.day × AreStepValues r.step)) rows.dated_steps
+  pub dated_steps
+      : All (λ r. IsName r.tariff × (IsDay r.day × AreStepValues r.step)) rows.dated_steps
 
 -- the tables of a format were read whole, as these rows
 pub record IsReadAs (n : ℕ) (db : Database) (rows : Rows) : Type 0 where
