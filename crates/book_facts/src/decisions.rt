@@ -18,7 +18,7 @@ use book_states::refusal_of;
 use sqlite::{Alter, Connection};
 use std::alloc::Global;
 use sts_token::BlockTransform;
-use vend_core::{Change, Facts, Refusal, Stamped, decide};
+use vend_core::{Facts, Refusal, Stamped, decide};
 
 /// What a request changes and its answer, by what the tables hold. Nothing is changed yet.
 ///
@@ -57,7 +57,9 @@ pub fn decision_of<S: Alter, T: BlockTransform>(
     }
 }
 
-// What the facts decide.
+// What the facts decide. A decision is large: in a function of its own it is written where the caller
+// wants it.
+#[inline(never)]
 fn decided_by<T: BlockTransform>(
     alloc: Global,
     transform: &T,
@@ -70,25 +72,11 @@ fn decided_by<T: BlockTransform>(
         decided.prior ≡ prior_of_account facts.now.account) }
     ensures no_store { (result ≢ Err Refusal.Store) × (result ≢ Err Refusal.Stopped) }
 {
-    let change = change_by(alloc, transform, facts, at)?;
-    Ok(Decided {
-        change,
-        prior: prior_of(facts),
-    })
-}
-
-// What a request changes by these facts. A change is large: in a function of its own it is written
-// where the caller wants it.
-#[inline(never)]
-fn change_by<T: BlockTransform>(
-    alloc: Global,
-    transform: &T,
-    facts: &Facts,
-    at: &Stamped,
-) -> Result<Change, Refusal>
-    ensures decided { (o : Office) → AreFacts o at.now facts.now
-        → IsUnlessMemory result (decision (T.forwards transform.now) o at.now) }
-    ensures no_store { (result ≢ Err Refusal.Store) × (result ≢ Err Refusal.Stopped) }
-{
-    decide(alloc, transform, facts, at)
+    match decide(alloc, transform, facts, at) {
+        Ok(change) => Ok(Decided {
+            change,
+            prior: prior_of(facts),
+        }),
+        Err(refusal) => Err(refusal),
+    }
 }

@@ -32,14 +32,14 @@ pub(crate) fn sale_facts<S: Alter>(
     ensures reads { OnlyReads IsUnchanged
         (state S.Store conn.old) (state S.Store conn.new) result }
 {
-    let first_sale = sales::sale_of_ref(conn, &order.operator, &order.order_ref)?;
-    if first_sale.is_some() {
-        return Ok(Facts {
+    match sales::sale_of_ref(conn, &order.operator, &order.order_ref) {
+        Ok(None) => new_sale_facts(alloc, conn, moment, order, sale_count),
+        Ok(first_sale) => Ok(Facts {
             first_sale,
             ..Facts::none()
-        });
+        }),
+        Err(error) => Err(error),
     }
-    new_sale_facts(alloc, conn, moment, order, sale_count)
 }
 
 // What a new sale looks at: the meter only where there is an open shift.
@@ -62,11 +62,20 @@ fn new_sale_facts<S: Alter>(
         return Ok(Facts::none());
     }
     let account = account_numbered(alloc, conn, &order.meter, moment)?;
+    // By all its fields, since taking those that are empty from other facts copies all their room.
     Ok(Facts {
+        tariff: None,
+        meter: None,
+        has_tariff: false,
+        dated_steps: None,
+        rows: None,
         open_shift,
+        shift_count: 0,
+        first_sale: None,
         account,
         sale_count,
-        ..Facts::none()
+        sale: None,
+        report: None,
     })
 }
 

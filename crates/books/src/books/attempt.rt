@@ -15,10 +15,10 @@ ghost use Rattle.books.specs.Serving.{FailsToServe, HoldsOffice, ServesGranted, 
 
 use super::Books;
 use book_edits::commit;
-use book_facts::{Decided, decision_of};
+use book_facts::decision_of;
 use sqlite::Alter;
 use sts_token::BlockTransform;
-use vend_core::{Change, Edit, Refusal, Reply, Stamped, office_law, store_law};
+use vend_core::{Edit, Refusal, Reply, Stamped, office_law, store_law};
 
 impl<S: Alter, T: BlockTransform> Books<S, T> {
     // Serves a request at books that are not stopped.
@@ -48,19 +48,19 @@ impl<S: Alter, T: BlockTransform> Books<S, T> {
     {
         office_law();
         store_law();
-        let Decided { change, prior } = decision_of(
+        // It is large, and not taken apart, so that it is moved once.
+        let decided = decision_of(
             self.alloc,
             &mut self.conn,
             &self.transform,
             at,
             self.next_number,
         )?;
-        let Change { edit, answer } = change;
-        if let Some(edit) = &edit {
-            commit(&mut self.conn, edit, prior)?;
+        if let Some(edit) = &decided.change.edit {
+            commit(&mut self.conn, edit, decided.prior)?;
             self.next_number = next_after(edit, self.next_number);
         }
-        Ok(answer)
+        Ok(decided.change.answer)
     }
 }
 

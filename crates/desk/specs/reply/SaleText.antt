@@ -1,5 +1,5 @@
 -- The text of a sale in JSON, written out.
-use Rattle.std.specs.Prelude.{ℕ, List, ◌∷◌, [], ◌++◌, codes, decimal}
+use Rattle.std.specs.Prelude.{ℕ, List, ◌++◌, codes, decimal}
 use Rattle.papers.specs.Text.{change_of}
 use Rattle.sts_fields.specs.Base.{year_of}
 use Rattle.sts_token.specs.Token.{AreTwentyDigits}
@@ -13,24 +13,27 @@ pub record IsTellableSale (s : Sale) : Type 0 where
   pub meter : IsMeterNo s.meter
   pub digits : AreTwentyDigits s.digits
 
--- a text in quotes
-abbrev pub in_quotes : List ℕ → List ℕ
-in_quotes text = 34 ∷ (text ++ 34 ∷ [])
-
 -- the members of a sale in the order of their bytes, without spaces
+abbrev pub sale_text_of
+    : (base change moment number price shift tender tenths tid : ℕ) (meter operator order_ref token : List ℕ)
+    → List ℕ
+sale_text_of base change moment number price shift tender tenths tid meter operator order_ref token =
+    codes "{\"base\":" ++ (decimal base
+    ++ (codes ",\"change\":" ++ (decimal change
+    ++ (codes ",\"meter\":\"" ++ (meter
+    ++ (codes "\",\"moment\":" ++ (decimal moment
+    ++ (codes ",\"number\":" ++ (decimal number
+    ++ (codes ",\"operator\":\"" ++ (operator
+    ++ (codes "\",\"price\":" ++ (decimal price
+    ++ (codes ",\"ref\":\"" ++ (order_ref
+    ++ (codes "\",\"shift\":" ++ (decimal shift
+    ++ (codes ",\"tender\":" ++ (decimal tender
+    ++ (codes ",\"tenths\":" ++ (decimal tenths
+    ++ (codes ",\"tid\":" ++ (decimal tid
+    ++ (codes ",\"token\":\"" ++ (token
+    ++ codes "\"}")))))))))))))))))))))))))
+
 abbrev pub sale_text : Sale → List ℕ
 sale_text s =
-    codes "{\"base\":" ++ (decimal (year_of s.base)
-    ++ (codes ",\"change\":" ++ (decimal (change_of s)
-    ++ (codes ",\"meter\":" ++ (in_quotes s.meter
-    ++ (codes ",\"moment\":" ++ (decimal s.moment
-    ++ (codes ",\"number\":" ++ (decimal s.number
-    ++ (codes ",\"operator\":" ++ (in_quotes s.operator
-    ++ (codes ",\"price\":" ++ (decimal s.price
-    ++ (codes ",\"ref\":" ++ (in_quotes s.order_ref
-    ++ (codes ",\"shift\":" ++ (decimal s.shift
-    ++ (codes ",\"tender\":" ++ (decimal s.tender
-    ++ (codes ",\"tenths\":" ++ (decimal s.tenths
-    ++ (codes ",\"tid\":" ++ (decimal s.tid
-    ++ (codes ",\"token\":" ++ (in_quotes s.digits
-    ++ codes "}")))))))))))))))))))))))))
+    sale_text_of (year_of s.base) (change_of s) s.moment s.number s.price s.shift s.tender s.tenths
+    s.tid s.meter s.operator s.order_ref s.digits

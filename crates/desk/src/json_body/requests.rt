@@ -45,9 +45,10 @@ pub(crate) fn said(alloc: Global, kind: JsonKind, value: &Value) -> Result<Reque
         JsonKind::Closing => operator(value)
             .map(Request::CloseShift)
             .ok_or(BodyFault::OutsideRule),
-        JsonKind::Order => order(value)
-            .map(Request::Sell)
-            .ok_or(BodyFault::OutsideRule),
+        JsonKind::Order => match order(value) {
+            Some(order) => Ok(Request::Sell(order)),
+            None => Err(BodyFault::OutsideRule),
+        },
     }
 }
 

@@ -7,7 +7,6 @@ ghost use Rattle.papers.specs.Text.{change_of};
 ghost use Rattle.sts_token.specs.Token.{AreTwentyDigits};
 ghost use Rattle.desk.specs.reply.Members.{json_text};
 ghost use Rattle.desk.specs.reply.Body.{sale_members};
-ghost use Rattle.desk.specs.reply.SaleText.{in_quotes};
 
 use arrayvec::ArrayVec;
 use itoa::Buffer;
@@ -26,19 +25,19 @@ pub(crate) fn sale_text(sale: &Sale) -> ArrayVec<u8, SALE_ROOM>
     put_number(&mut text, u64::from(sale.base.year()));
     put(&mut text, b",\"change\":");
     put_number(&mut text, u64::from(change(sale)));
-    put(&mut text, b",\"meter\":");
-    put_quoted(&mut text, sale.meter.as_bytes());
-    put(&mut text, b",\"moment\":");
+    put(&mut text, b",\"meter\":\"");
+    put(&mut text, sale.meter.as_bytes());
+    put(&mut text, b"\",\"moment\":");
     put_number(&mut text, seconds(sale.moment));
     put(&mut text, b",\"number\":");
     put_number(&mut text, u64::from(sale.number));
-    put(&mut text, b",\"operator\":");
-    put_quoted(&mut text, sale.operator.as_bytes());
-    put(&mut text, b",\"price\":");
+    put(&mut text, b",\"operator\":\"");
+    put(&mut text, sale.operator.as_bytes());
+    put(&mut text, b"\",\"price\":");
     put_number(&mut text, u64::from(sale.price));
-    put(&mut text, b",\"ref\":");
-    put_quoted(&mut text, sale.order_ref.as_bytes());
-    put(&mut text, b",\"shift\":");
+    put(&mut text, b",\"ref\":\"");
+    put(&mut text, sale.order_ref.as_bytes());
+    put(&mut text, b"\",\"shift\":");
     put_number(&mut text, u64::from(sale.shift));
     put(&mut text, b",\"tender\":");
     put_number(&mut text, u64::from(sale.tender.cents()));
@@ -46,9 +45,9 @@ pub(crate) fn sale_text(sale: &Sale) -> ArrayVec<u8, SALE_ROOM>
     put_number(&mut text, u64::from(sale.tenths.tenths()));
     put(&mut text, b",\"tid\":");
     put_number(&mut text, u64::from(sale.tid));
-    put(&mut text, b",\"token\":");
-    put_quoted(&mut text, &sale.digits);
-    put(&mut text, b"}");
+    put(&mut text, b",\"token\":\"");
+    put(&mut text, &sale.digits);
+    put(&mut text, b"\"}");
     text
 }
 
@@ -76,18 +75,8 @@ fn put<const ROOM: usize>(text: &mut ArrayVec<u8, ROOM>, piece: &[u8])
     let _ = text.try_extend_from_slice(piece);
 }
 
-// Adds a text in quotes.
-fn put_quoted<const ROOM: usize>(text: &mut ArrayVec<u8, ROOM>, value: &[u8])
-    requires { array_vec_len text.old + (length value.now + 2) ≤ ROOM }
-    ensures items { text.new.items ≡ text.old.items ++ in_quotes value.now }
-    ensures len { array_vec_len text.new ≡ array_vec_len text.old + (length value.now + 2) }
-{
-    put(text, b"\"");
-    put(text, value);
-    put(text, b"\"");
-}
-
-// Adds the digits of a number.
+// Adds the digits of a number. A call would take as many steps as the digits do.
+#[inline(always)]
 fn put_number<const ROOM: usize>(text: &mut ArrayVec<u8, ROOM>, number: u64)
     requires { array_vec_len text.old + 20 ≤ ROOM }
     ensures items { text.new.items ≡ text.old.items ++ decimal number }

@@ -11,18 +11,18 @@ use Rattle.book_states.proofs.StayLemmas.{has_tables, still_held}
 use Rattle.books.proofs.books.Books.attempt.Goals as goal
 use Rattle.books.proofs.books.Books.attempt.Goals.{in-Some+in_ok-commit, in_default}
 
-pub returns-in_err-change-clause-attempts : goal.returns-in_err-change-clause-attempts
-returns-in_err-change-clause-attempts g c clean o held =
+pub returns-in_err-decided-clause-attempts : goal.returns-in_err-decided-clause-attempts
+returns-in_err-decided-clause-attempts g c clean o held =
     let now = c.args.self.now in
     let forward = g.T.BlockTransform.forwards now.transform in
     let old = seen g.S.Store g.T.BlockTransform.forwards now in
     let new = record old { state = state g.S.Store c.decision_of.new.conn } in
     let nothing = c.decision_of.ensures.nothing clean (has_tables o old.state held.at) in
-    let same = handed_on c.from_residual.result c.in_err-change.field-0.0 c.from_residual.ensures.1 in
-    rw same (refused_ends forward o c.args.at.now c.in_err-change.field-0.0 old new held (c.in_err-change.ensures.decides clean o held.at held.next) clean nothing refl)
+    let same = handed_on c.from_residual.result c.in_err-decided.field-0.0 c.from_residual.ensures.1 in
+    rw same (refused_ends forward o c.args.at.now c.in_err-decided.field-0.0 old new held (c.in_err-decided.ensures.decides clean o held.at held.next) clean nothing refl)
 
-pub returns-in_err-change-clause-others : goal.returns-in_err-change-clause-others
-returns-in_err-change-clause-others g c clean tables = nothing_others (state g.S.Store c.args.self.now.conn) (state g.S.Store c.decision_of.new.conn) clean (c.decision_of.ensures.nothing clean tables)
+pub returns-in_err-decided-clause-others : goal.returns-in_err-decided-clause-others
+returns-in_err-decided-clause-others g c clean tables = nothing_others (state g.S.Store c.args.self.now.conn) (state g.S.Store c.decision_of.new.conn) clean (c.decision_of.ensures.nothing clean tables)
 
 pub returns-in_err-commit-clause-attempts : goal.returns-in_err-commit-clause-attempts
 returns-in_err-commit-clause-attempts g c clean o held =
@@ -31,10 +31,10 @@ returns-in_err-commit-clause-attempts g c clean o held =
     let forward = g.T.BlockTransform.forwards now.transform in
     let range = g.met.T.BlockTransform.forward_range now.transform in
     let at = c.args.at.now in
-    let change = c.in_ok-change.field-0.change in
+    let change = c.in_ok-decided.field-0.change in
     let mid = state g.S.Store c.decision_of.new.conn in
     let early = c.commit.ensures.clean clean in
-    let decided = c.in_ok-change.ensures.decides early o held.at held.next in
+    let decided = c.in_ok-decided.ensures.decides early o held.at held.next in
     let is = is_decision forward o at change decided in
     let old = seen g.S.Store g.T.BlockTransform.forwards now in
     let new = record old { state = state g.S.Store c.commit.new.conn } in
@@ -44,7 +44,7 @@ returns-in_err-commit-clause-attempts g c clean o held =
     let applied = is_applied forward o at change decided new c.in-Some.edit c.in-Some.is in
     let office = subst IsOffice applied (c.office_law.ensures.keeps_office forward o at held.at.office c.requires.stamped range) in
     let commits = c.in_err-commit.ensures.commits clean (has_tables o mid here) in
-    rw same (failed_ends forward o at change decided new c.in-Some.edit c.in-Some.is mid here meets office c.in_ok-change.field-0.prior c.in_err-commit.field-0.0 clean commits held.next)
+    rw same (failed_ends forward o at change decided new c.in-Some.edit c.in-Some.is mid here meets office c.in_ok-decided.field-0.prior c.in_err-commit.field-0.0 clean commits held.next)
 
 pub returns-in_err-commit-clause-others : goal.returns-in_err-commit-clause-others
 returns-in_err-commit-clause-others g c clean tables =
@@ -53,7 +53,7 @@ returns-in_err-commit-clause-others g c clean tables =
     let new = state g.S.Store c.commit.new.conn in
     let early = c.commit.ensures.clean clean in
     let first = nothing_others old mid early (c.decision_of.ensures.nothing early tables) in
-    others_then old mid new first (commits_others c.in-Some.edit c.in_ok-change.field-0.prior _ mid new clean (c.in_err-commit.ensures.commits clean (tables_stay old mid first tables)))
+    others_then old mid new first (commits_others c.in-Some.edit c.in_ok-decided.field-0.prior _ mid new clean (c.in_err-commit.ensures.commits clean (tables_stay old mid first tables)))
 
 pub returns-clause-attempts : goal.returns-clause-attempts
 returns-clause-attempts g c clean o held =
@@ -61,16 +61,16 @@ returns-clause-attempts g c clean o held =
     let forward = g.T.BlockTransform.forwards now.transform in
     let range = g.met.T.BlockTransform.forward_range now.transform in
     let at = c.args.at.now in
-    let change = c.in_ok-change.field-0.change in
+    let change = c.in_ok-decided.field-0.change in
     let mid = state g.S.Store c.decision_of.new.conn in
     let old = seen g.S.Store g.T.BlockTransform.forwards now in
     let tables = has_tables o old.state held.at in
-    elim c.match-edit.branch [
+    elim c.match-change.branch [
       | in-Some+in_ok-commit w ↦
           let late = rw w.self-is at clean in
           let early = w.commit.ensures.clean late in
           let new = record old { state = state g.S.Store w.commit.new.conn; next_number = w.next_after-self.result } in
-          let decided = c.in_ok-change.ensures.decides early o held.at held.next in
+          let decided = c.in_ok-decided.ensures.decides early o held.at held.next in
           let is = is_decision forward o at change decided in
           let edit = w.in-Some.edit in
           let here = still_held o old.state mid early held.at (c.decision_of.ensures.nothing early tables) in
@@ -79,11 +79,11 @@ returns-clause-attempts g c clean o held =
           let office = subst IsOffice applied (c.office_law.ensures.keeps_office forward o at held.at.office c.requires.stamped range) in
           let commits = w.in_ok-commit.ensures.commits late (has_tables o mid here) in
           let next = w.next_after-self.ensures o meets held.next in
-          rw w.self-is (committed_ends forward o at change decided new edit w.in-Some.is mid here meets office c.in_ok-change.field-0.prior commits next)
+          rw w.self-is (committed_ends forward o at change decided new edit w.in-Some.is mid here meets office c.in_ok-decided.field-0.prior commits next)
       | in_default w ↦
           let late = rw w.self-is at clean in
           let new = record old { state = mid } in
-          let decided = c.in_ok-change.ensures.decides late o held.at held.next in
+          let decided = c.in_ok-decided.ensures.decides late o held.at held.next in
           let here = still_held o old.state mid late held.at (c.decision_of.ensures.nothing late tables) in
           rw w.self-is (unchanged_ends forward o at change decided new (none_of change.edit w.in_default.not-Some) (record { at = here; next = held.next }))
     ]
@@ -92,22 +92,22 @@ pub returns-clause-others : goal.returns-clause-others
 returns-clause-others g c clean tables =
     let old = state g.S.Store c.args.self.now.conn in
     let mid = state g.S.Store c.decision_of.new.conn in
-    elim c.match-edit.branch [
+    elim c.match-change.branch [
       | in-Some+in_ok-commit w ↦
           let late = rw w.self-is at clean in
           let early = w.commit.ensures.clean late in
           let new = state g.S.Store w.commit.new.conn in
           let first = nothing_others old mid early (c.decision_of.ensures.nothing early tables) in
-          rw w.self-is (others_then old mid new first (commits_others w.in-Some.edit c.in_ok-change.field-0.prior _ mid new late (w.in_ok-commit.ensures.commits late (tables_stay old mid first tables))))
+          rw w.self-is (others_then old mid new first (commits_others w.in-Some.edit c.in_ok-decided.field-0.prior _ mid new late (w.in_ok-commit.ensures.commits late (tables_stay old mid first tables))))
       | in_default w ↦
           let late = rw w.self-is at clean in
           rw w.self-is (nothing_others old mid late (c.decision_of.ensures.nothing late tables))
     ]
 
-pub returns-in_err-change-clause-failures : goal.returns-in_err-change-clause-failures
-returns-in_err-change-clause-failures g c clean tables =
-    let same = handed_on c.from_residual.result c.in_err-change.field-0.0 c.from_residual.ensures.1 in
-    rw same (inl (c.decision_of.ensures.nothing clean tables, c.in_err-change.ensures.failures clean tables))
+pub returns-in_err-decided-clause-failures : goal.returns-in_err-decided-clause-failures
+returns-in_err-decided-clause-failures g c clean tables =
+    let same = handed_on c.from_residual.result c.in_err-decided.field-0.0 c.from_residual.ensures.1 in
+    rw same (inl (c.decision_of.ensures.nothing clean tables, c.in_err-decided.ensures.failures clean tables))
 
 pub returns-in_err-commit-clause-failures : goal.returns-in_err-commit-clause-failures
 returns-in_err-commit-clause-failures g c clean tables =
@@ -119,20 +119,20 @@ returns-in_err-commit-clause-failures g c clean tables =
     let nothing = c.decision_of.ensures.nothing early tables in
     let commits = c.in_err-commit.ensures.commits clean (tables_stay old mid (nothing_others old mid early nothing) tables) in
     let decided : IsDecidedFor c.args.at.now (seen g.S.Store g.T.BlockTransform.forwards c.args.self.now) c.in-Some.edit = λ o held. (
-      c.in_ok-change.field-0.change,
-      is_decision (g.T.BlockTransform.forwards c.args.self.now.transform) o c.args.at.now c.in_ok-change.field-0.change (c.in_ok-change.ensures.decides early o held.at held.next),
+      c.in_ok-decided.field-0.change,
+      is_decision (g.T.BlockTransform.forwards c.args.self.now.transform) o c.args.at.now c.in_ok-decided.field-0.change (c.in_ok-decided.ensures.decides early o held.at held.next),
       c.in-Some.is,
     ) in
-    let prior = c.in_ok-change.field-0.prior in
-    rw same (inr (c.in-Some.edit, decided, (prior, c.in_ok-change.ensures.prior early, fails_after c.in-Some.edit old mid new clean nothing g.S.Store prior c.in_err-commit.field-0.0 commits.failed)))
+    let prior = c.in_ok-decided.field-0.prior in
+    rw same (inr (c.in-Some.edit, decided, (prior, c.in_ok-decided.ensures.prior early, fails_after c.in-Some.edit old mid new clean nothing g.S.Store prior c.in_err-commit.field-0.0 commits.failed)))
 
 pub returns-clause-granted : goal.returns-clause-granted
 returns-clause-granted g c clean tables =
     let old = state g.S.Store c.args.self.now.conn in
     let mid = state g.S.Store c.decision_of.new.conn in
     let books = seen g.S.Store g.T.BlockTransform.forwards c.args.self.now in
-    let change = c.in_ok-change.field-0.change in
-    elim c.match-edit.branch [
+    let change = c.in_ok-decided.field-0.change in
+    elim c.match-change.branch [
       | in-Some+in_ok-commit w ↦
           let late = rw w.self-is at clean in
           let early = w.commit.ensures.clean late in
@@ -141,17 +141,17 @@ returns-clause-granted g c clean tables =
           let commits = w.in_ok-commit.ensures.commits late (tables_stay old mid (nothing_others old mid early nothing) tables) in
           let decided : IsGrantedWith c.args.at.now books (Some w.in-Some.edit) = λ o held. (
             change,
-            is_decision (g.T.BlockTransform.forwards c.args.self.now.transform) o c.args.at.now change (c.in_ok-change.ensures.decides early o held.at held.next),
+            is_decision (g.T.BlockTransform.forwards c.args.self.now.transform) o c.args.at.now change (c.in_ok-decided.ensures.decides early o held.at held.next),
             w.in-Some.is,
           ) in
-          let prior = c.in_ok-change.field-0.prior in
+          let prior = c.in_ok-decided.field-0.prior in
           let counted = counted_after w.in-Some.edit old mid new late nothing prior commits.done.was_open commits.counted in
-          rw w.self-is (inr (w.in-Some.edit, decided, has_after w.in-Some.edit old mid new late nothing commits.done, (prior, c.in_ok-change.ensures.prior early, counted)))
+          rw w.self-is (inr (w.in-Some.edit, decided, has_after w.in-Some.edit old mid new late nothing commits.done, (prior, c.in_ok-decided.ensures.prior early, counted)))
       | in_default w ↦
           let late = rw w.self-is at clean in
           let decided : IsGrantedWith c.args.at.now books None = λ o held. (
             change,
-            is_decision (g.T.BlockTransform.forwards c.args.self.now.transform) o c.args.at.now change (c.in_ok-change.ensures.decides late o held.at held.next),
+            is_decision (g.T.BlockTransform.forwards c.args.self.now.transform) o c.args.at.now change (c.in_ok-decided.ensures.decides late o held.at held.next),
             none_of change.edit w.in_default.not-Some,
           ) in
           rw w.self-is (inl (decided, c.decision_of.ensures.nothing late tables))

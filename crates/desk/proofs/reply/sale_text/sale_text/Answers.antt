@@ -1,4 +1,4 @@
-use Rattle.std.proofs.Common.{◌≡◌, ◌∙◌, refl, sym}
+use Rattle.std.proofs.Common.{◌∙◌, refl, sym}
 use Rattle.desk.specs.reply.SaleText.{IsTellableSale}
 use Rattle.desk.proofs.SaleTextLemmas.{sale_text-made, sale_text-pieces}
 use Rattle.desk.proofs.reply.sale_text.sale_text.Goals as goal
@@ -33,26 +33,26 @@ returns c =
     c.put-2.ensures.items
     c.put_number-2.ensures.items
     c.put-3.ensures.items
-    c.put_quoted.ensures.items
     c.put-4.ensures.items
-    c.put_number-3.ensures.items
     c.put-5.ensures.items
-    c.put_number-4.ensures.items
+    c.put_number-3.ensures.items
     c.put-6.ensures.items
-    c.put_quoted-2.ensures.items
+    c.put_number-4.ensures.items
     c.put-7.ensures.items
-    c.put_number-5.ensures.items
     c.put-8.ensures.items
-    c.put_quoted-3.ensures.items
     c.put-9.ensures.items
-    c.put_number-6.ensures.items
+    c.put_number-5.ensures.items
     c.put-10.ensures.items
-    c.put_number-7.ensures.items
     c.put-11.ensures.items
-    c.put_number-8.ensures.items
     c.put-12.ensures.items
-    c.put_number-9.ensures.items
+    c.put_number-6.ensures.items
     c.put-13.ensures.items
-    c.put_quoted-4.ensures.items
+    c.put_number-7.ensures.items
     c.put-14.ensures.items
+    c.put_number-8.ensures.items
+    c.put-15.ensures.items
+    c.put_number-9.ensures.items
+    c.put-16.ensures.items
+    c.put-17.ensures.items
+    c.put-18.ensures.items
     ∙ sym pieces
