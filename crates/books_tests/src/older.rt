@@ -125,7 +125,7 @@ fn refused(
     }
     match Books::open_from(alloc, conn, Plain) {
         Ok(_) => Err("it was opened".into()),
-        Err(refused) => Ok(refused),
+        Err(left) => Ok(left),
     }
 }
 
