@@ -26,6 +26,14 @@ SPOILED = [
     (1, FAR), (2, FAR), (3, FAR), (4, FAR),
     (1, "UPDATE meters SET base = 2000 WHERE meter = '10000000009';"),
     (2, "UPDATE meters SET base = 2000 WHERE meter = '10000000009';"),
+    # A row of another table that no office has, or that its other tables do not bear out.
+    *((number, text) for number in (1, 2, 3) for text in (
+        "UPDATE shifts SET opened = -1;", "UPDATE tariff_steps SET price = 0;",
+        "INSERT INTO tariffs VALUES ('none');")),
+    *((number, text) for number in (2, 3) for text in (
+        "UPDATE last_ids SET tid = 16777216;", "UPDATE last_ids SET tid = 3;",
+        "DELETE FROM month_tenths;", "UPDATE shift_totals SET cash = 77;")),
+    (3, "DELETE FROM meter_bases WHERE meter = '10000000009';"),
     # A table or a column that is missing.
     (1, "DROP TABLE sales;"), (4, "DROP TABLE sales;"),
     (1, "DROP TABLE about;"), (4, "DROP TABLE about;"),

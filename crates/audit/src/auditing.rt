@@ -4,6 +4,7 @@ ghost use Rattle.std.specs.Prelude.{◌≡◌, ◌≤◌, false, IfOk, IsTrue, O
 ghost use Rattle.sqlite.specs.State.{HasCleanDisk, IsUnchanged, Survives};
 ghost use Rattle.sqlite.specs.Held.{state};
 ghost use Rattle.one_table.specs.ReadsOnly.{ReadsOnly};
+ghost use Rattle.kept_order.specs.InOrder.{HasTablesInOrder};
 ghost use Rattle.book_tables.specs.format.Format.{HasFormat};
 ghost use Rattle.book_tables.specs.row.Rows.{present_format};
 ghost use Rattle.audit_rows.specs.Fails.{FailsToAudit as FailsToRead, IsKnown};
@@ -19,7 +20,7 @@ use book_tables::TableError;
 use book_tables::format::number::format_number;
 use book_tables::format::presence::format_here;
 use kept_order::{KeepsOrder, connection_order_law, order_law};
-use sqlite::{Alter, Connection, Error, ErrorCode};
+use sqlite::{Alter, Connection, Error, ErrorCode, MemStore};
 use std::alloc::Global;
 
 fn failed(error: TableError) -> ReadFault
@@ -105,8 +106,45 @@ fn audit_format<S: Alter>(
 
 /// Looks at all rows of all tables, of whatever format they are, and counts them.
 ///
-/// Where it passes outside a transaction, the database stands for an office (`Passes`), as long as
-/// no row of a shift lacks a column, which nothing that reads by SQL can see.
+/// Where it passes over rows that are in the order of their numbers, as `audit` finds them over the
+/// stores that keep them so, the database stands for an office (`Passes`), as long as no row of a
+/// shift lacks a column, which nothing that reads by SQL can see.
+///
+/// # Errors
+/// As those of `audit`.
+pub fn audit_tables<S: Alter>(
+    alloc: Global,
+    conn: &mut Connection<S>,
+) -> Result<Audited, AuditFault>
+    ensures given { HasCleanDisk (state S.Store conn.new)
+        → IsTrue (state S.Store conn.old).is_open
+        → HasTablesInOrder (state S.Store conn.old).now
+        → HaveWholeShifts (state S.Store conn.old).now
+        → IfOk result (Passes (state S.Store conn.old).now) }
+    ensures reads { ReadsOnly (λ s. IsTrue s.is_open) IsUnchanged FailsToAudit
+        (state S.Store conn.old) (state S.Store conn.new) result }
+    ensures survives { Survives (state S.Store conn.old) (state S.Store conn.new) (λ _. ⊥) }
+{
+    stored_law();
+    // What the law says of a database in order holds of it in any store.
+    order_law::<MemStore>();
+    let found = match format_here(alloc, conn.schema()) {
+        Ok(found) => found,
+        Err(_) => {
+            return Err(AuditFault::Failed(Error::SqliteFailure(ErrorCode::OutOfMemory)));
+        }
+    };
+    let Some(format) = found else {
+        return Err(AuditFault::NoOffice);
+    };
+    if format == 0 {
+        return Ok(no_tables());
+    }
+    audit_format(alloc, conn, format)
+}
+
+/// The same over a store that keeps the rows of each table in the order of their numbers. Where it
+/// passes outside a transaction, nothing of their order has to be promised.
 ///
 /// # Errors
 /// A row that is no office's, so that the database stands for none (`audit_law`); tables of no
@@ -121,20 +159,6 @@ pub fn audit<S: KeepsOrder>(alloc: Global, conn: &mut Connection<S>) -> Result<A
         (state S.Store conn.old) (state S.Store conn.new) result }
     ensures survives { Survives (state S.Store conn.old) (state S.Store conn.new) (λ _. ⊥) }
 {
-    stored_law();
-    order_law::<S>();
     connection_order_law(conn);
-    let found = match format_here(alloc, conn.schema()) {
-        Ok(found) => found,
-        Err(_) => {
-            return Err(AuditFault::Failed(Error::SqliteFailure(ErrorCode::OutOfMemory)));
-        }
-    };
-    let Some(format) = found else {
-        return Err(AuditFault::NoOffice);
-    };
-    if format == 0 {
-        return Ok(no_tables());
-    }
-    audit_format(alloc, conn, format)
+    audit_tables(alloc, conn)
 }

@@ -7,7 +7,7 @@
 pub use audit_office::{Finding, RowKey, Rule};
 pub use audit_rows::TableName;
 pub use audited::Audited;
-pub use auditing::audit;
+pub use auditing::{audit, audit_tables};
 pub use fault::AuditFault;
 pub use laws::audit_law;
 

@@ -6,15 +6,15 @@ use Rattle.sqlite.specs.Effect.{Database}
 use Rattle.sqlite.specs.State.{HasCleanDisk, IsUnchanged, State, Survives}
 use Rattle.sqlite.proofs.StateLemmas.{survives_then}
 use Rattle.one_table.specs.Committing.{LeavesMade}
-use Rattle.vend_core.specs.Office.{Office}
-use Rattle.book_tables.proofs.HoldsLemmas.{held_as, stands_present}
+use Rattle.vend_core.specs.Office.{Office, empty_office}
+use Rattle.book_tables.proofs.HoldsLemmas.{held_as, stands_present, untaken_stands}
 use Rattle.book_tables.specs.Holds.{HasOffice, HasOfficeOf, HoldsMembers, StandsFor}
 use Rattle.book_tables.specs.format.Format.{HasFormat, TellsFormat}
 use Rattle.book_states.specs.Stores.{RecoversTo, StoreStandsFor}
 use Rattle.book_tables.specs.format.Making.{BringsOffice}
 use Rattle.book_tables.specs.reading.Reading.{HasAllTables}
 use Rattle.book_tables.specs.row.Rows.{present_format}
-use Rattle.book_opening.specs.Opening.{BringsOlder, BringsTold, EndsOpening, HasSoundDatabase, HasTablesOfFormat, IsBrought, IsNextSale, LeavesBrought, LeavesRefused, LooksAt, OpensAs, OpensAt, Refuses, FaultFitsStore, FaultFitsDatabase}
+use Rattle.book_opening.specs.Opening.{BringsOlder, BringsTold, EndsOpening, HasSoundDatabase, HasTablesOfFormat, IsAnOffices, IsBrought, IsNextSale, LeavesBrought, LeavesRefused, LooksAt, OpensAs, OpensAt, Refuses, FaultFitsStore, FaultFitsDatabase}
 use Rattle.book_states.specs.Same.{IsSame}
 use Rattle.book_opening.specs.declared.fault.OpenFault.{OpenFault}
 use Rattle.book_opening.specs.declared.fault.OpenFault.TheVariants.{NotAnOffice, Store, Memory}
@@ -170,10 +170,10 @@ module _ (old new : State) where
       subst (λ (f : OpenFault). EndsOpening old new (Err f)) (sym is) (refuses_nothing fault (λ clean. left_same old new settled (looks.kept clean has)) (looks.survives has) (λ clean. looks.other clean has sound))
 
   -- the office was brought to the present format
-  pub ends_brought : (from next : ℕ) → from < present_format → (HasCleanDisk new → TellsFormat from old.now) → (HasCleanDisk new → IsNextSale old next) → (HasCleanDisk new → IsBrought from old new) → Survives old new (LeavesBrought old) → EndsOpening old new (Ok next)
-  ends_brought from next known told is brought survives = record {
+  pub ends_brought : (from next : ℕ) → from < present_format → (HasCleanDisk new → TellsFormat from old.now) → (HasCleanDisk new → IsAnOffices old.now) → (HasCleanDisk new → IsNextSale old next) → (HasCleanDisk new → IsBrought from old new) → Survives old new (LeavesBrought old) → EndsOpening old new (Ok next)
+  ends_brought from next known told audited is brought survives = record {
     opens = λ clean. opens_brought old new clean survives from next (is clean) (brought clean);
-    finds = λ clean. let it = brought clean in record { was_open = it.was_open; is_open = it.is_open; now = inl (from, known, it.brings, told clean) };
+    finds = λ clean. let it = brought clean in record { was_open = it.was_open; is_open = it.is_open; now = inl (from, known, it.brings, told clean, audited clean) };
     refused = λ _. tt;
     survives = survives;
     risks = tt;
@@ -217,6 +217,10 @@ no_office db o none stands = none stands.format stands.known stands.held.1.has
 pub told_format : (n : ℕ) (db : Database) → HasFormat db n → TellsFormat n db
 told_format zero db told = tt
 told_format (suc n) db told = told
+
+-- where there are no tables, the database stands for the empty office
+pub none_is_offices : (db : Database) → HasOfficeOf 0 db.schema → IsAnOffices db
+none_is_offices db has = λ _ _. (empty_office, untaken_stands db has)
 
 -- where there are no tables, the next sale is the first
 pub first_sale : (s : State) → IsTrue s.is_open → HasOfficeOf 0 s.now.schema → IsNextSale s 1

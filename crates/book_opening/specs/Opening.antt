@@ -8,6 +8,7 @@ use Rattle.sqlite.specs.declared.error.ErrorCode.TheVariants.{OutOfMemory}
 use Rattle.sqlite_trees.specs.Tree.{Trees}
 use Rattle.one_table.specs.Answer.{IsLeft}
 use Rattle.one_table.specs.Committing.{LeavesMade}
+use Rattle.kept_order.specs.InOrder.{HasTablesInOrder}
 use Rattle.vend_core.specs.Office.{Office}
 use Rattle.book_tables.specs.format.Format.{HasFormat, TellsFormat}
 use Rattle.book_tables.specs.Holds.{HasOffice, HasOfficeOf, StandsFor}
@@ -15,6 +16,9 @@ use Rattle.book_tables.specs.format.Making.{BringsOffice}
 use Rattle.book_tables.specs.row.Rows.{present_format}
 use Rattle.book_tables.specs.declared.error.TableError.{TableError}
 use Rattle.book_tables.specs.declared.error.TableError.TheVariants as table
+use Rattle.audit.specs.Audited.{HaveWholeShifts}
+use Rattle.audit.specs.declared.fault.AuditFault.{AuditFault}
+use Rattle.audit.specs.declared.fault.AuditFault.TheVariants as audit
 use Rattle.book_states.specs.Stores.{Stores, StoreStandsFor}
 use Rattle.book_states.specs.Same.{IsSame}
 use Rattle.book_opening.specs.declared.fault.OpenFault.{OpenFault}
@@ -25,10 +29,15 @@ use Rattle.book_opening.specs.declared.fault.OpenFault.TheVariants.{NotAnOffice,
 abbrev pub BringsOlder : Database → Database → Type 0
 BringsOlder old new = (from : ℕ) × (from < present_format) × BringsOffice from old new
 
--- they were brought to it, and had told their format
+-- The database is an office's: it stands for one, where its rows are in the order of their numbers
+-- and no row of a shift lacks a column, neither of which a statement can see.
+abbrev pub IsAnOffices : Database → Type 0
+IsAnOffices db = HasTablesInOrder db → HaveWholeShifts db → (o : Office) × StandsFor db o
+
+-- they were brought to it, had told their format, and were an office's
 abbrev pub BringsTold : Database → Database → Type 0
-BringsTold old new =
-    (from : ℕ) × (from < present_format) × BringsOffice from old new × TellsFormat from old
+BringsTold old new = (from : ℕ) × (from < present_format) × BringsOffice from old new
+    × TellsFormat from old × IsAnOffices old
 
 -- the office may be brought to the present format in a sound database that has the tables of a
 -- format
@@ -42,7 +51,8 @@ pub record IsBrought (from : ℕ) (old new : State) : Type 0 where
   pub brings : BringsOffice from old.now new.now
 
 -- What is opened is an office of the present format, which stays as it is, or one of an older
--- format or of none, which is brought to it. Where tables are found, `about` tells their format.
+-- format or of none, which is brought to it. Where tables are found, `about` tells their format;
+-- where they are of an older one, all their rows were an office's.
 pub record OpensAs (old new : State) : Type 0 where
   pub was_open : IsTrue old.is_open
   pub is_open : IsTrue new.is_open
@@ -61,6 +71,13 @@ fault_of e = Store
 abbrev pub fault_of_table : TableError → OpenFault
 fault_of_table (table.Database e) = fault_of e
 fault_of_table table.RowOfNoOffice = NotAnOffice
+
+-- what is found by an audit is answered as: a row that is no office's, and tables of no format, show
+-- that there is none
+abbrev pub fault_of_audit : AuditFault → OpenFault
+fault_of_audit (audit.Found f) = NotAnOffice
+fault_of_audit audit.NoOffice = NotAnOffice
+fault_of_audit (audit.Failed e) = fault_of e
 
 -- a fault that names the file is answered only where the store stands for no office
 abbrev pub FaultFitsStore : State → OpenFault → Type 0

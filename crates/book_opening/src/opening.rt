@@ -4,13 +4,15 @@ ghost use Rattle.std.specs.Prelude.{◌≡◌, ◌⊎◌, ◌≤◌, ◌<◌, �
 ghost use Rattle.sqlite.specs.State.{HasCleanDisk, IsUnchanged, Survives};
 ghost use Rattle.sqlite.specs.Held.{state};
 ghost use Rattle.one_table.specs.Answer.{IsLeft};
+ghost use Rattle.one_table.specs.ReadsOnly.{ReadsOnly};
 ghost use Rattle.book_tables.specs.format.Format.{HasFormat};
 ghost use Rattle.book_tables.specs.format.Making.{IsSoundOfFormat};
 ghost use Rattle.book_tables.specs.row.Rows.{present_format};
-ghost use Rattle.book_opening.specs.Opening.{EndsOpening, IsNextSale, LooksAt, fault_of, fault_of_table};
+ghost use Rattle.book_opening.specs.Opening.{EndsOpening, FaultFitsDatabase, IsAnOffices, IsNextSale, LooksAt, fault_of, fault_of_audit, fault_of_table};
 
 use crate::bringing::bring_office;
 use crate::fault::OpenFault;
+use audit::{AuditFault, audit_law, audit_tables};
 use book_tables::format::number::format_number;
 use book_tables::format::presence::format_here;
 use book_tables::reading::sales::last_sale_number;
@@ -38,6 +40,19 @@ pub(crate) fn fault_of_table(error: TableError) -> OpenFault
     match error {
         TableError::Database(error) => fault_of(error),
         TableError::RowOfNoOffice => OpenFault::NotAnOffice,
+    }
+}
+
+// What an audit found is answered as: a row that is no office's, and tables of no format, show that
+// there is none.
+fn fault_of_audit(fault: AuditFault) -> OpenFault
+    ensures value { result ≡ fault_of_audit fault }
+    ensures kind { (why : Error) → fault ≡ AuditFault.Failed why
+        → (result ≡ OpenFault.Store) ⊎ (result ≡ OpenFault.Memory) }
+{
+    match fault {
+        AuditFault::Failed(error) => fault_of(error),
+        AuditFault::Found(_) | AuditFault::NoOffice => OpenFault::NotAnOffice,
     }
 }
 
@@ -111,6 +126,23 @@ fn next_of_office<S: Alter>(
     next_by_sales(conn)
 }
 
+// All rows of all tables have to be those of an office.
+fn test_rows<S: Alter>(alloc: Global, conn: &mut Connection<S>) -> Result<(), OpenFault>
+    ensures given { HasCleanDisk (state S.Store conn.new)
+        → IsTrue (state S.Store conn.old).is_open
+        → OnOk result (IsAnOffices (state S.Store conn.old).now) }
+    ensures reads { ReadsOnly (λ s. IsTrue s.is_open) IsUnchanged (λ s _. FaultFitsDatabase s)
+        (state S.Store conn.old) (state S.Store conn.new) result }
+    ensures mode { conn.old.in_transaction ≡ false → conn.new.in_transaction ≡ false }
+    ensures survives { Survives (state S.Store conn.old) (state S.Store conn.new) (λ _. ⊥) }
+{
+    audit_law();
+    match audit_tables(alloc, conn) {
+        Ok(_) => Ok(()),
+        Err(fault) => Err(fault_of_audit(fault)),
+    }
+}
+
 // Begins an office where there are no tables.
 fn next_of_none<S: Alter>(alloc: Global, conn: &mut Connection<S>) -> Result<u64, OpenFault>
     requires outside { conn.old.in_transaction ≡ false }
@@ -124,7 +156,7 @@ fn next_of_none<S: Alter>(alloc: Global, conn: &mut Connection<S>) -> Result<u64
     Ok(1)
 }
 
-// Brings an office of an older format to the present one.
+// Brings an office of an older format to the present one, once all its rows were looked at.
 fn next_of_older<S: Alter>(
     alloc: Global,
     conn: &mut Connection<S>,
@@ -142,6 +174,7 @@ fn next_of_older<S: Alter>(
     let outside = conn.is_autocommit();
     prove!(outside);
     let next = next_of_office(alloc, conn, from)?;
+    test_rows(alloc, conn)?;
     bring_office(alloc, conn, from)?;
     Ok(next)
 }

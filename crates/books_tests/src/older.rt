@@ -8,7 +8,7 @@ use crate::older::offices::{Older, older_offices};
 use crate::pages::export_in_pages;
 use crate::shown::{ALL_TABLES, all_shown, shown};
 use crate::stops::scripts::{Script, script_of};
-use books::Books;
+use books::{Books, OpenFault};
 use office_lines::plain::ask_all;
 use office_testing::both::{Both, agree, is_same, opened_again, serve_all};
 use sqlite::{Connection, Error, MemStore};
@@ -87,6 +87,68 @@ fn has_same_office(rt: &(impl Abort + AllocGlobal), older: &Older) -> Result<(),
 fn an_older_file_is_opened_to_its_office(rt: HostRuntime) -> Result<(), Fail> {
     for older in older_offices() {
         has_same_office(&rt, older)?;
+    }
+    Ok(())
+}
+
+// What makes a file of a format no office's: a false row in each of its tables, or one that its
+// other tables do not bear out.
+static FALSE_ROWS: [(usize, &str); 13] = [
+    (1, "UPDATE about SET format = 2"),
+    (1, "INSERT INTO tariffs VALUES ('none')"),
+    (1, "UPDATE tariff_steps SET price = 0"),
+    (
+        1,
+        "UPDATE meters SET base = 2015 WHERE meter = '10000000009'",
+    ),
+    (1, "UPDATE shifts SET opened = -1"),
+    (1, "UPDATE sales SET price = 11"),
+    (2, "UPDATE last_ids SET tid = 3"),
+    (2, "DELETE FROM month_tenths"),
+    (2, "UPDATE shift_totals SET cash = 77"),
+    (3, "UPDATE last_ids SET tid = 5732414 WHERE base = 2014"),
+    (3, "UPDATE month_tenths SET tenths = 19"),
+    (3, "INSERT INTO shift_totals VALUES (2, 0, 0, 0)"),
+    (3, "DELETE FROM meter_bases WHERE base = 1993"),
+];
+
+fn false_rows() -> &'static [(usize, &'static str)] {
+    &FALSE_ROWS
+}
+
+fn refused(
+    alloc: Global,
+    conn: Connection<MemStore>,
+) -> Result<(OpenFault, Connection<MemStore>), Fail> {
+    if !conn.is_autocommit() {
+        return Err("a transaction is open".into());
+    }
+    match Books::open_from(alloc, conn, Plain) {
+        Ok(_) => Err("it was opened".into()),
+        Err(left) => Ok(left),
+    }
+}
+
+// Such a file is refused, and stays as it was.
+fn stays(rt: &(impl Abort + AllocGlobal), older: &Older, sql: &str) -> Result<(), Fail> {
+    let alloc = rt.alloc();
+    let mut conn = file(alloc, older.parts)?;
+    conn.execute_batch(sql)?;
+    let before = all_shown(alloc, &mut conn)?;
+    let (fault, mut conn) = refused(alloc, conn)?;
+    assert_eq!(rt; fault, OpenFault::NotAnOffice, "{sql}");
+    let after = all_shown(alloc, &mut conn)?;
+    assert_eq!(rt; after.as_str(), before.as_str(), "{sql}");
+    Ok(())
+}
+
+#[test]
+fn an_older_file_with_a_false_row_stays_as_it_was(rt: HostRuntime) -> Result<(), Fail> {
+    for (format, sql) in false_rows() {
+        let older = older_offices()
+            .get(format.saturating_sub(1))
+            .ok_or("no format")?;
+        stays(&rt, older, sql)?;
     }
     Ok(())
 }

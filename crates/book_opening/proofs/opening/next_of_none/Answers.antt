@@ -1,7 +1,7 @@
 use Rattle.std.proofs.Common.{IsTrue, arith}
 use Rattle.sqlite.specs.Held.{state}
 use Rattle.sqlite.specs.State.{HasCleanDisk}
-use Rattle.book_opening.proofs.BroughtLemmas.{ends_brought, ends_unbrought, first_sale}
+use Rattle.book_opening.proofs.BroughtLemmas.{ends_brought, ends_unbrought, first_sale, none_is_offices}
 use Rattle.book_opening.proofs.opening.next_of_none.Goals as goal
 
 pub returns-clause-ends : goal.returns-clause-ends
@@ -11,7 +11,7 @@ returns-clause-ends g c = λ opens has.
     let told = c.in_ok-bring_office.ensures in
     let survives = c.bring_office.ensures.survives opens has in
     let was : HasCleanDisk new → IsTrue old.is_open = λ clean. opens (omega (arith, survives.clean)) in
-    ends_brought old new 0 1 (omega arith) (λ _. tt) (λ clean. first_sale old (was clean) (has (was clean)).1) (λ clean. told.brought clean has) survives
+    ends_brought old new 0 1 (omega arith) (λ _. tt) (λ clean. none_is_offices old.now (has (was clean)).1) (λ clean. first_sale old (was clean) (has (was clean)).1) (λ clean. told.brought clean has) survives
 
 pub returns-in_err-bring_office-clause-ends : goal.returns-in_err-bring_office-clause-ends
 returns-in_err-bring_office-clause-ends g c = λ opens has.

@@ -5,21 +5,20 @@ use Rattle.audit.specs.Fails.{IsSoundOf}
 use Rattle.audit.proofs.ClosingLemmas.{passes_all, passes_none}
 use Rattle.audit.proofs.FaultLemmas.{when_open}
 use Rattle.audit.proofs.ToldLemmas.{here_so, known_so}
-use Rattle.audit.proofs.auditing.audit.Goals as goal
+use Rattle.audit.proofs.auditing.audit_tables.Goals as goal
 
 pub returns-then-format-eq0-clause-given : goal.returns-then-format-eq0-clause-given
-returns-then-format-eq0-clause-given g c clean runs outside whole =
+returns-then-format-eq0-clause-given g c clean runs in_order whole =
     let db = (state g.S.Store c.args.conn.now).now in
     let known = known_so c.in-Ok.found c.in-Some.format c.in-Ok.ensures.known c.in-Some.is in
     let has = here_so db c.schema.result.now c.schema.ensures.value c.in-Ok.found c.in-Ok.ensures.found c.in-Some.format known c.in-Some.is in
     passes_none db c.no_tables.result c.no_tables.ensures (subst (λ (n : ℕ). HasOfficeOf n db.schema) c.if-format-eq0.true has)
 
 pub returns-clause-given : goal.returns-clause-given
-returns-clause-given g c clean runs outside whole =
+returns-clause-given g c clean runs in_order whole =
     let db = (state g.S.Store c.args.conn.now).now in
     let known = known_so c.in-Ok.found c.in-Some.format c.in-Ok.ensures.known c.in-Some.is in
     let has = here_so db c.schema.result.now c.schema.ensures.value c.in-Ok.found c.in-Ok.ensures.found c.in-Some.format known c.in-Some.is in
-    let in_order = c.connection_order_law.ensures.now runs outside in
     passes_all db c.in-Some.format c.if-format-eq0.false known has (c.schema.ensures.live runs).0 whole (λ k kept. c.order_law.ensures.stands db k.table in_order kept.0) c.stored_law.ensures.stands
     c.audit_format.result (c.audit_format.ensures.given clean (λ still. record { has = has; sound = (c.schema.ensures.live still).0 }))
 
