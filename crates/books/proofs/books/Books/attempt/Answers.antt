@@ -31,7 +31,7 @@ returns-in_err-commit-clause-attempts g c clean o held =
     let forward = g.T.BlockTransform.forwards now.transform in
     let range = g.met.T.BlockTransform.forward_range now.transform in
     let at = c.args.at.now in
-    let change = c.in_ok-decided.field-0.change in
+    let change = c.in_ok-decided.decided.change in
     let mid = state g.S.Store c.decision_of.new.conn in
     let early = c.commit.ensures.clean clean in
     let decided = c.in_ok-decided.ensures.decides early o held.at held.next in
@@ -44,7 +44,7 @@ returns-in_err-commit-clause-attempts g c clean o held =
     let applied = is_applied forward o at change decided new c.in-Some.edit c.in-Some.is in
     let office = subst IsOffice applied (c.office_law.ensures.keeps_office forward o at held.at.office c.requires.stamped range) in
     let commits = c.in_err-commit.ensures.commits clean (has_tables o mid here) in
-    rw same (failed_ends forward o at change decided new c.in-Some.edit c.in-Some.is mid here meets office c.in_ok-decided.field-0.prior c.in_err-commit.field-0.0 clean commits held.next)
+    rw same (failed_ends forward o at change decided new c.in-Some.edit c.in-Some.is mid here meets office c.in_ok-decided.decided.prior c.in_err-commit.field-0.0 clean commits held.next)
 
 pub returns-in_err-commit-clause-others : goal.returns-in_err-commit-clause-others
 returns-in_err-commit-clause-others g c clean tables =
@@ -53,7 +53,7 @@ returns-in_err-commit-clause-others g c clean tables =
     let new = state g.S.Store c.commit.new.conn in
     let early = c.commit.ensures.clean clean in
     let first = nothing_others old mid early (c.decision_of.ensures.nothing early tables) in
-    others_then old mid new first (commits_others c.in-Some.edit c.in_ok-decided.field-0.prior _ mid new clean (c.in_err-commit.ensures.commits clean (tables_stay old mid first tables)))
+    others_then old mid new first (commits_others c.in-Some.edit c.in_ok-decided.decided.prior _ mid new clean (c.in_err-commit.ensures.commits clean (tables_stay old mid first tables)))
 
 pub returns-clause-attempts : goal.returns-clause-attempts
 returns-clause-attempts g c clean o held =
@@ -61,11 +61,11 @@ returns-clause-attempts g c clean o held =
     let forward = g.T.BlockTransform.forwards now.transform in
     let range = g.met.T.BlockTransform.forward_range now.transform in
     let at = c.args.at.now in
-    let change = c.in_ok-decided.field-0.change in
+    let change = c.in_ok-decided.decided.change in
     let mid = state g.S.Store c.decision_of.new.conn in
     let old = seen g.S.Store g.T.BlockTransform.forwards now in
     let tables = has_tables o old.state held.at in
-    elim c.match-change.branch [
+    elim c.match-decided.branch [
       | in-Some+in_ok-commit w ↦
           let late = rw w.self-is at clean in
           let early = w.commit.ensures.clean late in
@@ -79,7 +79,7 @@ returns-clause-attempts g c clean o held =
           let office = subst IsOffice applied (c.office_law.ensures.keeps_office forward o at held.at.office c.requires.stamped range) in
           let commits = w.in_ok-commit.ensures.commits late (has_tables o mid here) in
           let next = w.next_after-self.ensures o meets held.next in
-          rw w.self-is (committed_ends forward o at change decided new edit w.in-Some.is mid here meets office c.in_ok-decided.field-0.prior commits next)
+          rw w.self-is (committed_ends forward o at change decided new edit w.in-Some.is mid here meets office c.in_ok-decided.decided.prior commits next)
       | in_default w ↦
           let late = rw w.self-is at clean in
           let new = record old { state = mid } in
@@ -92,13 +92,13 @@ pub returns-clause-others : goal.returns-clause-others
 returns-clause-others g c clean tables =
     let old = state g.S.Store c.args.self.now.conn in
     let mid = state g.S.Store c.decision_of.new.conn in
-    elim c.match-change.branch [
+    elim c.match-decided.branch [
       | in-Some+in_ok-commit w ↦
           let late = rw w.self-is at clean in
           let early = w.commit.ensures.clean late in
           let new = state g.S.Store w.commit.new.conn in
           let first = nothing_others old mid early (c.decision_of.ensures.nothing early tables) in
-          rw w.self-is (others_then old mid new first (commits_others w.in-Some.edit c.in_ok-decided.field-0.prior _ mid new late (w.in_ok-commit.ensures.commits late (tables_stay old mid first tables))))
+          rw w.self-is (others_then old mid new first (commits_others w.in-Some.edit c.in_ok-decided.decided.prior _ mid new late (w.in_ok-commit.ensures.commits late (tables_stay old mid first tables))))
       | in_default w ↦
           let late = rw w.self-is at clean in
           rw w.self-is (nothing_others old mid late (c.decision_of.ensures.nothing late tables))
@@ -119,11 +119,11 @@ returns-in_err-commit-clause-failures g c clean tables =
     let nothing = c.decision_of.ensures.nothing early tables in
     let commits = c.in_err-commit.ensures.commits clean (tables_stay old mid (nothing_others old mid early nothing) tables) in
     let decided : IsDecidedFor c.args.at.now (seen g.S.Store g.T.BlockTransform.forwards c.args.self.now) c.in-Some.edit = λ o held. (
-      c.in_ok-decided.field-0.change,
-      is_decision (g.T.BlockTransform.forwards c.args.self.now.transform) o c.args.at.now c.in_ok-decided.field-0.change (c.in_ok-decided.ensures.decides early o held.at held.next),
+      c.in_ok-decided.decided.change,
+      is_decision (g.T.BlockTransform.forwards c.args.self.now.transform) o c.args.at.now c.in_ok-decided.decided.change (c.in_ok-decided.ensures.decides early o held.at held.next),
       c.in-Some.is,
     ) in
-    let prior = c.in_ok-decided.field-0.prior in
+    let prior = c.in_ok-decided.decided.prior in
     rw same (inr (c.in-Some.edit, decided, (prior, c.in_ok-decided.ensures.prior early, fails_after c.in-Some.edit old mid new clean nothing g.S.Store prior c.in_err-commit.field-0.0 commits.failed)))
 
 pub returns-clause-granted : goal.returns-clause-granted
@@ -131,8 +131,8 @@ returns-clause-granted g c clean tables =
     let old = state g.S.Store c.args.self.now.conn in
     let mid = state g.S.Store c.decision_of.new.conn in
     let books = seen g.S.Store g.T.BlockTransform.forwards c.args.self.now in
-    let change = c.in_ok-decided.field-0.change in
-    elim c.match-change.branch [
+    let change = c.in_ok-decided.decided.change in
+    elim c.match-decided.branch [
       | in-Some+in_ok-commit w ↦
           let late = rw w.self-is at clean in
           let early = w.commit.ensures.clean late in
@@ -144,7 +144,7 @@ returns-clause-granted g c clean tables =
             is_decision (g.T.BlockTransform.forwards c.args.self.now.transform) o c.args.at.now change (c.in_ok-decided.ensures.decides early o held.at held.next),
             w.in-Some.is,
           ) in
-          let prior = c.in_ok-decided.field-0.prior in
+          let prior = c.in_ok-decided.decided.prior in
           let counted = counted_after w.in-Some.edit old mid new late nothing prior commits.done.was_open commits.counted in
           rw w.self-is (inr (w.in-Some.edit, decided, has_after w.in-Some.edit old mid new late nothing commits.done, (prior, c.in_ok-decided.ensures.prior early, counted)))
       | in_default w ↦
