@@ -14,8 +14,20 @@ use sts_fields::{Base, Day};
 use tariff::Steps;
 use vend_core::{Meter, MeterNo, Operator, Order, Request, TariffName};
 
-// The request that a value says.
+// The request that a value says. A sale, which most messages ask for, takes none of the room that
+// the others do.
 pub(crate) fn said(alloc: Global, kind: JsonKind, value: &Value) -> Result<Request, BodyFault>
+    ensures { IsFoundIn (BodySays kind (view value.now)) result }
+{
+    match kind {
+        JsonKind::Order => sale(value),
+        _ => said_of_any(alloc, kind, value),
+    }
+}
+
+// The same.
+#[inline(never)]
+fn said_of_any(alloc: Global, kind: JsonKind, value: &Value) -> Result<Request, BodyFault>
     ensures { IsFoundIn (BodySays kind (view value.now)) result }
 {
     match kind {
@@ -45,10 +57,17 @@ pub(crate) fn said(alloc: Global, kind: JsonKind, value: &Value) -> Result<Reque
         JsonKind::Closing => operator(value)
             .map(Request::CloseShift)
             .ok_or(BodyFault::OutsideRule),
-        JsonKind::Order => match order(value) {
-            Some(order) => Ok(Request::Sell(order)),
-            None => Err(BodyFault::OutsideRule),
-        },
+        JsonKind::Order => sale(value),
+    }
+}
+
+// The sale that a value orders.
+fn sale(value: &Value) -> Result<Request, BodyFault>
+    ensures { IsFoundIn (BodySays JsonKind.Order (view value.now)) result }
+{
+    match order(value) {
+        Some(order) => Ok(Request::Sell(order)),
+        None => Err(BodyFault::OutsideRule),
     }
 }
 

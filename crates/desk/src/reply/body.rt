@@ -1,11 +1,12 @@
-ghost use Rattle.std.specs.Prelude.{◌≡◌, IfOk};
+ghost use Rattle.std.specs.Prelude.{◌≡◌, ◌↔◌, IfOk, IfSome, IsTrue};
+ghost use Rattle.sts_token.specs.Token.{AreTwentyDigits};
 ghost use Rattle.desk.specs.reply.Members.{json_text};
 ghost use Rattle.desk.specs.reply.Body.{answer_body, body_of, fault_members, name_members, refusal_members, row_members, sale_body, sale_members};
 
 use crate::reply::form::Form;
 use crate::reply::members::{Member, object_text};
 use crate::reply::outcome::Outcome;
-use crate::reply::sale_text::{change, sale_text, seconds};
+use crate::reply::sale_text::{change, seconds};
 use papers::{receipt, shift_report};
 use std::alloc::{AllocError, Global};
 use vend_core::{Answer, Category, Refusal, Sale};
@@ -97,20 +98,35 @@ fn sale_body(alloc: Global, form: Form, sale: &Sale) -> Result<Vec<u8>, AllocErr
     ensures { IfOk result (λ body. body.items ≡ sale_body form sale.now) }
 {
     match form {
-        Form::Json => sale_json(alloc, sale),
+        Form::Json => sale_object(alloc, sale),
         Form::Paper => receipt(alloc, sale),
     }
 }
 
-// A sale as JSON. A token that is no digits, as no office has, is told as the library does it.
-fn sale_json(alloc: Global, sale: &Sale) -> Result<Vec<u8>, AllocError>
-    ensures { IfOk result (λ body. body.items ≡ json_text (sale_members sale.now)) }
+// The sale that is told as JSON, where its token is digits, as that of each sale of an office: then
+// its text needs no memory of its own.
+pub(crate) fn plain_sale(outcome: &Outcome) -> Option<&Sale>
+    ensures { IfSome result (λ sale. (body_of outcome.now ≡ json_text (sale_members sale.now))
+        × AreTwentyDigits sale.now.digits) }
 {
-    if sale.digits.iter().all(|byte| byte.is_ascii_digit()) {
-        Vec::from_slice(alloc, &sale_text(sale))
-    } else {
-        sale_object(alloc, sale)
+    let Outcome::Replied(Form::Json, Ok(answer)) = outcome else {
+        return None;
+    };
+    match answer {
+        Answer::Sold(sale) | Answer::Reprinted(sale) if are_digits(&sale.digits) => Some(sale),
+        _ => None,
     }
+}
+
+// Whether each byte is a digit. None is left out, so that the processor looks at many at once.
+fn are_digits(text: &[u8; 20]) -> bool
+    ensures { IsTrue result ↔ AreTwentyDigits text.now }
+{
+    let mut all = true;
+    for byte in text {
+        all &= byte.is_ascii_digit();
+    }
+    all
 }
 
 // A sale as JSON, by an object of its members.

@@ -2,10 +2,11 @@ ghost use Rattle.std.specs.Prelude.{◌≡◌, ◌++◌, IfOk, OnOk, codes, deci
 ghost use Rattle.http.specs.StatusCode.{IsStatusCode};
 ghost use Rattle.desk.specs.reply.Text.{allow_line, connection_line, field_line, media_type, reply_bytes_of, reply_text, status_line};
 
-use crate::reply::body::body_of;
+use crate::reply::body::{body_of, plain_sale};
 use crate::reply::form::Form;
 use crate::reply::head::ReplyHead;
 use crate::reply::outcome::Outcome;
+use crate::reply::sale_text::sale_text;
 use conversation::Method;
 use http::StatusCode;
 use itoa::Buffer;
@@ -20,8 +21,12 @@ const HEAD_ROOM: usize = 160;
 pub fn reply_bytes(alloc: Global, outcome: &Outcome, closes: bool) -> Result<Vec<u8>, AllocError>
     ensures { IfOk result (λ text. text.items ≡ reply_bytes_of outcome.now closes) }
 {
+    let head = ReplyHead::of(outcome, closes);
+    if let Some(sale) = plain_sale(outcome) {
+        return reply_text(alloc, head, &sale_text(sale));
+    }
     let body = body_of(alloc, outcome)?;
-    reply_text(alloc, ReplyHead::of(outcome, closes), &body)
+    reply_text(alloc, head, &body)
 }
 
 // A whole reply with this head and body.
