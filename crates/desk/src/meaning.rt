@@ -1,11 +1,8 @@
 //! What a message means, before the office is asked.
 
-ghost use Rattle.std.specs.Prelude.{◌≡◌, ℕ, ℤ, Option, Some, Ok, Err, pos};
-ghost use Rattle.conversation.specs.message.Messages.{Message};
+ghost use Rattle.std.specs.Prelude.{◌≡◌, Some, Ok, pos};
 ghost use Rattle.conversation.specs.message.Next.{message_of};
-ghost use Rattle.desk.specs.Asking.{BodyAsks};
-ghost use Rattle.desk.specs.Meaning.{ComesAt, IsFor, IsMeaning, sale_form_of};
-ghost use Rattle.desk.specs.declared.route.Route.{Route};
+ghost use Rattle.desk.specs.Meaning.{IsFor, IsMeaning, sale_form_of};
 
 use crate::asking::request_of;
 use crate::body_fault::BodyFault;
@@ -75,24 +72,10 @@ fn meaning_at_moment(alloc: Global, route: Route, moment: Moment, message: &Rece
     let form = route.form();
     match request_of(alloc, route, message.body) {
         Ok(request) => Meaning::Asks(form, moment, request),
-        Err(fault) => without_request(fault),
-    }
-}
-
-// What a message means whose body asks nothing. What comes of it is large: in a function of its own
-// it takes no room where a message asks something.
-#[cold]
-#[inline(never)]
-fn without_request(fault: BodyFault) -> Meaning
-    ensures { (m : Message) (now : Option ℤ) (route : Route) (moment : ℕ)
-        → ComesAt m now route moment → BodyAsks route m.body (Err fault)
-        → IsMeaning m now result }
-{
-    match fault {
-        BodyFault::OutsideRule => Meaning::Told(Outcome::Faulty(DeskFault::Body)),
-        BodyFault::Row(row, cause) => {
+        Err(BodyFault::OutsideRule) => Meaning::Told(Outcome::Faulty(DeskFault::Body)),
+        Err(BodyFault::Row(row, cause)) => {
             Meaning::Told(Outcome::Replied(Form::Json, Err(Refusal::ImportRow(row, cause))))
         }
-        BodyFault::Memory => Meaning::Memory,
+        Err(BodyFault::Memory) => Meaning::Memory,
     }
 }

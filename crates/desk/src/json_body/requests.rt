@@ -62,6 +62,7 @@ fn said_of_any(alloc: Global, kind: JsonKind, value: &Value) -> Result<Request, 
 }
 
 // The sale that a value orders.
+#[inline(always)]
 fn sale(value: &Value) -> Result<Request, BodyFault>
     ensures { IsFoundIn (BodySays JsonKind.Order (view value.now)) result }
 {

@@ -30,6 +30,7 @@ pub fn reply_bytes(alloc: Global, outcome: &Outcome, closes: bool) -> Result<Vec
 }
 
 // A whole reply with this head and body.
+#[inline(always)]
 fn reply_text(alloc: Global, head: ReplyHead, body: &[u8]) -> Result<Vec<u8>, AllocError>
     requires { IsStatusCode head.status }
     ensures { IfOk result (λ text. text.items ≡ reply_text head body.now) }
