@@ -1,5 +1,5 @@
 -- What reads of the tables tell of the office whose members these hold.
-use Rattle.std.proofs.Common.{◌≡◌, ◌↔◌, ◌⊎◌, ◌&&◌, ℕ, suc, ◌+◌, ◌<◌, ◌≤◌, ◌++◌, Bool, true, false, cond, List, [], ◌∷◌, filter, find, is_none, is_some, map, Option, None, Some, option_map, Result, Ok, Err, IfOk, IsNone, add-one, append_assoc, arith, drop, drop-cons, get_or, refl, sym, ◌∙◌, ap, subst, IsTrue, IsSome}
+use Rattle.std.proofs.Common.{◌≡◌, ◌↔◌, ◌⊎◌, ◌&&◌, ℕ, suc, ◌+◌, ◌<◌, ◌≤◌, ◌++◌, Bool, true, false, cond, List, [], ◌∷◌, filter, find, is_none, is_some, map, Option, None, Some, option_map, Result, Ok, Err, IfOk, add-one, append_assoc, arith, drop, drop-cons, get_or, refl, sym, ◌∙◌, ap, subst, IsTrue, IsSome}
 use Rattle.std.specs.Prelude.{All, Contains, bytes_eq, length, unwrap_or}
 use Rattle.std.specs.Option.{option_or, option_to_list}
 use Rattle.std.proofs.lemmas.Bool.{false≢true}
@@ -10,13 +10,11 @@ use Rattle.sts_fields.specs.Calendar.{month_at}
 use Rattle.sts_fields.specs.Day.{day_at}
 use Rattle.tariff.specs.declared.step.Step.{Step}
 use Rattle.vend_core.specs.Decision.{MeterAccount, account_of, row_decision}
-use Rattle.vend_core.specs.Decision.Facts.{AreNewSaleFacts, AreRowsFacts, AreSaleFacts, row_facts}
-use Rattle.vend_core.specs.Office.Lookup.{greatest_of, latest, open_shift, prior, sale_of_ref, steps_on, used}
+use Rattle.vend_core.specs.Decision.Facts.{AreRowsFacts, row_facts}
+use Rattle.vend_core.specs.Office.Lookup.{greatest_of, latest, open_shift, prior, steps_on, used}
 use Rattle.vend_core.specs.Office.{IsOffice, Office}
-use Rattle.vend_core.specs.declared.decision.facts.Facts.{Facts}
 use Rattle.vend_core.specs.declared.office.meter.Meter.{Meter}
 use Rattle.vend_core.specs.declared.decision.refusal.Refusal.TheVariants.{Differs}
-use Rattle.vend_core.specs.declared.decision.request.Order.{Order}
 use Rattle.vend_core.specs.declared.office.row.Row.{Row}
 use Rattle.vend_core.specs.declared.decision.row_facts.RowFacts.{RowFacts}
 use Rattle.vend_core.specs.declared.office.sale.Sale.{Sale}
@@ -56,10 +54,6 @@ test_is false None P b_is o_is = refl
 test_is false (Some x) P b_is o_is = b_is.1 (o_is.0 refl)
 
 -- where nothing is there
-pub none_is : {X : Type 0} (o : Option X) → is_some o ≡ false → None ≡ o
-none_is None none = refl
-none_is (Some x) none = absurd (false≢true (sym none))
-
 pub none_if : {X : Type 0} (o : Option X) → is_none o ≡ true → None ≡ o
 none_if None none = refl
 none_if (Some x) none = absurd (false≢true none)
@@ -179,13 +173,6 @@ begun_or_first (Some steps) first found none is = absurd (false≢true (sym none
 pub begun_alone : (begun first : Option (List Step)) → is_some begun ≡ true → begun ≡ option_or begun first
 begun_alone None first some = absurd (false≢true some)
 begun_alone (Some steps) first some = refl
-
--- the facts of a sale under a new ref
-pub new_sale_is : {E : Type 0} (Known : Type 0) (o : Office) (moment : ℕ) (order : Order) (first : Option Sale) (r : Result Facts E) → first ≡ sale_of_ref o order.operator order.order_ref → is_some first ≡ false
-    → IfOk r (λ f. IsNone f.first_sale) → IfOk r (λ f. Known → AreNewSaleFacts o moment order f) → IfOk r (λ f. Known → AreSaleFacts o moment order f)
-new_sale_is Known o moment order first (Err e) first_is gone none new = tt
-new_sale_is Known o moment order first (Ok f) first_is gone none new =
-    λ known. record { first_sale = sym (none_is f.first_sale none) ∙ none_is first gone ∙ first_is; new_sale = λ _. new known }
 
 -- ---- the rows of an import
 

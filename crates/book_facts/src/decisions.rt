@@ -57,8 +57,8 @@ pub fn decision_of<S: Alter, T: BlockTransform>(
     }
 }
 
-// What the facts decide. A decision is large: in a function of its own it is written where the caller
-// wants it.
+// What the facts decide. A decision is large: in a function of its own it is written where the
+// caller wants it.
 #[inline(never)]
 fn decided_by<T: BlockTransform>(
     alloc: Global,
