@@ -29,8 +29,20 @@ use Rattle.desk.specs.declared.route.Route.TheVariants.{AddTariff, AddSteps, Add
 use Rattle.desk.specs.declared.json_body.kind.JsonKind.{JsonKind}
 use Rattle.desk.specs.declared.json_body.kind.JsonKind.TheVariants as kinds
 use Rattle.desk.specs.Asking.{AsksByJson, AsksImport, BodyAsks, SaysJson, import_of}
-use Rattle.desk.specs.json_body.Body.{BodySays, BodySaysMeter, BodySaysOperator, BodySaysBase, BodySaysDatedSteps, BodySaysOrder, BodySaysTariff, BodySaysTariffName}
+use Rattle.desk.specs.json_body.Body.{IsJson, BodySays, BodySaysMeter, BodySaysOperator, BodySaysBase, BodySaysDatedSteps, BodySaysOrder, BodySaysTariff, BodySaysTariffName}
 use Rattle.desk.specs.Reads.{IsFoundIn}
+
+-- ---- the value of a body
+
+-- what the value of a body says, the body says
+pub body_says : (kind : JsonKind) (body : List ℕ) (json : Data) (result : Result Request BodyFault)
+    → IsJson body json → IsFoundIn (BodySays kind json) result → AsksByJson kind body result
+body_says kind body json (Ok request) is says = (json, is, says)
+body_says kind body json (Err faults.OutsideRule) is none =
+    λ request says. none request (subst (λ j. BodySays kind j request)
+    (let e : Some says.0 ≡ Some json = sym says.1.reads ∙ is.reads in cc) says.2)
+body_says kind body json (Err (faults.Row row cause)) is none = none
+body_says kind body json (Err faults.Memory) is none = tt
 
 -- ---- members
 

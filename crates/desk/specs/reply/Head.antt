@@ -52,7 +52,12 @@ abbrev pub head_of : Outcome → Bool → ReplyHead
 head_of (Refused fault) closes =
     record { status = message_fault_status fault; form = Json; allowed = None; closes = true }
 head_of (Faulty fault) closes =
-    record { status = desk_fault_status fault; form = Json; allowed = allowed_by fault; closes = closes }
+    record {
+      status = desk_fault_status fault;
+      form = Json;
+      allowed = allowed_by fault;
+      closes = closes;
+    }
 head_of (Replied form (Ok answer)) closes =
     record { status = 200; form = answer_form form answer; allowed = None; closes = closes }
 head_of (Replied form (Err refusal)) closes =

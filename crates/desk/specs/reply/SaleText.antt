@@ -16,7 +16,8 @@ pub record IsTellableSale (s : Sale) : Type 0 where
 -- the members of a sale in the order of their bytes, without spaces
 abbrev pub sale_text_of : (base change moment number price shift tender tenths tid : ℕ)
     → (meter operator order_ref token : List ℕ) → List ℕ
-sale_text_of base change moment number price shift tender tenths tid meter operator order_ref token =
+sale_text_of
+    base change moment number price shift tender tenths tid meter operator order_ref token =
     codes "{\"base\":" ++ (decimal base
     ++ (codes ",\"change\":" ++ (decimal change
     ++ (codes ",\"meter\":\"" ++ (meter

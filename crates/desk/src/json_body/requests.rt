@@ -14,20 +14,8 @@ use sts_fields::{Base, Day};
 use tariff::Steps;
 use vend_core::{Meter, MeterNo, Operator, Order, Request, TariffName};
 
-// The request that a value says. A sale, which most messages ask for, takes none of the room that
-// the others do.
+// The request that a value says.
 pub(crate) fn said(alloc: Global, kind: JsonKind, value: &Value) -> Result<Request, BodyFault>
-    ensures { IsFoundIn (BodySays kind (view value.now)) result }
-{
-    match kind {
-        JsonKind::Order => sale(value),
-        _ => said_of_any(alloc, kind, value),
-    }
-}
-
-// The same.
-#[inline(never)]
-fn said_of_any(alloc: Global, kind: JsonKind, value: &Value) -> Result<Request, BodyFault>
     ensures { IsFoundIn (BodySays kind (view value.now)) result }
 {
     match kind {
@@ -63,7 +51,7 @@ fn said_of_any(alloc: Global, kind: JsonKind, value: &Value) -> Result<Request, 
 
 // The sale that a value orders.
 #[inline(always)]
-fn sale(value: &Value) -> Result<Request, BodyFault>
+pub(crate) fn sale(value: &Value) -> Result<Request, BodyFault>
     ensures { IsFoundIn (BodySays JsonKind.Order (view value.now)) result }
 {
     match order(value) {
@@ -152,6 +140,7 @@ fn operator(value: &Value) -> Option<Operator>
 }
 
 // The order that a value says.
+#[inline(always)]
 fn order(value: &Value) -> Option<Order>
     ensures { IsFound (BodySaysOrder (view value.now)) result }
 {

@@ -73,6 +73,7 @@ fn put_any_status(alloc: Global, text: &mut Vec<u8>, status: u16) -> Result<(), 
 }
 
 // Adds the fields that tell of a body: its media type and its length.
+#[inline(always)]
 fn put_content(text: &mut Vec<u8>, form: Form, len: usize) -> Result<(), AllocError>
     ensures { OnOk result (text.new.items ≡ text.old.items
         ++ field_line (codes "Content-Type") (media_type form)

@@ -1,6 +1,6 @@
 use Rattle.serde_json.specs.View.{view}
 use Rattle.desk.proofs.BodyLemmas.{no_dated_steps, no_tariff}
-use Rattle.desk.proofs.json_body.requests.said_of_any.Goals as goal
+use Rattle.desk.proofs.json_body.requests.said.Goals as goal
 
 pub returns-in-Err : goal.returns-in-Err
 returns-in-Err c =
