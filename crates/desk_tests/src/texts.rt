@@ -40,7 +40,8 @@ pub(crate) fn message(alloc: Global, text: &str) -> Result<Vec<u8>, AllocError> 
 }
 
 /// A reply by its status, the length of its body, further fields if there are any, and its body,
-/// which is JSON if it begins with `{`: `405 Method Not Allowed, 18, Allow: POST~ = {'error':'Method'}`.
+/// which is JSON if it begins with `{`, as in
+/// `405 Method Not Allowed, 18, Allow: POST~ = {'error':'Method'}`.
 pub(crate) fn reply(alloc: Global, text: &str) -> Result<Vec<u8>, Fail> {
     let (head, body) = text.split_once(" = ").ok_or("no body")?;
     let (status, head) = head.split_once(", ").ok_or("no length")?;

@@ -4,8 +4,8 @@
 //! A list is a file `NAME.txt` in the folder that the program runs in. `lists.txt` has a line for
 //! each list: its name, and the formats that the tables are taken back to between its lives, if
 //! any. For each list a line is printed, after a line for each reply that is another. A list that
-//! cannot be read ends the program with status 1, and so does a file of no office that is opened, or
-//! is not left as it was.
+//! cannot be read ends the program with status 1, and so does a file of no office that is opened,
+//! or is not left as it was.
 //!
 //! No function has a contract beyond that it returns.
 #![tactic(auto)]

@@ -28,8 +28,8 @@ use Rattle.vend_commands.specs.declared.command_end.CommandEnd.TheVariants.{Done
 
 -- What is asked for is done, and nothing of the machine is used beside: where no office is needed
 -- none is found, only `serve` has the door, and only `selfcheck` connects the machine with itself.
-abbrev pub IsCarriedOut : {S D R W : Type 0} → Ghosts S → Machine D R W → Asked → Outputs → CommandEnd
-    → Type 0
+abbrev pub IsCarriedOut : {S D R W : Type 0} → Ghosts S → Machine D R W → Asked → Outputs
+    → CommandEnd → Type 0
 IsCarriedOut store m (Trial words) o end =
     IsIdle m × IsTimed ⊤ words.at m.answers (λ moment. IsTried words moment o end) o end
 IsCarriedOut store m (Import words) o end = IsOffline m × IsTimed m.untouched words.at m.answers

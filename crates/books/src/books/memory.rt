@@ -21,7 +21,8 @@ impl<T: BlockTransform + Drop> Books<MemStore, T> {
     pub fn in_memory(alloc: Global, transform: T) -> Result<Books<MemStore, T>, OpenFault>
         ensures opens { IfOk result (λ books. Represents
             (opened (T.forwards transform) empty_office) (seen over_memory T.forwards books)) }
-        ensures tables { IfOk result (λ books. BooksHaveTables (seen over_memory T.forwards books)) }
+        ensures tables { IfOk result (λ books.
+            BooksHaveTables (seen over_memory T.forwards books)) }
         ensures running { IfOk result (λ books. books.stopped ≡ false) }
         ensures unlimited { IfOk result (λ books.
             (seen over_memory T.forwards books).state.step_limit ≡ None) }

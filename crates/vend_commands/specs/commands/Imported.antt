@@ -51,8 +51,8 @@ read_fault_line read.Memory = refusal_line refusal.Memory
 -- the file of the words has some bytes, which are imported; or it is not read, and that is told,
 -- and no office is found
 abbrev pub IsFileImported : {S : Type 0} → Ghosts S → (Text → Place) → (untouched : Type 0)
-    → (Text → List ℕ → Type 0) → (Text → FileFault → Type 0) → ImportWords → ℕ → Outputs → CommandEnd
-    → Type 0
+    → (Text → List ℕ → Type 0) → (Text → FileFault → Type 0) → ImportWords → ℕ → Outputs
+    → CommandEnd → Type 0
 IsFileImported store at untouched Reads Lacks words moment o end =
     ((bytes : List ℕ) × Reads words.csv.now bytes
     × IsImported store at untouched words moment bytes o end)

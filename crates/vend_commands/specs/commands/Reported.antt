@@ -26,8 +26,8 @@ PrintsPaper (Totals number) old new o end = IsTotalled number old new o end
 PrintsPaper Sales old new o end = IsExported old new o end
 
 -- the paper of the words is printed of the office in their file, where no token is written
-abbrev pub IsReported : {S : Type 0} → Ghosts S → (Text → Place) → ReportWords → Outputs → CommandEnd
-    → Type 0
+abbrev pub IsReported : {S : Type 0} → Ghosts S → (Text → Place) → ReportWords → Outputs
+    → CommandEnd → Type 0
 IsReported store at words o end =
     IsVisited store (at words.file.now) Plain
     (λ old new. PrintsPaper words.paper old new o end) o end

@@ -29,7 +29,7 @@ IsDoneAt Idle At o end (Some moment) = At moment
 IsDoneAt Idle At o end None = Idle × IsTold o [] clock_line Refused end
 
 -- it is done at the moment that is given, or else at the clock's
-abbrev pub IsTimed : (Idle : Type 0) → Option ℕ → Option (List ℤ) → (ℕ → Type 0) → Outputs → CommandEnd
-    → Type 0
+abbrev pub IsTimed : (Idle : Type 0) → Option ℕ → Option (List ℤ) → (ℕ → Type 0) → Outputs
+    → CommandEnd → Type 0
 IsTimed Idle given answers At o end =
     (moment : Option ℕ) × IsTakenMoment given answers moment × IsDoneAt Idle At o end moment

@@ -27,7 +27,8 @@ pub record IsSeenAs {D : Type 0} {g : Ghosts D} (conn : Held (FileStore D g))
 
 -- The files of a connection were closed: the database file alone holds what it last committed, and
 -- holds it after a crash too; or there is a cause why they could not be closed. Either way a crash
--- leaves of the files nothing that it could not leave of the connection, and these files were let go.
+-- leaves of the files nothing that it could not leave of the connection, and these files were let
+-- go.
 pub data AreClosed {D : Type 0} (g : Ghosts D) (LetsGo : D → D → Type 0) (s : State) : Type 0 where
   closed : (conn : Held (FileStore D g)) (last : FileStore D g) (here : Files D)
       → IsSeenAs conn s

@@ -46,8 +46,9 @@ IsUnreopened {S} salts fault = (it : S)
     × ((salts.lacks it × (fault ≡ Store)) ⊎ ((salt : ℕ) × salts.draws it salt))
 
 -- a file at a path: what it holds, that it was found, how an office was opened there and why none
--- was, how it is closed, and why it is not opened again; and where it is looked for and is not made:
--- that it was there, or that it was not, why no connection was made to it, and what its audit answered
+-- was, how it is closed, and why it is not opened again; and where it is looked for and is not
+-- made: that it was there, or that it was not, why no connection was made to it, and what its audit
+-- answered
 pub record Place : Type 1 where
   pub image : Image
   pub finds : Type 0

@@ -69,7 +69,8 @@ pub(crate) fn ask_at<H: OfficeFile, O: Write, E: Write>(
 ) -> CommandEnd
     ensures { IsAskedAt ⟦<FileStore<H::Medium> as Store>⟧
         (places_of H.Medium.Disk H.Salts.SaltSource H.OfficeFile office)
-        transform file.now moment request (outputs (sink O.contents out.old) (sink O.contents out.new)
+        transform file.now moment request
+        (outputs (sink O.contents out.old) (sink O.contents out.new)
         (sink E.contents err.old) (sink E.contents err.new)) result }
 {
     let salts = office.salts();
