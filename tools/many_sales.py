@@ -4,6 +4,7 @@ from importlib.machinery import SourceFileLoader
 from importlib.util import module_from_spec, spec_from_loader
 
 from cut_outputs import Ran, limited, run, same
+from long_work import check_told
 from shared import FORMAT
 from program import (AT, METER, OLDER, RECEIPT, TOP, change, expect, is_sound, prepare, query,
                      sell_words, vend)
@@ -122,6 +123,7 @@ def check_many(folder):
     ]
     for words, paper in papers:
         expect(vend(*of, *words), 0, paper, b"")
+    check_told([*of, "sales"], whole, SALES)
     with limited():
         for room in (40_000, 100_000, len(whole) - 1):
             same(room, run(folder, [*of, "sales"], room), Ran(1, whole[:room], b""))

@@ -6,7 +6,7 @@ mod ports;
 
 use crate::folder;
 use crate::lapses::lapse::{Faults, NO_FAULTS};
-use crate::lapses::ports::{LapsingOffice, NoTexts, Texts, Trouble};
+use crate::lapses::ports::{LapsingOffice, NoTexts, Texts, Trouble, Unseen};
 use crate::support::{Failing, words_of};
 use desk::Script;
 use std::fs;
@@ -77,6 +77,7 @@ fn served_all(
             next: 0,
         },
         loopback: rt,
+        progress: Unseen,
     };
     let line = format!(in rt.alloc();
         "serve --file office.db --listen 127.0.0.1:80 --connections {}",

@@ -25,6 +25,7 @@ pub use port::file_fault::FileFault;
 pub use port::loopback::Loopback;
 pub use port::machine_door::set_options;
 pub use port::ports::{OfficeFile, Ports, SaltSource, TextFiles};
+pub use port::progress::Progress;
 pub use print::watched::Watched;
 pub use running::{refuse, run, run_over, status};
 pub use selfcheck::fault::SelfcheckFault;

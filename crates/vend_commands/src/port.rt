@@ -6,3 +6,4 @@ pub(crate) mod loopback;
 pub(crate) mod machine;
 pub(crate) mod machine_door;
 pub(crate) mod ports;
+pub(crate) mod progress;

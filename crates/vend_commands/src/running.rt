@@ -20,6 +20,7 @@ use crate::port::loopback::Loopback;
 use crate::port::machine::{MachineFile, MachineTexts};
 use crate::port::machine_door::MachineDoor;
 use crate::port::ports::{OfficeFile, Ports, TextFiles};
+use crate::port::progress::{Progress, TerminalProgress};
 use crate::print::explanation::Explanation;
 use crate::print::lines::{put_line, put_refusal};
 use crate::print::watched::Watched;
@@ -62,6 +63,7 @@ pub fn run<B: Start, O: Write, E: Write>(
         clock: MachineClock::new(rt),
         door: MachineDoor::new(rt),
         loopback: rt,
+        progress: TerminalProgress::new(rt),
     };
     let mut out = Watched::new(out);
     let mut err = Watched::new(err);
@@ -86,11 +88,12 @@ pub fn run_over<
     C: Clock + Drop,
     D: Door,
     L: Loopback,
+    P: Progress,
     O: Write,
     E: Write,
 >(
     alloc: Global,
-    ports: Ports<H, F, C, D, L>,
+    ports: Ports<H, F, C, D, L, P>,
     words: &[&str],
     out: &mut Watched<'_, O>,
     err: &mut Watched<'_, E>,
@@ -145,9 +148,18 @@ fn go_offline<D: Door, L: Loopback>(door: D, loopback: L)
 }
 
 // Does what is asked.
-fn answer<H: OfficeFile, F: TextFiles, C: Clock + Drop, D: Door, L: Loopback, O: Write, E: Write>(
+fn answer<
+    H: OfficeFile,
+    F: TextFiles,
+    C: Clock + Drop,
+    D: Door,
+    L: Loopback,
+    P: Progress,
+    O: Write,
+    E: Write,
+>(
     alloc: Global,
-    ports: Ports<H, F, C, D, L>,
+    ports: Ports<H, F, C, D, L, P>,
     asked: Asked<'_, '_>,
     out: &mut Watched<'_, O>,
     err: &mut Watched<'_, E>,
@@ -185,7 +197,8 @@ fn answer<H: OfficeFile, F: TextFiles, C: Clock + Drop, D: Door, L: Loopback, O:
         }
         Asked::Report(words) => {
             go_offline(ports.door, ports.loopback);
-            commands::report::run(&words, alloc, ports.office, out, err)
+            let mut progress = ports.progress;
+            commands::report::run(&words, alloc, ports.office, &mut progress, out, err)
         }
         Asked::Meter(words) => {
             leave_all(ports.office, ports.door, ports.loopback);

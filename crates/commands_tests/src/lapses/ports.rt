@@ -8,7 +8,7 @@ use sqlite_disk::Memory;
 use std::alloc::Global;
 use std::fs::OpenOptions;
 use std::io::{self, Read, Write};
-use vend_commands::{Door, FileFault, OfficeFile, SaltSource, TextFiles};
+use vend_commands::{Door, FileFault, OfficeFile, Progress, SaltSource, TextFiles};
 
 /// What fails of an office's file: some calls of its log, or of its database file.
 #[derive(Clone, Copy)]
@@ -201,4 +201,12 @@ impl<'a> Door for Texts<'a> {
     {
         drop(self);
     }
+}
+
+/// Nobody is told how far a command is.
+#[derive(Drop)]
+pub(crate) struct Unseen;
+
+impl Progress for Unseen {
+    fn tell(&mut self, _printed: u64, _all: u64) {}
 }

@@ -68,6 +68,10 @@ done_line = line_of (codes "done" ∷ [])
 abbrev pub added_line : ℕ → Text
 added_line count = line_of (codes "added" ∷ decimal count ∷ [])
 
+abbrev pub progress_line : ℕ → ℕ → Text
+progress_line printed all =
+    line_of (decimal printed ∷ codes "of" ∷ decimal all ∷ codes "sales" ∷ [])
+
 abbrev pub shift_line : ℕ → Text
 shift_line number = line_of (codes "shift" ∷ decimal number ∷ [])
 

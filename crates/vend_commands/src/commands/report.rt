@@ -9,6 +9,7 @@ use crate::command_end::CommandEnd;
 use crate::office::asking::ask;
 use crate::office::opening::{close_office, open_office};
 use crate::port::ports::OfficeFile;
+use crate::port::progress::Progress;
 use crate::print::lines::put_opening;
 use crate::print::sales::print_sales;
 use crate::print::totals::print_totals;
@@ -24,10 +25,11 @@ use vend_core::Request;
 
 /// Opens the office, prints a paper of it, and closes its file; or tells why it is not opened. No
 /// token is written, so any transform serves.
-pub(crate) fn run<H: OfficeFile, O: Write, E: Write>(
+pub(crate) fn run<H: OfficeFile, P: Progress, O: Write, E: Write>(
     words: &ReportWords,
     alloc: Global,
     office: H,
+    progress: &mut P,
     out: &mut Watched<'_, O>,
     err: &mut Watched<'_, E>,
 ) -> CommandEnd
@@ -39,7 +41,7 @@ pub(crate) fn run<H: OfficeFile, O: Write, E: Write>(
     let salts = office.salts();
     match open_office(alloc, office, &salts, words.file, Shipped::Plain) {
         Ok(mut books) => {
-            let end = print(alloc, &mut books, words.paper, out, err);
+            let end = print(alloc, &mut books, words.paper, progress, out, err);
             close_office::<H>(books);
             end
         }
@@ -51,10 +53,11 @@ pub(crate) fn run<H: OfficeFile, O: Write, E: Write>(
 }
 
 // Prints a paper of books that are open, or tells why not.
-fn print<S: Alter, O: Write, E: Write>(
+fn print<S: Alter, P: Progress, O: Write, E: Write>(
     alloc: Global,
     books: &mut Books<S, Shipped>,
     paper: Paper,
+    progress: &mut P,
     out: &mut Watched<'_, O>,
     err: &mut Watched<'_, E>,
 ) -> CommandEnd
@@ -72,7 +75,7 @@ fn print<S: Alter, O: Write, E: Write>(
             ask(alloc, books, first_moment(), request, out, err)
         }
         Paper::Totals(number) => print_totals(books, number, out, err),
-        Paper::Sales => print_sales(alloc, books, out, err),
+        Paper::Sales => print_sales(alloc, books, progress, out, err),
     }
 }
 

@@ -11,6 +11,7 @@ ghost use Rattle.vend_commands.specs.declared.port.file_fault.FileFault.{FileFau
 use crate::port::door::Door;
 use crate::port::file_fault::FileFault;
 use crate::port::loopback::Loopback;
+use crate::port::progress::Progress;
 use books::OpenFault;
 use sqlite_disk::Disk;
 
@@ -110,10 +111,11 @@ pub trait TextFiles: Drop {
 /// office, the door and the connection with itself by a call that takes them, whose fact no other
 /// call gives.
 #[derive(Drop)]
-pub struct Ports<H: OfficeFile, F: TextFiles, C, D: Door, L: Loopback> {
+pub struct Ports<H: OfficeFile, F: TextFiles, C, D: Door, L: Loopback, P: Progress> {
     pub office: H,
     pub texts: F,
     pub clock: C,
     pub door: D,
     pub loopback: L,
+    pub progress: P,
 }

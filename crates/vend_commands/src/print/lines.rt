@@ -2,7 +2,7 @@
 ghost use Rattle.std.specs.Prelude.{◌≡◌, ◌≢◌, ℕ, IfOk, map, string_bytes};
 ghost use Rattle.vend_core.specs.Decision.RowCauses.{cause_text};
 ghost use Rattle.vend_commands.specs.print.Printed.{added_line, address_text, answer_line, clock_line, credit_line};
-ghost use Rattle.vend_commands.specs.print.Printed.{host_text, line_of, opening_line, pair_text};
+ghost use Rattle.vend_commands.specs.print.Printed.{host_text, line_of, opening_line, pair_text, progress_line};
 ghost use Rattle.vend_commands.specs.print.Printed.{quote_line, refusal_line, shift_line, token_line};
 ghost use Rattle.vend_commands.specs.print.Told.{IsPutOn, Takes, sink};
 
@@ -106,6 +106,18 @@ pub(crate) fn put_added<W: Write>(count: u32, out: &mut Watched<'_, W>)
 {
     let mut number = Buffer::new();
     put_line(&[b"added", number.format(count).as_bytes()], out);
+}
+
+/// Prints how far an export is.
+pub(crate) fn put_progress<W: Write>(printed: u64, all: u64, out: &mut Watched<'_, W>)
+    ensures { Takes (sink W.contents out.old) (sink W.contents out.new)
+        (progress_line printed all) }
+{
+    let mut some = Buffer::new();
+    let mut whole = Buffer::new();
+    let printed = some.format(printed).as_bytes();
+    let all = whole.format(all).as_bytes();
+    put_line(&[printed, b"of", all, b"sales"], out);
 }
 
 /// Prints the number of a shift.

@@ -8,6 +8,7 @@ ghost use Rattle.vend_commands.specs.print.Told.{outputs, sink};
 ghost use Rattle.vend_core.specs.Law.Life.{Life};
 
 use crate::command_end::CommandEnd;
+use crate::port::progress::Progress;
 use crate::print::lines::put_refusal;
 use crate::print::watched::Watched;
 use books::Books;
@@ -25,10 +26,11 @@ const PAGE: u32 = 1000;
 const PAGES: u32 = 1_000_001;
 
 /// Prints all sales, the header once in front of them, or tells why it stops. Where the output
-/// fails it goes no further.
-pub(crate) fn print_sales<S: Alter, T: BlockTransform, O: Write, E: Write>(
+/// fails it goes no further. It tells how far it is after each page that another one follows.
+pub(crate) fn print_sales<S: Alter, T: BlockTransform, P: Progress, O: Write, E: Write>(
     alloc: Global,
     books: &mut Books<S, T>,
+    progress: &mut P,
     out: &mut Watched<'_, O>,
     err: &mut Watched<'_, E>,
 ) -> CommandEnd
@@ -38,9 +40,10 @@ pub(crate) fn print_sales<S: Alter, T: BlockTransform, O: Write, E: Write>(
 {
     export_law();
     life_law();
+    let all = books.next_number().saturating_sub(1);
     for page in 0..PAGES {
         match print_page(alloc, books, page, out) {
-            Ok(true) => {}
+            Ok(true) => progress.tell((u64::from(page) + 1) * u64::from(PAGE), all),
             Ok(false) => return CommandEnd::Done,
             Err(refusal) => {
                 put_refusal(refusal, err);

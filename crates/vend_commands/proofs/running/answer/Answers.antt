@@ -55,8 +55,8 @@ returns-in-Selfcheck g c =
     done_so store m c.args.asked (asks.Selfcheck c.in-Selfcheck.words) o c.run_selfcheck.result c.in-Selfcheck.is
     (c.leave-in-Selfcheck.ensures, c.leave-in-Selfcheck-2.ensures, c.run_selfcheck.ensures)
 
-pub returns : goal.returns
-returns g c =
+pub returns-in-Audit : goal.returns-in-Audit
+returns-in-Audit g c =
     let H = g.H.OfficeFile in
     let D = g.D.Door in
     let at = places_of g.H.Medium.Disk g.H.Salts.SaltSource H c.args.ports.office in

@@ -1,0 +1,49 @@
+//! Whom a command that takes long tells how far it is.
+
+use crate::print::lines::put_progress;
+use crate::print::watched::Watched;
+use std::io::IsTerminal;
+use std::time::{Duration, Instant};
+
+// So many seconds lie between two lines, at the least.
+const PAUSE: u64 = 1;
+
+/// Whom a command that takes long tells how far it is. No contract says what becomes of it.
+pub trait Progress: Drop {
+    /// So many of all sales are printed.
+    fn tell(&mut self, printed: u64, all: u64);
+}
+
+/// The terminal where the error output goes. Where the output goes to a terminal too, what it shows
+/// tells how far it is.
+#[derive(Drop)]
+pub(crate) struct TerminalProgress<'a> {
+    rt: &'a HostRuntime,
+    last: Option<Instant>,
+}
+
+impl<'a> TerminalProgress<'a> {
+    /// The first line comes a second from now, or later.
+    pub(crate) fn new(rt: &'a HostRuntime) -> TerminalProgress<'a> {
+        TerminalProgress {
+            rt,
+            last: Instant::now(rt).ok(),
+        }
+    }
+}
+
+impl Progress for TerminalProgress<'_> {
+    fn tell(&mut self, printed: u64, all: u64) {
+        let mut terminal = self.rt.stderr();
+        if !terminal.is_terminal() || self.rt.stdout().is_terminal() {
+            return;
+        }
+        let (Some(last), Ok(now)) = (self.last, Instant::now(self.rt)) else {
+            return;
+        };
+        if now.duration_since(last) >= Duration::from_secs(PAUSE) {
+            self.last = Some(now);
+            put_progress(printed, all, &mut Watched::new(&mut terminal));
+        }
+    }
+}
