@@ -1,5 +1,5 @@
-/* Reads a message of so many bytes as they come, 1024 at a time at the most, answers a byte, and ends
-   with its connection: what such a reading takes without a desk. It takes what bench/bytes sends. */
+/* Reads N bytes as they come, at most 1024 at a time, answers a byte, and ends with its connection: what
+   reading takes without a desk. bench/bytes sends it what it sends the desk. */
 #include <arpa/inet.h>
 #include <stdio.h>
 #include <stdlib.h>
