@@ -11,8 +11,8 @@ use vend_commands::{CommandEnd, Watched, gives_exactly, replies_over_memory, run
 const REPLIES: &[u8] = b"HTTP/1.1 200 OK\r\nContent-Type: application/json\r\n\
     Content-Length: 189\r\n\r\n\
     {\"base\":2014,\"change\":0,\"meter\":\"12345678903\",\"moment\":1388534430,\"number\":1,\
-    \"operator\":\"ann\",\"price\":10,\"ref\":\"A-1\",\"shift\":1,\"tender\":10,\"tenths\":1,\"tid\":2,\
-    \"token\":\"00072057602627981690\"}\
+    \"operator\":\"ann\",\"price\":10,\"ref\":\"A-1\",\"shift\":1,\"tender\":10,\"tenths\":1,\
+    \"tid\":2,\"token\":\"00072057602627981690\"}\
     HTTP/1.1 200 OK\r\nContent-Type: text/plain\r\nContent-Length: 118\r\n\r\n\
     SALE 1\nMETER 12345678903\nTIME 2014-01-01T00:00:30Z\nKWH 0.1\nPRICE 10\nTENDER 10\n\
     CHANGE 0\nTOKEN 0007 2057 6026 2798 1690\n";

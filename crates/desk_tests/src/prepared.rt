@@ -21,8 +21,8 @@ pub(crate) const RECEIPT: &[u8] = b"GET /sales/1/receipt HTTP/1.1\r\nHost: d\r\n
 pub(crate) const SOLD: &[u8] = b"HTTP/1.1 200 OK\r\nContent-Type: application/json\r\n\
     Content-Length: 189\r\n\r\n\
     {\"base\":2014,\"change\":0,\"meter\":\"12345678903\",\"moment\":1388534430,\"number\":1,\
-    \"operator\":\"ann\",\"price\":10,\"ref\":\"A-1\",\"shift\":1,\"tender\":10,\"tenths\":1,\"tid\":2,\
-    \"token\":\"00072057602627981690\"}";
+    \"operator\":\"ann\",\"price\":10,\"ref\":\"A-1\",\"shift\":1,\"tender\":10,\"tenths\":1,\
+    \"tid\":2,\"token\":\"00072057602627981690\"}";
 
 /// What is written for its receipt: 184 bytes.
 pub(crate) const PRINTED: &[u8] =

@@ -24,6 +24,7 @@ pub use port::door::Door;
 pub use port::file_fault::FileFault;
 pub use port::loopback::Loopback;
 pub use port::machine_door::set_options;
+pub use port::patient::PatientReader;
 pub use port::ports::{OfficeFile, Ports, SaltSource, TextFiles};
 pub use port::progress::Progress;
 pub use print::watched::Watched;

@@ -5,5 +5,6 @@ pub(crate) mod file_fault;
 pub(crate) mod loopback;
 pub(crate) mod machine;
 pub(crate) mod machine_door;
+pub(crate) mod patient;
 pub(crate) mod ports;
 pub(crate) mod progress;

@@ -3,9 +3,10 @@
 ghost use Rattle.std.specs.Prelude.{◌≡◌, ◌≢◌, ⊤, ℕ, IfSome};
 
 use crate::port::door::Door;
+use crate::port::patient::PatientReader;
 use command_line::Address;
 use std::net::{Net, OpenListener, OpenStream, TcpListener};
-use std::time::Duration;
+use std::time::{Clock, Duration};
 
 // For so many seconds a peer may send nothing, or take nothing, before its conversation ends.
 const PATIENCE: u64 = 30;
@@ -27,8 +28,8 @@ impl<'a, N: Net> MachineDoor<'a, N> {
     }
 }
 
-impl<N: Net> Door for MachineDoor<'_, N> {
-    type Reader = N::Stream;
+impl<'a, N: Net + Clock> Door for MachineDoor<'a, N> {
+    type Reader = PatientReader<'a, N, N::Stream>;
 
     type Writer = N::Stream;
 
@@ -52,14 +53,14 @@ impl<N: Net> Door for MachineDoor<'_, N> {
     }
 
     // A connection of which there can be no second half counts as one that cannot be had.
-    fn accept(&mut self) -> Option<(N::Stream, N::Stream)> {
+    fn accept(&mut self) -> Option<(PatientReader<'a, N, N::Stream>, N::Stream)> {
         let (stream, _) = self.listener.as_ref()?.accept().ok()?;
         set_options(&stream);
         let reader = stream.try_clone().ok()?;
-        Some((reader, stream))
+        Some((PatientReader::new(self.net, reader), stream))
     }
 
-    fn end(reader: N::Stream, writer: N::Stream) {
+    fn end(reader: PatientReader<'a, N, N::Stream>, writer: N::Stream) {
         drop(reader);
         drop(writer);
     }
