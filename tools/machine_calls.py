@@ -1,5 +1,5 @@
-"""What the program asks of the system: which files it opens, when it has to do with sockets, and which salt
-it gives the log of a file: a part of tools/check_program. It is no script of its own. tools/watch_calls.c
+"""What the program asks of the system: which files it opens, when it has to do with sockets, when it pauses,
+and which salt it gives the log of a file: a part of tools/check_program. It is no script of its own. tools/watch_calls.c
 watches; cc builds it."""
 import http.client
 import json
@@ -8,6 +8,7 @@ import re
 import resource
 import signal
 import subprocess
+import time
 from pathlib import Path
 
 from file_names import program
@@ -24,6 +25,9 @@ HAS = ["socket", "bind", "listen"]
 SELFCHECK = HAS + ["socket", "connect", "accept"]
 KEY = "0" * 16
 TOKEN = "00072057602627981690"
+# More than the pieces after which the desk pauses for a client that sends little at a time.
+MANY = 600
+APART = 0.0005  # seconds between two bytes
 
 
 class Watcher:
@@ -46,7 +50,7 @@ class Watcher:
 
     def calls(self):
         """The files that the last run opened, how often it drew random bytes, and what it had to do
-        with sockets."""
+        with sockets, and its pauses among that."""
         lines = self.told.read_text().splitlines()
         opened = {os.path.realpath(self.folder / line.removeprefix("open ")) for line in lines
                   if line.startswith("open ")}
@@ -166,6 +170,33 @@ def check_calls(folder, watcher):
         raise SystemExit(f"wrong: serve asked of the system {found}")
 
 
+def check_pauses(folder, watcher):
+    """`serve` pauses for a client that sends single bytes, and for none that sends whole messages,
+    however many."""
+    file = folder / "pauses.db"
+    prepare(file)
+    with Served(watcher, file, 1) as served:
+        client = served.connect()
+        for _ in range(MANY):
+            asked(client, "GET", "/sales/1")
+        client.close()
+        served.finish()
+    found = watcher.calls()[2]
+    if found != HAS + ["accept"]:
+        raise SystemExit(f"wrong: for whole messages serve asked of the system {found}")
+    with Served(watcher, file, 1) as served:
+        client = served.connect()
+        client.connect()
+        for byte in f"GET /sales/1 HTTP/1.1\r\nHost: d\r\nX: {'x' * MANY}\r\n\r\n".encode():
+            client.sock.send(bytes([byte]))
+            time.sleep(APART)
+        reply = client.sock.recv(4096)
+        client.close()
+        served.finish()
+    if not reply.startswith(b"HTTP/1.1 404 ") or "sleep" not in watcher.calls()[2]:
+        raise SystemExit(f"wrong: to single bytes serve answered {reply}, or it did not pause")
+
+
 class Served:
     """`serve` for so many connections, watched."""
 
@@ -243,11 +274,13 @@ def check_opened_again(folder, watcher):
 
 
 def check_machine_calls(folder):
-    """Files, sockets and salts."""
+    """Files, sockets, pauses and salts."""
     folder = folder / "machine"
     folder.mkdir()
     watcher = Watcher(folder)
     check_salts(folder, watcher)
     check_calls(folder, watcher)
+    check_pauses(folder, watcher)
     check_opened_again(folder, watcher)
-    print("calls of the system: no file, socket or salt but those of the words")
+    print("calls of the system: no file, socket or salt but those of the words, and a "
+          "pause for single bytes alone")

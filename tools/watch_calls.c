@@ -2,7 +2,7 @@
    (LD_PRELOAD). It is for tools/machine_calls.py, which builds it.
 
    The file CALLS_TOLD gets a line for each call in turn: `open` with the path, `draw` where random
-   bytes are drawn, and the name of each call that has to do with a socket. The bytes that are drawn
+   bytes are drawn, `sleep` for a pause, and the name of each call that has to do with a socket. The bytes that are drawn
    are those that CALLS_DRAWN has as hexadecimal digits, with the first one raised by 1 at each draw
    after the first. */
 #define _GNU_SOURCE
@@ -13,6 +13,7 @@
 #include <stdlib.h>
 #include <string.h>
 #include <sys/socket.h>
+#include <time.h>
 #include <unistd.h>
 
 enum { MOST_DRAWN = 64 };
@@ -100,4 +101,10 @@ int connect(int socket, const struct sockaddr *address, socklen_t length) {
     int (*call)(int, const struct sockaddr *, socklen_t) = own("connect");
     tell("connect", NULL);
     return call(socket, address, length);
+}
+
+int nanosleep(const struct timespec *asked, struct timespec *left) {
+    int (*call)(const struct timespec *, struct timespec *) = own("nanosleep");
+    tell("sleep", NULL);
+    return call(asked, left);
 }
