@@ -5,9 +5,13 @@ pub mod BaseLemmas
 pub mod CashLemmas
 pub mod ClearedLemmas
 pub mod DatedLemmas
+pub mod EachAfterLemmas
+pub mod EffectLemmas
 pub mod FoldLemmas
 pub mod MeterLemmas
+pub mod PlausibleLemmas
 pub mod PriceLemmas
+pub mod ReachedLemmas
 pub mod RiseLemmas
 pub mod SaleLemmas
 pub mod StayLemmas

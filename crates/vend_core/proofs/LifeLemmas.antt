@@ -52,7 +52,7 @@ module _ (laws : LowerLaws) where
   pub acknowledged_stamped : (life : Life) → IsLife life → All IsStamped (acknowledged life)
   acknowledged_stamped life is = All-map IsStamped (λ (e : Exchange). e.request) _ (All-filter _ (λ (e : Exchange). IsStamped e.request) life.exchanges is.stamped)
 
-  doubted_stamped : (life : Life) → IsLife life → All IsStamped (in_doubt life)
+  pub doubted_stamped : (life : Life) → IsLife life → All IsStamped (in_doubt life)
   doubted_stamped life is = All-map IsStamped (λ (e : Exchange). e.request) _ (All-filter _ (λ (e : Exchange). IsStamped e.request) life.exchanges is.stamped)
 
   -- a reply that acknowledges is among the acknowledged ones

@@ -7,5 +7,6 @@ pub mod Life
 pub mod LifeLaws
 pub mod NewSale
 pub mod OfficeLaws
+pub mod Reached
 pub mod SoldTokens
 pub mod Store

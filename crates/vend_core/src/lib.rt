@@ -13,7 +13,7 @@ pub use decision::{
     Answer, Category, Change, Edit, Facts, GREATEST_COUNT, ImportFacts, MeterAccount, Order,
     Refusal, Reply, Request, RowCause, RowFacts, Stamped, decide, limits_law,
 };
-pub use law::{history_law, life_law, office_law, store_law};
+pub use law::{history_law, life_law, office_law, reached_law, store_law};
 pub use lists::Lists;
 pub use name::{MeterNo, Operator, Ref, TariffName};
 pub use office::{Meter, Row, Rows, Sale, Sales, Shift};
