@@ -2,7 +2,7 @@ use audit_rows::TableName;
 use sqlite::Row;
 use vend_core::{MeterNo, TariffName};
 
-/// The rules that a row may break. `docs/OFFICE.md`, "Audit", has them in words.
+/// The rules that a row may break. `docs/COMMANDS.md`, "What an audit prints", has them in words.
 #[derive(Clone, Copy, Debug, PartialEq, Eq)]
 pub enum Rule {
     /// The values of its columns are those of no record.

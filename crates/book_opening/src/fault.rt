@@ -3,7 +3,7 @@ ghost use Rattle.book_opening.specs.Fault.{open_fault_name, open_fault_number};
 
 use thiserror::Error;
 
-/// Why an office is not opened (`docs/LIVES.md`, "Opening").
+/// Why an office is not opened (`docs/PROMISE.md`, "Opening").
 #[derive(Clone, Copy, Debug, PartialEq, Eq, Hash, Error)]
 pub enum OpenFault {
     #[error("the file has tables that are not an office's")]
@@ -15,7 +15,7 @@ pub enum OpenFault {
 }
 
 impl OpenFault {
-    /// The fault's number (`docs/LIVES.md`, "Opening").
+    /// The fault's number (`docs/PROMISE.md`, "Opening").
     pub fn number(self) -> u8
         ensures { result ≡ open_fault_number self }
     {

@@ -1,7 +1,7 @@
 //! The opening of an office over a connection, and the bringing of its tables to the present
 //! format.
 //!
-//! `docs/LIVES.md` has it in words ("Opening"). `specs/Opening.antt` says what is found and left.
+//! `docs/PROMISE.md` has it in words ("Opening"). `specs/Opening.antt` says what is found and left.
 #![tactic(auto)]
 
 pub use fault::OpenFault;

@@ -16,7 +16,7 @@ mod serve_all;
 mod stopping;
 mod totals;
 
-/// An office that is kept in the tables of a database (`docs/LIVES.md`).
+/// An office that is kept in the tables of a database (`docs/PROMISE.md`).
 ///
 /// It holds nothing of the office itself but the number of the next sale. After a failure of the
 /// store it is stopped: it answers every request so until the office is opened again.

@@ -1,8 +1,11 @@
-ghost use Rattle.std.specs.Prelude.{◌≡◌, ◌<◌, ◌≤◌, ◌↔◌, ◌++◌, ◌∷◌, ℕ, List, Ok, All, Contains, sum_by};
+ghost use Rattle.std.specs.Prelude.{◌≡◌, ◌-◌, ◌<◌, ◌≤◌, ◌^◌, ◌↔◌, ◌++◌, ◌∷◌, ℕ, List, Ok, All, Contains, map, sum_by};
 ghost use Rattle.sqlite.specs.Held.{Held, state};
 ghost use Rattle.sqlite.specs.State.{IsLive, Opens};
 ghost use Rattle.sqlite_trees.specs.Tree.{Trees};
-ghost use Rattle.sts_token.specs.Meter.{Accepts, credit_of};
+ghost use Rattle.sts_fields.specs.Text.{Text};
+ghost use Rattle.sts_token.specs.Fields.{TokenFields};
+ghost use Rattle.sts_token.specs.Meter.{Accepts, Entry, credit_of, entered};
+ghost use Rattle.vend_core.specs.Law.Cash.{AskForReports, cash_of, cash_of_reports};
 ghost use Rattle.vend_core.specs.Law.Imports.{AsksNoMeterChange, ImportsNothing};
 ghost use Rattle.vend_core.specs.Law.Life.{Answered, AreLives, Exchange, IsHanded, Life, present};
 ghost use Rattle.vend_core.specs.Law.NewSale.{fields_of};
@@ -20,7 +23,7 @@ ghost use Rattle.books.specs.declared.books.Books.{Books};
 
 use crate::reopening::opening_law;
 use sqlite::Alter;
-use sts_token::BlockTransform;
+use sts_token::{BlockTransform, meter_law};
 use vend_core::{history_law, life_law};
 
 /// What holds of an office in a file over all its lives, wherever each of them stopped.
@@ -28,7 +31,8 @@ use vend_core::{history_law, life_law};
 /// While nobody else writes the file and the disk returns what was written (`HasCleanDisk`), what a
 /// stop between two calls or within one leaves is the office of a beginning of the requests, which
 /// holds every acknowledged sale. No two sales to a meter under one base date share an identifier,
-/// a reprint is the first token, and the simulated meter credits each token at most once.
+/// a reprint is the first token, and the simulated meter credits each token at most once. Each of
+/// these is a clause.
 ///
 /// `Books::open_from` begins a life for the office that the file stands for, `Books::serve` adds to
 /// it, and each keeps the relation `Represents` that is the premise here.
@@ -88,9 +92,17 @@ pub fn headline_law<S: Alter, T: BlockTransform>()
         → Answered (with_last lives life) (Answer.Reprinted again)
         → again.number ≡ first.number → again.digits ≡ first.digits }
 
+    // Until it is cleared, the simulated meter credits each token at most once, whatever came
+    // before it and whatever texts are entered between.
+    ensures token_once { (m : SimMeter) (before : List Entry) (between : List Text) (text : Text)
+        (first again : TokenFields)
+        → Accepts (reads_by m) before text first
+        → ¬ Accepts (reads_by m) (before ++ entered text ∷ map entered between) text again }
+
     // The tokens of one meter's sales under one base, entered into a new meter in any order and
     // with repeats: each is accepted at its first entry exactly if those of fewer than fifty later
-    // sales came before it, and the credit is the sum of the distinct ones accepted.
+    // sales came before it, so in the order of sale all are. The credit is the sum of the distinct
+    // ones accepted, at most what was sold, and that is below the greatest credit of a meter.
     ensures first_entry { (lives : List Life) (life : Life) (books : Books S T S.Store)
         (m : SimMeter)
         (sales came : List Sale) (s : Sale)
@@ -99,6 +111,11 @@ pub fn headline_law<S: Alter, T: BlockTransform>()
         → All (Contains sales) came → Contains sales s → ¬ Contains came s
         → (Accepts (reads_by m) (tokens_of came) s.digits (fields_of s)
         ↔ (later_sales_come sales came s < 50)) }
+    ensures in_order { (lives : List Life) (life : Life) (books : Books S T S.Store) (m : SimMeter)
+        (earlier later : List Sale) (s : Sale)
+        → RepresentTheLast lives life (seen S.Store T.forwards books)
+        → AreSalesTo (with_last lives life) m (earlier ++ s ∷ later)
+        → Accepts (reads_by m) (tokens_of earlier) s.digits (fields_of s) }
     ensures credit { (lives : List Life) (life : Life) (books : Books S T S.Store) (m : SimMeter)
         (sales came : List Sale)
         → RepresentTheLast lives life (seen S.Store T.forwards books)
@@ -113,6 +130,20 @@ pub fn headline_law<S: Alter, T: BlockTransform>()
         → AreSalesTo (with_last lives life) m sales
         → All (Contains sales) came
         → credit_of (reads_by m) (tokens_of came) ≤ sum_by (λ s. s.tenths) sales }
+
+    ensures below_bound { (lives : List Life) (life : Life) (books : Books S T S.Store)
+        (m : SimMeter) (sales : List Sale)
+        → RepresentTheLast lives life (seen S.Store T.forwards books)
+        → AreSalesTo (with_last lives life) m sales
+        → sum_by (λ s. s.tenths) sales < 2 ^ 64 - 1 }
+
+    // The reports of all shifts hold the money of all sales.
+    ensures cash { (lives : List Life) (life : Life) (books : Books S T S.Store)
+        (ats : ℕ → Stamped)
+        → RepresentTheLast lives life (seen S.Store T.forwards books)
+        → AskForReports ats
+        → cash_of_reports (T.forwards books.transform) (present life) ats
+        ≡ cash_of (present life).sales }
 
     // An import that was granted in one of the lives, and comes again with no SetTariff and no
     // MoveBase in between, changes nothing.
@@ -129,5 +160,6 @@ pub fn headline_law<S: Alter, T: BlockTransform>()
 {
     life_law();
     history_law();
+    meter_law();
     opening_law::<S>();
 }

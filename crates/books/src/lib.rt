@@ -1,7 +1,7 @@
 //! The office in one SQLite file: the requests that change it are each one commit, made before the
 //! answer.
 //!
-//! `docs/LIVES.md` says what a stop may leave. `specs/Keeps.antt` has the relation between books
+//! `docs/PROMISE.md` says what a stop may leave. `specs/Keeps.antt` has the relation between books
 //! and a life that the contracts speak of.
 #![tactic(auto)]
 

@@ -3,7 +3,7 @@
 //!
 //! Each reply of the books is compared with the one that the office over plain lists gives to the
 //! same request. What is expected was worked out by hand, from `docs/OFFICE.md`, `docs/PROFILE.md`
-//! and `docs/LIVES.md`, or computed by `tools/oracle`.
+//! and `docs/PROMISE.md`, or computed by `tools/oracle`.
 #![tactic(auto)]
 
 #[cfg(test)]

@@ -2,6 +2,7 @@ use Rattle.sqlite.specs.Held.{state}
 use Rattle.books.specs.Headline.{with_last}
 use Rattle.books.specs.Keeps.{seen}
 use Rattle.vend_core.specs.Law.Life.{present}
+use Rattle.vend_core.specs.Law.SoldTokens.{reads_by}
 use Rattle.books.proofs.HeadlineLemmas.{lead_on, leave}
 use Rattle.books.proofs.headline.headline_law.Goals as goal
 
@@ -32,6 +33,18 @@ returns-clause-reprint g c = λ lives life books first again h. c.history_law.en
 
 pub returns-clause-first_entry : goal.returns-clause-first_entry
 returns-clause-first_entry g c = λ lives life books m sales came s h. c.history_law.ensures.first_entry (with_last lives life) (present life) m sales came s (lead_on c.history_law.ensures.goes_on lives life (seen g.S.Store g.T.BlockTransform.forwards books) h)
+
+pub returns-clause-token_once : goal.returns-clause-token_once
+returns-clause-token_once g c = λ m. c.meter_law.ensures.token_once (reads_by m)
+
+pub returns-clause-in_order : goal.returns-clause-in_order
+returns-clause-in_order g c = λ lives life books m earlier later s h. c.history_law.ensures.in_order (with_last lives life) (present life) m earlier later s (lead_on c.history_law.ensures.goes_on lives life (seen g.S.Store g.T.BlockTransform.forwards books) h)
+
+pub returns-clause-below_bound : goal.returns-clause-below_bound
+returns-clause-below_bound g c = λ lives life books m sales h. c.history_law.ensures.below_bound (with_last lives life) (present life) m sales (lead_on c.history_law.ensures.goes_on lives life (seen g.S.Store g.T.BlockTransform.forwards books) h)
+
+pub returns-clause-cash : goal.returns-clause-cash
+returns-clause-cash g c = λ lives life books ats h. c.history_law.ensures.cash (with_last lives life) (g.T.BlockTransform.forwards books.transform) (present life) ats (lead_on c.history_law.ensures.goes_on lives life (seen g.S.Store g.T.BlockTransform.forwards books) h)
 
 pub returns-clause-credit : goal.returns-clause-credit
 returns-clause-credit g c = λ lives life books m sales came h. c.history_law.ensures.credit (with_last lives life) (present life) m sales came (lead_on c.history_law.ensures.goes_on lives life (seen g.S.Store g.T.BlockTransform.forwards books) h)
