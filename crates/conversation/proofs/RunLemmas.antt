@@ -14,10 +14,10 @@ use Rattle.conversation.specs.Conversation.{Conversation, Progress}
 use Rattle.conversation.specs.Ends.{AsksOnce, IsRead, Output, Writes, WritesLast, WritesWhole}
 use Rattle.conversation.specs.Exchanges.{Timed, timed}
 use Rattle.conversation.specs.message.Heads.{longest_head}
-use Rattle.conversation.specs.message.Messages.{failed, EndsAs, broken}
+use Rattle.conversation.specs.message.Messages.{failed as failing, EndsAs, broken}
 use Rattle.conversation.specs.Parts.{EndsHere, IsOver}
 use Rattle.conversation.specs.Run.{IsRun}
-use Rattle.conversation.specs.Uses.{AreOpen, AreSound, EndsBy, Grows, IsOpen, IsPaced, MayAsk, Use, asked, came_by, longest_message, reads_in, received, written}
+use Rattle.conversation.specs.Uses.{AreOpen, AreSound, EndsBy, Grows, IsOpen, IsPaced, MayAsk, Passed, Use, asked, bytes_in, failed, interrupted, longest_message, moved, reads_in, received, written}
 use Rattle.conversation.specs.Wants.{count_of, IsAwaited}
 use Rattle.conversation.proofs.EndLemmas.{Written, WrittenBytes, all_left, left_of, told_here}
 use Rattle.conversation.proofs.MessageLemmas.{framed_fits, some_head, some_head_is}
@@ -48,7 +48,7 @@ awaited_fits rest (Body count) body =
     let whole = ap length body.begins.reads.1 in
     omega (arith, whole, length-append (print_request body.head) body.body, body.begins.bytes, body.lacks, framed_fits body.head body.framing body.framed)
 
-awaited_broken : (rest : List ℕ) (w : Wants) → IsAwaited rest w → EndsAs failed rest broken
+awaited_broken : (rest : List ℕ) (w : Wants) → IsAwaited rest w → EndsAs failing rest broken
 awaited_broken rest (Head count) (head, all) = inl (head.none, head.short)
 awaited_broken rest (Body count) body = inr (count, body)
 
@@ -57,9 +57,9 @@ pub failed_run : {O : Type 0} (step : Step O) (refusal : MessageFault → List �
     (taken rest text : List ℕ) (w : Wants) → Consumes unread left taken → Appends held holds text
     → Progress (timed step) taken rest old text new → IsAwaited rest w → IsRun step refusal old new unread left held holds ReadFault
 failed_run step refusal old new unread left held holds taken rest text w c written p awaited =
-    let nothing : Conversation (timed step) refusal failed rest new [] broken new =
+    let nothing : Conversation (timed step) refusal failing rest new [] broken new =
     record { exchanges = []; messages = awaited_broken rest w awaited; served = refl; text_is = refl } in
-    let all = conversation_after (timed step) refusal failed taken rest old new new text [] broken p nothing in
+    let all = conversation_after (timed step) refusal failing taken rest old new new text [] broken p nothing in
     (taken, c, record { text = text; written = written; conversation = rw append-nil at all })
 
 -- a read that failed, or had no room
@@ -115,14 +115,14 @@ used_none step old told unread held =
 
 -- a read that was made where this was left and awaited
 pub used_read : {O : Type 0} (step : Step O) (old new : Timed O) (told mid tells : Option (List Use)) (unread left now held holds : Option (List ℕ)) (uses : List Use)
-    (rest : List ℕ) (w : Wants) (wanted : ℕ) (came : Option (List ℕ)) → wanted ≡ count_of w → Used step old told mid unread left held holds uses → AreOpen uses
-    → Progress (timed step) (received uses) rest old (written uses) new → IsAwaited rest w → (asks : AsksOnce mid tells wanted came)
-    → Consumes left now (came_by (asked asks.0 came)) → Used step old told tells unread now held holds (uses ++ asked asks.0 came ∷ [])
-used_read step old new told mid tells unread left now held holds uses rest w wanted came all used opened answered awaited (count, least, fits_in, grows) reads =
+    (rest : List ℕ) (w : Wants) (wanted : ℕ) (passed : Passed) → wanted ≡ count_of w → Used step old told mid unread left held holds uses → AreOpen uses
+    → Progress (timed step) (received uses) rest old (written uses) new → IsAwaited rest w → (asks : AsksOnce mid tells wanted passed)
+    → Consumes left now (bytes_in passed) → Used step old told tells unread now held holds (uses ++ asked asks.0 passed ∷ [])
+used_read step old new told mid tells unread left now held holds uses rest w wanted passed all used opened answered awaited (count, least, fits_in, grows) reads =
     let within : count ≤ count_of w = omega (arith, least, all) in
-    let more : List Use = asked count came ∷ [] in
+    let more : List Use = asked count passed ∷ [] in
     let fits = awaited_fits rest w awaited in
-    let one : received more ≡ came_by (asked count came) = append-nil (came_by (asked count came)) in
+    let one : received more ≡ bytes_in passed = append-nil (bytes_in passed) in
     let may : MayAsk step old (received uses) (written uses) count =
     record { rest = rest; mid = new; answered = answered; wants = w; awaited = awaited; within = within; held = omega (arith, fits, within) } in
     record {
@@ -130,7 +130,7 @@ used_read step old new told mid tells unread left now held holds uses rest w wan
       paced = record {
         in_turn = AreInTurn-append step old [] uses more used.paced.in_turn ((opened, may, fits_in), tt);
         reads = subst (λ bytes. Consumes unread now bytes) (ap (λ bytes. received uses ++ bytes) (sym one) ∙ sym (received-append uses more))
-            (Consumes-trans unread left now (received uses) (came_by (asked count came)) used.paced.reads reads);
+            (Consumes-trans unread left now (received uses) (bytes_in passed) used.paced.reads reads);
         writes = subst (λ bytes. Appends held holds bytes) (sym (append-nil (written uses)) ∙ sym (written-append uses more)) used.paced.writes;
       };
     }
@@ -153,7 +153,7 @@ used_sends step old told mid tells unread left held holds now uses text used sou
 }
 
 -- a read by which bytes came
-came_open : (asks count : ℕ) (bytes : List ℕ) → length bytes ≡ count → ¬ (count ≡ 0) → IsOpen (asked asks (Some bytes))
+came_open : (asks count : ℕ) (bytes : List ℕ) → length bytes ≡ count → ¬ (count ≡ 0) → IsOpen (asked asks (moved bytes))
 came_open asks count [] long some = absurd (some (sym long))
 came_open asks count (byte ∷ bytes) long some = tt
 
@@ -172,7 +172,7 @@ module _ {O : Type 0} (step : Step O) (old new : Timed O) (told mid tells : Opti
       → Progress (timed step) (received uses) rest old (written uses) new → IsAwaited rest w → IsRead mid tells left now wanted rest after (Err end)
       → Paced step old told tells unread now held holds end
   paced_read after w wanted ReadFault all used opened answered awaited (kept, same, asks) =
-      let read = used_read step old new told mid tells unread left now held holds uses rest w wanted None all used opened answered awaited asks
+      let read = used_read step old new told mid tells unread left now held holds uses rest w wanted failed all used opened answered awaited asks
       (Consumes-kept left left now [] (Consumes-nil left) kept) in
       paced step old told tells unread now held holds ReadFault _ read (inl (asks.0, (uses, refl)))
   paced_read after w wanted Memory all used opened answered awaited (kept, same, none) = (
@@ -189,18 +189,37 @@ module _ {O : Type 0} (step : Step O) (old new : Timed O) (told mid tells : Opti
   paced_read after w wanted BadMessage all used opened answered awaited is = absurd is
   paced_read after w wanted WriteFault all used opened answered awaited is = absurd is
 
-  -- a read that was made
+  -- a read that was interrupted
+  pub interrupted_read : (after : List ℕ) (w : Wants) (wanted : ℕ) → wanted ≡ count_of w → Used step old told mid unread left held holds uses → AreOpen uses
+      → Progress (timed step) (received uses) rest old (written uses) new → IsAwaited rest w → IsRead mid tells left now wanted rest after (Ok None)
+      → (all : List Use) × Used step old told tells unread now held holds all × AreOpen all
+      × Progress (timed step) (received all) after old (written all) new × IsAwaited after w × (reads_in all ≡ suc (reads_in uses))
+  interrupted_read after w wanted all used opened answered awaited (kept, same, asks) =
+      let more : List Use = asked asks.0 interrupted ∷ [] in
+      let none_came : received (uses ++ more) ≡ received uses = received-append uses more ∙ append-nil (received uses) in
+      let none_left : written (uses ++ more) ≡ written uses = written-append uses more ∙ append-nil (written uses) in (
+        uses ++ more,
+        used_read step old new told mid tells unread left now held holds uses rest w wanted interrupted all used opened answered awaited asks
+            (Consumes-kept left left now [] (Consumes-nil left) kept),
+        AreOpen-append uses more opened (tt, tt),
+        subst₂ (λ (a b : List ℕ). Progress (timed step) a after old b new) (sym none_came) (sym none_left)
+            (subst (λ l. Progress (timed step) (received uses) l old (written uses) new) (sym same) answered),
+        subst (λ l. IsAwaited l w) (sym same) awaited,
+        omega (arith, reads_in-append uses more),
+      )
+
+  -- a read that was not interrupted
   module _ (after : List ℕ) (w : Wants) (wanted count : ℕ) (all_wanted : wanted ≡ count_of w) (used : Used step old told mid unread left held holds uses) (opened : AreOpen uses)
       (answered : Progress (timed step) (received uses) rest old (written uses) new) (awaited : IsAwaited rest w)
-      (read : IsRead mid tells left now wanted rest after (Ok count)) where
+      (read : IsRead mid tells left now wanted rest after (Ok (Some count))) where
     abbrev made : List Use
-    made = uses ++ asked read.5.0 (Some read.0) ∷ []
+    made = uses ++ asked read.5.0 (moved read.0) ∷ []
 
     was_read : Used step old told tells unread now held holds made
-    was_read = used_read step old new told mid tells unread left now held holds uses rest w wanted (Some read.0) all_wanted used opened answered awaited read.5 read.3
+    was_read = used_read step old new told mid tells unread left now held holds uses rest w wanted (moved read.0) all_wanted used opened answered awaited read.5 read.3
 
     sound : AreSound made
-    sound = AreSound-append uses (asked read.5.0 (Some read.0) ∷ []) (are_sound uses opened) (tt, tt)
+    sound = AreSound-append uses (asked read.5.0 (moved read.0) ∷ []) (are_sound uses opened) (tt, tt)
 
     -- then texts were handed over
     pub paced_after : (end : End) (last : Option (List Use)) (wrote : Option (List ℕ)) (text : List ℕ) → WritesLast end (holds, tells) (wrote, last) text
@@ -216,7 +235,7 @@ module _ {O : Type 0} (step : Step O) (old new : Timed O) (told mid tells : Opti
         × Progress (timed step) (received all) left_over old (written all) later × (reads_in all ≡ suc (reads_in uses))
     went_on last wrote text later left_over some whole progress =
         let w = whole.writes in
-        let more : List Use = asked read.5.0 (Some read.0) ∷ [] in
+        let more : List Use = asked read.5.0 (moved read.0) ∷ [] in
         let all = made ++ w.uses in
         let one : Progress (timed step) (received uses ++ read.0) after old (written uses) new =
         subst (λ l. Progress (timed step) (received uses ++ read.0) l old (written uses) new) (sym read.2) (progress-append (timed step) (received uses) rest read.0 old new (written uses) answered) in

@@ -1,14 +1,19 @@
 -- Uses of a reader and a writer, one after another.
-use Rattle.std.proofs.Common.{◌≡◌, ℕ, ◌+◌, true, false, List, [], ◌∷◌, ◌++◌, Option, None, Some, refl, ap, sym, subst, ◌∙◌, append_assoc, append-nil, arith, take, drop}
+use Rattle.std.proofs.Common.{◌≡◌, ◌≢◌, ℕ, zero, suc, ◌+◌, ◌<◌, ◌≤◌, ◌↔◌, inl, inr, Bool, true, false, IsTrue, if◌then◌else◌, Err, List, [], ◌∷◌, ◌++◌, length, Option, None, Some, refl, ap, sym, subst, ◌∙◌, append_assoc, append-nil, arith, take, drop}
 use Rattle.std.proofs.Math.Seq.{take-add}
-use Rattle.std.proofs.KnownBytes.{Appends-nil, Appends-trans}
+use Rattle.std.proofs.lemmas.Bool.{false≢true}
+use Rattle.std.specs.IoError.{error_kind}
+use Rattle.std.specs.declared.io.Error.{Error}
+use Rattle.std.specs.declared.io.ErrorKind.{ErrorKind}
+use Rattle.std.specs.declared.io.ErrorKind.TheVariants.{Interrupted}
+use Rattle.std.proofs.KnownBytes.{Appends-kept, Appends-nil, Appends-trans}
 use Rattle.std.proofs.lemmas.Grind.{flat_map-append}
-use Rattle.std.specs.Io.KnownBytes.{Appends}
+use Rattle.std.specs.Io.KnownBytes.{Appends, Keeps}
 use Rattle.conversation.specs.declared.end.End.{End}
 use Rattle.conversation.specs.declared.end.End.TheVariants.{Closed, BadMessage, ReadFault, WriteFault, Memory}
-use Rattle.conversation.specs.Ends.{AreSends, Output, SendsEnd, Writes, WritesLast, WritesWhole}
+use Rattle.conversation.specs.Ends.{AreSends, IsPart, IsSent, Output, SendsEnd, Writes, WritesLast, WritesWhole}
 use Rattle.conversation.specs.Exchanges.{Timed}
-use Rattle.conversation.specs.Uses.{Use, asked, sent, AreInTurn, AreOpen, AreSound, EndsBy, EndsWith, Grows, IsOpen, IsSound, came_by, reads_in, received, taken_by, written}
+use Rattle.conversation.specs.Uses.{Use, asked, sent, Passed, moved, interrupted, failed, AreInTurn, AreOpen, AreSound, EndsBy, EndsWith, EndsWriting, GoesOn, Grows, IsOpen, IsSound, Stops, bytes_in, came_by, interrupts, most_tries, passed_of, reads_in, received, taken_by, writes_in, written}
 use Rattle.conversation.proofs.ProgressLemmas.{Step}
 
 pub Grows-nil : (a : Option (List Use)) → Grows a a []
@@ -36,10 +41,10 @@ AreSound-append [] ys p q = q
 AreSound-append (x ∷ xs) ys p q = (p.0, AreSound-append xs ys p.1 q)
 
 open_sound : (x : Use) → IsOpen x → IsSound x
-open_sound (asked count None) p = absurd p
-open_sound (asked count (Some bytes)) p = tt
-open_sound (sent bytes true) p = tt
-open_sound (sent bytes false) p = absurd p
+open_sound (asked count (moved bytes)) p = tt
+open_sound (asked count interrupted) p = tt
+open_sound (asked count failed) p = absurd p
+open_sound (sent passed) p = p
 
 pub are_sound : (xs : List Use) → AreOpen xs → AreSound xs
 are_sound [] p = tt
@@ -47,34 +52,44 @@ are_sound (x ∷ xs) p = (open_sound x p.0, are_sound xs p.1)
 
 AreSends-append : (xs ys : List Use) → AreSends xs → AreOpen xs → AreSends ys → AreSends (xs ++ ys)
 AreSends-append [] ys p o q = q
-AreSends-append (asked count came ∷ xs) ys p o q = absurd p
-AreSends-append (sent bytes true ∷ xs) ys p o q = AreSends-append xs ys p o.1 q
-AreSends-append (sent bytes false ∷ xs) ys p o q = absurd o.0
+AreSends-append (asked count passed ∷ xs) ys p o q = absurd p
+AreSends-append (sent passed ∷ xs) ys (inl (on, p)) o q = inl (on, AreSends-append xs ys p o.1 q)
+AreSends-append (sent passed ∷ xs) ys (inr (stops, none)) o q = absurd (stops o.0)
 
 pub sends_receive : (xs : List Use) → AreSends xs → received xs ≡ []
 sends_receive [] p = refl
-sends_receive (asked count came ∷ xs) p = absurd p
-sends_receive (sent bytes true ∷ xs) p = sends_receive xs p
-sends_receive (sent bytes false ∷ xs) p = ap received p
+sends_receive (asked count passed ∷ xs) p = absurd p
+sends_receive (sent passed ∷ xs) (inl (on, p)) = sends_receive xs p
+sends_receive (sent passed ∷ xs) (inr (stops, none)) = ap received none
 
 pub reads_in-append : (xs ys : List Use) → reads_in (xs ++ ys) ≡ reads_in xs + reads_in ys
 reads_in-append [] ys = omega arith
-reads_in-append (asked count came ∷ xs) ys = omega (arith, reads_in-append xs ys)
-reads_in-append (sent bytes all ∷ xs) ys = reads_in-append xs ys
+reads_in-append (asked count passed ∷ xs) ys = omega (arith, reads_in-append xs ys)
+reads_in-append (sent passed ∷ xs) ys = reads_in-append xs ys
+
+writes_in-append : (xs ys : List Use) → writes_in (xs ++ ys) ≡ writes_in xs + writes_in ys
+writes_in-append [] ys = omega arith
+writes_in-append (asked count passed ∷ xs) ys = writes_in-append xs ys
+writes_in-append (sent passed ∷ xs) ys = omega (arith, writes_in-append xs ys)
 
 pub sends_read_none : (xs : List Use) → AreSends xs → reads_in xs ≡ 0
 sends_read_none [] p = refl
-sends_read_none (asked count came ∷ xs) p = absurd p
-sends_read_none (sent bytes true ∷ xs) p = sends_read_none xs p
-sends_read_none (sent bytes false ∷ xs) p = ap reads_in p
+sends_read_none (asked count passed ∷ xs) p = absurd p
+sends_read_none (sent passed ∷ xs) (inl (on, p)) = sends_read_none xs p
+sends_read_none (sent passed ∷ xs) (inr (stops, none)) = ap reads_in none
 
 ends_with_after : (xs ys : List Use) (last : Use) → EndsWith ys last → EndsWith (xs ++ ys) last
 ends_with_after xs ys last (before, is) =
     (xs ++ before, ap (λ l. xs ++ l) is ∙ sym (append_assoc xs before (last ∷ [])))
 
+ends_writing_after : (xs ys : List Use) → AreSound xs → EndsWriting ys → EndsWriting (xs ++ ys)
+ends_writing_after xs ys o (inl (passed, stops, last)) = inl (passed, stops, ends_with_after xs ys (sent passed) last)
+ends_writing_after xs ys o (inr (sound, many)) =
+    inr (AreSound-append xs ys o sound, omega (arith, many, writes_in-append xs ys))
+
 sends_end_after : (end : End) (xs ys : List Use) → AreOpen xs → SendsEnd end ys → SendsEnd end (xs ++ ys)
 sends_end_after ReadFault xs ys o p = absurd p
-sends_end_after WriteFault xs ys o (bytes, last) = (bytes, ends_with_after xs ys (sent bytes false) last)
+sends_end_after WriteFault xs ys o p = ends_writing_after xs ys (are_sound xs o) p
 sends_end_after Closed xs ys o p = AreOpen-append xs ys o p
 sends_end_after BadMessage xs ys o p = AreOpen-append xs ys o p
 sends_end_after Memory xs ys o p = AreOpen-append xs ys o p
@@ -82,7 +97,7 @@ sends_end_after Memory xs ys o p = AreOpen-append xs ys o p
 -- texts end a run as they say, where nothing had failed
 pub ends_by : (end : End) (xs ys : List Use) → AreSound xs → SendsEnd end ys → EndsBy end (xs ++ ys)
 ends_by ReadFault xs ys o p = absurd p
-ends_by WriteFault xs ys o (bytes, last) = (bytes, ends_with_after xs ys (sent bytes false) last)
+ends_by WriteFault xs ys o p = ends_writing_after xs ys o p
 ends_by Closed xs ys o p = AreSound-append xs ys o (are_sound ys p)
 ends_by BadMessage xs ys o p = AreSound-append xs ys o (are_sound ys p)
 ends_by Memory xs ys o p = AreSound-append xs ys o (are_sound ys p)
@@ -96,11 +111,11 @@ AreInTurn-append step old before (x ∷ xs) ys p q =
 pub sends_in_turn : {O : Type 0} (step : Step O) (old : Timed O) (before xs : List Use) → AreSound before → AreSends xs
     → AreInTurn step old before xs
 sends_in_turn step old before [] o p = tt
-sends_in_turn step old before (asked count came ∷ xs) o p = absurd p
-sends_in_turn step old before (sent bytes true ∷ xs) o p =
-    (o, sends_in_turn step old (before ++ sent bytes true ∷ []) xs (AreSound-append before (sent bytes true ∷ []) o (tt, tt)) p)
-sends_in_turn step old before (sent bytes false ∷ xs) o p =
-    (o, subst (λ l. AreInTurn step old (before ++ sent bytes false ∷ []) l) (sym p) tt)
+sends_in_turn step old before (asked count passed ∷ xs) o p = absurd p
+sends_in_turn step old before (sent passed ∷ xs) o (inl (on, p)) =
+    (o, sends_in_turn step old (before ++ sent passed ∷ []) xs (AreSound-append before (sent passed ∷ []) o (on, tt)) p)
+sends_in_turn step old before (sent passed ∷ xs) o (inr (stops, none)) =
+    (o, subst (λ l. AreInTurn step old (before ++ sent passed ∷ []) l) (sym none) tt)
 
 pub whole_none : (a : Output) → WritesWhole a a []
 whole_none a = record {
@@ -135,25 +150,93 @@ whole_after a b c first second x y = record {
   open_still = AreOpen-append x.writes.uses y.writes.uses x.open_still y.open_still;
 }
 
+-- a write by which bytes were taken, or that was interrupted
+pub some_taken : (a b : Output) (passed : Passed) → Grows a.1 b.1 (sent passed ∷ []) → Appends a.0 b.0 (bytes_in passed) → GoesOn passed
+    → WritesWhole a b (bytes_in passed)
+some_taken a b passed told holds on = record {
+  writes = record {
+    uses = sent passed ∷ [];
+    told = told;
+    sends = inl (on, tt);
+    text_is = sym (append-nil (bytes_in passed));
+    holds = holds;
+  };
+  open_still = (on, tt);
+}
+
+-- a write by which none was, and that was not
+pub none_taken : (a b : Output) (passed : Passed) → Grows a.1 b.1 (sent passed ∷ []) → Appends a.0 b.0 (bytes_in passed) → Stops passed
+    → WritesLast WriteFault a b (bytes_in passed)
+none_taken a b passed told holds stops = record {
+  writes = record {
+    uses = sent passed ∷ [];
+    told = told;
+    sends = inr (stops, refl);
+    text_is = sym (append-nil (bytes_in passed));
+    holds = holds;
+  };
+  ends = inl (passed, stops, ([], refl));
+}
+
 -- a further part of a text, behind its first n bytes
-pub Appends-part : (old mid new : Option (List ℕ)) (text : List ℕ) (n m : ℕ)
-    → Appends old mid (take n text) → Appends mid new (take m (drop n text)) → Appends old new (take (n + m) text)
-Appends-part None mid new text n m p q = tt
-Appends-part (Some xs) None new text n m p q = absurd p
-Appends-part (Some xs) (Some ys) None text n m p q = absurd q
-Appends-part (Some xs) (Some ys) (Some zs) text n m p q =
-    q ∙ ap (λ bytes. bytes ++ take m (drop n text)) p ∙ append_assoc xs (take n text) (take m (drop n text)) ∙ ap (λ bytes. xs ++ bytes) (sym (take-add n m text))
+pub whole_part : (a b c : Output) (text rest : List ℕ) (n m : ℕ) → rest ≡ drop n text → WritesWhole a b (take n text)
+    → WritesWhole b c (take m rest) → WritesWhole a c (take (n + m) text)
+whole_part a b c text rest n m is x y =
+    subst (λ bytes. WritesWhole a c bytes) (ap (λ bytes. take n text ++ take m bytes) is ∙ sym (take-add n m text))
+    (whole_after a b c (take n text) (take m rest) x y)
 
--- one text, where no use is told
-pub whole_untold : (held holds : Option (List ℕ)) (text : List ℕ) → Appends held holds text → WritesWhole (held, None) (holds, None) text
-whole_untold held holds text appends = record {
-  writes = record { uses = sent text true ∷ []; told = tt; sends = tt; text_is = sym (append-nil text); holds = appends };
-  open_still = (tt, tt);
+-- where writing ends behind the first n bytes of a text
+pub sent_before : (A : Type 0) (a b c : Output) (text rest : List ℕ) (n : ℕ) (end : End) → n < length text → WritesWhole a b (take n text)
+    → IsPart b c rest (Err end) → IsSent {A = A} a c text (Err end)
+sent_before A a b c text rest n Closed short x is = absurd is
+sent_before A a b c text rest n BadMessage short x is = absurd is
+sent_before A a b c text rest n ReadFault short x is = absurd is
+sent_before A a b c text rest n WriteFault short x is =
+    (n, short, subst (λ bytes. WritesLast WriteFault a c bytes) (append-nil (take n text)) (last_after WriteFault a b c (take n text) [] x is))
+sent_before A a b c text rest n Memory short x is = absurd is
+
+-- so many writes of which each was interrupted
+pub record AreInterrupted (a b : Output) (count : ℕ) : Type 0 where
+  pub whole : WritesWhole a b []
+  pub counted : writes_in whole.writes.uses ≡ count
+
+pub interrupted_none : (a : Output) → AreInterrupted a a 0
+unfolding whole_none
+interrupted_none a = record { whole = whole_none a; counted = refl }
+
+pub interrupted_again : (a b c : Output) (count : ℕ) → AreInterrupted a b count → Grows b.1 c.1 (sent interrupted ∷ []) → Keeps b.0 c.0
+    → AreInterrupted a c (count + 1)
+unfolding writes_after whole_after some_taken
+interrupted_again a b c count x told keeps =
+    let one = some_taken b c interrupted told (Appends-kept b.0 b.0 c.0 [] (Appends-nil b.0) keeps) tt in
+    record {
+      whole = whole_after a b c [] [] x.whole one;
+      counted = omega (arith, writes_in-append x.whole.writes.uses (sent interrupted ∷ []), x.counted);
+    }
+
+-- none is left to be made
+pub interrupted_out : (a b : Output) (count : ℕ) → most_tries ≤ count → AreInterrupted a b count → WritesLast WriteFault a b []
+interrupted_out a b count all x = record {
+  writes = x.whole.writes;
+  ends = inr (are_sound _ x.whole.open_still, omega (arith, all, x.counted));
 }
 
-pub part_untold : (held holds : Option (List ℕ)) (text : List ℕ) → Appends held holds text
-    → WritesLast WriteFault (held, None) (holds, None) text
-part_untold held holds text appends = record {
-  writes = record { uses = sent text false ∷ []; told = tt; sends = refl; text_is = sym (append-nil text); holds = appends };
-  ends = (text, ([], refl));
-}
+-- ---- what a read or a write gave
+
+not_interrupted : (kind : ErrorKind) → kind ≢ Interrupted → interrupts kind ≡ false
+not_interrupted Interrupted other = absurd (other refl)
+not_interrupted _ other = refl
+
+-- what passed by a call that was interrupted, or failed, as a test of its error said
+pub passed_by : (buffer : List ℕ) (error : Error) (test : Bool) → (IsTrue test ↔ (error_kind error ≡ Interrupted))
+    → passed_of buffer (Err error) ≡ (if test then interrupted else failed)
+passed_by buffer error true is = ap (λ kind. if interrupts kind then interrupted else failed) (is.0 refl)
+passed_by buffer error false is = ap (λ b. if b then interrupted else failed) (not_interrupted (error_kind error) (λ kind. false≢true (is.1 kind)))
+
+pub some_go_on : (n : ℕ) (text : List ℕ) → ¬ (n ≡ 0) → 0 < length text → GoesOn (moved (take n text))
+some_go_on zero text some long = absurd (some refl)
+some_go_on (suc n) [] some long = omega (arith, long)
+some_go_on (suc n) (byte ∷ bytes) some long = tt
+
+pub none_stops : (n : ℕ) (text : List ℕ) → n ≡ 0 → Stops (moved (take n text))
+none_stops n text none on = subst (λ k. GoesOn (moved (take k text))) none on

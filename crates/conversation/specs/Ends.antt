@@ -1,21 +1,20 @@
 -- What reading and writing do to what a reader has left and a writer holds, and which uses that
 -- were, where this is known.
-use Rattle.std.specs.Prelude.{◌≡◌, ℕ, ◌<◌, ◌≤◌, ⊤, true, false, List, [], ◌∷◌, ◌++◌, length, take, Option, Some, None, Result, Ok, Err}
+use Rattle.std.specs.Prelude.{◌≡◌, ◌⊎◌, ℕ, ◌<◌, ◌≤◌, ⊤, List, [], ◌∷◌, ◌++◌, length, take, Option, Some, None, Result, Ok, Err}
 use Rattle.std.specs.Io.KnownBytes.{Appends, Consumes, IsAtEnd, Keeps}
 use Rattle.conversation.specs.declared.end.End.{End}
 use Rattle.conversation.specs.declared.end.End.TheVariants.{Closed, BadMessage, ReadFault, WriteFault, Memory}
-use Rattle.conversation.specs.Uses.{Use, asked, sent, AreOpen, EndsWith, Grows, came_by, written}
+use Rattle.conversation.specs.Uses.{Use, asked, sent, Passed, moved, interrupted, failed, AreOpen, EndsWriting, GoesOn, Grows, Stops, bytes_in, written}
 
 -- the bytes that a writer holds, and the uses that a line tells
 abbrev pub Output : Type 0
 Output = Option (List ℕ) × Option (List Use)
 
--- texts were handed over, and none after one that was not taken whole
+-- writes were made, and none after one that failed
 abbrev pub AreSends : List Use → Type 0
 AreSends [] = ⊤
-AreSends (asked count came ∷ uses) = ⊥
-AreSends (sent bytes true ∷ uses) = AreSends uses
-AreSends (sent bytes false ∷ uses) = uses ≡ []
+AreSends (asked count passed ∷ uses) = ⊥
+AreSends (sent passed ∷ uses) = (GoesOn passed × AreSends uses) ⊎ (Stops passed × (uses ≡ []))
 
 -- the writer took this text, by such uses
 pub record Writes (old new : Output) (text : List ℕ) : Type 0 where
@@ -30,11 +29,11 @@ pub record WritesWhole (old new : Output) (text : List ℕ) : Type 0 where
   pub writes : Writes old new text
   pub open_still : AreOpen writes.uses
 
--- texts after which a run ends so: the last one was not taken whole for a write fault, and each was
--- for another end
+-- writes after which a run ends so: a write fault ends writing, and no other end comes of a write
+-- that failed
 abbrev pub SendsEnd : End → List Use → Type 0
 SendsEnd ReadFault uses = ⊥
-SendsEnd WriteFault uses = (bytes : List ℕ) × EndsWith uses (sent bytes false)
+SendsEnd WriteFault uses = EndsWriting uses
 SendsEnd Closed uses = AreOpen uses
 SendsEnd BadMessage uses = AreOpen uses
 SendsEnd Memory uses = AreOpen uses
@@ -61,19 +60,29 @@ ReadsAt old new bytes (Ok count) = Consumes old new (take count bytes) × (count
 ReadsAt old new bytes (Err _) = Keeps old new
 
 -- one read was made, which asked for no more than was wanted, and by which no more came than that
-abbrev pub AsksOnce : Option (List Use) → Option (List Use) → ℕ → Option (List ℕ) → Type 0
-AsksOnce told tells wanted came =
-    (count : ℕ) × (count ≤ wanted) × (length (came_by (asked count came)) ≤ count)
-    × Grows told tells (asked count came ∷ [])
+abbrev pub AsksOnce : Option (List Use) → Option (List Use) → ℕ → Passed → Type 0
+AsksOnce told tells wanted passed =
+    (count : ℕ) × (count ≤ wanted) × (length (bytes_in passed) ≤ count)
+    × Grows told tells (asked count passed ∷ [])
 
--- bytes were read behind what was there, none only at the end of the input; or nothing was read
+-- bytes were read behind what was there, none only at the end of the input; or the read was
+-- interrupted, and nothing was read; or nothing was, for that end
 abbrev pub IsRead : (told tells : Option (List Use)) → Option (List ℕ) → Option (List ℕ)
-    → (wanted : ℕ) → List ℕ → List ℕ → Result ℕ End → Type 0
-IsRead told tells old new wanted before after (Ok count) =
+    → (wanted : ℕ) → List ℕ → List ℕ → Result (Option ℕ) End → Type 0
+IsRead told tells old new wanted before after (Ok (Some count)) =
     (bytes : List ℕ) × (length bytes ≡ count) × (after ≡ before ++ bytes)
-    × Consumes old new bytes × (count ≡ 0 → IsAtEnd new) × AsksOnce told tells wanted (Some bytes)
+    × Consumes old new bytes × (count ≡ 0 → IsAtEnd new) × AsksOnce told tells wanted (moved bytes)
+IsRead told tells old new wanted before after (Ok None) =
+    Keeps old new × (after ≡ before) × AsksOnce told tells wanted interrupted
 IsRead told tells old new wanted before after (Err ReadFault) =
-    Keeps old new × (after ≡ before) × AsksOnce told tells wanted None
+    Keeps old new × (after ≡ before) × AsksOnce told tells wanted failed
 IsRead told tells old new wanted before after (Err Memory) =
     Keeps old new × (after ≡ before) × Grows told tells []
 IsRead told tells old new wanted before after (Err end) = ⊥
+
+-- the writer took some bytes of a text; or writing ended, and it took none
+abbrev pub IsPart : Output → Output → List ℕ → Result ℕ End → Type 0
+IsPart old new text (Ok count) =
+    (0 < count) × (count ≤ length text) × WritesWhole old new (take count text)
+IsPart old new text (Err WriteFault) = WritesLast WriteFault old new []
+IsPart old new text (Err end) = ⊥

@@ -1,7 +1,11 @@
 -- How a conversation uses its reader and its writer, in order, and which use may follow which.
-use Rattle.std.specs.Prelude.{◌≡◌, ◌⊎◌, ℕ, ◌+◌, ◌≤◌, Bool, true, false, List, [], ◌∷◌, ◌++◌, length, take, Option, None, Some, Result, Ok, Err, ⊤}
+use Rattle.std.specs.Prelude.{◌≡◌, ◌⊎◌, ℕ, ◌+◌, ◌≤◌, Bool, true, false, List, [], ◌∷◌, ◌++◌, length, take, if◌then◌else◌, Option, None, Some, Result, Ok, Err, ⊤}
 use Rattle.std.specs.List.{AllByRecursion, flat_map}
 use Rattle.std.specs.Io.KnownBytes.{Appends, Consumes}
+use Rattle.std.specs.IoError.{error_kind}
+use Rattle.std.specs.declared.io.Error.{Error}
+use Rattle.std.specs.declared.io.ErrorKind.{ErrorKind}
+use Rattle.std.specs.declared.io.ErrorKind.TheVariants.{Interrupted}
 use Rattle.conversation.specs.declared.end.End.{End}
 use Rattle.conversation.specs.declared.end.End.TheVariants.{Closed, BadMessage, ReadFault, WriteFault, Memory}
 use Rattle.conversation.specs.declared.wants.Wants.{Wants}
@@ -11,23 +15,42 @@ use Rattle.conversation.specs.message.Framing.{longest_body}
 use Rattle.conversation.specs.message.Heads.{longest_head}
 use Rattle.conversation.specs.Wants.{count_of, IsAwaited}
 
--- A read that asked for so many bytes, with those that came, none at the end, or without any where
--- it failed; or a text that was handed to the writer: the bytes that it took, and whether these are
--- all.
+-- What came of one read or one write: bytes moved, none at the end of an input or where a writer
+-- takes no more; or none, for the system interrupted it; or none, for it failed.
+pub data Passed : Type 0 where
+  moved : List ℕ → Passed
+  interrupted : Passed
+  failed : Passed
+
+-- this kind of error says that nothing happened but that the system interrupted the call
+abbrev pub interrupts : ErrorKind → Bool
+interrupts Interrupted = true
+interrupts _ = false
+
+-- what came of a read into this buffer, or of a write of it
+abbrev pub passed_of : List ℕ → Result ℕ Error → Passed
+passed_of buffer (Ok count) = moved (take count buffer)
+passed_of buffer (Err error) = if interrupts (error_kind error) then interrupted else failed
+
+-- a read that asked for so many bytes, or a write, with what came of it
 pub data Use : Type 0 where
-  asked : ℕ → Option (List ℕ) → Use
-  sent : List ℕ → Bool → Use
+  asked : ℕ → Passed → Use
+  sent : Passed → Use
+
+abbrev pub bytes_in : Passed → List ℕ
+bytes_in (moved bytes) = bytes
+bytes_in interrupted = []
+bytes_in failed = []
 
 -- the bytes that came by a use
 abbrev pub came_by : Use → List ℕ
-came_by (asked count None) = []
-came_by (asked count (Some bytes)) = bytes
-came_by (sent bytes all) = []
+came_by (asked count passed) = bytes_in passed
+came_by (sent passed) = []
 
 -- the bytes that the writer took by a use
 abbrev pub taken_by : Use → List ℕ
-taken_by (asked count came) = []
-taken_by (sent bytes all) = bytes
+taken_by (asked count passed) = []
+taken_by (sent passed) = bytes_in passed
 
 -- all that was read
 abbrev pub received : List Use → List ℕ
@@ -43,23 +66,32 @@ Grows None new uses = ⊤
 Grows (Some told) None uses = ⊥
 Grows (Some told) (Some tells) uses = tells ≡ told ++ uses
 
+-- bytes moved, or the call was interrupted and may be made again
+abbrev pub GoesOn : Passed → Type 0
+GoesOn (moved []) = ⊥
+GoesOn (moved (byte ∷ bytes)) = ⊤
+GoesOn interrupted = ⊤
+GoesOn failed = ⊥
+
+-- no byte moved, though the call was not interrupted: an end, a failure, or a writer that takes no
+-- more
+abbrev pub Stops : Passed → Type 0
+Stops passed = ¬ GoesOn passed
+
 -- nothing failed by this use
 abbrev pub IsSound : Use → Type 0
-IsSound (asked count None) = ⊥
-IsSound (asked count (Some bytes)) = ⊤
-IsSound (sent bytes true) = ⊤
-IsSound (sent bytes false) = ⊥
+IsSound (asked count (moved bytes)) = ⊤
+IsSound (asked count interrupted) = ⊤
+IsSound (asked count failed) = ⊥
+IsSound (sent passed) = GoesOn passed
 
 abbrev pub AreSound : List Use → Type 0
 AreSound uses = AllByRecursion IsSound uses
 
--- nor did the input end: bytes came, or the text was taken whole
+-- nor did the input end
 abbrev pub IsOpen : Use → Type 0
-IsOpen (asked count None) = ⊥
-IsOpen (asked count (Some [])) = ⊥
-IsOpen (asked count (Some (byte ∷ bytes))) = ⊤
-IsOpen (sent bytes true) = ⊤
-IsOpen (sent bytes false) = ⊥
+IsOpen (asked count passed) = GoesOn passed
+IsOpen (sent passed) = GoesOn passed
 
 abbrev pub AreOpen : List Use → Type 0
 AreOpen uses = AllByRecursion IsOpen uses
@@ -83,13 +115,13 @@ pub record MayAsk
   pub held : length rest + count ≤ longest_message
 
 -- This use may follow those: a read where nothing failed and the input has not ended, by which no
--- more comes than it asked for, and a text where nothing failed.
+-- more comes than it asked for, and a write where nothing failed.
 abbrev pub MayFollow : {O : Type 0} → (O → MessageExchange → O → Type 0) → Timed O → List Use → Use
     → Type 0
-MayFollow step old before (asked count came) =
+MayFollow step old before (asked count passed) =
     AreOpen before × MayAsk step old (received before) (written before) count
-    × (length (came_by (asked count came)) ≤ count)
-MayFollow step old before (sent bytes all) = AreSound before
+    × (length (bytes_in passed) ≤ count)
+MayFollow step old before (sent passed) = AreSound before
 
 -- each of these uses may follow those before it
 abbrev pub AreInTurn : {O : Type 0} → (O → MessageExchange → O → Type 0) → Timed O → List Use
@@ -114,25 +146,33 @@ EndsWith uses last = (before : List Use) × (uses ≡ before ++ last ∷ [])
 -- how many of the uses are reads
 abbrev pub reads_in : List Use → ℕ
 reads_in [] = 0
-reads_in (asked count came ∷ uses) = reads_in uses + 1
-reads_in (sent bytes all ∷ uses) = reads_in uses
+reads_in (asked count passed ∷ uses) = reads_in uses + 1
+reads_in (sent passed ∷ uses) = reads_in uses
 
--- the most reads of one run: 2^64 - 1
-abbrev pub most_reads : ℕ
-most_reads = 18446744073709551615
+-- and how many are writes
+abbrev pub writes_in : List Use → ℕ
+writes_in [] = 0
+writes_in (asked count passed ∷ uses) = writes_in uses
+writes_in (sent passed ∷ uses) = writes_in uses + 1
 
--- By these uses a run ends so: with a read fault where the last of them is a read that failed, or
--- where one read more would be number 2^64; with a write fault where the last is a text that the
--- writer did not take whole; and else where nothing failed.
+-- the most reads of one run, and the most tries of one write: 2^64 - 1
+abbrev pub most_tries : ℕ
+most_tries = 18446744073709551615
+
+-- By these uses writing ends: the last of them is a write that failed or took no byte, and was not
+-- interrupted; or none failed, and so many were made that no more are.
+abbrev pub EndsWriting : List Use → Type 0
+EndsWriting uses = ((passed : Passed) × Stops passed × EndsWith uses (sent passed))
+    ⊎ (AreSound uses × (most_tries ≤ writes_in uses))
+
+-- By these uses a run ends so: with a read fault where the last of them is a read that failed and
+-- was not interrupted, or where one read more would be number 2^64; with a write fault where writing
+-- ends; and else where nothing failed.
 abbrev pub EndsBy : End → List Use → Type 0
 EndsBy ReadFault uses =
-    ((count : ℕ) × EndsWith uses (asked count None)) ⊎ (AreOpen uses × (reads_in uses ≡ most_reads))
-EndsBy WriteFault uses = (bytes : List ℕ) × EndsWith uses (sent bytes false)
+    ((count : ℕ) × EndsWith uses (asked count failed))
+    ⊎ (AreOpen uses × (reads_in uses ≡ most_tries))
+EndsBy WriteFault uses = EndsWriting uses
 EndsBy Closed uses = AreSound uses
 EndsBy BadMessage uses = AreSound uses
 EndsBy Memory uses = AreSound uses
-
--- what a read gave, as its use tells it
-abbrev pub came_of : {E : Type 0} → List ℕ → Result ℕ E → Option (List ℕ)
-came_of buffer (Ok count) = Some (take count buffer)
-came_of buffer (Err error) = None

@@ -12,6 +12,7 @@ use crate::message::head::MAX_HEAD;
 use crate::message::message_fault::MessageFault;
 use crate::message::next::{Next, next_of};
 use crate::message::received::Received;
+use crate::sending::send;
 use crate::service::Service;
 use crate::unanswered::Unanswered;
 use crate::wants::Wants;
@@ -22,8 +23,9 @@ use std::io::{Read, Write};
 /// a reply that is written before more is asked for, until one of them ends it. While it awaits a
 /// head it asks for at most `MAX_HEAD` bytes of it in all, and while it awaits a body for what that
 /// lacks; it holds no more than one longest message, and reads nothing after an end
-/// (`specs/Uses.antt`). A head is parsed when it is whole and once more when its body is, however
-/// small the pieces are in which that comes. No bytes are kept for another run.
+/// (`specs/Uses.antt`). A read or a write that the system interrupts is made again. A head is parsed
+/// when it is whole and once more when its body is, however small the pieces are in which that
+/// comes. No bytes are kept for another run.
 pub fn run<O, S: Service<O>, L: Line<R, W>, R: Read, W: Write, C: Clock>(
     service: &S,
     alloc: Global,
@@ -45,8 +47,12 @@ pub fn run<O, S: Service<O>, L: Line<R, W>, R: Read, W: Write, C: Clock>(
     let mut wants = Wants::Head(MAX_HEAD);
     'reads: for made in 0..u64::MAX {
         match unanswered.read_more(line, reader, wants.count()) {
-            Ok(0) => return finish(service, alloc, line, writer, unanswered.as_slice(), wants),
-            Ok(count) => {
+            // What was interrupted is asked for again.
+            Ok(None) => continue 'reads,
+            Ok(Some(0)) => {
+                return finish(service, alloc, line, writer, unanswered.as_slice(), wants);
+            }
+            Ok(Some(count)) => {
                 if let Some(left) = wants.after(count) {
                     wants = left;
                     continue 'reads;
@@ -138,7 +144,7 @@ fn answer_one<O, S: Service<O>, L: Line<R, W>, R: Read, W: Write, C: Clock>(
         (message_of message.now) result }
 {
     match service.answer(alloc, office, clock, message) {
-        Ok(reply) => line.send(writer, &reply),
+        Ok(reply) => send(line, writer, &reply),
         Err(_) => Err(End::Memory),
     }
 }
@@ -155,7 +161,7 @@ fn refuse<O, S: Service<O>, L: Line<R, W>, R: Read, W: Write>(
         (W.contents writer.new, L.uses line.new) (S.refusal fault) result }
 {
     match service.refuse(alloc, fault) {
-        Ok(text) => match line.send(writer, &text) {
+        Ok(text) => match send(line, writer, &text) {
             Ok(()) => End::BadMessage,
             Err(end) => end,
         },

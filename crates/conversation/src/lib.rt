@@ -11,6 +11,7 @@ mod end;
 mod line;
 mod machine_clock;
 mod message;
+mod sending;
 mod service;
 mod unanswered;
 mod wants;

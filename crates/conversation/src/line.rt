@@ -1,15 +1,15 @@
-ghost use Rattle.std.specs.Prelude.{◌∷◌, [], List, Option, None, length};
-ghost use Rattle.std.specs.Io.{ReadsAtMost};
-ghost use Rattle.std.specs.Io.KnownBytes.{ReadConsumes};
-ghost use Rattle.conversation.specs.Ends.{IsSent};
-ghost use Rattle.conversation.specs.Uses.{Grows, Use, asked, came_of};
+ghost use Rattle.std.specs.Prelude.{◌≡◌, ◌↔◌, ◌∷◌, [], List, Option, None, IsTrue, length};
+ghost use Rattle.std.specs.Io.{ReadsAtMost, WritesAtMost};
+ghost use Rattle.std.specs.Io.KnownBytes.{ReadConsumes, WriteAppends};
+ghost use Rattle.std.specs.IoError.{error_kind};
+ghost use Rattle.std.specs.declared.io.ErrorKind.TheVariants.{Interrupted};
+ghost use Rattle.conversation.specs.Uses.{Grows, Use, asked, passed_of, sent};
 
-use crate::end::End;
-use std::io::{self, Read, Write};
+use std::io::{self, ErrorKind, Read, Write};
 
 /// What each use of a reader and a writer of these types goes through, and of no other ones. It may
-/// tell contracts which uses were made, in order: how many bytes each read asked for, and what was
-/// handed to the writer before it.
+/// tell contracts which uses were made, in order: how many bytes each read asked for and what it
+/// gave, and what each write took.
 pub trait Line<R: Read, W: Write> {
     /// The uses that were made so far, where they are told.
     ghost uses: { Self → Option (List Use) } = { λ _. None };
@@ -20,12 +20,14 @@ pub trait Line<R: Read, W: Write> {
         ensures bytes { ReadConsumes (R.remaining reader.old) (R.remaining reader.new) result
             buffer.new }
         ensures told { Grows (uses self.old) (uses self.new)
-            (asked (length buffer.old) (came_of buffer.new result) ∷ []) };
+            (asked (length buffer.old) (passed_of buffer.new result) ∷ []) };
 
-    /// Hands a whole text to the writer, by as many writes as it takes.
-    fn send(&mut self, writer: &mut W, text: &[u8]) -> Result<(), End>
-        ensures sent { IsSent (W.contents writer.old, uses self.old)
-            (W.contents writer.new, uses self.new) text.now result };
+    /// One write, of as many bytes of a text as the writer takes.
+    fn write(&mut self, writer: &mut W, text: &[u8]) -> io::Result<usize>
+        ensures bound { WritesAtMost result text.now }
+        ensures bytes { WriteAppends (W.contents writer.old) (W.contents writer.new) result
+            text.now }
+        ensures told { Grows (uses self.old) (uses self.new) (sent (passed_of text.now result) ∷ []) };
 }
 
 /// The line that tells no use.
@@ -39,14 +41,14 @@ impl<R: Read, W: Write> Line<R, W> for Untold {
         reader.read(buffer)
     }
 
-    fn send(&mut self, writer: &mut W, text: &[u8]) -> Result<(), End> {
-        let mut rest = text;
-        while !rest.is_empty() {
-            match writer.write(rest) {
-                Ok(taken) if taken > 0 => rest = &rest[taken..],
-                _ => return Err(End::WriteFault),
-            }
-        }
-        Ok(())
+    fn write(&mut self, writer: &mut W, text: &[u8]) -> io::Result<usize> {
+        writer.write(text)
     }
+}
+
+// Whether the system interrupted a call, which did nothing then and may be made again.
+pub(crate) fn is_interrupted(error: &io::Error) -> bool
+    ensures { IsTrue result ↔ (error_kind error.now ≡ Interrupted) }
+{
+    error.kind() == ErrorKind::Interrupted
 }

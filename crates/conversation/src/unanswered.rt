@@ -1,12 +1,11 @@
 ghost use Rattle.std.specs.Prelude.{◌≡◌, ◌∷◌, ◌+◌, ◌<◌, ◌≤◌, [], length, take, drop, IfOk, vec_len};
 ghost use Rattle.conversation.specs.Ends.{AsksOnce, IsRead, ReadsAt};
-ghost use Rattle.conversation.specs.Uses.{Grows, asked, came_of, longest_message};
+ghost use Rattle.conversation.specs.Uses.{Grows, asked, longest_message, passed_of};
 
 use crate::end::End;
-use crate::line::Line;
+use crate::line::{Line, is_interrupted};
 use std::alloc::Global;
-use std::io;
-use std::io::{Read, Write};
+use std::io::{self, Read, Write};
 
 // The least and the most bytes that one read asks for, where so many are wanted.
 const LEAST_READ: usize = 1024;
@@ -40,21 +39,24 @@ impl Unanswered {
     }
 
     // Reads at most as many bytes as wanted behind those that are there, and says how many came:
-    // none only at the end of the input. Room is made first, so that want of memory loses no byte.
+    // 0 only at the end of the input, and `None` where the system interrupted the read. Room is made
+    // first, so that want of memory loses no byte.
     pub(crate) fn read_more<L: Line<R, W>, R: Read, W: Write>(
         &mut self,
         line: &mut L,
         reader: &mut R,
         wanted: usize,
-    ) -> Result<usize, End>
+    ) -> Result<Option<usize>, End>
         requires some { 0 < wanted }
         requires room { vec_len self.old.bytes + wanted ≤ longest_message }
         ensures { IsRead (L.uses line.old) (L.uses line.new) (R.remaining reader.old)
             (R.remaining reader.new) wanted self.old.bytes.items self.new.bytes.items result }
     {
-        let count = read_behind(line, reader, &mut self.bytes, wanted, self.window)?;
-        self.window = window_after(count);
-        Ok(count)
+        let came = read_behind(line, reader, &mut self.bytes, wanted, self.window)?;
+        if let Some(count) = came {
+            self.window = window_after(count);
+        }
+        Ok(came)
     }
 
     // Takes so many bytes off the front.
@@ -88,7 +90,7 @@ fn read_at<L: Line<R, W>, R: Read, W: Write>(
     ensures bytes { ReadsAt (R.remaining reader.old) (R.remaining reader.new)
         (drop at buffer.new) result }
     ensures told { Grows (L.uses line.old) (L.uses line.new)
-        (asked (length (drop at buffer.old)) (came_of (drop at buffer.new) result) ∷ []) }
+        (asked (length (drop at buffer.old)) (passed_of (drop at buffer.new) result) ∷ []) }
 {
     line.read(reader, &mut buffer[at..])
 }
@@ -107,7 +109,7 @@ fn read_into<L: Line<R, W>, R: Read, W: Write>(
     ensures bytes { ReadsAt (R.remaining reader.old) (R.remaining reader.new)
         (drop at buffer.new.items) result }
     ensures told { Grows (L.uses line.old) (L.uses line.new)
-        (asked (length (drop at buffer.old.items)) (came_of (drop at buffer.new.items) result) ∷ []) }
+        (asked (length (drop at buffer.old.items)) (passed_of (drop at buffer.new.items) result) ∷ []) }
 {
     read_at(line, reader, buffer.as_mut_slice(), at)
 }
@@ -119,7 +121,7 @@ fn read_behind<L: Line<R, W>, R: Read, W: Write>(
     buffer: &mut Vec<u8>,
     wanted: usize,
     window: usize,
-) -> Result<usize, End>
+) -> Result<Option<usize>, End>
     requires some { 0 < wanted }
     requires open { 0 < window }
     requires room { vec_len buffer.old + wanted ≤ longest_message }
@@ -135,11 +137,15 @@ fn read_behind<L: Line<R, W>, R: Read, W: Write>(
     match read_into(line, reader, buffer, filled) {
         Ok(count) => {
             buffer.truncate(filled + count);
-            Ok(count)
+            Ok(Some(count))
         }
-        Err(_) => {
+        Err(error) => {
             buffer.truncate(filled);
-            Err(End::ReadFault)
+            if is_interrupted(&error) {
+                Ok(None)
+            } else {
+                Err(End::ReadFault)
+            }
         }
     }
 }

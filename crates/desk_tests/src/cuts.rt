@@ -1,8 +1,8 @@
 //! A sale and the call for its receipt, 159 bytes, over books: cut after any byte, in pieces, by a
-//! reader that fails, and to a writer that fails. Each time over an office of its own, so that it
-//! has to sell anew.
+//! reader that fails, to a writer that fails, and where the system interrupts reads and writes. Each
+//! time over an office of its own, so that it has to sell anew.
 use crate::prepared::{NO_HEAD, PRINTED, RECEIPT, SALE, SOLD, hold, prepared};
-use crate::streams::{Asking, Counting, Failing, Full, Pieces};
+use crate::streams::{Asking, Calls, Counting, Failing, Full, Interrupted, Pieces};
 use crate::texts::first;
 use desk::End;
 use std::alloc::{AllocError, Global};
@@ -207,5 +207,73 @@ fn a_reply_leaves_before_more_is_asked_for(rt: HostRuntime) -> Result<(), Fail> 
     assert_eq!(rt; end, End::BadMessage);
     assert_eq!(rt; (reader.late, reader.greedy), (false, false));
     assert_eq!(rt; (reader.count, written.get()), (5, 629 + NO_HEAD.len()));
+    Ok(())
+}
+
+// The same conversation where the system interrupts some reads, and some writes. The input comes byte
+// by byte, and the writer takes three bytes at a time.
+fn goes_on(
+    rt: &(impl Abort + AllocGlobal),
+    input: &[u8],
+    replies: &[u8],
+    calls: Calls,
+) -> Result<(), Fail> {
+    let alloc = rt.alloc();
+    let mut books = prepared(alloc)?;
+    let mut reader = Interrupted {
+        inner: Pieces {
+            rest: input,
+            size: 1,
+            fails: false,
+        },
+        calls,
+        made: 0,
+    };
+    let mut writer = Interrupted {
+        inner: Failing {
+            taken: Vec::new(alloc),
+            room: usize::MAX,
+        },
+        calls,
+        made: 0,
+    };
+    let end = hold(alloc, &mut books, &mut reader, &mut writer).ok_or("no desk")?;
+    assert_eq!(rt; end, End::Closed);
+    assert_eq!(rt; writer.inner.taken.as_slice(), replies);
+    assert_eq!(rt; books.next_number(), 2);
+    Ok(())
+}
+
+// Before each byte of the input in turn, and at its end; before each piece of the replies; and before
+// all of these, twice.
+#[test]
+fn calls_that_the_system_interrupts(rt: HostRuntime) -> Result<(), Fail> {
+    let alloc = rt.alloc();
+    let input = joined(alloc, SALE, RECEIPT)?;
+    let replies = joined(alloc, SOLD, PRINTED)?;
+    for number in 0..=159_usize {
+        goes_on(&rt, &input, &replies, Calls::One(number))?;
+    }
+    goes_on(&rt, &input, &replies, Calls::TwoOfThree)
+}
+
+// A reader that fails otherwise behind an interrupted read ends the conversation.
+#[test]
+fn a_failure_behind_an_interrupted_read(rt: HostRuntime) -> Result<(), Fail> {
+    let alloc = rt.alloc();
+    let mut books = prepared(alloc)?;
+    let mut reader = Interrupted {
+        inner: Pieces {
+            rest: SALE,
+            size: 1,
+            fails: true,
+        },
+        calls: Calls::TwoOfThree,
+        made: 0,
+    };
+    let mut text = Vec::new(alloc);
+    let end = hold(alloc, &mut books, &mut reader, &mut text).ok_or("no desk")?;
+    assert_eq!(rt; end, End::ReadFault);
+    assert_eq!(rt; text.as_slice(), SOLD);
     Ok(())
 }

@@ -2,7 +2,7 @@
 
 use crate::prepared::{NO_HEAD, RECEIPT, SALE, hold_over, prepared};
 use crate::streams::Pieces;
-use desk::{End, Line, Untold};
+use desk::{Line, Untold};
 use std::alloc::Global;
 use std::io::{self, Read, Write};
 use std::process::Abort;
@@ -13,7 +13,7 @@ use std::test::Fail;
 enum Passed {
     /// A read that asked for so many bytes, of which so many came.
     Read(usize, usize),
-    /// A text of so many bytes.
+    /// A write of so many bytes, of which a vector takes all.
     Sent(usize),
 }
 
@@ -38,9 +38,9 @@ impl<R: Read, W: Write, L: Line<R, W>> Line<R, W> for Noting<L> {
         }
     }
 
-    fn send(&mut self, writer: &mut W, text: &[u8]) -> Result<(), End> {
+    fn write(&mut self, writer: &mut W, text: &[u8]) -> io::Result<usize> {
         let _ = self.passed.push(Passed::Sent(text.len()));
-        self.line.send(writer, text)
+        self.line.write(writer, text)
     }
 }
 

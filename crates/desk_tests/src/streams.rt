@@ -32,7 +32,7 @@ pub(crate) struct Failing {
 impl Write for Failing {
     fn write(&mut self, buf: &[u8]) -> io::Result<usize> {
         if self.room == 0 {
-            return Err(io::Error::from(io::ErrorKind::Interrupted));
+            return Err(io::Error::from(io::ErrorKind::BrokenPipe));
         }
         let count = buf.len().min(self.room).min(3);
         self.taken.extend_from_slice(&buf[..count])?;
@@ -42,6 +42,58 @@ impl Write for Failing {
 
     fn flush(&mut self) -> io::Result<()> {
         Ok(())
+    }
+}
+
+/// Which calls the system interrupts.
+#[derive(Clone, Copy)]
+pub(crate) enum Calls {
+    /// The one of this number, from 0 on.
+    One(usize),
+    /// Two before each that it does not.
+    TwoOfThree,
+}
+
+/// Passes calls on, but for those that the system interrupts.
+#[derive(Drop)]
+pub(crate) struct Interrupted<S> {
+    pub(crate) inner: S,
+    pub(crate) calls: Calls,
+    /// How many calls were made.
+    pub(crate) made: usize,
+}
+
+impl<S> Interrupted<S> {
+    // Whether the system interrupts the next call.
+    fn is_next(&mut self) -> bool {
+        let made = self.made;
+        self.made = made.saturating_add(1);
+        match self.calls {
+            Calls::One(number) => made == number,
+            Calls::TwoOfThree => made % 3 != 2,
+        }
+    }
+}
+
+impl<R: Read> Read for Interrupted<R> {
+    fn read(&mut self, buf: &mut [u8]) -> io::Result<usize> {
+        if self.is_next() {
+            return Err(io::Error::from(io::ErrorKind::Interrupted));
+        }
+        self.inner.read(buf)
+    }
+}
+
+impl<W: Write> Write for Interrupted<W> {
+    fn write(&mut self, buf: &[u8]) -> io::Result<usize> {
+        if self.is_next() {
+            return Err(io::Error::from(io::ErrorKind::Interrupted));
+        }
+        self.inner.write(buf)
+    }
+
+    fn flush(&mut self) -> io::Result<()> {
+        self.inner.flush()
     }
 }
 

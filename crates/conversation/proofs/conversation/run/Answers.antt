@@ -6,7 +6,7 @@ use Rattle.conversation.specs.declared.end.End.TheVariants.{ReadFault}
 use Rattle.conversation.specs.declared.wants.Wants.TheVariants.{Head}
 use Rattle.conversation.proofs.EndLemmas.{bytes_after, bytes_here_after, run_early, run_here}
 use Rattle.conversation.proofs.ProgressLemmas.{progress_none}
-use Rattle.conversation.proofs.RunLemmas.{after_read, awaited_fits, awaits_nothing, bytes_of, failed_run, over_end, paced, paced_after, paced_read, read_run, used_none, went_on}
+use Rattle.conversation.proofs.RunLemmas.{after_read, awaited_fits, awaits_nothing, bytes_of, failed_run, interrupted_read, over_end, paced, paced_after, paced_read, read_run, used_none, went_on}
 use Rattle.conversation.proofs.UsesLemmas.{whole_none}
 use Rattle.conversation.proofs.conversation.run.Goals as goal
 
@@ -26,27 +26,27 @@ pub read_more-requires-clause-room : goal.read_more-requires-clause-room
 read_more-requires-clause-room g c =
     omega (arith, awaited_fits c.reads.unanswered.bytes.items c.reads.wants c.reads.invariant.awaited, c.count.ensures, c.reads.unanswered.bytes.ok.0)
 
-pub returns-in-Ok-eq0-clause-run : goal.returns-in-Ok-eq0-clause-run
-returns-in-Ok-eq0-clause-run g c =
+pub returns-in-Ok-Some-eq0-clause-run : goal.returns-in-Ok-Some-eq0-clause-run
+returns-in-Ok-Some-eq0-clause-run g c =
     let step = g.S.Service.step in
     let refusal = g.S.Service.refusal in
     let inv = c.reads.invariant in
-    let read = c.in-Ok-eq0.ensures in
+    let read = rw c.in-Ok-Some-eq0.field-0-is at c.in-Ok-Some-eq0.ensures in
     let rest = c.read_more.new.self.bytes.items in
     let now = after_read step _ _ _ _ _ _ c.reads.unanswered.bytes.items rest read.0 _ inv.used.paced.reads inv.progress read.3 read.2 in
     let over = rw c.as_slice.ensures at c.finish.ensures in
-    run_here step refusal _ _ _ _ _ _ _ c.finish.result now.0 (read.4 c.in-Ok-eq0.field-0-test)
+    run_here step refusal _ _ _ _ _ _ _ c.finish.result now.0 (read.4 c.in-Ok-Some-eq0.field-0-0-test)
     (bytes_here_after step refusal _ _ _ _ _ _ _ rest _ c.finish.result inv.used.paced.writes now.1
     (bytes_of c.finish.result _ _ _ (over_end step refusal _ _ _ rest c.finish.result over)))
 
-pub returns-in-Ok-eq0-clause-paced : goal.returns-in-Ok-eq0-clause-paced
-returns-in-Ok-eq0-clause-paced g c =
+pub returns-in-Ok-Some-eq0-clause-paced : goal.returns-in-Ok-Some-eq0-clause-paced
+returns-in-Ok-Some-eq0-clause-paced g c =
     let step = g.S.Service.step in
     let inv = c.reads.invariant in
     let over = rw c.as_slice.ensures at c.finish.ensures in
     let said = over_end step g.S.Service.refusal (c.reads.office, g.C.Clock.answers c.reads.clock) _ _ _ c.finish.result over in
-    paced_after step _ _ _ _ _ _ _ _ _ _ inv.uses c.reads.unanswered.bytes.items _ c.reads.wants _ c.in-Ok-eq0.field-0 c.count.ensures
-    inv.used inv.still_open inv.progress inv.awaited c.in-Ok-eq0.ensures c.finish.result _ _ said.0 said.1
+    paced_after step _ _ _ _ _ _ _ _ _ _ inv.uses c.reads.unanswered.bytes.items _ c.reads.wants _ c.in-Ok-Some-eq0.field-0-0 c.count.ensures
+    inv.used inv.still_open inv.progress inv.awaited (rw c.in-Ok-Some-eq0.field-0-is at c.in-Ok-Some-eq0.ensures) c.finish.result _ _ said.0 said.1
 
 pub returns-in-Err-clause-run : goal.returns-in-Err-clause-run
 returns-in-Err-clause-run g c =
@@ -65,7 +65,7 @@ returns-in-Err-answer_all-clause-run g c =
     let step = g.S.Service.step in
     let refusal = g.S.Service.refusal in
     let inv = c.reads.invariant in
-    let read = c.in-Ok.ensures in
+    let read = rw c.in-Ok-Some.field-0-is at c.in-Ok-Some.ensures in
     let rest = c.read_more.new.self.bytes.items in
     let now = after_read step _ _ _ _ _ _ c.reads.unanswered.bytes.items rest read.0 _ inv.used.paced.reads inv.progress read.3 read.2 in
     let ends = rw c.as_slice-in-reads.ensures at c.in-Err-answer_all.ensures in
@@ -77,23 +77,23 @@ returns-in-Err-answer_all-clause-paced g c =
     let step = g.S.Service.step in
     let inv = c.reads.invariant in
     let ends = rw c.as_slice-in-reads.ensures at c.in-Err-answer_all.ensures in
-    paced_after step _ _ _ _ _ _ _ _ _ _ inv.uses c.reads.unanswered.bytes.items _ c.reads.wants _ c.in-Ok.count c.count.ensures
-    inv.used inv.still_open inv.progress inv.awaited c.in-Ok.ensures c.in-Err-answer_all.end _ _ ends.0 ends.1
+    paced_after step _ _ _ _ _ _ _ _ _ _ inv.uses c.reads.unanswered.bytes.items _ c.reads.wants _ c.in-Ok-Some.count c.count.ensures
+    inv.used inv.still_open inv.progress inv.awaited (rw c.in-Ok-Some.field-0-is at c.in-Ok-Some.ensures) c.in-Err-answer_all.end _ _ ends.0 ends.1
 
 pub reads-preserved : goal.reads-preserved
 reads-preserved g c =
     let step = g.S.Service.step in
     let inv = c.reads.invariant in
-    let more = rw c.as_slice-in-reads.ensures at c.in-Ok-answer_all.ensures in
+    let more = rw c.as_slice-in-reads.ensures at c.in-Ok.ensures in
     let rest = sym c.drop_front.ensures in
-    let on = went_on step _ _ _ _ _ _ _ _ _ _ inv.uses c.reads.unanswered.bytes.items _ c.reads.wants _ c.in-Ok.count c.count.ensures
-    inv.used inv.still_open inv.progress inv.awaited c.in-Ok.ensures _ _ more.0 _ _ c.in-Ok.count-test.1 more.1 more.3 in
+    let on = went_on step _ _ _ _ _ _ _ _ _ _ inv.uses c.reads.unanswered.bytes.items _ c.reads.wants _ c.in-Ok-Some.count c.count.ensures
+    inv.used inv.still_open inv.progress inv.awaited (rw c.in-Ok-Some.field-0-is at c.in-Ok-Some.ensures) _ _ more.0 _ _ c.in-Ok-Some.count-test.1 more.1 more.3 in
     record {
       uses = on.0;
       used = on.1;
       still_open = on.2;
       progress = rw (← rest) on.3;
-      awaited = subst (λ left. IsAwaited left c.in-Ok-answer_all.awaiting.wants) rest more.4;
+      awaited = subst (λ left. IsAwaited left c.in-Ok.awaiting.wants) rest more.4;
       counted = omega (arith, inv.counted, on.4);
     }
 
@@ -101,9 +101,9 @@ pub reads-preserved-in-Some : goal.reads-preserved-in-Some
 reads-preserved-in-Some g c =
     let step = g.S.Service.step in
     let inv = c.reads.invariant in
-    let read = c.in-Ok.ensures in
-    let on = went_on step _ _ _ _ _ _ _ _ _ _ inv.uses c.reads.unanswered.bytes.items _ c.reads.wants _ c.in-Ok.count c.count.ensures
-    inv.used inv.still_open inv.progress inv.awaited read _ _ [] _ _ c.in-Ok.count-test.1 (whole_none _) (progress_none (timed step) c.read_more.new.self.bytes.items _) in
+    let read = rw c.in-Ok-Some.field-0-is at c.in-Ok-Some.ensures in
+    let on = went_on step _ _ _ _ _ _ _ _ _ _ inv.uses c.reads.unanswered.bytes.items _ c.reads.wants _ c.in-Ok-Some.count c.count.ensures
+    inv.used inv.still_open inv.progress inv.awaited read _ _ [] _ _ c.in-Ok-Some.count-test.1 (whole_none _) (progress_none (timed step) c.read_more.new.self.bytes.items _) in
     let stays = c.in-Some.ensures c.reads.unanswered.bytes.items read.0 inv.awaited read.1 in
     record {
       uses = on.0;
@@ -123,3 +123,18 @@ pub returns-clause-paced : goal.returns-clause-paced
 returns-clause-paced g c =
     let inv = c.reads.invariant in
     paced g.S.Service.step _ _ _ _ _ _ _ ReadFault inv.uses inv.used (inr (inv.still_open, omega (arith, inv.counted)))
+
+pub reads-preserved-in-Ok-None : goal.reads-preserved-in-Ok-None
+reads-preserved-in-Ok-None g c =
+    let inv = c.reads.invariant in
+    let read = rw c.in-Ok-None.field-0-is at c.in-Ok-None.ensures in
+    let on = interrupted_read g.S.Service.step _ _ _ _ _ _ _ _ _ _ inv.uses c.reads.unanswered.bytes.items _ c.reads.wants _ c.count.ensures
+    inv.used inv.still_open inv.progress inv.awaited read in
+    record {
+      uses = on.0;
+      used = on.1;
+      still_open = on.2;
+      progress = on.3;
+      awaited = on.4;
+      counted = omega (arith, inv.counted, on.5);
+    }
