@@ -6,7 +6,7 @@ use Rattle.papers.specs.declared.file_kind.FileKind.TheVariants.{Meters, Tariffs
 use Rattle.sts_fields.specs.Text.{Text}
 use Rattle.command_line.specs.Address.{SaysAddress}
 use Rattle.command_line.specs.Said.{IsArgument, IsOptionalArgument, parsed_arguments, parsed_argument}
-use Rattle.command_line.specs.Values.{SayEach, SaysAmount, SaysBase, SaysConnections, SaysItem, SaysKey, SaysMeterNo, SaysMoment, SaysOperator, SaysPrior, SaysRef, SaysSteps, SaysTender, SaysText, SaysTransform}
+use Rattle.command_line.specs.Values.{SayEach, SaysAmount, SaysBase, SaysConnections, SaysItem, SaysKey, SaysMeterNo, SaysMoment, SaysOperator, SaysPrior, SaysRef, SaysSteps, SaysTender, SaysText, SaysTransform, SaysWait}
 use Rattle.command_line.specs.declared.commands.audit.AuditWords.{AuditWords}
 use Rattle.command_line.specs.declared.commands.import.ImportWords.{ImportWords}
 use Rattle.command_line.specs.declared.commands.meter.MeterWords.{MeterWords}
@@ -52,6 +52,7 @@ pub record SaysSelfcheck (rows : List Row) (words : SelfcheckWords) : Type 0 whe
 
 pub record SaysAudit (rows : List Row) (words : AuditWords) : Type 0 where
   pub file : IsArgument SaysText (parsed_argument (codes "file") rows) words.file
+  pub wait : IsArgument SaysWait (parsed_argument (codes "wait") rows) words.wait
 
 -- the files of an import, by their kind
 abbrev pub kind_name : FileKind → Text
@@ -65,6 +66,7 @@ pub record SaysImport (rows : List Row) (words : ImportWords) : Type 0 where
   pub transform : IsArgument SaysTransform
       (parsed_argument (codes "transform") rows) words.transform
   pub file : IsArgument SaysText (parsed_argument (codes "file") rows) words.file
+  pub wait : IsArgument SaysWait (parsed_argument (codes "wait") rows) words.wait
   pub at : IsOptionalArgument SaysMoment (parsed_argument (codes "at") rows) words.at
   pub kind : IsArgument SaysKind (parsed_argument (codes "kind") rows) words.kind
   pub csv : IsArgument SaysText (parsed_argument (codes "csv") rows) words.csv
@@ -94,6 +96,7 @@ pub record SaysRequestWords (name : Text) (rows : List Row) (words : RequestWord
   pub transform : IsArgument SaysTransform
       (parsed_argument (codes "transform") rows) words.transform
   pub file : IsArgument SaysText (parsed_argument (codes "file") rows) words.file
+  pub wait : IsArgument SaysWait (parsed_argument (codes "wait") rows) words.wait
   pub at : IsOptionalArgument SaysMoment (parsed_argument (codes "at") rows) words.at
   pub request : SaysRequest name rows words.request
 
@@ -106,6 +109,7 @@ SaysPaper kind number Sales = kind ≡ Some (codes "sales")
 
 pub record SaysReport (rows : List Row) (words : ReportWords) : Type 0 where
   pub file : IsArgument SaysText (parsed_argument (codes "file") rows) words.file
+  pub wait : IsArgument SaysWait (parsed_argument (codes "wait") rows) words.wait
   pub paper : SaysPaper (parsed_argument (codes "kind") rows)
       (parsed_argument (codes "number") rows) words.paper
 
@@ -113,6 +117,7 @@ pub record SaysServe (rows : List Row) (words : ServeWords) : Type 0 where
   pub transform : IsArgument SaysTransform
       (parsed_argument (codes "transform") rows) words.transform
   pub file : IsArgument SaysText (parsed_argument (codes "file") rows) words.file
+  pub wait : IsArgument SaysWait (parsed_argument (codes "wait") rows) words.wait
   pub listen : IsArgument SaysAddress (parsed_argument (codes "listen") rows) words.listen
   pub connections : IsArgument SaysConnections
       (parsed_argument (codes "connections") rows) words.connections

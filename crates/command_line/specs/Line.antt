@@ -41,6 +41,10 @@ transform_option = with_default (codes "transform") (codes "plain")
 abbrev pub at_option : Rule
 at_option = option_named (codes "at")
 
+-- where it is left out a command waits for the file for five seconds
+abbrev pub wait_option : Rule
+wait_option = with_default (codes "wait") (codes "5")
+
 -- ---- commands
 
 abbrev pub command_named : Text → List Rule → Shape
@@ -52,24 +56,24 @@ trial_command = command_named (codes "trial") (transform_option ∷ needed (code
 
 abbrev pub import_command : Shape
 import_command = command_named (codes "import") (transform_option ∷ needed (codes "file")
-    ∷ at_option ∷ word_named (codes "kind") ∷ word_named (codes "csv") ∷ [])
+    ∷ wait_option ∷ at_option ∷ word_named (codes "kind") ∷ word_named (codes "csv") ∷ [])
 
 abbrev pub base_command : Shape
 base_command = command_named (codes "base") (transform_option ∷ needed (codes "file")
-    ∷ needed (codes "meter") ∷ needed (codes "base") ∷ at_option ∷ [])
+    ∷ wait_option ∷ needed (codes "meter") ∷ needed (codes "base") ∷ at_option ∷ [])
 
 abbrev pub shift_command : Shape
 shift_command = command_named (codes "shift") (transform_option ∷ needed (codes "file")
-    ∷ needed (codes "operator") ∷ at_option ∷ word_named (codes "act") ∷ [])
+    ∷ wait_option ∷ needed (codes "operator") ∷ at_option ∷ word_named (codes "act") ∷ [])
 
 abbrev pub sell_command : Shape
 sell_command = command_named (codes "sell") (transform_option ∷ needed (codes "file")
-    ∷ needed (codes "operator") ∷ needed (codes "ref") ∷ needed (codes "meter")
+    ∷ wait_option ∷ needed (codes "operator") ∷ needed (codes "ref") ∷ needed (codes "meter")
     ∷ needed (codes "tender") ∷ at_option ∷ [])
 
 abbrev pub report_command : Shape
-report_command = command_named (codes "report") (needed (codes "file") ∷ needed (codes "kind")
-    ∷ with_default (codes "number") (codes "1") ∷ [])
+report_command = command_named (codes "report") (needed (codes "file") ∷ wait_option
+    ∷ needed (codes "kind") ∷ with_default (codes "number") (codes "1") ∷ [])
 
 abbrev pub meter_command : Shape
 meter_command = command_named (codes "meter")
@@ -81,21 +85,21 @@ quote_command = command_named (codes "quote") (transform_option ∷ word_named (
 
 abbrev pub serve_command : Shape
 serve_command = command_named (codes "serve") (transform_option ∷ needed (codes "file")
-    ∷ needed (codes "listen") ∷ needed (codes "connections") ∷ [])
+    ∷ wait_option ∷ needed (codes "listen") ∷ needed (codes "connections") ∷ [])
 
 abbrev pub selfcheck_command : Shape
 selfcheck_command = command_named (codes "selfcheck") (transform_option ∷ [])
 
 abbrev pub audit_command : Shape
-audit_command = command_named (codes "audit") (needed (codes "file") ∷ [])
+audit_command = command_named (codes "audit") (needed (codes "file") ∷ wait_option ∷ [])
 
 -- ---- the line
 
 -- the commands, each of which has one level of words
 abbrev pub commands : List Shape
-commands = trial_command ∷ import_command ∷ base_command ∷ shift_command ∷ sell_command
-    ∷ report_command ∷ meter_command ∷ quote_command ∷ serve_command ∷ selfcheck_command
-    ∷ audit_command ∷ []
+commands = import_command ∷ shift_command ∷ sell_command ∷ report_command ∷ base_command
+    ∷ audit_command ∷ serve_command ∷ quote_command ∷ meter_command ∷ trial_command
+    ∷ selfcheck_command ∷ []
 
 abbrev pub has_none : List Shape → Bool
 has_none [] = true

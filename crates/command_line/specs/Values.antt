@@ -36,6 +36,10 @@ SaysMoment text seconds = SaysNumber text seconds × IsMoment seconds
 abbrev pub SaysConnections : Text → ℕ → Type 0
 SaysConnections text count = SaysNumber text count × (1 ≤ count) × (count ≤ 10 ^ 6)
 
+-- for how many seconds a file is waited for: an hour at the most
+abbrev pub SaysWait : Text → ℕ → Type 0
+SaysWait text seconds = SaysNumber text seconds × (seconds ≤ 3600)
+
 -- a number of an address, and its port
 abbrev pub SaysOctet : Text → ℕ → Type 0
 SaysOctet text octet = SaysNumber text octet × (octet < 256)

@@ -11,14 +11,14 @@ use crate::commands::{
 use clap::{ArgMatches, Command, Error};
 use std::alloc::{AllocError, Global};
 
-const ABOUT: &str = "Vends credit tokens for prepayment electricity meters";
+const ABOUT: &str = "Sells credit tokens for prepayment electricity meters (simulated meters only)";
 
 // What `--version` prints after the program's name: its version (`CHANGELOG.md`), and the format of
 // the files that it writes (`docs/OFFICE.md`, "Tables").
-const VERSION: &str = "0.1.0 (file format 4)";
+const VERSION: &str = "0.2.0 (file format 4)";
 
-const STATUSES: &str = "Exit status: 0 done; 1 refused or failed (a line on the error output says \
-    why); 2 bad words.\n'vend COMMAND --help' says more of a command.";
+const STATUSES: &str = "Exit status: 0 done; 1 refused or failed (standard error says why); \
+    2 invalid arguments.\n'vend COMMAND --help' lists the options of a command.";
 
 /// The words of a line as they are meant, the program's own name left out: `sell` right before
 /// `--base` means `trial`.
@@ -65,17 +65,18 @@ fn describe<'a>(alloc: Global) -> Result<Command<'a>, AllocError>
     ensures { IfOk result (λ line. app_of line ≡ vend_line) }
 {
     let line = start(alloc)?;
-    let line = with(line, trial::describe(alloc)?)?;
+    // In the order in which a shop needs them.
     let line = with(line, import::describe(alloc)?)?;
-    let line = with(line, base::describe(alloc)?)?;
     let line = with(line, shift::describe(alloc)?)?;
     let line = with(line, sell::describe(alloc)?)?;
     let line = with(line, report::describe(alloc)?)?;
-    let line = with(line, meter::describe(alloc)?)?;
-    let line = with(line, quote::describe(alloc)?)?;
+    let line = with(line, base::describe(alloc)?)?;
+    let line = with(line, audit::describe(alloc)?)?;
     let line = with(line, serve::describe(alloc)?)?;
-    let line = with(line, selfcheck::describe(alloc)?)?;
-    with(line, audit::describe(alloc)?)
+    let line = with(line, quote::describe(alloc)?)?;
+    let line = with(line, meter::describe(alloc)?)?;
+    let line = with(line, trial::describe(alloc)?)?;
+    with(line, selfcheck::describe(alloc)?)
 }
 
 // The line without its commands.

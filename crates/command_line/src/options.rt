@@ -3,11 +3,11 @@ ghost use Rattle.std.specs.Prelude.{◌≡◌, ◌∷◌, ◌++◌, [], false, c
 ghost use Rattle.clap.specs.Walk.{Rule, rule_of};
 ghost use Rattle.clap.specs.Simple.{Shape};
 ghost use Rattle.command_line.specs.Line.{IsDescribed, command_named};
-ghost use Rattle.command_line.specs.Line.{at_option, needed, option_named, transform_option};
+ghost use Rattle.command_line.specs.Line.{at_option, needed, option_named, transform_option, wait_option};
 ghost use Rattle.command_line.specs.Line.{word_named, words_named};
 ghost use Rattle.command_line.specs.Said.{IsArgument, IsOptionalArgument, ReadsWhat, argument_rows, parsed_argument};
 ghost use Rattle.command_line.specs.Values.{SaysBase, SaysKey, SaysMeterNo, SaysMoment, SaysOperator};
-ghost use Rattle.command_line.specs.Values.{SaysTender, SaysText, SaysTransform};
+ghost use Rattle.command_line.specs.Values.{SaysTender, SaysText, SaysTransform, SaysWait};
 
 use crate::transform::Shipped;
 use crate::{said, values};
@@ -18,15 +18,16 @@ use sts_token::read_key;
 use tariff::Tender;
 use vend_core::{MeterNo, Operator};
 
-// What stands below the help of each command.
-const STATUSES: &str =
-    "Exit status: 0 done; 1 refused or failed (a line on the error output says why); 2 bad words";
-
-/// A command with a line on what it does, and no words yet.
-pub(crate) fn command<'a>(alloc: Global, name: &'a str, about: &'a str) -> Command<'a>
+/// A command with a line on what it does and an example below its options, and no words yet.
+pub(crate) fn command<'a>(
+    alloc: Global,
+    name: &'a str,
+    about: &'a str,
+    example: &'a str,
+) -> Command<'a>
     ensures { IsDescribed (command_named name.entry.now []) result }
 {
-    Command::new(alloc, name).about(about).after_help(STATUSES)
+    Command::new(alloc, name).about(about).after_help(example)
 }
 
 /// The command with one more argument, the last.
@@ -84,7 +85,7 @@ pub(crate) fn transform<'a>(alloc: Global) -> Arg<'a>
     ensures rule { rule_of result ≡ transform_option }
     ensures own { result.global ≡ false }
 {
-    let help = "The block transform of the meter: plain or demo";
+    let help = "How the meter's tokens are mixed with its key: plain or demo";
     option(alloc, "transform", "NAME", help).default_value("plain")
 }
 
@@ -100,8 +101,8 @@ pub(crate) fn at<'a>(alloc: Global) -> Arg<'a>
     ensures rule { rule_of result ≡ at_option }
     ensures own { result.global ≡ false }
 {
-    let help = "The moment in Unix seconds, 725846400 to 4102444799 (1993 to 2099, UTC), e.g. \
-        1388534430; the machine's clock where it is left out";
+    let help = "The moment in Unix seconds, 725846400 to 4102444799 (1993 to 2099, UTC); \
+        default: the computer's clock";
     option(alloc, "at", "SECONDS", help)
 }
 
@@ -121,7 +122,7 @@ pub(crate) fn file<'a>(alloc: Global) -> Arg<'a>
     ensures rule { rule_of result ≡ needed (codes "file") }
     ensures own { result.global ≡ false }
 {
-    let help = "The file that keeps the office, made where it is missing, e.g. office.db";
+    let help = "The office's file, created if it does not exist";
     needed(alloc, "file", "FILE", help)
 }
 
@@ -132,12 +133,28 @@ pub(crate) fn read_file<'a>(matches: &ArgMatches<'a>) -> Option<&'a str>
     said::text(matches, "file")
 }
 
+/// `--wait`, which is 5 where it is left out.
+pub(crate) fn wait<'a>(alloc: Global) -> Arg<'a>
+    ensures rule { rule_of result ≡ wait_option }
+    ensures own { result.global ≡ false }
+{
+    let help = "Wait up to this many seconds while another program uses the file, 0 to 3600";
+    option(alloc, "wait", "SECONDS", help).default_value("5")
+}
+
+pub(crate) fn read_wait(matches: &ArgMatches) -> Option<u32>
+    ensures { ReadsWhat result (IsArgument SaysWait
+        (parsed_argument (codes "wait") (argument_rows matches.now))) }
+{
+    values::wait(said::text(matches, "wait")?)
+}
+
 /// `--operator`.
 pub(crate) fn operator<'a>(alloc: Global) -> Arg<'a>
     ensures rule { rule_of result ≡ needed (codes "operator") }
     ensures own { result.global ≡ false }
 {
-    let help = "Who sells, 1 to 16 ASCII letters or digits, e.g. ann";
+    let help = "The cashier, 1 to 16 ASCII letters or digits";
     needed(alloc, "operator", "NAME", help)
 }
 
@@ -153,8 +170,7 @@ pub(crate) fn meter<'a>(alloc: Global) -> Arg<'a>
     ensures rule { rule_of result ≡ needed (codes "meter") }
     ensures own { result.global ≡ false }
 {
-    let help = "The meter's number, eleven digits of which the last is the Luhn check, e.g. \
-        12345678903";
+    let help = "The meter's number, eleven digits of which the last is a Luhn check";
     needed(alloc, "meter", "NUMBER", help)
 }
 
@@ -170,7 +186,8 @@ pub(crate) fn base<'a>(alloc: Global) -> Arg<'a>
     ensures rule { rule_of result ≡ needed (codes "base") }
     ensures own { result.global ≡ false }
 {
-    let help = "The base date of the meter's identifiers, by its year: 1993, 2014 or 2035";
+    let help =
+        "The year of the base date that the meter's identifiers count from: 1993, 2014 or 2035";
     needed(alloc, "base", "YEAR", help)
 }
 
@@ -186,8 +203,7 @@ pub(crate) fn key<'a>(alloc: Global) -> Arg<'a>
     ensures rule { rule_of result ≡ needed (codes "key") }
     ensures own { result.global ≡ false }
 {
-    let help = "The meter's decoder key, sixteen lower-case hexadecimal digits, e.g. \
-        0123456789abcdef";
+    let help = "The meter's key, sixteen lower-case hexadecimal digits";
     needed(alloc, "key", "KEY", help)
 }
 

@@ -14,6 +14,8 @@ pub struct RequestWords<'a> {
     pub transform: Shipped,
     /// The file that keeps the office.
     pub file: &'a str,
+    /// For how many seconds it waits while another program has the file, 0 to 3600.
+    pub wait: u32,
     /// The machine's clock where it is left out.
     pub at: Option<Moment>,
     pub request: Request,
@@ -27,6 +29,7 @@ impl<'a> RequestWords<'a> {
         Some(RequestWords {
             transform: options::read_transform(matches)?,
             file: options::read_file(matches)?,
+            wait: options::read_wait(matches)?,
             at: options::read_at(matches)?,
             request: read_request(name, matches)?,
         })

@@ -3,7 +3,7 @@ ghost use Rattle.std.specs.Prelude.{map};
 ghost use Rattle.command_line.specs.Said.{ReadsOrFull};
 ghost use Rattle.command_line.specs.Values.{ReadsBy, SayEach, SaysAmount, SaysBase, SaysConnections};
 ghost use Rattle.command_line.specs.Values.{SaysCount, SaysItem, SaysMoment, SaysOctet, SaysPort};
-ghost use Rattle.command_line.specs.Values.{SaysPrior, SaysTender};
+ghost use Rattle.command_line.specs.Values.{SaysPrior, SaysTender, SaysWait};
 
 use crate::words::BadWords;
 use std::alloc::Global;
@@ -84,6 +84,14 @@ pub(crate) fn connections(word: &str) -> Option<u32>
     } else {
         None
     }
+}
+
+/// For how many seconds a file is waited for, 0 to 3600.
+pub(crate) fn wait(word: &str) -> Option<u32>
+    ensures { ReadsBy SaysWait word.now result }
+{
+    let seconds = u32::try_from(number(word)?).ok()?;
+    if seconds <= 3600 { Some(seconds) } else { None }
 }
 
 /// A number of an address, 0 to 255.

@@ -11,17 +11,22 @@ use std::alloc::{AllocError, Global};
 pub struct AuditWords<'a> {
     /// The file that is looked at. It is not made.
     pub file: &'a str,
+    /// For how many seconds it waits while another program has the file, 0 to 3600.
+    pub wait: u32,
 }
 
-/// `audit --file F`.
+/// `audit --file F [--wait S]`.
 pub(crate) fn describe<'a>(alloc: Global) -> Result<Command<'a>, AllocError>
     ensures { IfOk result (IsDescribed audit_command) }
 {
-    let about = "Looks at every row of a file, changes nothing, and prints what the file keeps, or \
-        the first row that is no office's";
-    let file = "The file that is looked at, which has to be there, e.g. office.db";
-    let command = options::command(alloc, "audit", about);
-    with(command, needed(alloc, "file", "FILE", file))
+    let about =
+        "Checks every row of a file, changes none, and prints what the file has, or the first \
+        row that breaks a rule";
+    let file = "The office's file, which has to exist";
+    let example = "Example: vend audit --file office.db";
+    let command = options::command(alloc, "audit", about, example);
+    let command = with(command, needed(alloc, "file", "FILE", file))?;
+    with(command, options::wait(alloc))
 }
 
 impl<'a> AuditWords<'a> {
@@ -31,6 +36,7 @@ impl<'a> AuditWords<'a> {
         ensures { ReadsWhat result (SaysAudit (argument_rows matches.now)) }
     {
         let file = options::read_file(matches)?;
-        Some(AuditWords { file })
+        let wait = options::read_wait(matches)?;
+        Some(AuditWords { file, wait })
     }
 }

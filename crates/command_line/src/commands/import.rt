@@ -18,6 +18,8 @@ pub struct ImportWords<'a> {
     pub transform: Shipped,
     /// The file that keeps the office.
     pub file: &'a str,
+    /// For how many seconds it waits while another program has the file, 0 to 3600.
+    pub wait: u32,
     /// The machine's clock where it is left out.
     pub at: Option<Moment>,
     pub kind: FileKind,
@@ -25,18 +27,20 @@ pub struct ImportWords<'a> {
     pub csv: &'a str,
 }
 
-/// `import --file F [--at S] [--transform X] tariffs|meters CSV`.
+/// `import --file F [--wait S] [--at S] [--transform X] tariffs|meters CSV`.
 pub(crate) fn describe<'a>(alloc: Global) -> Result<Command<'a>, AllocError>
     ensures { IfOk result (IsDescribed import_command) }
 {
-    let about = "Adds the rows of a CSV file to the office, all or none, and prints how many were \
-        new";
+    let about =
+        "Adds the tariffs or meters of a CSV file, all or none, and prints how many were new";
     let kind = "What the rows are: tariffs or meters";
-    let csv = "The CSV file of at most 10000 rows, under the header name,steps or \
-        name,steps,from, or meter,base,tariff,key, e.g. tariffs.csv";
-    let command = options::command(alloc, "import", about);
+    let csv = "A CSV file of at most 10000 rows under the header name,steps or name,steps,from, or \
+        meter,base,tariff,key";
+    let example = "Example: vend import --file office.db tariffs tariffs.csv";
+    let command = options::command(alloc, "import", about, example);
     let command = with(command, options::transform(alloc))?;
     let command = with(command, options::file(alloc))?;
+    let command = with(command, options::wait(alloc))?;
     let command = with(command, options::at(alloc))?;
     let command = with(command, options::word(alloc, "kind", "KIND", kind))?;
     with(command, options::word(alloc, "csv", "CSV", csv))
@@ -49,6 +53,7 @@ impl<'a> ImportWords<'a> {
         Some(ImportWords {
             transform: options::read_transform(matches)?,
             file: options::read_file(matches)?,
+            wait: options::read_wait(matches)?,
             at: options::read_at(matches)?,
             kind: read_kind(matches)?,
             csv: read_csv(matches)?,

@@ -21,11 +21,12 @@ pub struct MeterWords<'m, 'a> {
 pub(crate) fn describe<'a>(alloc: Global) -> Result<Command<'a>, AllocError>
     ensures { IfOk result (IsDescribed meter_command) }
 {
-    let about = "Enters tokens into a new simulated meter, and prints what it answers to each and \
-        its credit";
-    let help = "A token of twenty digits, e.g. 00072057602627981690; or the word clear, which \
-        clears the meter and keeps its credit";
-    let command = options::command(alloc, "meter", about);
+    let about = "Enters tokens into a new simulated meter, and prints its answer to each and its \
+        credit";
+    let help = "A token of twenty digits; or clear, which has the meter forget its identifiers and \
+        keep its credit";
+    let example = "Example: vend meter --key 0000000000000000 00072057602627981690";
+    let command = options::command(alloc, "meter", about, example);
     let command = with(command, options::transform(alloc))?;
     let command = with(command, options::key(alloc))?;
     with(command, options::words(alloc, "tokens", "TOKEN", help))

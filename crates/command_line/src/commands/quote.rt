@@ -29,11 +29,13 @@ pub(crate) fn describe<'a>(alloc: Global) -> Result<Command<'a>, AllocError>
     ensures { IfOk result (IsDescribed quote_command) }
 {
     let about = "Prints what a tender buys: tenths of a kWh, price and change in cents";
-    let steps = "The steps of a tariff as END:PRICE with ';' between them, ends in tenths of a kWh \
-        a month and prices in cents per kWh, the last without an end, e.g. '500:100;:200'";
-    let prior = "Tenths of a kWh that the month had before, 0 to 100000000000000000, e.g. 490";
-    let tender = "The money in whole cents, 1 to 100000000, e.g. 200";
-    let command = options::command(alloc, "quote", about);
+    let steps =
+        "The steps of a tariff as END:PRICE with ';' between them: ends in tenths of a kWh a \
+        month, prices in cents per kWh, the last without an end";
+    let prior = "Tenths of a kWh that the meter had in the month before, 0 to 100000000000000000";
+    let tender = "The money in whole cents, 1 to 100000000";
+    let example = "Example: vend quote '500:100;:200' 490 200";
+    let command = options::command(alloc, "quote", about, example);
     let command = with(command, options::transform(alloc))?;
     let command = with(command, options::word(alloc, "steps", "STEPS", steps))?;
     let command = with(command, options::word(alloc, "prior", "PRIOR", prior))?;

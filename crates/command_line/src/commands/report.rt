@@ -25,21 +25,25 @@ pub enum Paper {
 /// What `report` is asked for: a paper of an office.
 #[derive(Clone, Copy)]
 pub struct ReportWords<'a> {
-    /// The file that keeps the office.
+    /// The file that keeps the office. It is not made.
     pub file: &'a str,
+    /// For how many seconds it waits while another program has the file, 0 to 3600.
+    pub wait: u32,
     pub paper: Paper,
 }
 
-/// `report --file F --kind shift|receipt|totals|sales [--number N]`.
+/// `report --file F [--wait S] --kind shift|receipt|totals|sales [--number N]`.
 pub(crate) fn describe<'a>(alloc: Global) -> Result<Command<'a>, AllocError>
     ensures { IfOk result (IsDescribed report_command) }
 {
     let about = "Prints a shift's report or totals, a sale's receipt again, or all sales as CSV";
-    let kind = "What is printed: shift, receipt, totals or sales";
-    let number = "The number of the shift or the sale, 1 to 1000000000, e.g. 7; not looked at for \
-        sales";
-    let command = options::command(alloc, "report", about);
-    let command = with(command, options::file(alloc))?;
+    let file = "The office's file, which has to exist";
+    let kind = "What to print: shift, receipt, totals or sales";
+    let number = "The number of the shift or the sale, 1 to 1000000000; ignored with sales";
+    let example = "Example: vend report --file office.db --kind receipt --number 7";
+    let command = options::command(alloc, "report", about, example);
+    let command = with(command, needed(alloc, "file", "FILE", file))?;
+    let command = with(command, options::wait(alloc))?;
     let command = with(command, needed(alloc, "kind", "KIND", kind))?;
     let number = options::option(alloc, "number", "N", number).default_value("1");
     with(command, number)
@@ -51,6 +55,7 @@ impl<'a> ReportWords<'a> {
     {
         Some(ReportWords {
             file: options::read_file(matches)?,
+            wait: options::read_wait(matches)?,
             paper: read_paper(matches)?,
         })
     }

@@ -17,9 +17,11 @@ pub struct SelfcheckWords {
 pub(crate) fn describe<'a>(alloc: Global) -> Result<Command<'a>, AllocError>
     ensures { IfOk result (IsDescribed selfcheck_command) }
 {
-    let about = "Sells over a connection of this machine with itself, to an office in memory, and \
-        prints 'selfcheck ok' where the replies are those that come without a connection";
-    let command = options::command(alloc, "selfcheck", about);
+    let about =
+        "Tests the HTTP server over loopback with an office in memory, and prints 'selfcheck \
+        ok'";
+    let example = "Example: vend selfcheck";
+    let command = options::command(alloc, "selfcheck", about, example);
     with(command, options::transform(alloc))
 }
 

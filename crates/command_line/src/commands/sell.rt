@@ -10,18 +10,23 @@ use clap::{ArgMatches, Command};
 use std::alloc::{AllocError, Global};
 use vend_core::{Order, Ref, Request};
 
-/// `sell --file F --operator O --ref R --meter M --tender C [--at S] [--transform X]`.
+/// `sell --file F [--wait S] --operator O --ref R --meter M --tender C [--at S] [--transform X]`.
 pub(crate) fn describe<'a>(alloc: Global) -> Result<Command<'a>, AllocError>
     ensures { IfOk result (IsDescribed sell_command) }
 {
-    let about = "Sells electricity to a meter for a tender, and prints the receipt; the same words \
-        again print it again. With --base as its first option it means 'trial'";
-    let order_ref = "The order's name among the operator's, 1 to 32 ASCII letters, digits or \
-        hyphens, e.g. A-1";
-    let tender = "The money in whole cents, 1 to 100000000, e.g. 1000";
-    let command = options::command(alloc, "sell", about);
+    let about =
+        "Sells electricity to a meter and prints the receipt; the same --ref again prints the \
+        same receipt";
+    let order_ref =
+        "Your name for the order, new for each: 1 to 32 ASCII letters, digits or hyphens";
+    let tender = "The customer's money in whole cents, 1 to 100000000";
+    let example =
+        "Example: vend sell --file office.db --operator ann --ref A-1 --meter 12345678903 \
+        --tender 1000";
+    let command = options::command(alloc, "sell", about, example);
     let command = with(command, options::transform(alloc))?;
     let command = with(command, options::file(alloc))?;
+    let command = with(command, options::wait(alloc))?;
     let command = with(command, options::operator(alloc))?;
     let command = with(command, needed(alloc, "ref", "REF", order_ref))?;
     let command = with(command, options::meter(alloc))?;

@@ -18,23 +18,29 @@ pub struct ServeWords<'a> {
     pub transform: Shipped,
     /// The file that keeps the office.
     pub file: &'a str,
+    /// For how many seconds it waits while another program has the file, 0 to 3600.
+    pub wait: u32,
     pub listen: Address,
     /// 1 to 1000000.
     pub connections: u32,
 }
 
-/// `serve --file F --listen ADDR --connections N [--transform X]`.
+/// `serve --file F [--wait S] --listen ADDR --connections N [--transform X]`.
 pub(crate) fn describe<'a>(alloc: Global) -> Result<Command<'a>, AllocError>
     ensures { IfOk result (IsDescribed serve_command) }
 {
-    let about = "Answers HTTP/1.1 requests to an office, one connection after another, by the \
-        machine's clock; says on the error output where it listens";
+    let about =
+        "Answers HTTP/1.1 requests, one connection after another, and prints on standard error \
+        where it listens";
     let listen = "Where to listen: four numbers and a port, e.g. 127.0.0.1:8080; with port 0 the \
         system chooses one";
-    let connections = "How many connections are served before it ends, 1 to 1000000, e.g. 1000";
-    let command = options::command(alloc, "serve", about);
+    let connections = "How many connections to serve before it exits, 1 to 1000000";
+    let example =
+        "Example: vend serve --file office.db --listen 127.0.0.1:8080 --connections 1000000";
+    let command = options::command(alloc, "serve", about, example);
     let command = with(command, options::transform(alloc))?;
     let command = with(command, options::file(alloc))?;
+    let command = with(command, options::wait(alloc))?;
     let command = with(command, needed(alloc, "listen", "ADDRESS", listen))?;
     with(command, needed(alloc, "connections", "NUMBER", connections))
 }
@@ -46,6 +52,7 @@ impl<'a> ServeWords<'a> {
         Some(ServeWords {
             transform: options::read_transform(matches)?,
             file: options::read_file(matches)?,
+            wait: options::read_wait(matches)?,
             listen: read_listen(matches)?,
             connections: read_connections(matches)?,
         })

@@ -9,15 +9,17 @@ use clap::{ArgMatches, Command};
 use std::alloc::{AllocError, Global};
 use vend_core::Request;
 
-/// `shift --file F --operator O [--at S] [--transform X] open|close`.
+/// `shift --file F [--wait S] --operator O [--at S] [--transform X] open|close`.
 pub(crate) fn describe<'a>(alloc: Global) -> Result<Command<'a>, AllocError>
     ensures { IfOk result (IsDescribed shift_command) }
 {
     let about = "Opens or closes an operator's shift, and prints its number";
-    let act = "What is done to the shift: open or close";
-    let command = options::command(alloc, "shift", about);
+    let act = "open or close";
+    let example = "Example: vend shift --file office.db --operator ann open";
+    let command = options::command(alloc, "shift", about, example);
     let command = with(command, options::transform(alloc))?;
     let command = with(command, options::file(alloc))?;
+    let command = with(command, options::wait(alloc))?;
     let command = with(command, options::operator(alloc))?;
     let command = with(command, options::at(alloc))?;
     with(command, options::word(alloc, "act", "ACT", act))

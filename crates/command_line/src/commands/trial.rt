@@ -26,13 +26,13 @@ pub struct TrialWords {
 pub(crate) fn describe<'a>(alloc: Global) -> Result<Command<'a>, AllocError>
     ensures { IfOk result (IsDescribed trial_command) }
 {
-    let about =
-        "Sells amounts to one meter from an empty list, in memory alone, and prints a token \
-        of twenty digits a line; 'sell --base ..' means the same";
-    let help = "An amount in tenths of a kWh that a token can carry, 1 to 18201624, e.g. 105 for \
-        10.5 kWh";
+    let about = "Sells amounts to one meter in memory, without a file, and prints a token a line; \
+        'sell --base ..' means the same";
+    let help =
+        "An amount in tenths of a kWh that a token can carry, 1 to 18201624: 105 is 10.5 kWh";
     let amounts = options::words(alloc, "amounts", "TENTHS", help);
-    let command = options::command(alloc, "trial", about);
+    let example = "Example: vend trial --base 2014 --key 0000000000000000 105";
+    let command = options::command(alloc, "trial", about, example);
     let command = with(command, options::transform(alloc))?;
     let command = with(command, options::base(alloc))?;
     let command = with(command, options::key(alloc))?;

@@ -1,4 +1,6 @@
 use Rattle.command_line.proofs.commands.audit.describe.Goals as goal
 
 pub returns : goal.returns
-returns c = c.with.ensures _ _ c.command-command.ensures c.needed.ensures.rule
+returns c =
+    let after1 = c.in_ok-command.ensures _ _ c.command-command.ensures c.needed.ensures.rule in
+    c.with-2.ensures _ _ after1 c.wait.ensures.rule
