@@ -1,5 +1,6 @@
-//! A store that fails within `serve`: the next connection is served, and a repeated ref is one
-//! sale. Or it fails for good: then nobody is served after it.
+//! A store that fails within `serve`: that it stopped is told, and that it is open again; the next
+//! connection is served, and a repeated ref is one sale. Or it fails for good: then nobody is served
+//! after it.
 mod lapse;
 mod lost;
 mod ports;
@@ -48,8 +49,13 @@ struct Outcome {
     replies: String,
 }
 
-// What is told once the door listens.
+// What is told once the door listens, once a connection left the books stopped, and once they are open
+// again.
 const LISTENING: &str = "listening 127.0.0.1:80\n";
+
+const STOPPED: &str = "listening 127.0.0.1:80\nstopped 16 Store\n";
+
+const OPEN_AGAIN: &str = "listening 127.0.0.1:80\nstopped 16 Store\nopen\n";
 
 // The messages are served by a new office with some trouble.
 fn served(rt: &HostRuntime, trouble: Trouble, errors_room: usize) -> Result<Outcome, Fail> {
@@ -121,20 +127,40 @@ fn count_in(text: &str, part: &str) -> usize {
         .count()
 }
 
-// Whether a request met the failure. Each that was asked for again has its one right reply.
-fn has_failed(ran: &Outcome) -> Result<bool, Fail> {
+// What met a failure.
+#[derive(Clone, Copy, Debug, PartialEq, Eq)]
+enum Met {
+    Nobody,
+    Opening,
+    Request,
+}
+
+// What is told of books by these replies, of which some are this refusal: the books open again before
+// the next connection, if there is one.
+fn told_of(replies: &str, failed: usize) -> &'static str {
+    if failed == 0 {
+        LISTENING
+    } else if replies.ends_with(FAILED) {
+        STOPPED
+    } else {
+        OPEN_AGAIN
+    }
+}
+
+// What met the failure. Each request that was asked for again has its one right reply.
+fn met_by(ran: &Outcome) -> Result<Met, Fail> {
     let replies = ran.replies.as_str();
     if ran.end == CommandEnd::Refused
         && ran.errors.as_str() == "open 3 Store\n"
         && replies.is_empty()
     {
-        return Ok(true);
+        return Ok(Met::Opening);
     }
     let failed = count_in(replies, FAILED);
     let sold = count_in(replies, SOLD);
     let shown = count_in(replies, TOTALS);
     let is_right = ran.end == CommandEnd::Done
-        && ran.errors.as_str() == LISTENING
+        && ran.errors.as_str() == told_of(replies, failed)
         && failed <= 1
         && sold >= 1
         && shown >= 1
@@ -142,7 +168,11 @@ fn has_failed(ran: &Outcome) -> Result<bool, Fail> {
         && count_in(replies, "HTTP/1.1 ") == MESSAGES.len()
         && !replies.contains("\"number\":2");
     if is_right {
-        return Ok(failed == 1);
+        return Ok(if failed == 1 {
+            Met::Request
+        } else {
+            Met::Nobody
+        });
     }
     Err(Fail::new(format_args!("{ran:?}")))
 }
@@ -152,16 +182,21 @@ const CALLS: u64 = 600;
 
 const PAST: u64 = CALLS - 50;
 
-// Each call of one file fails once. Answers how many requests met that.
+// Each call of one file fails once. Answers how many requests met that; of the database file, how
+// many openings.
 fn sweep(rt: &HostRuntime, is_log: bool) -> Result<u64, Fail> {
     let path = folder::enter(rt)?;
     let mut failures: u64 = 0;
     for before in 0..CALLS {
         let ran = served(rt, calls_fail(is_log, before, 1), usize::MAX)?;
-        if has_failed(&ran)? {
-            if before >= PAST {
-                return Err(Fail::new(format_args!("there are calls past {before}")));
-            }
+        let met = met_by(&ran)?;
+        if met != Met::Nobody && before >= PAST {
+            return Err(Fail::new(format_args!("there are calls past {before}")));
+        }
+        // A request reads and writes the log alone. Of the database file an opening meets the
+        // failure.
+        let sought = if is_log { Met::Request } else { Met::Opening };
+        if met == sought {
             failures = failures.saturating_add(1);
         }
     }
@@ -173,7 +208,7 @@ fn sweep(rt: &HostRuntime, is_log: bool) -> Result<u64, Fail> {
 fn without_a_failure(rt: HostRuntime) -> Result<(), Fail> {
     let path = folder::enter(&rt)?;
     let ran = served(&rt, calls_fail(true, 0, 0), usize::MAX)?;
-    assert!(rt; !has_failed(&ran)?);
+    assert_eq!(rt; met_by(&ran)?, Met::Nobody);
     assert_eq!(rt; count_in(ran.replies.as_str(), SOLD), 2);
     assert_eq!(rt; count_in(ran.replies.as_str(), TOTALS), 2);
     folder::remove(&rt, path)

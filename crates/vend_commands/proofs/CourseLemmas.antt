@@ -10,6 +10,7 @@ use Rattle.conversation.specs.message.Messages.{BeginsMessage, Message}
 use Rattle.conversation.specs.Run.{IsRun}
 use Rattle.conversation.specs.declared.end.End as conversation
 use Rattle.conversation.specs.declared.end.End.TheVariants.{Closed, BadMessage, ReadFault, WriteFault, Memory}
+use Rattle.sts_fields.specs.Text.{Text}
 use Rattle.sts_token.specs.Token.{BlockFunction}
 use Rattle.vend_core.specs.Law.Life.{AreLives, IsLife, Life, MayLeave}
 use Rattle.vend_core.specs.Law.LifeLaws.{opened}
@@ -76,13 +77,13 @@ module _ {D R W B : Type 0} (way : Way D R W) (forward : BlockFunction) (see : B
         },
       ) ∣₁)
 
-  pub live_on : (count : ℕ) (old new : Service D B) → AreHeld way forward see count old new → HasCleanDisk (see new.books).state → (start : Course) → RepresentTheLast start.over start.life (see old.books)
+  pub live_on : (count : ℕ) (old new : Service D B) (printed : Text) → AreHeld way forward see count old new printed → HasCleanDisk (see new.books).state → (start : Course) → RepresentTheLast start.over start.life (see old.books)
       → ∥ LiveOn way forward see count (service old.door start old.answers) new ∥₁
-  live_on zero old new same clean start last =
+  live_on zero old new printed (same, none) clean start last =
       ∣ (start, ap (λ s. service s.door start s.answers) same, subst (λ s. RepresentTheLast start.over start.life (see s.books)) (sym same) last) ∣₁
-  live_on (suc count) old new (mid, held, (ready, are, one)) clean start last =
+  live_on (suc count) old new printed (mid, before, held, (ready, are, one), all) clean start last =
       let ready_is_clean = one.clean clean in
-      ∥∥₁_elim (live_on count old mid held (ready_clean mid.books ready are ready_is_clean) start last) squash₁ (λ so_far.
+      ∥∥₁_elim (live_on count old mid before held (ready_clean mid.books ready are ready_is_clean) start last) squash₁ (λ so_far.
       ∥∥₁_elim (next_course mid.books ready are ready_is_clean so_far.0 so_far.2) squash₁ (λ next.
       let kept = next.2 in
       let goes = one.lives clean next.0.life kept.kept in

@@ -30,9 +30,10 @@ use Rattle.command_line.specs.Line.{faults_in}
 use Rattle.vend_commands.specs.serving.Listening.{IsServedTo, IsServing, serving_end}
 use Rattle.vend_commands.specs.serving.Listening.IsServing.{unheard, unopened as serves_unopened, was_open}
 use Rattle.vend_commands.specs.commands.Quoted.{quote_end}
-use Rattle.vend_commands.specs.port.Places.{Machine, Place, Way, IsIdle}
+use Rattle.vend_commands.specs.port.Places.{Machine, Place, Places, Way, IsIdle}
 use Rattle.vend_commands.specs.print.Printed.{refusal_line}
-use Rattle.vend_commands.specs.commands.Reported.{PrintsPaper}
+use Rattle.vend_commands.specs.commands.Reported.{IsReported, PrintsPaper}
+use Rattle.vend_commands.specs.commands.Reported.IsReported.{absent as no_file, present}
 use Rattle.vend_commands.specs.Run.{IsCarriedOut, IsExplained, IsProgramRun}
 use Rattle.vend_commands.specs.Run.IsProgramRun.{answered, bad_word, explained, no_room}
 use Rattle.vend_commands.specs.commands.Selfchecked.{IsSelfchecked}
@@ -50,6 +51,7 @@ use Rattle.command_line.specs.declared.asked.Asked.TheVariants as asks
 use Rattle.command_line.specs.declared.commands.import.ImportWords.{ImportWords}
 use Rattle.command_line.specs.declared.commands.report.Paper.{Paper}
 use Rattle.command_line.specs.declared.commands.report.Paper.TheVariants as papers
+use Rattle.command_line.specs.declared.commands.report.ReportWords.{ReportWords}
 use Rattle.command_line.specs.declared.commands.serve.ServeWords.{ServeWords}
 use Rattle.vend_commands.specs.declared.command_end.CommandEnd.TheVariants as how
 use Rattle.command_line.specs.declared.transform.Shipped.{Shipped}
@@ -104,8 +106,8 @@ visit_ends : {S : Type 0} (store : Ghosts S) (place : Place) (transform : Shippe
 visit_ends store place transform Does o end ends (unopened fault fails told) = told_ends o _ _ how.Refused end (omega arith) told
 visit_ends store place transform Does o end ends (visited old new opened finds done closes) = ends (seen_in old) (seen_in new) done
 
-asked_at_ends : {S : Type 0} (store : Ghosts S) (at : Text → Place) (transform : Shipped) (file : Text) (moment : ℕ) (request : Request) (o : Outputs) (end : CommandEnd) → IsAskedAt store at transform file moment request o end → exit_status_of end ≤ 1
-asked_at_ends store at transform file moment request o end asked = visit_ends store _ _ _ o end (λ old new done. reply_ends done.reply o end done.told) asked
+asked_at_ends : {S : Type 0} (store : Ghosts S) (at : Places) (transform : Shipped) (file : Text) (wait moment : ℕ) (request : Request) (o : Outputs) (end : CommandEnd) → IsAskedAt store at transform file wait moment request o end → exit_status_of end ≤ 1
+asked_at_ends store at transform file wait moment request o end asked = visit_ends store _ _ _ o end (λ old new done. reply_ends done.reply o end done.told) asked
 
 paper_ends : (paper : Paper) (old new : Seen) (o : Outputs) (end : CommandEnd) → PrintsPaper paper old new o end → exit_status_of end ≤ 1
 paper_ends (papers.Shift number) old new o end done = reply_ends done.reply o end done.told
@@ -113,8 +115,8 @@ paper_ends (papers.Receipt number) old new o end done = reply_ends done.reply o 
 paper_ends (papers.Totals number) old new o end done = totals_ends number done.totals o end done.told
 paper_ends papers.Sales old new o end done = told_ends o _ _ (export_stop_end done.stop) end (stop_low done.stop) done.told
 
-added_ends : {S : Type 0} (store : Ghosts S) (at : Text → Place) (untouched : Type 0) (words : ImportWords) (moment : ℕ) (rows : Result (List Row) RowFault) (o : Outputs) (end : CommandEnd) → AreAdded store at untouched words moment rows o end → exit_status_of end ≤ 1
-added_ends store at untouched words moment (Ok rows) o end added = asked_at_ends store at words.transform words.file.now moment _ o end added
+added_ends : {S : Type 0} (store : Ghosts S) (at : Places) (untouched : Type 0) (words : ImportWords) (moment : ℕ) (rows : Result (List Row) RowFault) (o : Outputs) (end : CommandEnd) → AreAdded store at untouched words moment rows o end → exit_status_of end ≤ 1
+added_ends store at untouched words moment (Ok rows) o end added = asked_at_ends store at words.transform words.file.now words.wait moment _ o end added
 added_ends store at untouched words moment (Err fault) o end (left, told) = told_ends o _ _ how.Refused end (omega arith) told
 
 import_ends : {S D R W : Type 0} (store : Ghosts S) (m : Machine D R W) (words : ImportWords) (moment : ℕ) (o : Outputs) (end : CommandEnd) → IsFileImported store m.at m.untouched m.reads m.lacks words moment o end → exit_status_of end ≤ 1
@@ -129,7 +131,7 @@ served_low (Err fault) = omega arith
 end_low : (meant end : CommandEnd) → exit_status_of meant ≤ 1 → end ≡ meant → exit_status_of end ≤ 1
 end_low meant end low is = subst (λ e. exit_status_of e ≤ 1) (sym is) low
 
-serving_ends : {S D R W : Type 0} (store : Ghosts S) (way : Way D R W) (at : Text → Place) (door : D) (answers : Option (List ℤ)) (words : ServeWords) (err_old err_new : Sink) (end : CommandEnd)
+serving_ends : {S D R W : Type 0} (store : Ghosts S) (way : Way D R W) (at : Places) (door : D) (answers : Option (List ℤ)) (words : ServeWords) (err_old err_new : Sink) (end : CommandEnd)
     → IsServing store way at door answers words err_old err_new end → exit_status_of end ≤ 1
 serving_ends store way at door answers words err_old err_new end (serves_unopened fault fails shut told ends) = end_low how.Refused end (omega arith) ends
 serving_ends store way at door answers words err_old err_new end (unheard old opens finds last deaf shut closes ends) = end_low how.Refused end (omega arith) ends
@@ -146,6 +148,10 @@ audit_ends place o end (absent misses told) = told_ends o _ _ how.Refused end (o
 audit_ends place o end (audits_unopened fault refuses told) = told_ends o _ _ how.Refused end (omega arith) told
 audit_ends place o end (looked answer meets audits told) = answer_told_ends answer o end told
 
+report_ends : {S : Type 0} (store : Ghosts S) (at : Places) (words : ReportWords) (o : Outputs) (end : CommandEnd) → IsReported store at words o end → exit_status_of end ≤ 1
+report_ends store at words o end (no_file misses told) = told_ends o _ _ how.Refused end (omega arith) told
+report_ends store at words o end (present printed) = visit_ends store _ _ _ o end (λ old new prints. paper_ends words.paper old new o end prints) printed
+
 done_ends : (Idle : Type 0) (At : ℕ → Type 0) (o : Outputs) (end : CommandEnd) (moment : Option ℕ) → ((moment : ℕ) → At moment → exit_status_of end ≤ 1) → IsDoneAt Idle At o end moment → exit_status_of end ≤ 1
 done_ends Idle At o end (Some moment) ends done = ends moment done
 done_ends Idle At o end None ends (idle, told) = told_ends o _ _ how.Refused end (omega arith) told
@@ -156,8 +162,8 @@ timed_ends Idle given answers At o end ends (moment, taken, done) = done_ends Id
 answer_ends : {S D R W : Type 0} (store : Ghosts S) (m : Machine D R W) (asked : Asked) (o : Outputs) (end : CommandEnd) → IsCarriedOut store m asked o end → exit_status_of end ≤ 1
 answer_ends store m (asks.Trial words) o end (idle, done) = timed_ends ⊤ words.at m.answers _ o end (λ moment tried. told_ends o _ _ (trial_end tried.2) end (trial_low tried.2) tried.4) done
 answer_ends store m (asks.Import words) o end (shut, done) = timed_ends m.untouched words.at m.answers _ o end (λ moment imported. import_ends store m words moment o end imported) done
-answer_ends store m (asks.Request words) o end (shut, done) = timed_ends m.untouched words.at m.answers _ o end (λ moment asked. asked_at_ends store m.at words.transform words.file.now moment words.request o end asked) done
-answer_ends store m (asks.Report words) o end (shut, done) = visit_ends store _ _ _ o end (λ old new printed. paper_ends words.paper old new o end printed) done
+answer_ends store m (asks.Request words) o end (shut, done) = timed_ends m.untouched words.at m.answers _ o end (λ moment asked. asked_at_ends store m.at words.transform words.file.now words.wait moment words.request o end asked) done
+answer_ends store m (asks.Report words) o end (shut, done) = report_ends store m.at words o end done
 answer_ends store m (asks.Meter words) o end (idle, done) = told_ends o _ _ how.Done end (omega arith) done
 answer_ends store m (asks.Quote words) o end (idle, done) =
     let bought = purchase_of words.steps words.prior words.tender in
@@ -165,7 +171,7 @@ answer_ends store m (asks.Quote words) o end (idle, done) =
 answer_ends store m (asks.Serve words) o end (left, done) = serving_ends store m.way m.at m.door m.answers words o.err_old o.err_new end done.1
 answer_ends store m (asks.Selfcheck words) o end (untouched, shut, agreed has told) = told_ends o _ _ how.Done end (omega arith) told
 answer_ends store m (asks.Selfcheck words) o end (untouched, shut, failed fault why told) = told_ends o _ _ how.Refused end (omega arith) told
-answer_ends store m (asks.Audit words) o end (shut, done) = audit_ends (m.at words.file.now) o end done
+answer_ends store m (asks.Audit words) o end (shut, done) = audit_ends (m.at words.file.now words.wait) o end done
 
 -- words that ask for something never end as bad words
 run_ends : {S D R W : Type 0} (store : Ghosts S) (m : Machine D R W) (words : List Text) (o : Outputs) (end : CommandEnd) (asked : Asked) → AskFor words asked → IsProgramRun store m words o end → exit_status_of end ≤ 1

@@ -21,6 +21,7 @@ use Rattle.command_line.specs.declared.asked.Asked.TheVariants as asks
 use Rattle.command_line.specs.declared.commands.import.ImportWords.{ImportWords}
 use Rattle.command_line.specs.declared.commands.report.Paper.{Paper}
 use Rattle.command_line.specs.declared.commands.report.Paper.TheVariants as papers
+use Rattle.command_line.specs.declared.commands.report.ReportWords.{ReportWords}
 use Rattle.command_line.specs.declared.commands.serve.ServeWords.{ServeWords}
 use Rattle.command_line.specs.declared.transform.Shipped.{Shipped}
 use Rattle.vend_commands.specs.commands.Asked.{IsAskedAt}
@@ -30,8 +31,9 @@ use Rattle.vend_commands.specs.commands.Imported.{AreAdded, IsFileImported}
 use Rattle.vend_commands.specs.serving.Listening.{IsDeaf, IsServing}
 use Rattle.vend_commands.specs.serving.Listening.IsDeaf.{no_listener, no_room as deaf_for_room, no_text, not_told}
 use Rattle.vend_commands.specs.serving.Listening.IsServing.{unheard, unopened as serves_unopened, was_open}
-use Rattle.vend_commands.specs.port.Places.{Machine, Place, Way}
-use Rattle.vend_commands.specs.commands.Reported.{PrintsPaper}
+use Rattle.vend_commands.specs.port.Places.{Machine, Place, Places, Way}
+use Rattle.vend_commands.specs.commands.Reported.{IsReported, PrintsPaper}
+use Rattle.vend_commands.specs.commands.Reported.IsReported.{absent as no_file, present}
 use Rattle.vend_commands.specs.Run.{IsCarriedOut, IsExplained, IsProgramRun}
 use Rattle.vend_commands.specs.Run.IsProgramRun.{answered, bad_word, explained, no_room}
 use Rattle.vend_commands.specs.commands.Selfchecked.IsSelfchecked.{agreed, failed}
@@ -65,8 +67,8 @@ visit_same : {S : Type 0} (store : Ghosts S) (place : Place) (transform : Shippe
 visit_same store place transform Does o end same (unopened fault fails told) = told_same o _ _ _ end told
 visit_same store place transform Does o end same (visited old new opened finds done closes) = same (seen_in old) (seen_in new) done
 
-asked_at_same : {S : Type 0} (store : Ghosts S) (at : Text → Place) (transform : Shipped) (file : Text) (moment : ℕ) (request : Request) (o : Outputs) (end : CommandEnd) → IsAskedAt store at transform file moment request o end → AreSame o
-asked_at_same store at transform file moment request o end asked = visit_same store _ _ _ o end (λ old new done. reply_same done.reply o end done.told) asked
+asked_at_same : {S : Type 0} (store : Ghosts S) (at : Places) (transform : Shipped) (file : Text) (wait moment : ℕ) (request : Request) (o : Outputs) (end : CommandEnd) → IsAskedAt store at transform file wait moment request o end → AreSame o
+asked_at_same store at transform file wait moment request o end asked = visit_same store _ _ _ o end (λ old new done. reply_same done.reply o end done.told) asked
 
 paper_same : (paper : Paper) (old new : Seen) (o : Outputs) (end : CommandEnd) → PrintsPaper paper old new o end → AreSame o
 paper_same (papers.Shift number) old new o end done = reply_same done.reply o end done.told
@@ -74,8 +76,8 @@ paper_same (papers.Receipt number) old new o end done = reply_same done.reply o 
 paper_same (papers.Totals number) old new o end done = totals_same number done.totals o end done.told
 paper_same papers.Sales old new o end done = told_same o _ _ _ end done.told
 
-added_same : {S : Type 0} (store : Ghosts S) (at : Text → Place) (untouched : Type 0) (words : ImportWords) (moment : ℕ) (rows : Result (List Row) RowFault) (o : Outputs) (end : CommandEnd) → AreAdded store at untouched words moment rows o end → AreSame o
-added_same store at untouched words moment (Ok rows) o end added = asked_at_same store at words.transform words.file.now moment _ o end added
+added_same : {S : Type 0} (store : Ghosts S) (at : Places) (untouched : Type 0) (words : ImportWords) (moment : ℕ) (rows : Result (List Row) RowFault) (o : Outputs) (end : CommandEnd) → AreAdded store at untouched words moment rows o end → AreSame o
+added_same store at untouched words moment (Ok rows) o end added = asked_at_same store at words.transform words.file.now words.wait moment _ o end added
 added_same store at untouched words moment (Err fault) o end (left, told) = told_same o _ _ _ end told
 
 import_same : {S D R W : Type 0} (store : Ghosts S) (m : Machine D R W) (words : ImportWords) (moment : ℕ) (o : Outputs) (end : CommandEnd) → IsFileImported store m.at m.untouched m.reads m.lacks words moment o end → AreSame o
@@ -88,7 +90,7 @@ deaf_same way address door last old new (no_listener fails told) = told.same
 deaf_same way address door last old new (no_text port is_port listens told) = told.same
 deaf_same way address door last old new (not_told port is_port listens cut told) = told.same
 
-serving_same : {S D R W : Type 0} (store : Ghosts S) (way : Way D R W) (at : Text → Place) (door : D) (answers : Option (List ℤ)) (words : ServeWords) (old new : Sink) (end : CommandEnd)
+serving_same : {S D R W : Type 0} (store : Ghosts S) (way : Way D R W) (at : Places) (door : D) (answers : Option (List ℤ)) (words : ServeWords) (old new : Sink) (end : CommandEnd)
     → IsServing store way at door answers words old new end → new.name ≡ old.name
 serving_same store way at door answers words old new end (serves_unopened fault fails shut told ends) = told.same
 serving_same store way at door answers words old new end (unheard books opens finds last deaf shut closes ends) = deaf_same way words.listen door last old new deaf
@@ -105,6 +107,10 @@ audit_same place o end (absent misses told) = told_same o _ _ _ end told
 audit_same place o end (audits_unopened fault refuses told) = told_same o _ _ _ end told
 audit_same place o end (looked answer meets audits told) = answer_told_same answer o end told
 
+report_same : {S : Type 0} (store : Ghosts S) (at : Places) (words : ReportWords) (o : Outputs) (end : CommandEnd) → IsReported store at words o end → AreSame o
+report_same store at words o end (no_file misses told) = told_same o _ _ _ end told
+report_same store at words o end (present printed) = visit_same store _ _ _ o end (λ old new prints. paper_same words.paper old new o end prints) printed
+
 done_same : (Idle : Type 0) (At : ℕ → Type 0) (o : Outputs) (end : CommandEnd) (moment : Option ℕ) → ((moment : ℕ) → At moment → AreSame o) → IsDoneAt Idle At o end moment → AreSame o
 done_same Idle At o end (Some moment) same done = same moment done
 done_same Idle At o end None same (idle, told) = told_same o _ _ _ end told
@@ -115,15 +121,15 @@ timed_same Idle given answers At o end same (moment, taken, done) = done_same Id
 answer_same : {S D R W : Type 0} (store : Ghosts S) (m : Machine D R W) (asked : Asked) (o : Outputs) (end : CommandEnd) → IsCarriedOut store m asked o end → AreSame o
 answer_same store m (asks.Trial words) o end (idle, done) = timed_same ⊤ words.at m.answers _ o end (λ moment tried. told_same o _ _ _ end tried.4) done
 answer_same store m (asks.Import words) o end (shut, done) = timed_same m.untouched words.at m.answers _ o end (λ moment imported. import_same store m words moment o end imported) done
-answer_same store m (asks.Request words) o end (shut, done) = timed_same m.untouched words.at m.answers _ o end (λ moment asked. asked_at_same store m.at words.transform words.file.now moment words.request o end asked) done
-answer_same store m (asks.Report words) o end (shut, done) = visit_same store _ _ _ o end (λ old new printed. paper_same words.paper old new o end printed) done
+answer_same store m (asks.Request words) o end (shut, done) = timed_same m.untouched words.at m.answers _ o end (λ moment asked. asked_at_same store m.at words.transform words.file.now words.wait moment words.request o end asked) done
+answer_same store m (asks.Report words) o end (shut, done) = report_same store m.at words o end done
 answer_same store m (asks.Meter words) o end (idle, done) = told_same o _ _ _ end done
 answer_same store m (asks.Quote words) o end (idle, done) = told_same o _ _ _ end done
 answer_same store m (asks.Serve words) o end (left, done) =
     record { out = ap (λ s. s.name) done.0; err = serving_same store m.way m.at m.door m.answers words o.err_old o.err_new end done.1 }
 answer_same store m (asks.Selfcheck words) o end (untouched, shut, agreed has told) = told_same o _ _ _ end told
 answer_same store m (asks.Selfcheck words) o end (untouched, shut, failed fault why told) = told_same o _ _ _ end told
-answer_same store m (asks.Audit words) o end (shut, done) = audit_same (m.at words.file.now) o end done
+answer_same store m (asks.Audit words) o end (shut, done) = audit_same (m.at words.file.now words.wait) o end done
 
 explained_same : (kind : ErrorKind) (text : Text) (o : Outputs) (end : CommandEnd) → IsExplained kind text o end → AreSame o
 explained_same OutOfMemory text o end none = absurd none

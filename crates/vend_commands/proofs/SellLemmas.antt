@@ -28,7 +28,7 @@ use Rattle.vend_core.specs.declared.office.shift.Shift.{Shift}
 use Rattle.vend_commands.specs.Selling.{EndsSold, TellsSale}
 use Rattle.vend_commands.specs.office.Served.{TellsReply, answer_text}
 use Rattle.vend_commands.specs.commands.Asked.{IsAskedAt}
-use Rattle.vend_commands.specs.port.Places.{Place}
+use Rattle.vend_commands.specs.port.Places.{Places}
 use Rattle.vend_commands.specs.print.Told.{IsTold, Outputs, Takes}
 use Rattle.vend_commands.specs.office.Visited.{seen_in}
 use Rattle.vend_commands.specs.office.Visited.IsVisited.{unopened, visited}
@@ -101,9 +101,9 @@ pub sale_told : (sale : Sale) (o : Outputs) (end : CommandEnd) → TellsReply (O
 sale_told sale o end (inl told) = told
 sale_told sale o end (inr (none, told)) = absurd none
 
-pub ends_sold : {S : Type 0} (store : Ghosts S) (answers_stand : (forward : BlockFunction) (o : Office) (at : Stamped) → All (Contains (step forward o at).sales) (sales_of (reply forward o at))) (at : Text → Place) (path : Text) (transform : Shipped) (order : Order) (moment : ℕ) (office : Office) (o : Outputs) → StandsIn (at path).image office → IsAskedAt store at transform path moment (Sell order) o how.Done → EndsSold store (at path).closes transform order moment office o
-ends_sold store answers_stand places path transform order moment office o stands (unopened fault fails told) = absurd (not_refused o _ _ told)
-ends_sold store answers_stand places path transform order moment office o stands (visited old new begins finds done closes) =
+pub ends_sold : {S : Type 0} (store : Ghosts S) (answers_stand : (forward : BlockFunction) (o : Office) (at : Stamped) → All (Contains (step forward o at).sales) (sales_of (reply forward o at))) (at : Places) (path : Text) (wait : ℕ) (transform : Shipped) (order : Order) (moment : ℕ) (office : Office) (o : Outputs) → StandsIn (at path wait).image office → IsAskedAt store at transform path wait moment (Sell order) o how.Done → EndsSold store (at path wait).closes transform order moment office o
+ends_sold store answers_stand places path wait transform order moment office o stands (unopened fault fails told) = absurd (not_refused o _ _ told)
+ends_sold store answers_stand places path wait transform order moment office o stands (visited old new begins finds done closes) =
     let forward = forward_of transform in
     let told = is_answered done.reply o done.told in
     let at = done.replied.0 in

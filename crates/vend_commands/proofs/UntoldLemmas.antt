@@ -9,12 +9,13 @@ use Rattle.sts_token.specs.Token.{BlockFunction}
 use Rattle.command_line.specs.declared.address.Address.{Address}
 use Rattle.command_line.specs.declared.asked.Asked.{Asked}
 use Rattle.command_line.specs.declared.asked.Asked.TheVariants as asks
+use Rattle.command_line.specs.declared.commands.report.ReportWords.{ReportWords}
 use Rattle.command_line.specs.declared.commands.serve.ServeWords.{ServeWords}
 use Rattle.vend_commands.specs.serving.Connections.{AreHeld, AreServed, IsHeld, IsUnheld, Service, service}
 use Rattle.vend_commands.specs.serving.Listening.{IsDeaf, IsServing}
 use Rattle.vend_commands.specs.serving.Listening.IsDeaf.{no_listener, no_room as deaf_for_room, no_text, not_told}
 use Rattle.vend_commands.specs.serving.Listening.IsServing.{unheard, unopened, was_open}
-use Rattle.vend_commands.specs.port.Places.{Loop, Place, Way, machine, untold_loop, untold_place, untold_way}
+use Rattle.vend_commands.specs.port.Places.{Loop, Place, Places, Way, machine, untold_loop, untold_place, untold_way, where_present}
 use Rattle.vend_commands.specs.Run.{IsCarriedOut, IsProgramRun}
 use Rattle.vend_commands.specs.Run.IsProgramRun.{answered, bad_word, explained, no_room}
 use Rattle.vend_commands.specs.commands.Selfchecked.{HasReplies}
@@ -23,6 +24,8 @@ use Rattle.vend_commands.proofs.RunLemmas.{selfcheck_done}
 use Rattle.vend_commands.specs.commands.Audited.{IsAudited}
 use Rattle.vend_commands.specs.commands.Audited.IsAudited.{absent, looked, unopened as audits_unopened}
 use Rattle.vend_commands.specs.commands.Imported.{AreAdded, IsFileImported}
+use Rattle.vend_commands.specs.commands.Reported.{IsReported}
+use Rattle.vend_commands.specs.commands.Reported.IsReported.{absent as no_file, present}
 use Rattle.vend_commands.specs.commands.Timed.{IsTimed}
 use Rattle.vend_commands.specs.office.Visited.{IsVisited}
 use Rattle.vend_commands.specs.office.Visited.IsVisited.{unopened as unvisited, visited}
@@ -46,13 +49,17 @@ audited_bare place o end (absent misses told) = absent tt told
 audited_bare place o end (audits_unopened fault refuses told) = audits_unopened fault tt told
 audited_bare place o end (looked answer meets audits told) = looked answer tt audits told
 
-added_bare : {S : Type 0} (store : Ghosts S) (at : Text → Place) (untouched : Type 0) (words : ImportWords) (moment : ℕ) (rows : Result (List Row) RowFault) (o : Outputs) (end : CommandEnd)
-    → AreAdded store at untouched words moment rows o end → AreAdded store (λ path. bare_place (at path)) ⊤ words moment rows o end
-added_bare store at untouched words moment (Ok rows) o end added = visited_bare store (at words.file.now) words.transform _ o end added
+reported_bare : {S : Type 0} (store : Ghosts S) (at : Places) (words : ReportWords) (o : Outputs) (end : CommandEnd) → IsReported store at words o end → IsReported store (λ path wait. bare_place (at path wait)) words o end
+reported_bare store at words o end (no_file misses told) = no_file tt told
+reported_bare store at words o end (present printed) = present (visited_bare store (where_present (at words.file.now words.wait)) Plain _ o end printed)
+
+added_bare : {S : Type 0} (store : Ghosts S) (at : Places) (untouched : Type 0) (words : ImportWords) (moment : ℕ) (rows : Result (List Row) RowFault) (o : Outputs) (end : CommandEnd)
+    → AreAdded store at untouched words moment rows o end → AreAdded store (λ path wait. bare_place (at path wait)) ⊤ words moment rows o end
+added_bare store at untouched words moment (Ok rows) o end added = visited_bare store (at words.file.now words.wait) words.transform _ o end added
 added_bare store at untouched words moment (Err fault) o end (left, told) = (tt, told)
 
-imported_bare : {S : Type 0} (store : Ghosts S) (at : Text → Place) (untouched : Type 0) (reads : Text → List ℕ → Type 0) (lacks : Text → FileFault → Type 0) (words : ImportWords) (moment : ℕ) (o : Outputs) (end : CommandEnd)
-    → IsFileImported store at untouched reads lacks words moment o end → IsFileImported store (λ path. bare_place (at path)) ⊤ reads lacks words moment o end
+imported_bare : {S : Type 0} (store : Ghosts S) (at : Places) (untouched : Type 0) (reads : Text → List ℕ → Type 0) (lacks : Text → FileFault → Type 0) (words : ImportWords) (moment : ℕ) (o : Outputs) (end : CommandEnd)
+    → IsFileImported store at untouched reads lacks words moment o end → IsFileImported store (λ path wait. bare_place (at path wait)) ⊤ reads lacks words moment o end
 imported_bare store at untouched reads lacks words moment o end (inl (bytes, read, (records, rows, are, reading, added))) = inl (bytes, read, (records, rows, are, reading, added_bare store at untouched words moment rows o end added))
 imported_bare store at untouched reads lacks words moment o end (inr (fault, lacked, left, told)) = inr (fault, lacked, tt, told)
 
@@ -83,27 +90,30 @@ module _ {D R W B : Type 0} (way : Way D R W) (see : B → Seen) where
   unheld_bare old new none = record { refused = tt; books = none.books; answers = none.answers }
 
 module _ {D R W B : Type 0} (way : Way D R W) (forward : BlockFunction) (see : B → Seen) where
-  all_bare : (count : ℕ) (old new : Service D B) → AreHeld way forward see count old new → AreHeld untold_way forward see count (bare old) (bare new)
-  all_bare zero old new same = ap bare same
-  all_bare (suc count) old new (mid, held, (ready, are, one)) = (bare mid, all_bare count old mid held, (ready, are, held_bare way see (service mid.door ready mid.answers) new one))
+  all_bare : (count : ℕ) (old new : Service D B) (printed : Text) → AreHeld way forward see count old new printed → AreHeld untold_way forward see count (bare old) (bare new) printed
+  all_bare zero old new printed (same, none) = (ap bare same, none)
+  all_bare (suc count) old new printed (mid, before, held, (ready, are, one), all) =
+      (bare mid, before, all_bare count old mid before held, (ready, are, held_bare way see (service mid.door ready mid.answers) new one), all)
 
-  served_bare : (loses : OpenFault → Type 0) (asked : ℕ) (old : Service D B) (door : D) (answers : Option (List ℤ)) (served : Result (B × Bool) OpenFault)
-      → AreServed way forward see loses asked old door answers served → AreServed untold_way forward see (λ fault. ⊤) asked (bare old) tt answers served
-  served_bare loses asked old door answers (Ok (books, true)) held = all_bare asked old (service door books answers) held
-  served_bare loses asked old door answers (Ok (books, false)) none = record {
+  served_bare : (loses : OpenFault → Type 0) (asked : ℕ) (old : Service D B) (door : D) (answers : Option (List ℤ)) (served : Result (B × Bool) OpenFault) (printed : Text)
+      → AreServed way forward see loses asked old door answers served printed → AreServed untold_way forward see (λ fault. ⊤) asked (bare old) tt answers served printed
+  served_bare loses asked old door answers (Ok (books, true)) printed held = all_bare asked old (service door books answers) printed held
+  served_bare loses asked old door answers (Ok (books, false)) printed none = record {
     count = none.count;
     fewer = none.fewer;
     last = bare none.last;
-    held = all_bare none.count old none.last none.held;
+    before = none.before;
+    held = all_bare none.count old none.last none.before none.held;
     ready = none.ready;
     are_ready = none.are_ready;
     unheld = unheld_bare way see (service none.last.door none.ready none.last.answers) (service door books answers) none.unheld;
+    printed_is = none.printed_is;
   }
-  served_bare loses asked old door answers (Err fault) lost = record {
+  served_bare loses asked old door answers (Err fault) printed lost = record {
     count = lost.count;
     fewer = lost.fewer;
     last = bare lost.last;
-    held = all_bare lost.count old lost.last lost.held;
+    held = all_bare lost.count old lost.last printed lost.held;
     lost = (lost.lost.0, tt);
     door = refl;
     answers = lost.answers;
@@ -115,9 +125,9 @@ deaf_bare way address door last old new (no_listener fails told) = no_listener t
 deaf_bare way address door last old new (no_text port is_port listens told) = no_text port is_port tt told
 deaf_bare way address door last old new (not_told port is_port listens cut told) = not_told port is_port tt cut told
 
-module _ {S D R W : Type 0} (store : Ghosts S) (way : Way D R W) (at : Text → Place) (door : D) where
+module _ {S D R W : Type 0} (store : Ghosts S) (way : Way D R W) (at : Places) (door : D) where
   serving_bare : (answers : Option (List ℤ)) (words : ServeWords) (err_old err_new : Sink) (end : CommandEnd)
-      → IsServing store way at door answers words err_old err_new end → IsServing store untold_way (λ path. bare_place (at path)) tt answers words err_old err_new end
+      → IsServing store way at door answers words err_old err_new end → IsServing store untold_way (λ path wait. bare_place (at path wait)) tt answers words err_old err_new end
   serving_bare answers words err_old err_new end (unopened fault fails shut told ends) = unopened fault tt tt told ends
   serving_bare answers words err_old err_new end (unheard old opens finds last deaf shut closes ends) = unheard old opens tt tt (deaf_bare way words.listen door last err_old err_new deaf) tt closes ends
   serving_bare answers words err_old err_new end (was_open old opens finds were) =
@@ -128,7 +138,8 @@ module _ {S D R W : Type 0} (store : Ghosts S) (way : Way D R W) (at : Text → 
         last = tt;
         left = were.left;
         served = were.served;
-        are_served = served_bare way _ _ _ words.connections (service were.listening old answers) were.last were.left were.served were.are_served;
+        printed = were.printed;
+        are_served = served_bare way _ _ _ words.connections (service were.listening old answers) were.last were.left were.served were.printed were.are_served;
         leaves = tt;
         closed = were.closed;
         told = were.told;
@@ -137,20 +148,20 @@ module _ {S D R W : Type 0} (store : Ghosts S) (way : Way D R W) (at : Text → 
 
   module _ (untouched : Type 0) (reads : Text → List ℕ → Type 0) (lacks : Text → FileFault → Type 0) (answers : Option (List ℤ)) (loop : Loop)
       (less : (transform : Shipped) → loop.agrees transform → HasReplies transform) where
-    carried_bare : (asked : Asked) (o : Outputs) (end : CommandEnd) → IsCarriedOut store (machine at untouched reads lacks answers way door loop) asked o end → IsCarriedOut store (machine (λ path. bare_place (at path)) ⊤ reads lacks answers untold_way tt untold_loop) asked o end
+    carried_bare : (asked : Asked) (o : Outputs) (end : CommandEnd) → IsCarriedOut store (machine at untouched reads lacks answers way door loop) asked o end → IsCarriedOut store (machine (λ path wait. bare_place (at path wait)) ⊤ reads lacks answers untold_way tt untold_loop) asked o end
     carried_bare (asks.Trial words) o end (idle, done) = ((tt, (tt, tt)), done)
     carried_bare (asks.Import words) o end (left, done) = ((tt, tt), timed_bare untouched words.at answers _ _ o end (λ moment imported. imported_bare store at untouched reads lacks words moment o end imported) done)
-    carried_bare (asks.Request words) o end (left, done) = ((tt, tt), timed_bare untouched words.at answers _ _ o end (λ moment asked. visited_bare store (at words.file.now) words.transform _ o end asked) done)
-    carried_bare (asks.Report words) o end (left, done) = ((tt, tt), visited_bare store (at words.file.now) Plain _ o end done)
+    carried_bare (asks.Request words) o end (left, done) = ((tt, tt), timed_bare untouched words.at answers _ _ o end (λ moment asked. visited_bare store (at words.file.now words.wait) words.transform _ o end asked) done)
+    carried_bare (asks.Report words) o end (left, done) = ((tt, tt), reported_bare store at words o end done)
     carried_bare (asks.Meter words) o end (idle, done) = ((tt, (tt, tt)), done)
     carried_bare (asks.Quote words) o end (idle, done) = ((tt, (tt, tt)), done)
     carried_bare (asks.Serve words) o end (left, done) = (tt, (done.0, serving_bare answers words o.err_old o.err_new end done.1))
     carried_bare (asks.Selfcheck words) o end (left, shut, done) = (tt, tt, selfcheck_done o end _ _ _ _ (less words.transform) (λ fault why. tt) done)
-    carried_bare (asks.Audit words) o end (left, done) = ((tt, tt), audited_bare (at words.file.now) o end done)
+    carried_bare (asks.Audit words) o end (left, done) = ((tt, tt), audited_bare (at words.file.now words.wait) o end done)
 
     -- a run of the program, of which nothing is told but that
     pub run_bare : (words : List Text) (o : Outputs) (end : CommandEnd) → IsProgramRun store (machine at untouched reads lacks answers way door loop) words o end
-        → IsProgramRun store (machine (λ path. bare_place (at path)) ⊤ reads lacks answers untold_way tt untold_loop) words o end
+        → IsProgramRun store (machine (λ path wait. bare_place (at path wait)) ⊤ reads lacks answers untold_way tt untold_loop) words o end
     run_bare words o end (answered asked for done) = answered asked for (carried_bare asked o end done)
     run_bare words o end (bad_word idle no_fault none told) = bad_word (tt, (tt, tt)) no_fault none told
     run_bare words o end (explained idle kind text among some says) = explained (tt, (tt, tt)) kind text among some says

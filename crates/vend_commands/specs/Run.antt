@@ -35,7 +35,8 @@ IsCarriedOut store m (Trial words) o end =
 IsCarriedOut store m (Import words) o end = IsOffline m × IsTimed m.untouched words.at m.answers
     (λ moment. IsFileImported store m.at m.untouched m.reads m.lacks words moment o end) o end
 IsCarriedOut store m (Request words) o end = IsOffline m × IsTimed m.untouched words.at m.answers
-    (λ moment. IsAskedAt store m.at words.transform words.file.now moment words.request o end) o end
+    (λ moment. IsAskedAt store m.at words.transform words.file.now words.wait moment
+    words.request o end) o end
 IsCarriedOut store m (Report words) o end = IsOffline m × IsReported store m.at words o end
 IsCarriedOut store m (Meter words) o end = IsIdle m × IsMetered words o end
 IsCarriedOut store m (Quote words) o end = IsIdle m × IsQuoted words o end
@@ -43,7 +44,7 @@ IsCarriedOut store m (Serve words) o end =
     m.loop.leaves × IsServedTo store m.way m.at m.door m.answers words o end
 IsCarriedOut store m (Selfcheck words) o end = m.untouched × IsShut m
     × IsSelfchecked (m.loop.agrees words.transform) (m.loop.disagrees words.transform) o end
-IsCarriedOut store m (Audit words) o end = IsOffline m × IsAudited (m.at words.file.now) o end
+IsCarriedOut store m (Audit words) o end = IsOffline m × IsAudited (m.at words.file.now words.wait) o end
 
 -- what is said of words that are no command's: help, which goes to the output, or what is wrong
 -- with them, which goes to the error output

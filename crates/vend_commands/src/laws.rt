@@ -37,12 +37,13 @@ use vend_core::{history_law, office_law};
 /// a crash may leave of them as they are closed. Of a sale nothing is told but the receipt: what is
 /// told of want of memory came before any sale stood.
 pub fn sell_law<H: OfficeFile>()
-    ensures done { (file : H) (path : Text) (transform : Shipped) (order : Order) (moment : ℕ)
+    ensures done { (file : H) (path : Text) (wait : ℕ) (transform : Shipped) (order : Order)
+        (moment : ℕ)
         (office : Office)
         (o : Outputs) → StandsIn (H.image file path) office
         → IsAskedAt ⟦<FileStore<H::Medium> as Store>⟧
         (places_of H.Medium.Disk H.Salts.SaltSource H.OfficeFile file)
-        transform path moment (Sell order) o Done
+        transform path wait moment (Sell order) o Done
         → EndsSold ⟦<FileStore<H::Medium> as Store>⟧
         (IsClosed H.Medium.Disk H.lets_go) transform order
         moment office o }
@@ -56,8 +57,9 @@ pub fn sell_law<H: OfficeFile>()
 /// returned what was written, that is the count of a database that an opening of the files may
 /// find, which passes.
 pub fn sound_law<H: OfficeFile>()
-    ensures { (file : H) (path : Text) (o : Outputs)
-        → IsAudited (places_of H.Medium.Disk H.Salts.SaltSource H.OfficeFile file path) o Done
+    ensures { (file : H) (path : Text) (wait : ℕ) (o : Outputs)
+        → IsAudited (places_of H.Medium.Disk H.Salts.SaltSource H.OfficeFile file path wait) o
+        Done
         → EndsSound H.Medium.Disk (H.image file path) H.lets_go o }
 {}
 
@@ -68,9 +70,9 @@ pub fn sound_law<H: OfficeFile>()
 pub fn serve_law<H: OfficeFile, D: Door>()
     ensures { (forward : BlockFunction) (count : ℕ)
         (old new : Service D (Books (Files H.Medium H.Medium.Disk) Shipped
-        ⟦<FileStore<H::Medium> as Store>⟧)) (start : Course)
+        ⟦<FileStore<H::Medium> as Store>⟧)) (printed : Text) (start : Course)
         → AreHeld (way D.Door D.Reader.remaining D.Writer.contents)
-        forward seen_in count old new
+        forward seen_in count old new printed
         → HasCleanDisk (seen_in new.books).state
         → RepresentTheLast start.over start.life (seen_in old.books)
         → ∥ LiveOn (way D.Door D.Reader.remaining D.Writer.contents)

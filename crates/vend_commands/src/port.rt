@@ -5,6 +5,8 @@ pub(crate) mod file_fault;
 pub(crate) mod loopback;
 pub(crate) mod machine;
 pub(crate) mod machine_door;
+pub(crate) mod openings;
 pub(crate) mod patient;
 pub(crate) mod ports;
 pub(crate) mod progress;
+pub(crate) mod tries;

@@ -19,6 +19,7 @@ use crate::port::door::Door;
 use crate::port::loopback::Loopback;
 use crate::port::machine::{MachineFile, MachineTexts};
 use crate::port::machine_door::MachineDoor;
+use crate::port::openings::EachTry;
 use crate::port::ports::{OfficeFile, Ports, TextFiles};
 use crate::port::progress::{Progress, TerminalProgress};
 use crate::print::explanation::Explanation;
@@ -47,8 +48,8 @@ pub fn run<B: Start, O: Write, E: Write>(
     err: &mut E,
 ) -> u8
     ensures run { (end : CommandEnd) × (out_failed err_failed : Bool) × (out_name err_name : ℕ)
-        × IsProgramRun ⟦<FileStore<FileFrom<B>> as Store>⟧
-        (untold ⟦<FileFrom<B> as Disk>⟧ (image_at B.Start))
+        × IsProgramRun ⟦<FileStore<FileFrom<EachTry<B>>> as Store>⟧
+        (untold ⟦<FileFrom<EachTry<B>> as Disk>⟧ (image_at B.Start))
         (map (λ w. w.now) words.now)
         (outputs (writer (O.contents out.old) false out_name)
         (writer (O.contents out.new) out_failed out_name)

@@ -1,27 +1,34 @@
 //! Connections to a door, served one after another over any books.
 
-ghost use Rattle.std.specs.Prelude.{MatchResult};
+ghost use Rattle.std.specs.Prelude.{[], MatchResult};
 ghost use Rattle.std.specs.Bool.{MatchBool};
 ghost use Rattle.command_line.specs.Transform.{forward_of};
-ghost use Rattle.vend_commands.specs.serving.Connections.{AreLost, AreReady, AreServed, IsHeld, IsUnheld, service};
+ghost use Rattle.sts_fields.specs.Text.{Text};
+ghost use Rattle.vend_commands.specs.serving.Connections.{AreLost, AreReady, AreServed, IsHeld, IsUnheld, open_text, service, stopped_text};
 ghost use Rattle.vend_commands.specs.port.Places.{IsUnreopened, way};
 ghost use Rattle.vend_commands.specs.office.Visited.{seen_in};
+ghost use Rattle.vend_commands.specs.print.Told.{Takes, sink};
 
 use crate::office::reopening::open_again;
 use crate::port::door::Door;
 use crate::port::ports::OfficeFile;
+use crate::print::lines::{put_open, put_stopped};
+use crate::print::watched::Watched;
 use books::{Books, OpenFault};
 use command_line::{ServeWords, Shipped};
 use desk::{Clock, Desk};
 use sqlite::{Alter, FileStore};
 use std::alloc::Global;
+use std::io::Write;
 
 /// Serves as many connections as the words ask for, one after another. Answers the books as they
 /// are left and whether all connections could be had, or why the file of stopped books was not
 /// opened again.
 ///
-/// However a conversation ends, its connection is let go then, and counts.
-pub fn serve<H: OfficeFile, D: Door, C: Clock>(
+/// However a conversation ends, its connection is let go then, and counts. If it left the books
+/// stopped, that is told then, and that they are open again before the next connection is taken. It
+/// serves on where that cannot be told.
+pub fn serve<H: OfficeFile, D: Door, C: Clock, E: Write>(
     words: &ServeWords,
     alloc: Global,
     desk: &Desk,
@@ -29,41 +36,65 @@ pub fn serve<H: OfficeFile, D: Door, C: Clock>(
     door: &mut D,
     books: Books<FileStore<H::Medium>, Shipped>,
     clock: &mut C,
+    err: &mut Watched<'_, E>,
 ) -> Result<(Books<FileStore<H::Medium>, Shipped>, bool), OpenFault>
-    ensures { AreServed
+    ensures { (printed : Text) × AreServed
         (way D.Door D.Reader.remaining D.Writer.contents)
         (forward_of words.now.transform) seen_in
         (IsUnreopened H.Salts.SaltSource) words.now.connections
-        (service door.old books (C.answers clock.old)) door.new (C.answers clock.new) result }
+        (service door.old books (C.answers clock.old)) door.new (C.answers clock.new) result printed
+        × Takes (sink E.contents err.old) (sink E.contents err.new) printed }
 {
     let mut books = books;
     for _connection in 0..words.connections {
-        books = match readied::<H>(alloc, salts, books, words.transform) {
+        books = match readied::<H, E>(alloc, salts, books, words.transform, err) {
             Ok(books) => books,
             Err(fault) => return Err(fault),
         };
         if !hold(alloc, desk, door, &mut books, clock) {
             return Ok((books, false));
         }
+        tell_stop(&books, err);
     }
     Ok((books, true))
 }
 
-// Books that are not stopped, or else those that are opened again in their file.
-fn readied<H: OfficeFile>(
+// Books that are not stopped, or else those that are opened again in their file, which is told.
+fn readied<H: OfficeFile, E: Write>(
     alloc: Global,
     salts: &H::Salts,
     books: Books<FileStore<H::Medium>, Shipped>,
     transform: Shipped,
+    err: &mut Watched<'_, E>,
 ) -> Result<Books<FileStore<H::Medium>, Shipped>, OpenFault>
-    ensures { MatchResult result
+    ensures ready { MatchResult result
         (AreReady seen_in (forward_of transform) books)
         (AreLost seen_in (IsUnreopened H.Salts.SaltSource) books) }
+    ensures told { MatchResult result
+        (λ _. Takes (sink E.contents err.old) (sink E.contents err.new)
+        (open_text (seen_in books)))
+        (λ _. Takes (sink E.contents err.old) (sink E.contents err.new) []) }
 {
     if !books.is_stopped() {
         return Ok(books);
     }
-    open_again::<H>(alloc, salts, books, transform)
+    match open_again::<H>(alloc, salts, books, transform) {
+        Ok(books) => {
+            put_open(err);
+            Ok(books)
+        }
+        Err(fault) => Err(fault),
+    }
+}
+
+// Tells that books are stopped, if they are.
+fn tell_stop<S: Alter, E: Write>(books: &Books<S, Shipped>, err: &mut Watched<'_, E>)
+    ensures { Takes (sink E.contents err.old) (sink E.contents err.new)
+        (stopped_text (seen_in books.now)) }
+{
+    if books.is_stopped() {
+        put_stopped(err);
+    }
 }
 
 // Takes the next connection, holds its conversation and lets it go. Answers whether one could be

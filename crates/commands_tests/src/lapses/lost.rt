@@ -2,7 +2,9 @@
 use crate::folder;
 use crate::lapses::lapse::{Faults, NO_FAULTS};
 use crate::lapses::ports::Trouble;
-use crate::lapses::{CALLS, LISTENING, MESSAGES, Outcome, calls_fail, count_in, served};
+use crate::lapses::{
+    CALLS, LISTENING, MESSAGES, OPEN_AGAIN, Outcome, STOPPED, calls_fail, count_in, served,
+};
 use std::test::Fail;
 use vend_commands::CommandEnd;
 
@@ -19,13 +21,13 @@ fn is_unopened(ran: &Outcome) -> bool {
 // The file cannot be opened again after a connection that is not the last.
 fn is_lost(ran: &Outcome, connections: usize) -> bool {
     ran.end == CommandEnd::Refused
-        && ran.errors.as_str() == "listening 127.0.0.1:80\nopen 3 Store\n"
+        && ran.errors.as_str().strip_prefix(STOPPED) == Some("open 3 Store\n")
         && connections < MESSAGES.len()
 }
 
-// All connections are served.
-fn is_served(ran: &Outcome, connections: usize) -> bool {
-    ran.end == CommandEnd::Done && ran.errors.as_str() == LISTENING && connections == MESSAGES.len()
+// All connections are served, and this is told.
+fn is_served(ran: &Outcome, connections: usize, told: &str) -> bool {
+    ran.end == CommandEnd::Done && ran.errors.as_str() == told && connections == MESSAGES.len()
 }
 
 // Which way a run went.
@@ -47,12 +49,12 @@ fn way_of(ran: &Outcome, whole: &str) -> Result<Way, Fail> {
     }
     let replies = ran.replies.as_str();
     let connections = count_in(replies, "HTTP/1.1 ");
-    if replies == whole && is_served(ran, connections) {
+    if replies == whole && is_served(ran, connections, LISTENING) {
         return Ok(Way::Whole);
     }
     let answered = replies.strip_suffix(FAILED_REPLY);
     if answered.is_some_and(|before| whole.starts_with(before)) {
-        if is_served(ran, connections) {
+        if is_served(ran, connections, STOPPED) {
             return Ok(Way::Failed);
         }
         if is_lost(ran, connections) {
@@ -142,6 +144,38 @@ fn nobody_is_served_where_it_is_not_told(rt: HostRuntime) -> Result<(), Fail> {
         }
     }
     let ran = served(&rt, calls_fail(true, 0, 0), LISTENING.len())?;
-    assert!(rt; is_served(&ran, count_in(ran.replies.as_str(), "HTTP/1.1 ")));
+    assert!(rt; is_served(&ran, count_in(ran.replies.as_str(), "HTTP/1.1 "), LISTENING));
+    folder::remove(&rt, path)
+}
+
+// Where a call of the log fails once, in a request: the place of the first such call.
+fn first_stop(rt: &HostRuntime) -> Result<u64, Fail> {
+    for before in 0..CALLS {
+        if served(rt, calls_fail(true, before, 1), usize::MAX)?
+            .errors
+            .as_str()
+            == OPEN_AGAIN
+        {
+            return Ok(before);
+        }
+    }
+    Err(Fail::new("no request met a failure"))
+}
+
+// The lines that tell of a stop and of its end are cut after each of their bytes: the desk serves on
+// as if they had been written.
+#[test]
+fn it_serves_on_where_a_stop_is_not_told(rt: HostRuntime) -> Result<(), Fail> {
+    let path = folder::enter(&rt)?;
+    let trouble = calls_fail(true, first_stop(&rt)?, 1);
+    let whole = served(&rt, trouble, usize::MAX)?.replies;
+    for room in LISTENING.len()..=OPEN_AGAIN.len() {
+        let ran = served(&rt, trouble, room)?;
+        let told = OPEN_AGAIN.get(..room).unwrap_or("no text ends here");
+        let connections = count_in(ran.replies.as_str(), "HTTP/1.1 ");
+        if !is_served(&ran, connections, told) || ran.replies.as_str() != whole.as_str() {
+            return Err(Fail::new(format_args!("{room}: {ran:?}")));
+        }
+    }
     folder::remove(&rt, path)
 }

@@ -46,13 +46,13 @@ impl OfficeFile for LapsingOffice {
 
     ghost image = { λ _ _. record { log = []; db = [] } };
 
-    ghost finds = { λ _ _ _ _. ⊤ };
+    ghost finds = { λ _ _ _ _ _. ⊤ };
 
-    ghost fails = { λ _ _ _. ⊤ };
+    ghost fails = { λ _ _ _ _. ⊤ };
 
-    ghost meets = { λ _ _ _ _. ⊤ };
+    ghost meets = { λ _ _ _ _ _. ⊤ };
 
-    ghost misses = { λ _ _. ⊤ };
+    ghost misses = { λ _ _ _. ⊤ };
 
     ghost lets_go = { λ _ _. ⊤ };
 
@@ -62,7 +62,7 @@ impl OfficeFile for LapsingOffice {
         OneSalt
     }
 
-    fn find(self, _path: &str) -> Result<(Lapse<Memory>, Lapse<Memory>), OpenFault> {
+    fn find(self, _path: &str, _wait: u32) -> Result<(Lapse<Memory>, Lapse<Memory>), OpenFault> {
         let Trouble {
             is_log,
             calls,
@@ -76,8 +76,12 @@ impl OfficeFile for LapsingOffice {
         Ok((sound, lapsing))
     }
 
-    fn find_present(self, path: &str) -> Result<Option<(Lapse<Memory>, Lapse<Memory>)>, OpenFault> {
-        match self.find(path) {
+    fn find_present(
+        self,
+        path: &str,
+        wait: u32,
+    ) -> Result<Option<(Lapse<Memory>, Lapse<Memory>)>, OpenFault> {
+        match self.find(path, wait) {
             Ok(files) => Ok(Some(files)),
             Err(fault) => Err(fault),
         }

@@ -10,7 +10,7 @@ use Rattle.vend_core.specs.declared.decision.refusal.Refusal.{Refusal}
 use Rattle.vend_core.specs.declared.decision.refusal.Refusal.TheVariants as refusal
 use Rattle.vend_core.specs.declared.decision.request.Request.TheVariants.{Import}
 use Rattle.vend_core.specs.declared.office.row.Row.{Row}
-use Rattle.vend_commands.specs.port.Places.{Place}
+use Rattle.vend_commands.specs.port.Places.{Places}
 use Rattle.vend_commands.specs.print.Printed.{file_line, refusal_line}
 use Rattle.vend_commands.specs.commands.Asked.{IsAskedAt}
 use Rattle.vend_commands.specs.print.Told.{Outputs, IsTold}
@@ -26,16 +26,16 @@ refusal_of_rows (At row cause) = refusal.ImportRow row cause
 refusal_of_rows Memory = refusal.Memory
 
 -- rows that were read go to the office as one request; a fault is told, and no office is found
-abbrev pub AreAdded : {S : Type 0} → Ghosts S → (Text → Place) → (untouched : Type 0)
+abbrev pub AreAdded : {S : Type 0} → Ghosts S → Places → (untouched : Type 0)
     → ImportWords → ℕ
     → Result (List Row) RowFault → Outputs → CommandEnd → Type 0
 AreAdded store at untouched words moment (Ok rows) o end =
-    IsAskedAt store at words.transform words.file.now moment (Import rows) o end
+    IsAskedAt store at words.transform words.file.now words.wait moment (Import rows) o end
 AreAdded store at untouched words moment (Err fault) o end =
     untouched × IsTold o [] (refusal_line (refusal_of_rows fault)) Refused end
 
 -- the rows of these bytes, by their kind, are added
-abbrev pub IsImported : {S : Type 0} → Ghosts S → (Text → Place) → (untouched : Type 0)
+abbrev pub IsImported : {S : Type 0} → Ghosts S → Places → (untouched : Type 0)
     → ImportWords → ℕ
     → List ℕ → Outputs → CommandEnd → Type 0
 IsImported store at untouched words moment bytes o end =
@@ -50,7 +50,7 @@ read_fault_line read.Memory = refusal_line refusal.Memory
 
 -- the file of the words has some bytes, which are imported; or it is not read, and that is told,
 -- and no office is found
-abbrev pub IsFileImported : {S : Type 0} → Ghosts S → (Text → Place) → (untouched : Type 0)
+abbrev pub IsFileImported : {S : Type 0} → Ghosts S → Places → (untouched : Type 0)
     → (Text → List ℕ → Type 0) → (Text → FileFault → Type 0) → ImportWords → ℕ → Outputs
     → CommandEnd → Type 0
 IsFileImported store at untouched Reads Lacks words moment o end =

@@ -1,13 +1,14 @@
 -- What `report` prints of an office.
+use Rattle.std.specs.Prelude.{[]}
 use Rattle.sqlite_trees.specs.declared.store.Store.{Ghosts}
 use Rattle.sts_fields.specs.Moment.{first_moment}
-use Rattle.sts_fields.specs.Text.{Text}
 use Rattle.books.specs.Keeps.{Seen}
 use Rattle.vend_core.specs.declared.decision.request.Request.TheVariants.{Reprint, ShiftReport}
 use Rattle.vend_commands.specs.print.Exported.{IsExported}
-use Rattle.vend_commands.specs.port.Places.{Place}
+use Rattle.vend_commands.specs.print.Printed.{file_line}
+use Rattle.vend_commands.specs.port.Places.{Places, where_present}
 use Rattle.vend_commands.specs.office.Served.{IsServedAndTold}
-use Rattle.vend_commands.specs.print.Told.{Outputs}
+use Rattle.vend_commands.specs.print.Told.{IsTold, Outputs}
 use Rattle.vend_commands.specs.print.Totalled.{IsTotalled}
 use Rattle.vend_commands.specs.office.Visited.{IsVisited}
 use Rattle.command_line.specs.declared.commands.report.Paper.{Paper}
@@ -15,6 +16,7 @@ use Rattle.command_line.specs.declared.commands.report.Paper.TheVariants.{Shift,
 use Rattle.command_line.specs.declared.commands.report.ReportWords.{ReportWords}
 use Rattle.command_line.specs.declared.transform.Shipped.TheVariants.{Plain}
 use Rattle.vend_commands.specs.declared.command_end.CommandEnd.{CommandEnd}
+use Rattle.vend_commands.specs.declared.command_end.CommandEnd.TheVariants.{Refused}
 
 -- a report or a receipt is asked for at the first moment, since it is the same at each
 abbrev pub PrintsPaper : Paper → (old new : Seen) → Outputs → CommandEnd → Type 0
@@ -25,9 +27,12 @@ PrintsPaper (Receipt number) old new o end =
 PrintsPaper (Totals number) old new o end = IsTotalled number old new o end
 PrintsPaper Sales old new o end = IsExported old new o end
 
--- the paper of the words is printed of the office in their file, where no token is written
-abbrev pub IsReported : {S : Type 0} → Ghosts S → (Text → Place) → ReportWords → Outputs
-    → CommandEnd → Type 0
-IsReported store at words o end =
-    IsVisited store (at words.file.now) Plain
-    (λ old new. PrintsPaper words.paper old new o end) o end
+-- The file of the words is not there, and is not made, and that is told; or their paper is printed
+-- of the office in it, where no token is written.
+pub data IsReported {S : Type 0} (store : Ghosts S) (at : Places) (words : ReportWords)
+    (o : Outputs) (end : CommandEnd) : Type 0 where
+  absent : (at words.file.now words.wait).misses → IsTold o [] file_line Refused end
+      → IsReported store at words o end
+  present : IsVisited store (where_present (at words.file.now words.wait)) Plain
+      (λ old new. PrintsPaper words.paper old new o end) o end
+      → IsReported store at words o end

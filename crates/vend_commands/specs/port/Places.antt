@@ -27,16 +27,22 @@ use Rattle.vend_commands.specs.declared.port.ports.SaltSource as source
 use Rattle.vend_commands.specs.declared.port.file_fault.FileFault.{FileFault}
 use Rattle.vend_commands.specs.declared.selfcheck.fault.SelfcheckFault.{SelfcheckFault}
 
--- No office was opened: no files were found at its path, or two were, and there was no salt for a
--- new log, or the office in them was refused. Then these are taken from what the refusal gave back,
--- which says what they hold, and let go.
+-- No office was opened in two files: there was no salt for a new log, or the office was refused.
+-- Then the files are taken from what the refusal gave back, which says what they hold, and let go.
+pub data IsUnopenedIn {D S : Type 0} (disk : disk.Ghosts D) (salts : source.Ghosts S)
+    (lets_go : D → D → Type 0) (found : Files D) (fault : OpenFault) : Type 0 where
+  unsalted : (it : S) → salts.lacks it → fault ≡ Store
+      → IsUnopenedIn disk salts lets_go found fault
+  refused : (left : Files D) → (refused : RefusedFiles D disk) → RefusesFiles found fault refused
+      → AreTakenFrom refused left → lets_go left.log left.db
+      → IsUnopenedIn disk salts lets_go found fault
+
+-- No office was opened: no files were found at its path, or two were, and none was opened in them.
 pub data IsUnopened {D S : Type 0} (disk : disk.Ghosts D) (salts : source.Ghosts S)
     (finds lets_go : D → D → Type 0) (fails : OpenFault → Type 0) (fault : OpenFault) : Type 0 where
   unfound : fails fault → IsUnopened disk salts finds lets_go fails fault
-  unsalted : (log db : D) → finds log db → (it : S) → salts.lacks it → fault ≡ Store
-      → IsUnopened disk salts finds lets_go fails fault
-  refused : (found left : Files D) → finds found.log found.db → (refused : RefusedFiles D disk)
-      → RefusesFiles found fault refused → AreTakenFrom refused left → lets_go left.log left.db
+  unopened : (found : Files D) → finds found.log found.db
+      → IsUnopenedIn disk salts lets_go found fault
       → IsUnopened disk salts finds lets_go fails fault
 
 -- Stopped books lost their file: there was no salt for a new log, or with a salt that was drawn the
@@ -60,6 +66,15 @@ pub record Place : Type 1 where
   pub misses : Type 0
   pub refuses : OpenFault → Type 0
   pub audits : Result Audited AuditFault → Type 0
+
+-- the file at each path, asked for by a command that waits for it for so many seconds while another
+-- program has it
+abbrev pub Places : Type 1
+Places = Text → (wait : ℕ) → Place
+
+-- the same file, where it is looked for and is not made
+abbrev pub where_present : Place → Place
+where_present place = record place { finds = place.meets; fails = place.refuses }
 
 -- What a door tells: where it listens or that it could not, which connection came in or that none
 -- could be had, that it was let go, and that the door was left; and what is known of the bytes of
@@ -105,7 +120,7 @@ loop_of of remaining contents net = record {
 -- the files that keep offices and that none of them was found, the files that are read, the answers
 -- of the clock, the door, and the connection with itself
 pub record Machine (D R W : Type 0) : Type 1 where
-  pub at : Text → Place
+  pub at : Places
   pub untouched : Type 0
   pub reads : Text → List ℕ → Type 0
   pub lacks : Text → FileFault → Type 0
@@ -117,17 +132,19 @@ pub record Machine (D R W : Type 0) : Type 1 where
 -- what keeps offices has a file at each path
 abbrev pub places_of : {H D S : Type 0} → (disk : disk.Ghosts D) → source.Ghosts S
     → file.Ghosts H D S
-    → H → Text → Place
-places_of {H} {D} {S} disk salts of office path = record {
+    → H → Places
+places_of {H} {D} {S} disk salts of office path wait = record {
   image = of.image office path;
-  finds = (log : D) × (db : D) × of.finds office path log db;
+  finds = (log : D) × (db : D) × of.finds office path wait log db;
   opens = OpensIn disk (of.image office path);
-  fails = IsUnopened disk salts (of.finds office path) of.lets_go (of.fails office path);
+  fails = IsUnopened disk salts (of.finds office path wait) of.lets_go
+      (of.fails office path wait);
   closes = IsClosed disk of.lets_go;
   loses = IsUnreopened salts;
-  meets = (log : D) × (db : D) × of.meets office path log db;
-  misses = of.misses office path;
-  refuses = IsUnopened disk salts (of.meets office path) of.lets_go (of.fails office path);
+  meets = (log : D) × (db : D) × of.meets office path wait log db;
+  misses = of.misses office path wait;
+  refuses = IsUnopened disk salts (of.meets office path wait) of.lets_go
+      (of.fails office path wait);
   audits = AuditsIn disk (of.image office path) of.lets_go;
 }
 
@@ -143,7 +160,7 @@ IsOffline m = IsShut m × m.loop.leaves
 abbrev pub IsIdle : {D R W : Type 0} → Machine D R W → Type 0
 IsIdle m = m.untouched × IsOffline m
 
-abbrev pub machine : {D R W : Type 0} → (Text → Place) → (untouched : Type 0)
+abbrev pub machine : {D R W : Type 0} → Places → (untouched : Type 0)
     → (Text → List ℕ → Type 0)
     → (Text → FileFault → Type 0) → Option (List ℤ) → Way D R W → D → Loop → Machine D R W
 machine at untouched reads lacks answers way door loop = record {
@@ -194,6 +211,6 @@ untold_place image opens closes audits = record {
 -- a machine of which nothing is told but that, and the bytes of each connection
 abbrev pub untold : {D : Type 0} → disk.Ghosts D → Image → Machine ⊤ Held Held
 untold disk image = machine
-    (λ path. untold_place image (OpensIn disk image) (IsClosed disk (λ log db. ⊤))
+    (λ path wait. untold_place image (OpensIn disk image) (IsClosed disk (λ log db. ⊤))
     (AuditsIn disk image (λ log db. ⊤))) ⊤
     (λ path bytes. ⊤) (λ path fault. ⊤) None untold_way tt untold_loop

@@ -11,7 +11,7 @@ use Rattle.tariff.specs.declared.bought.Buy.{Buy}
 use Rattle.vend_core.specs.Decision.Refusals.{refusal_name, refusal_number}
 use Rattle.vend_core.specs.Decision.RowCauses.{cause_text}
 use Rattle.vend_core.specs.declared.decision.refusal.Refusal.{Refusal}
-use Rattle.vend_core.specs.declared.decision.refusal.Refusal.TheVariants.{ImportRow}
+use Rattle.vend_core.specs.declared.decision.refusal.Refusal.TheVariants.{ImportRow, Store}
 use Rattle.command_line.specs.declared.address.Address.{Address}
 
 -- words with a space between them, and the end of the line
@@ -47,6 +47,15 @@ refusal_detail _ = []
 abbrev pub refusal_line : Refusal → Text
 refusal_line refusal = line_of (codes "refused" ∷ decimal (refusal_number refusal)
     ∷ refusal_name refusal ∷ refusal_detail refusal)
+
+-- that a request was refused so, and the books answer none until they are opened again; and that
+-- they are
+abbrev pub stopped_line : Text
+stopped_line =
+    line_of (codes "stopped" ∷ decimal (refusal_number Store) ∷ refusal_name Store ∷ [])
+
+abbrev pub open_line : Text
+open_line = line_of (codes "open" ∷ [])
 
 -- an amount that no token carries, and a clock outside the moments
 abbrev pub amount_line : Text

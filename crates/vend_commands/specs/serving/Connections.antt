@@ -1,5 +1,5 @@
 -- Connections that are served one after another, each over the bytes of its own.
-use Rattle.std.specs.Prelude.{◌≡◌, ◌⊎◌, ℕ, ℤ, zero, suc, ◌<◌, Bool, true, false, List, Option, Result, Ok, Err}
+use Rattle.std.specs.Prelude.{◌≡◌, ◌⊎◌, ℕ, ℤ, zero, suc, ◌<◌, Bool, true, false, if◌then◌else◌, List, [], ◌++◌, Option, Result, Ok, Err}
 use Rattle.sqlite.specs.State.{HasCleanDisk}
 use Rattle.books.specs.Keeps.{Represents, Seen}
 use Rattle.books.specs.Others.{LeavesOthers}
@@ -8,10 +8,12 @@ use Rattle.desk.specs.Answering.{answers_by, books_serve, life_serves, message_r
 use Rattle.conversation.specs.Run.{IsRun}
 use Rattle.conversation.specs.Uses.{IsPaced, Use}
 use Rattle.conversation.specs.declared.end.End as conversation
+use Rattle.sts_fields.specs.Text.{Text}
 use Rattle.sts_token.specs.Token.{BlockFunction}
 use Rattle.vend_core.specs.Law.Life.{Life}
 use Rattle.vend_commands.specs.port.Places.{Way}
 use Rattle.vend_commands.specs.office.Reopened.{IsNextLife}
+use Rattle.vend_commands.specs.print.Printed.{open_line, stopped_line}
 
 -- what serves: the door, the books, and the answers that the clock has yet to give
 pub record Service (D B : Type 0) : Type 0 where
@@ -73,41 +75,56 @@ module _ {B : Type 0} (see : B → Seen) where
   abbrev pub AreLost : (OpenFault → Type 0) → B → OpenFault → Type 0
   AreLost loses old fault = ((see old).stopped ≡ true) × loses fault
 
+-- what is printed of books once they are made ready: if they were stopped, that they are open again
+abbrev pub open_text : Seen → Text
+open_text books = if books.stopped then open_line else []
+
+-- and behind a connection: if it left them stopped, that they are
+abbrev pub stopped_text : Seen → Text
+stopped_text books = if books.stopped then stopped_line else []
+
 module _ {D R W B : Type 0} (way : Way D R W) (forward : BlockFunction) (see : B → Seen) where
-  -- so many connections, one after another, and before each the books are made ready
-  abbrev pub AreHeld : ℕ → (old new : Service D B) → Type 0
-  AreHeld zero old new = new ≡ old
-  AreHeld (suc count) old new = (mid : Service D B) × AreHeld count old mid
+  -- So many connections, one after another, and before each the books are made ready. What is
+  -- printed by then: each time that a connection left the books stopped, and that they were open
+  -- again before the next one, in that order, and nothing else.
+  abbrev pub AreHeld : ℕ → (old new : Service D B) → (printed : Text) → Type 0
+  AreHeld zero old new printed = (new ≡ old) × (printed ≡ [])
+  AreHeld (suc count) old new printed = (mid : Service D B) × (before : Text)
+      × AreHeld count old mid before
       × ((ready : B) × AreReady see forward mid.books ready
       × IsHeld way see (service mid.door ready mid.answers) new)
+      × (printed ≡ before ++ (open_text (see mid.books) ++ stopped_text (see new.books)))
 
   -- one could not be had after fewer than were asked for
-  pub record IsRefused (asked : ℕ) (old new : Service D B) : Type 0 where
+  pub record IsRefused (asked : ℕ) (old new : Service D B) (printed : Text) : Type 0 where
     pub count : ℕ
     pub fewer : count < asked
     pub last : Service D B
-    pub held : AreHeld count old last
+    pub before : Text
+    pub held : AreHeld count old last before
     pub ready : B
     pub are_ready : AreReady see forward last.books ready
     pub unheld : IsUnheld way see (service last.door ready last.answers) new
+    pub printed_is : printed ≡ before ++ open_text (see last.books)
 
   -- after fewer the file of stopped books could not be opened again, and nothing else has changed
   -- since
   pub record IsLost (loses : OpenFault → Type 0) (asked : ℕ) (old : Service D B) (new_door : D)
-      (left : Option (List ℤ)) (fault : OpenFault) : Type 0 where
+      (left : Option (List ℤ)) (fault : OpenFault) (printed : Text) : Type 0 where
     pub count : ℕ
     pub fewer : count < asked
     pub last : Service D B
-    pub held : AreHeld count old last
+    pub held : AreHeld count old last printed
     pub lost : AreLost see loses last.books fault
     pub door : new_door ≡ last.door
     pub answers : left ≡ last.answers
 
-  -- as many as were asked for, which is all; or fewer, for one of those causes
+  -- as many as were asked for, which is all; or fewer, for one of those causes; and this is printed
   abbrev pub AreServed : (OpenFault → Type 0) → ℕ → Service D B → D → Option (List ℤ)
-      → Result (B × Bool) OpenFault → Type 0
-  AreServed loses asked old door answers (Ok (books, true)) =
-      AreHeld asked old (service door books answers)
-  AreServed loses asked old door answers (Ok (books, false)) =
-      IsRefused asked old (service door books answers)
-  AreServed loses asked old door answers (Err fault) = IsLost loses asked old door answers fault
+      → Result (B × Bool) OpenFault → (printed : Text) → Type 0
+  AreServed loses asked old door answers (Ok (books, true)) printed =
+      AreHeld asked old (service door books answers) printed
+  AreServed loses asked old door answers (Ok (books, false)) printed =
+      IsRefused asked old (service door books answers) printed
+  AreServed loses asked old door answers (Err fault) printed =
+      IsLost loses asked old door answers fault printed

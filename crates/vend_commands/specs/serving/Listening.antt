@@ -1,12 +1,12 @@
 -- What `serve` does: where it listens is told, and connections are served one after another.
-use Rattle.std.specs.Prelude.{◌≡◌, ⊤, ℕ, ℤ, Bool, true, false, List, [], Option, Result, Ok, Err}
+use Rattle.std.specs.Prelude.{◌≡◌, ⊤, ℕ, ℤ, Bool, true, false, List, [], ◌++◌, Option, Result, Ok, Err}
 use Rattle.sqlite_trees.specs.declared.store.Store.{Ghosts}
 use Rattle.books.specs.declared.books.Books.{Books}
 use Rattle.book_opening.specs.declared.fault.OpenFault.{OpenFault}
 use Rattle.sts_fields.specs.Text.{Text}
 use Rattle.vend_core.specs.declared.decision.refusal.Refusal.TheVariants.{Memory}
 use Rattle.vend_commands.specs.serving.Connections.{AreServed, service}
-use Rattle.vend_commands.specs.port.Places.{Place, Way}
+use Rattle.vend_commands.specs.port.Places.{Place, Places, Way}
 use Rattle.vend_commands.specs.port.Port.{IsPortFor}
 use Rattle.vend_commands.specs.print.Printed.{listening_line, net_line, opening_line, refusal_line}
 use Rattle.vend_commands.specs.print.Told.{Outputs, Sink, Takes}
@@ -47,10 +47,10 @@ pub data IsDeaf {D R W : Type 0} (way : Way D R W) (address : Address) (old new 
 
 -- how it ends: all connections were served; or one could not be had, or the file of stopped books
 -- was not opened again, and that is told
-abbrev pub stop_line : {B : Type 0} → Result (B × Bool) OpenFault → Text
-stop_line (Ok (books, true)) = []
-stop_line (Ok (books, false)) = net_line
-stop_line (Err fault) = opening_line fault
+abbrev pub last_line : {B : Type 0} → Result (B × Bool) OpenFault → Text
+last_line (Ok (books, true)) = []
+last_line (Ok (books, false)) = net_line
+last_line (Err fault) = opening_line fault
 
 abbrev pub serving_end : {B : Type 0} → Result (B × Bool) OpenFault → CommandEnd
 serving_end (Ok (books, true)) = Done
@@ -63,7 +63,8 @@ IsClosedAfter Closes (Ok (books, all)) = Closes books
 IsClosedAfter Closes (Err fault) = ⊤
 
 -- Books were open to connections, which were served, and it ended so. The door is left as the last
--- of them left it: so none came in beside.
+-- of them left it: so none came in beside. Behind the line that tells where it listens standard
+-- error is given what is printed of books that stop and are open again, and how it ends.
 pub record WereOpen {S D R W : Type 0} (store : Ghosts S) (way : Way D R W) (place : Place)
     (words : ServeWords)
     (old : Books S Shipped store) (door : D) (answers : Option (List ℤ)) (err_old err_new : Sink)
@@ -75,34 +76,35 @@ pub record WereOpen {S D R W : Type 0} (store : Ghosts S) (way : Way D R W) (pla
   pub last : D
   pub left : Option (List ℤ)
   pub served : Result (Books S Shipped store × Bool) OpenFault
+  pub printed : Text
   pub are_served : AreServed way (forward_of words.transform) seen_in place.loses words.connections
-      (service listening old answers) last left served
+      (service listening old answers) last left served printed
   pub leaves : way.leaves last
   pub closed : IsClosedAfter (λ books. place.closes (seen_in books)) served
-  pub told : Takes mid err_new (stop_line served)
+  pub told : Takes mid err_new (printed ++ last_line served)
   pub ends : end ≡ serving_end served
 
 -- The file is not opened, and that is told; or books are opened in it, and nobody is served, or
 -- connections are, until it ends. Then the file is closed as it was left. In each case the door is
 -- left.
-pub data IsServing {S D R W : Type 0} (store : Ghosts S) (way : Way D R W) (at : Text → Place)
+pub data IsServing {S D R W : Type 0} (store : Ghosts S) (way : Way D R W) (at : Places)
     (door : D)
     (answers : Option (List ℤ)) (words : ServeWords) (err_old err_new : Sink)
     (end : CommandEnd) : Type 0 where
-  unopened : (fault : OpenFault) → (at words.file.now).fails fault → way.leaves door
+  unopened : (fault : OpenFault) → (at words.file.now words.wait).fails fault → way.leaves door
       → Takes err_old err_new (opening_line fault) → end ≡ Refused
       → IsServing store way at door answers words err_old err_new end
-  unheard : (old : Books S Shipped store) → IsOpenedAt (at words.file.now) words.transform old
-      → (at words.file.now).finds → (last : D) → IsDeaf way words.listen door last err_old err_new
-      → way.leaves last → (at words.file.now).closes (seen_in old) → end ≡ Refused
+  unheard : (old : Books S Shipped store) → IsOpenedAt (at words.file.now words.wait) words.transform old
+      → (at words.file.now words.wait).finds → (last : D) → IsDeaf way words.listen door last err_old err_new
+      → way.leaves last → (at words.file.now words.wait).closes (seen_in old) → end ≡ Refused
       → IsServing store way at door answers words err_old err_new end
-  was_open : (old : Books S Shipped store) → IsOpenedAt (at words.file.now) words.transform old
-      → (at words.file.now).finds
-      → WereOpen store way (at words.file.now) words old door answers err_old err_new end
+  was_open : (old : Books S Shipped store) → IsOpenedAt (at words.file.now words.wait) words.transform old
+      → (at words.file.now words.wait).finds
+      → WereOpen store way (at words.file.now words.wait) words old door answers err_old err_new end
       → IsServing store way at door answers words err_old err_new end
 
 -- it is served so, and the output is given nothing
-abbrev pub IsServedTo : {S D R W : Type 0} → Ghosts S → Way D R W → (Text → Place) → D
+abbrev pub IsServedTo : {S D R W : Type 0} → Ghosts S → Way D R W → Places → D
     → Option (List ℤ)
     → ServeWords → Outputs → CommandEnd → Type 0
 IsServedTo store way at door answers words o end =

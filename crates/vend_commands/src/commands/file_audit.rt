@@ -26,12 +26,13 @@ pub(crate) fn run<H: OfficeFile, O: Write, E: Write>(
     err: &mut Watched<'_, E>,
 ) -> CommandEnd
     ensures { IsAudited
-        (places_of H.Medium.Disk H.Salts.SaltSource H.OfficeFile office words.now.file.now)
+        (places_of H.Medium.Disk H.Salts.SaltSource H.OfficeFile office words.now.file.now
+        words.now.wait)
         (outputs (sink O.contents out.old) (sink O.contents out.new)
         (sink E.contents err.old) (sink E.contents err.new)) result }
 {
     let salts = office.salts();
-    match connect(alloc, office, &salts, words.file) {
+    match connect(alloc, office, &salts, words.file, words.wait) {
         Ok(Some(mut conn)) => {
             let answer = audit_files(alloc, &mut conn);
             let end = tell(answer, out, err);

@@ -13,7 +13,7 @@ use crate::port::file_fault::FileFault;
 use crate::port::ports::{OfficeFile, TextFiles};
 use crate::print::lines::{put_line, put_no_moment, put_refusal};
 use crate::print::watched::Watched;
-use command_line::ImportWords;
+use command_line::{ImportWords, RequestWords};
 use desk::Clock;
 use papers::{FileKind, RowFault, read_meters, read_tariffs};
 use sqlite::FileStore;
@@ -96,17 +96,14 @@ fn add<H: OfficeFile, O: Write, E: Write>(
 {
     match rows_of(words, alloc, bytes) {
         Ok(rows) => {
-            let request = Request::Import(rows);
-            ask_at(
-                alloc,
-                office,
-                words.transform,
-                words.file,
-                moment,
-                request,
-                out,
-                err,
-            )
+            let words = RequestWords {
+                transform: words.transform,
+                file: words.file,
+                wait: words.wait,
+                at: words.at,
+                request: Request::Import(rows),
+            };
+            ask_at(words, alloc, office, moment, out, err)
         }
         Err(fault) => {
             office.leave();

@@ -7,10 +7,10 @@ ghost use Rattle.vend_commands.specs.office.Visited.{seen_in};
 
 use crate::command_end::CommandEnd;
 use crate::office::asking::ask;
-use crate::office::opening::{close_office, open_office};
+use crate::office::opening::{close_office, open_present_office};
 use crate::port::ports::OfficeFile;
 use crate::port::progress::Progress;
-use crate::print::lines::put_opening;
+use crate::print::lines::{put_line, put_opening};
 use crate::print::sales::print_sales;
 use crate::print::totals::print_totals;
 use crate::print::watched::Watched;
@@ -23,8 +23,8 @@ use std::io::Write;
 use sts_fields::Moment;
 use vend_core::Request;
 
-/// Opens the office, prints a paper of it, and closes its file; or tells why it is not opened. No
-/// token is written, so any transform serves.
+/// Opens the office where its file is there, prints a paper of it, and closes its file; or tells why
+/// it is not opened. No token is written, so any transform serves.
 pub(crate) fn run<H: OfficeFile, P: Progress, O: Write, E: Write>(
     words: &ReportWords,
     alloc: Global,
@@ -39,11 +39,22 @@ pub(crate) fn run<H: OfficeFile, P: Progress, O: Write, E: Write>(
         (sink E.contents err.old) (sink E.contents err.new)) result }
 {
     let salts = office.salts();
-    match open_office(alloc, office, &salts, words.file, Shipped::Plain) {
-        Ok(mut books) => {
+    match open_present_office(
+        alloc,
+        office,
+        &salts,
+        words.file,
+        words.wait,
+        Shipped::Plain,
+    ) {
+        Ok(Some(mut books)) => {
             let end = print(alloc, &mut books, words.paper, progress, out, err);
             close_office::<H>(books);
             end
+        }
+        Ok(None) => {
+            put_line(&[b"file"], err);
+            CommandEnd::Refused
         }
         Err(fault) => {
             put_opening(fault, err);

@@ -10,14 +10,13 @@ use crate::office::opening::{close_office, open_office};
 use crate::port::ports::OfficeFile;
 use crate::print::lines::{put_no_moment, put_opening};
 use crate::print::watched::Watched;
-use command_line::{RequestWords, Shipped};
+use command_line::RequestWords;
 use desk::Clock;
 use sqlite::FileStore;
 use sqlite_trees::store::Store;
 use std::alloc::Global;
 use std::io::Write;
 use sts_fields::Moment;
-use vend_core::Request;
 
 /// Makes the request to the office, at the moment of the words or else of the clock, and prints the
 /// answer.
@@ -34,19 +33,11 @@ pub(crate) fn run<H: OfficeFile, C: Clock, O: Write, E: Write>(
         IsTimed (H.leaves office) words.entry.at (C.answers clock.old)
         (λ moment. IsAskedAt ⟦<FileStore<H::Medium> as Store>⟧
         (places_of H.Medium.Disk H.Salts.SaltSource H.OfficeFile office)
-        words.entry.transform words.entry.file.now moment words.entry.request o result) o result }
+        words.entry.transform words.entry.file.now words.entry.wait moment words.entry.request o
+        result) o result }
 {
     match moment_or_now(words.at, clock) {
-        Some(moment) => ask_at(
-            alloc,
-            office,
-            words.transform,
-            words.file,
-            moment,
-            words.request,
-            out,
-            err,
-        ),
+        Some(moment) => ask_at(words, alloc, office, moment, out, err),
         None => {
             office.leave();
             put_no_moment(err);
@@ -55,28 +46,33 @@ pub(crate) fn run<H: OfficeFile, C: Clock, O: Write, E: Write>(
     }
 }
 
-/// Opens the office in a file, asks it at a moment, prints the answer, and closes the file; or
-/// tells why the file is not opened. The life of the office ends with the request.
+/// Opens the office in the file, makes the request at a moment, prints the answer, and closes the
+/// file; or tells why the file is not opened. The life of the office ends with the request.
 pub(crate) fn ask_at<H: OfficeFile, O: Write, E: Write>(
+    words: RequestWords<'_>,
     alloc: Global,
     office: H,
-    transform: Shipped,
-    file: &str,
     moment: Moment,
-    request: Request,
     out: &mut Watched<'_, O>,
     err: &mut Watched<'_, E>,
 ) -> CommandEnd
     ensures { IsAskedAt ⟦<FileStore<H::Medium> as Store>⟧
         (places_of H.Medium.Disk H.Salts.SaltSource H.OfficeFile office)
-        transform file.now moment request
+        words.entry.transform words.entry.file.now words.entry.wait moment words.entry.request
         (outputs (sink O.contents out.old) (sink O.contents out.new)
         (sink E.contents err.old) (sink E.contents err.new)) result }
 {
     let salts = office.salts();
-    match open_office(alloc, office, &salts, file, transform) {
+    match open_office(
+        alloc,
+        office,
+        &salts,
+        words.file,
+        words.wait,
+        words.transform,
+    ) {
         Ok(mut books) => {
-            let end = ask(alloc, &mut books, moment, request, out, err);
+            let end = ask(alloc, &mut books, moment, words.request, out, err);
             close_office::<H>(books);
             end
         }

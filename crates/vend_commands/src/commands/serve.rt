@@ -1,6 +1,6 @@
 ghost use Rattle.std.specs.Prelude.{◌≡◌, MatchOption};
 ghost use Rattle.vend_commands.specs.office.Closed.{IsClosed};
-ghost use Rattle.vend_commands.specs.serving.Listening.{IsClosedAfter, IsDeaf, IsServing, Listens, serving_end, stop_line};
+ghost use Rattle.vend_commands.specs.serving.Listening.{IsClosedAfter, IsDeaf, IsServing, Listens, last_line, serving_end};
 ghost use Rattle.vend_commands.specs.port.Places.{places_of, way};
 ghost use Rattle.vend_commands.specs.print.Printed.{net_line, refusal_line};
 ghost use Rattle.vend_commands.specs.print.Told.{Takes, sink};
@@ -40,10 +40,19 @@ pub(crate) fn run<H: OfficeFile, D: Door, C: Clock, E: Write>(
 {
     let mut door = door;
     let salts = office.salts();
-    match open_office(alloc, office, &salts, words.file, words.transform) {
+    match open_office(
+        alloc,
+        office,
+        &salts,
+        words.file,
+        words.wait,
+        words.transform,
+    ) {
         Ok(books) => match listen(words.listen, alloc, &mut door, err) {
             Some(desk) => {
-                let served = serve::<H, D, C>(words, alloc, &desk, &salts, &mut door, books, clock);
+                let served = serve::<H, D, C, E>(
+                    words, alloc, &desk, &salts, &mut door, books, clock, err,
+                );
                 door.leave();
                 end_with::<H, E>(served, err)
             }
@@ -101,7 +110,7 @@ fn end_with<H: OfficeFile, E: Write>(
 ) -> CommandEnd
     ensures closed { IsClosedAfter
         (λ books. IsClosed H.Medium.Disk H.lets_go (seen_in books)) served }
-    ensures told { Takes (sink E.contents err.old) (sink E.contents err.new) (stop_line served) }
+    ensures told { Takes (sink E.contents err.old) (sink E.contents err.new) (last_line served) }
     ensures end { result ≡ serving_end served }
 {
     match served {

@@ -16,7 +16,8 @@ use sqlite::{Connection, FileStore};
 use sqlite_disk::{Disk, Files};
 use std::alloc::Global;
 
-/// Connects with the database in the file at a path, where there is a file. No table is made.
+/// Connects with the database in the file at a path, where there is a file. No table is made. Waits
+/// up to so many seconds while another program has the file.
 ///
 /// # Errors
 /// `Store` where it cannot be opened, and `Memory`.
@@ -25,20 +26,21 @@ pub(crate) fn connect<H: OfficeFile>(
     office: H,
     salts: &H::Salts,
     path: &str,
+    wait: u32,
 ) -> Result<Option<Connection<FileStore<H::Medium>>>, OpenFault>
     ensures connected { IfOk result (λ found. IfSome found (λ conn. HasCleanDisk (file_state conn)
         → IsConnected (H.image office path.now) (file_state conn))) }
     ensures rests { IfOk result
         (λ found. IfSome found (λ conn. conn.in_transaction ≡ false)) }
     ensures meets { IfOk result (λ found. IfSome found
-        (λ _. (places_of H.Medium.Disk H.Salts.SaltSource H.OfficeFile office path.now).meets)) }
+        (λ _. (places_of H.Medium.Disk H.Salts.SaltSource H.OfficeFile office path.now wait).meets)) }
     ensures misses { IfOk result (λ found. IfNone found
-        (places_of H.Medium.Disk H.Salts.SaltSource H.OfficeFile office path.now).misses) }
+        (places_of H.Medium.Disk H.Salts.SaltSource H.OfficeFile office path.now wait).misses) }
     ensures refuses { IfErr result
-        (places_of H.Medium.Disk H.Salts.SaltSource H.OfficeFile office path.now).refuses }
+        (places_of H.Medium.Disk H.Salts.SaltSource H.OfficeFile office path.now wait).refuses }
 {
     found_law::<FileStore<H::Medium>>();
-    let found = match office.find_present(path) {
+    let found = match office.find_present(path, wait) {
         Ok(found) => found,
         Err(fault) => return Err(fault),
     };

@@ -1,10 +1,11 @@
 //! An office in a file: how it is opened, and closed.
 
-ghost use Rattle.std.specs.Prelude.{◌≡◌, IfErr, IfOk};
+ghost use Rattle.std.specs.Prelude.{◌≡◌, IfErr, IfNone, IfOk, IfSome, IsTrue};
 ghost use Rattle.sqlite.specs.Files.{file_state};
+ghost use Rattle.sqlite_wal.specs.Files.{seen_image};
 ghost use Rattle.vend_commands.specs.office.Closed.{AreClosed, IsClosed};
 ghost use Rattle.vend_commands.specs.office.Opened.{OpensIn};
-ghost use Rattle.vend_commands.specs.port.Places.{places_of};
+ghost use Rattle.vend_commands.specs.port.Places.{IsUnopenedIn, places_of};
 ghost use Rattle.vend_commands.specs.office.Visited.{IsOpened, seen_in};
 
 use crate::port::ports::{OfficeFile, SaltSource};
@@ -28,7 +29,8 @@ pub(crate) fn options_of(salt: u64) -> Options
     }
 }
 
-/// Opens the office at a path, or begins one where there is no file.
+/// Opens the office at a path, or begins one where there is no file. Waits up to so many seconds
+/// while another program has the file.
 ///
 /// # Errors
 /// `NotAnOffice` where the file stands for no office; `Store` where it cannot be opened, and
@@ -38,23 +40,79 @@ pub(crate) fn open_office<H: OfficeFile>(
     office: H,
     salts: &H::Salts,
     path: &str,
+    wait: u32,
     transform: Shipped,
 ) -> Result<Books<FileStore<H::Medium>, Shipped>, OpenFault>
     ensures opened { IfOk result (IsOpened (H.image office path.now)
         (OpensIn H.Medium.Disk (H.image office path.now)) transform) }
     ensures finds { IfOk result
-        (λ _. (places_of H.Medium.Disk H.Salts.SaltSource H.OfficeFile office path.now).finds) }
+        (λ _. (places_of H.Medium.Disk H.Salts.SaltSource H.OfficeFile office path.now wait).finds) }
     ensures fails { IfErr result
-        (places_of H.Medium.Disk H.Salts.SaltSource H.OfficeFile office path.now).fails }
+        (places_of H.Medium.Disk H.Salts.SaltSource H.OfficeFile office path.now wait).fails }
 {
-    let (log, db) = match office.find(path) {
+    let (log, db) = match office.find(path, wait) {
         Ok(files) => files,
         Err(fault) => return Err(fault),
     };
+    match open_in::<H>(alloc, salts, Files { log, db }, transform) {
+        Ok(books) => Ok(books),
+        Err(fault) => Err(fault),
+    }
+}
+
+/// Opens the office at a path where there is a file, and begins none where there is not. Waits as
+/// `open_office` does.
+///
+/// # Errors
+/// As those of `open_office`.
+pub(crate) fn open_present_office<H: OfficeFile>(
+    alloc: Global,
+    office: H,
+    salts: &H::Salts,
+    path: &str,
+    wait: u32,
+    transform: Shipped,
+) -> Result<Option<Books<FileStore<H::Medium>, Shipped>>, OpenFault>
+    ensures opened { IfOk result (λ found. IfSome found (IsOpened (H.image office path.now)
+        (OpensIn H.Medium.Disk (H.image office path.now)) transform)) }
+    ensures meets { IfOk result (λ found. IfSome found (λ _.
+        (places_of H.Medium.Disk H.Salts.SaltSource H.OfficeFile office path.now wait).meets)) }
+    ensures misses { IfOk result (λ found. IfNone found
+        (places_of H.Medium.Disk H.Salts.SaltSource H.OfficeFile office path.now wait).misses) }
+    ensures refuses { IfErr result
+        (places_of H.Medium.Disk H.Salts.SaltSource H.OfficeFile office path.now wait).refuses }
+{
+    let found = match office.find_present(path, wait) {
+        Ok(found) => found,
+        Err(fault) => return Err(fault),
+    };
+    let Some((log, db)) = found else {
+        return Ok(None);
+    };
+    match open_in::<H>(alloc, salts, Files { log, db }, transform) {
+        Ok(books) => Ok(Some(books)),
+        Err(fault) => Err(fault),
+    }
+}
+
+// Opens the office in two files, or lets them go.
+fn open_in<H: OfficeFile>(
+    alloc: Global,
+    salts: &H::Salts,
+    found: Files<H::Medium>,
+    transform: Shipped,
+) -> Result<Books<FileStore<H::Medium>, Shipped>, OpenFault>
+    requires log { IsTrue (H.Medium.Disk.is_usable found.log) }
+    requires db { IsTrue (H.Medium.Disk.is_usable found.db) }
+    ensures opened { IfOk result (IsOpened (seen_image H.Medium.Disk found.log found.db)
+        (OpensIn H.Medium.Disk (seen_image H.Medium.Disk found.log found.db)) transform) }
+    ensures refused { IfErr result
+        (IsUnopenedIn H.Medium.Disk H.Salts.SaltSource H.lets_go found) }
+{
     let Some(salt) = salts.draw() else {
         return Err(OpenFault::Store);
     };
-    match Books::open_files(alloc, Files { log, db }, options_of(salt), transform) {
+    match Books::open_files(alloc, found, options_of(salt), transform) {
         Ok(books) => Ok(books),
         Err((fault, refused)) => {
             let files = refused.into_files();

@@ -5,10 +5,11 @@ ghost use Rattle.sqlite_std_file.specs.File.{IsFresh, file_is_usable};
 ghost use Rattle.sqlite_wal.specs.Files.{image_at};
 
 use crate::port::file_fault::FileFault;
+use crate::port::openings::{EachTry, Openings, Pair, PresentOpenings};
 use crate::port::ports::{OfficeFile, SaltSource, TextFiles};
+use crate::port::tries::try_for;
 use books::OpenFault;
 use sqlite::{FileFrom, Start};
-use sqlite_std_file::OpenError;
 use std::fs;
 use std::hash::{BuildHasher, RandomState};
 use std::io::ErrorKind;
@@ -38,19 +39,19 @@ impl SaltSource for MachineSalts<'_> {
 }
 
 impl<'a, B: Start> OfficeFile for MachineFile<'a, B> {
-    type Medium = FileFrom<B>;
+    type Medium = FileFrom<EachTry<B>>;
 
     type Salts = MachineSalts<'a>;
 
     ghost image = { λ _ _. image_at B.Start };
 
-    ghost finds = { λ _ _ _ _. ⊤ };
+    ghost finds = { λ _ _ _ _ _. ⊤ };
 
-    ghost fails = { λ _ _ _. ⊤ };
+    ghost fails = { λ _ _ _ _. ⊤ };
 
-    ghost meets = { λ _ _ _ _. ⊤ };
+    ghost meets = { λ _ _ _ _ _. ⊤ };
 
-    ghost misses = { λ _ _. ⊤ };
+    ghost misses = { λ _ _ _. ⊤ };
 
     ghost lets_go = { λ _ _. ⊤ };
 
@@ -60,30 +61,23 @@ impl<'a, B: Start> OfficeFile for MachineFile<'a, B> {
         MachineSalts { rt: self.rt }
     }
 
-    fn find(self, path: &str) -> Result<(FileFrom<B>, FileFrom<B>), OpenFault> {
-        // What SQLite takes for a database in memory, or for the address of one, is no file's name.
-        if path == ":memory:" || path.starts_with("file:") {
-            return Err(OpenFault::Store);
-        }
-        match sqlite_std_file::open(self.rt, path, self.start) {
-            Ok(files) => Ok((files.log, files.db)),
-            Err(error) => Err(refused_files_fault(error)),
+    fn find(self, path: &str, wait: u32) -> Result<Pair<B>, OpenFault> {
+        let mut openings = Openings::<B>::new(self.rt, path);
+        match try_for(&mut openings, wait) {
+            Some(outcome) => outcome,
+            None => Err(OpenFault::Store),
         }
     }
 
-    // Where the file is taken away once its name was looked at, an empty one is made.
-    fn find_present(self, path: &str) -> Result<Option<(FileFrom<B>, FileFrom<B>)>, OpenFault> {
-        match fs::exists(self.rt, path) {
-            Ok(true) => match self.find(path) {
-                Ok(files) => Ok(Some(files)),
-                Err(fault) => Err(fault),
-            },
-            Ok(false) => Ok(None),
-            Err(error) => Err(refused_files_fault(OpenError::Io(error))),
+    fn find_present(self, path: &str, wait: u32) -> Result<Option<Pair<B>>, OpenFault> {
+        let openings = Openings::<B>::new(self.rt, path);
+        match try_for(&mut PresentOpenings { openings }, wait) {
+            Some(outcome) => outcome,
+            None => Err(OpenFault::Store),
         }
     }
 
-    fn let_go(log: FileFrom<B>, db: FileFrom<B>)
+    fn let_go(log: FileFrom<EachTry<B>>, db: FileFrom<EachTry<B>>)
         ensures { ⊤ }
     {
         drop(log);
@@ -94,15 +88,6 @@ impl<'a, B: Start> OfficeFile for MachineFile<'a, B> {
         ensures { ⊤ }
     {
         drop(self);
-    }
-}
-
-// Why there are no files, by what opening them met.
-fn refused_files_fault(error: OpenError) -> OpenFault {
-    match error {
-        OpenError::OutOfMemory => OpenFault::Memory,
-        OpenError::Io(error) if error.kind() == ErrorKind::OutOfMemory => OpenFault::Memory,
-        _ => OpenFault::Store,
     }
 }
 

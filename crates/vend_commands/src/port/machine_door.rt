@@ -53,6 +53,7 @@ impl<'a, N: Net + Clock> Door for MachineDoor<'a, N> {
     }
 
     // A connection of which there can be no second half counts as one that cannot be had.
+    // A wait that the system interrupts goes on: `accept` of std sees to that.
     fn accept(&mut self) -> Option<(PatientReader<'a, N, N::Stream>, N::Stream)> {
         let (stream, _) = self.listener.as_ref()?.accept().ok()?;
         set_options(&stream);

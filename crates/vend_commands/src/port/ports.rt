@@ -29,7 +29,8 @@ pub trait SaltSource: Drop {
         ensures lacks { IfNone result (lacks self.now) };
 }
 
-/// The file that keeps an office, with its log. It is found once.
+/// The file that keeps an office, with its log. It is found once. While another program has it, it
+/// may be waited for, for as many seconds as each clause names.
 pub trait OfficeFile: Drop {
     /// What the two files are kept on.
     type Medium: Disk + Drop;
@@ -40,17 +41,18 @@ pub trait OfficeFile: Drop {
     /// What the files hold at a path: no code can read it.
     ghost image: { Self → Text → Image };
 
-    /// At this path these were opened, the log and the database file.
-    ghost finds: { Self → Text → Self.Medium → Self.Medium → Type 0 };
+    /// At this path these were opened, the log and the database file, and so long they were waited
+    /// for at the most.
+    ghost finds: { Self → Text → (wait : ℕ) → Self.Medium → Self.Medium → Type 0 };
 
-    /// At this path no files were opened, for this fault.
-    ghost fails: { Self → Text → OpenFault → Type 0 };
+    /// At this path no files were opened, for this fault, though so long they were waited for.
+    ghost fails: { Self → Text → (wait : ℕ) → OpenFault → Type 0 };
 
     /// At this path there was a database file, and these were opened, the log and that file.
-    ghost meets: { Self → Text → Self.Medium → Self.Medium → Type 0 };
+    ghost meets: { Self → Text → (wait : ℕ) → Self.Medium → Self.Medium → Type 0 };
 
     /// At this path there was no file, and none was made.
-    ghost misses: { Self → Text → Type 0 };
+    ghost misses: { Self → Text → (wait : ℕ) → Type 0 };
 
     /// The log and the database file were let go, as their last use left them.
     ghost lets_go: { Self.Medium → Self.Medium → Type 0 };
@@ -61,18 +63,23 @@ pub trait OfficeFile: Drop {
     /// What the salts of its log are drawn from.
     fn salts(&self) -> Self::Salts;
 
-    /// Opens the log and the database file at a path, or makes them where there is none.
-    fn find(self, path: &str) -> Result<(Self::Medium, Self::Medium), OpenFault>
+    /// Opens the log and the database file at a path, or makes them where there is none. Waits up to
+    /// so many seconds while another program has them.
+    fn find(self, path: &str, wait: u32) -> Result<(Self::Medium, Self::Medium), OpenFault>
         ensures image { IfOk result (λ pair. seen_image Self.Medium.Disk pair.0 pair.1
             ≡ image self path.now) }
         ensures log { IfOk result (λ pair. IsTrue (Self.Medium.Disk.is_usable pair.0)) }
         ensures db { IfOk result (λ pair. IsTrue (Self.Medium.Disk.is_usable pair.1)) }
-        ensures finds { IfOk result (λ pair. finds self path.now pair.0 pair.1) }
-        ensures fails { IfErr result (fails self path.now) };
+        ensures finds { IfOk result (λ pair. finds self path.now wait pair.0 pair.1) }
+        ensures fails { IfErr result (fails self path.now wait) };
 
     /// Opens the log and the database file at a path where that file is there, and makes neither
-    /// where it is not.
-    fn find_present(self, path: &str) -> Result<Option<(Self::Medium, Self::Medium)>, OpenFault>
+    /// where it is not. Waits as `find` does.
+    fn find_present(
+        self,
+        path: &str,
+        wait: u32,
+    ) -> Result<Option<(Self::Medium, Self::Medium)>, OpenFault>
         ensures image { IfOk result (λ found. IfSome found
             (λ pair. seen_image Self.Medium.Disk pair.0 pair.1 ≡ image self path.now)) }
         ensures log { IfOk result (λ found. IfSome found
@@ -80,9 +87,9 @@ pub trait OfficeFile: Drop {
         ensures db { IfOk result (λ found. IfSome found
             (λ pair. IsTrue (Self.Medium.Disk.is_usable pair.1))) }
         ensures meets { IfOk result (λ found. IfSome found
-            (λ pair. meets self path.now pair.0 pair.1)) }
-        ensures misses { IfOk result (λ found. IfNone found (misses self path.now)) }
-        ensures fails { IfErr result (fails self path.now) };
+            (λ pair. meets self path.now wait pair.0 pair.1)) }
+        ensures misses { IfOk result (λ found. IfNone found (misses self path.now wait)) }
+        ensures fails { IfErr result (fails self path.now wait) };
 
     /// Lets the log and the database file go.
     fn let_go(log: Self::Medium, db: Self::Medium)

@@ -38,7 +38,7 @@ impl Explanation for Error {
     fn text(&self, alloc: Global) -> Result<String, AllocError> {
         let text = format!(in alloc; "{self}")?;
         if text.is_empty() {
-            return String::from_str(alloc, "bad words\n");
+            return String::from_str(alloc, "invalid arguments\n");
         }
         Ok(text)
     }

@@ -2,8 +2,8 @@
 ghost use Rattle.std.specs.Prelude.{◌≡◌, ◌≢◌, ℕ, IfOk, map, string_bytes};
 ghost use Rattle.vend_core.specs.Decision.RowCauses.{cause_text};
 ghost use Rattle.vend_commands.specs.print.Printed.{added_line, address_text, answer_line, clock_line, credit_line};
-ghost use Rattle.vend_commands.specs.print.Printed.{host_text, line_of, opening_line, pair_text, progress_line};
-ghost use Rattle.vend_commands.specs.print.Printed.{quote_line, refusal_line, shift_line, token_line};
+ghost use Rattle.vend_commands.specs.print.Printed.{host_text, line_of, open_line, opening_line, pair_text, progress_line};
+ghost use Rattle.vend_commands.specs.print.Printed.{quote_line, refusal_line, shift_line, stopped_line, token_line};
 ghost use Rattle.vend_commands.specs.print.Told.{IsPutOn, Takes, sink};
 
 use crate::print::watched::Watched;
@@ -166,6 +166,23 @@ pub(crate) fn put_opening<W: Write>(fault: OpenFault, out: &mut Watched<'_, W>)
     let mut number = Buffer::new();
     let number = number.format(fault.number()).as_bytes();
     put_line(&[b"open", number, fault.name().as_bytes()], out);
+}
+
+/// Tells that the books have stopped: a request was refused for the store, and none is answered
+/// until they are opened again.
+pub(crate) fn put_stopped<W: Write>(out: &mut Watched<'_, W>)
+    ensures { Takes (sink W.contents out.old) (sink W.contents out.new) stopped_line }
+{
+    let mut number = Buffer::new();
+    let number = number.format(Refusal::Store.number()).as_bytes();
+    put_line(&[b"stopped", number, Refusal::Store.name().as_bytes()], out);
+}
+
+/// Tells that books that had stopped are open again.
+pub(crate) fn put_open<W: Write>(out: &mut Watched<'_, W>)
+    ensures { Takes (sink W.contents out.old) (sink W.contents out.new) open_line }
+{
+    put_line(&[b"open"], out);
 }
 
 /// Tells a refusal of the office.

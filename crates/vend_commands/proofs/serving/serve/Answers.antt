@@ -1,10 +1,15 @@
-use Rattle.std.proofs.Common.{arith, refl}
+use Rattle.std.proofs.Common.{[], append-nil, arith, refl, subst}
 use Rattle.command_line.specs.Transform.{forward_of}
 use Rattle.vend_commands.specs.serving.Connections.{service}
 use Rattle.vend_commands.specs.port.Places.{way}
 use Rattle.vend_commands.specs.office.Visited.{seen_in}
+use Rattle.vend_commands.specs.print.Told.{Takes, sink}
 use Rattle.vend_commands.proofs.ConnectionLemmas.{all_held, one_more}
+use Rattle.vend_commands.proofs.TakeLemmas.{takes_next, takes_none}
 use Rattle.vend_commands.proofs.serving.serve.Goals as goal
+
+pub loop-connection-init : goal.loop-connection-init
+loop-connection-init g c = ([], (refl, refl), takes_none _)
 
 pub loop-connection-preserved : goal.loop-connection-preserved
 loop-connection-preserved g c =
@@ -15,29 +20,42 @@ loop-connection-preserved g c =
     let before = c.loop-connection in
     one_more ways (forward_of c.args.words.now.transform) seen_in before._connection
     (service c.args.door.now c.args.books (C.answers c.args.clock.now)) (service before.door before.books (C.answers before.clock))
-    (service c.hold.new.door c.hold.new.books (C.answers c.hold.new.clock)) c.in-Ok.books before.invariant c.in-Ok.ensures c.if-not-hold.ensures
+    (service c.hold.new.door c.hold.new.books (C.answers c.hold.new.clock)) c.in-Ok.books _ _ _ _ before.invariant c.in-Ok.ensures.ready c.if-not-hold.ensures
+    c.in-Ok.ensures.told c.tell_stop.ensures
 
 pub returns-in-Err : goal.returns-in-Err
-returns-in-Err g c = record {
-  count = c.loop-connection._connection;
-  fewer = c.loop-connection-test.true;
-  last = service c.loop-connection.door c.loop-connection.books (g.C.Clock.answers c.loop-connection.clock);
-  held = c.loop-connection.invariant;
-  lost = c.in-Err.ensures;
-  door = refl;
-  answers = refl;
-}
+returns-in-Err g c =
+    let held = c.loop-connection.invariant in (
+      held.0,
+      record {
+        count = c.loop-connection._connection;
+        fewer = c.loop-connection-test.true;
+        last = service c.loop-connection.door c.loop-connection.books (g.C.Clock.answers c.loop-connection.clock);
+        held = held.1;
+        lost = c.in-Err.ensures.ready;
+        door = refl;
+        answers = refl;
+      },
+      subst (Takes _ _) (append-nil held.0) (takes_next _ _ _ held.0 [] held.2 c.in-Err.ensures.told),
+    )
 
 pub returns-then-not-hold : goal.returns-then-not-hold
-returns-then-not-hold g c = record {
-  count = c.loop-connection._connection;
-  fewer = c.loop-connection-test.true;
-  last = service c.loop-connection.door c.loop-connection.books (g.C.Clock.answers c.loop-connection.clock);
-  held = c.loop-connection.invariant;
-  ready = c.in-Ok.books;
-  are_ready = c.in-Ok.ensures;
-  unheld = c.if-not-hold.ensures;
-}
+returns-then-not-hold g c =
+    let held = c.loop-connection.invariant in (
+      _,
+      record {
+        count = c.loop-connection._connection;
+        fewer = c.loop-connection-test.true;
+        last = service c.loop-connection.door c.loop-connection.books (g.C.Clock.answers c.loop-connection.clock);
+        before = held.0;
+        held = held.1;
+        ready = c.in-Ok.books;
+        are_ready = c.in-Ok.ensures.ready;
+        unheld = c.if-not-hold.ensures;
+        printed_is = refl;
+      },
+      takes_next _ _ _ held.0 _ held.2 c.in-Ok.ensures.told,
+    )
 
 pub returns : goal.returns
 returns g c =
@@ -47,4 +65,4 @@ returns g c =
     let ways = way D g.D.Reader.Read.remaining g.D.Writer.Write.contents in
     let last = c.loop-connection in
     all_held ways (forward_of c.args.words.now.transform) seen_in last._connection c.args.words.now.connections
-    (service c.args.door.now c.args.books (C.answers c.args.clock.now)) (service last.door last.books (C.answers last.clock)) last.invariant (omega arith)
+    (service c.args.door.now c.args.books (C.answers c.args.clock.now)) (service last.door last.books (C.answers last.clock)) _ _ last.invariant (omega arith)

@@ -1,7 +1,9 @@
 use Rattle.command_line.specs.Transform.{forward_of}
-use Rattle.vend_commands.specs.serving.Connections.{AreHeld, service}
+use Rattle.vend_commands.specs.serving.Connections.{service}
 use Rattle.vend_commands.specs.port.Places.{way}
 use Rattle.vend_commands.specs.office.Visited.{seen_in}
+use Rattle.vend_commands.specs.print.Told.{sink}
+use Rattle.vend_commands.proofs.ConnectionLemmas.{AreHeldTelling}
 use Rattle.vend_commands.proofs.serving.serve.Given as goal
 
 -- so many connections were served
@@ -11,5 +13,6 @@ invariant-loop-connection g l =
     let H = g.H.OfficeFile in
     let C = g.C.Clock in
     let ways = way D g.D.Reader.Read.remaining g.D.Writer.Write.contents in
-    AreHeld ways (forward_of l.words.transform) seen_in l._connection
+    AreHeldTelling ways (forward_of l.words.transform) seen_in l._connection
     (service l.fn.door l.fn.books (C.answers l.fn.clock)) (service l.door l.books (C.answers l.clock))
+    (sink g.E.Write.contents l.fn.err) (sink g.E.Write.contents l.err)

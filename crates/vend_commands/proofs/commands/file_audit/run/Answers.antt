@@ -10,7 +10,7 @@ use Rattle.vend_commands.proofs.commands.file_audit.run.Goals as goal
 
 pub returns-in-Ok-Some : goal.returns-in-Ok-Some
 returns-in-Ok-Some g c =
-    let at = places_of g.H.Medium.Disk g.H.Salts.SaltSource g.H.OfficeFile c.args.office c.args.words.now.file.now in
+    let at = places_of g.H.Medium.Disk g.H.Salts.SaltSource g.H.OfficeFile c.args.office c.args.words.now.file.now c.args.words.now.wait in
     let image = g.H.OfficeFile.image c.args.office c.args.words.now.file.now in
     looked c.audit_files-answer.result (subst (λ found. IfSome found (λ conn. at.meets)) c.in-Ok-Some.field-0-is c.in-Ok-Some.ensures.meets) (record {
       first = c.in-Ok-Some.conn;

@@ -1,6 +1,6 @@
 use Rattle.std.proofs.Common.{◌∙◌, Ok, ap, subst, sym}
 use Rattle.vend_commands.specs.office.Closed.{IsClosed}
-use Rattle.vend_commands.specs.serving.Listening.{IsClosedAfter, stop_line}
+use Rattle.vend_commands.specs.serving.Listening.{IsClosedAfter, last_line}
 use Rattle.vend_commands.specs.print.Told.{Takes, sink}
 use Rattle.vend_commands.specs.office.Visited.{seen_in}
 use Rattle.vend_commands.proofs.TakeLemmas.{takes_none}
@@ -13,7 +13,7 @@ returns-then-all-clause-closed g c =
 pub returns-then-all-clause-told : goal.returns-then-all-clause-told
 returns-then-all-clause-told g c =
     let held = sink g.E.Write.contents c.args.err.now in
-    subst (λ served. Takes held held (stop_line served)) (sym (c.in-Ok.is ∙ ap (λ all. Ok (c.in-Ok.books, all)) c.if-all.true)) (takes_none held)
+    subst (λ served. Takes held held (last_line served)) (sym (c.in-Ok.is ∙ ap (λ all. Ok (c.in-Ok.books, all)) c.if-all.true)) (takes_none held)
 
 pub returns-else-all-clause-closed : goal.returns-else-all-clause-closed
 returns-else-all-clause-closed g c =

@@ -1,6 +1,7 @@
 use Rattle.std.proofs.Common.{refl}
 use Rattle.vend_commands.specs.serving.Listening.IsServing.{unheard, unopened, was_open}
 use Rattle.vend_commands.specs.print.Told.{sink}
+use Rattle.vend_commands.proofs.TakeLemmas.{takes_next}
 use Rattle.vend_commands.proofs.commands.serve.run.Goals as goal
 
 pub returns-in-Some : goal.returns-in-Some
@@ -11,10 +12,11 @@ returns-in-Some g c = was_open c.in-Ok.books c.in-Ok.ensures.opened c.in-Ok.ensu
   last = c.serve-served.new.door;
   left = g.C.Clock.answers c.serve-served.new.clock;
   served = c.serve-served.result;
-  are_served = c.serve-served.ensures;
+  printed = c.serve-served.ensures.0;
+  are_served = c.serve-served.ensures.1;
   leaves = c.leave.ensures;
   closed = c.end_with.ensures.closed;
-  told = c.end_with.ensures.told;
+  told = takes_next _ _ _ c.serve-served.ensures.0 _ c.serve-served.ensures.2 c.end_with.ensures.told;
   ends = c.end_with.ensures.end;
 })
 

@@ -3,13 +3,14 @@ use Rattle.books.specs.Path.{IsConnected}
 use Rattle.books.specs.declared.refused_files.RefusedFiles.TheVariants.{Unconnected}
 use Rattle.sqlite.specs.Files.{file_state}
 use Rattle.sqlite_wal.specs.Files.{seen_image}
-use Rattle.vend_commands.specs.port.Places.IsUnopened.{refused, unsalted}
+use Rattle.vend_commands.specs.port.Places.IsUnopened.{unopened}
+use Rattle.vend_commands.specs.port.Places.IsUnopenedIn.{refused, unsalted}
 use Rattle.vend_commands.proofs.office.auditing.connect.Goals as goal
 
 pub returns-in_default-draw-clause-refuses : goal.returns-in_default-draw-clause-refuses
 returns-in_default-draw-clause-refuses g c =
-    let meets = subst (λ found. IfSome found (λ pair. g.H.OfficeFile.meets c.args.office c.args.path.now pair.0 pair.1)) c.in-Some.is c.in-Ok.ensures.meets in
-    unsalted c.in-Some.log c.in-Some.db meets c.args.salts.now c.in_default-draw.ensures.lacks refl
+    let meets = subst (λ found. IfSome found (λ pair. g.H.OfficeFile.meets c.args.office c.args.path.now c.args.wait pair.0 pair.1)) c.in-Some.is c.in-Ok.ensures.meets in
+    unopened (record { log = c.in-Some.log; db = c.in-Some.db }) meets (unsalted c.args.salts.now c.in_default-draw.ensures.lacks refl)
 
 pub returns-in-Ok-open_files-clause-connected : goal.returns-in-Ok-open_files-clause-connected
 returns-in-Ok-open_files-clause-connected g c = λ clean.
@@ -20,7 +21,7 @@ returns-in-Ok-open_files-clause-connected g c = λ clean.
 
 pub returns-in-Err-open_files-clause-refuses : goal.returns-in-Err-open_files-clause-refuses
 returns-in-Err-open_files-clause-refuses g c =
-    let meets = subst (λ found. IfSome found (λ pair. g.H.OfficeFile.meets c.args.office c.args.path.now pair.0 pair.1)) c.in-Some.is c.in-Ok.ensures.meets in
+    let meets = subst (λ found. IfSome found (λ pair. g.H.OfficeFile.meets c.args.office c.args.path.now c.args.wait pair.0 pair.1)) c.in-Some.is c.in-Ok.ensures.meets in
     let told = c.in-Err-open_files.ensures in
-    refused (record { log = c.in-Some.log; db = c.in-Some.db }) c.into_files-files.result meets (Unconnected c.in-Err-open_files.left)
-    (record { error = c.in-Err-open_files.error; answered = c.fault_of.ensures.value; fails = told.cause; kept = told.unharmed }) c.into_files-files.ensures c.let_go.ensures
+    unopened (record { log = c.in-Some.log; db = c.in-Some.db }) meets (refused c.into_files-files.result (Unconnected c.in-Err-open_files.left)
+    (record { error = c.in-Err-open_files.error; answered = c.fault_of.ensures.value; fails = told.cause; kept = told.unharmed }) c.into_files-files.ensures c.let_go.ensures)
