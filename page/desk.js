@@ -1,5 +1,4 @@
-// What both pages share: how the desk is asked, its refusals in words, and money, energy and times as people
-// write them.
+// How the desk is asked, and its refusals in words.
 
 /** Each error of the desk by its name: what it means, and what to do. */
 export const WORDS = {
@@ -65,18 +64,21 @@ function parsed(text) {
 }
 
 /** Sends one message. The outcome has `done`, the good reply; or `refused`, the desk's own error: nothing was
- * done; or `unknown`, why it is not known what was done, with `waits` where it may help to send it again. */
-export async function ask(method, target, body) {
+ * done; or `unknown`, why it is not known what was done, with `waits` where it may help to send it again. It is
+ * given up when its time is over, or when the caller aborts `stop`. */
+export async function ask(method, target, body, stop = new AbortController()) {
+  const late = setTimeout(() => stop.abort(), PATIENCE);
   let status, text;
   try {
     const reply = await fetch(`/api${target}`, {
-      method, body, headers: { "X-Till": "1" }, cache: "no-store", redirect: "error",
-      signal: AbortSignal.timeout(PATIENCE),
+      method, body, headers: { "X-Till": "1" }, cache: "no-store", redirect: "error", signal: stop.signal,
     });
     status = reply.status;
     text = await reply.text();
   } catch {
     return { unknown: "There is no answer from the office.", waits: true };
+  } finally {
+    clearTimeout(late);
   }
   const said = parsed(text);
   if (status === 200) return { done: said ?? text };
@@ -95,87 +97,3 @@ export async function askAgain(method, target, body) {
 }
 
 export const wait = (pause) => new Promise((go) => setTimeout(go, pause));
-
-/** An amount of money as people write it, such as 12, 12.5 or 12,50, in cents; null where it is none. */
-export function cents(text) {
-  const found = /^(\d{1,7})(?:[.,](\d{1,2}))?$/.exec(text.trim());
-  return found && Number(found[1]) * 100 + Number((found[2] ?? "").padEnd(2, "0"));
-}
-
-/** Energy in kWh as people write it, in tenths; null where it is none. */
-export function tenths(text) {
-  const found = /^(\d{1,9})(?:[.,](\d))?$/.exec(text.trim());
-  return found && Number(found[1]) * 10 + Number(found[2] ?? 0);
-}
-
-export const money = (amount) => (amount / 100).toFixed(2);
-export const energy = (amount) => `${(amount / 10).toFixed(1)} kWh`;
-export const time = (text) => text.replace("T", " ").replace(/(\.\d+)?Z$/, " UTC");
-export const digits = (text) => text.replace(/[\s-]/g, "");
-export const groups = (token) => token.match(/\d{4}/g).join(" ");
-
-/** Eleven digits, the last of them a Luhn check. */
-export function isMeterNumber(text) {
-  const doubled = (digit) => (digit > 4 ? 2 * digit - 9 : 2 * digit);
-  const values = [...text].reverse().map((digit, place) => (place % 2 ? doubled(Number(digit)) : Number(digit)));
-  return /^\d{11}$/.test(text) && values.reduce((sum, value) => sum + value, 0) % 10 === 0;
-}
-
-export const find = (id) => document.getElementById(id);
-
-/** Shows a sentence, which screen readers say at once. */
-export function say(text, kind = "bad") {
-  find("message").className = kind;
-  find("message").textContent = text;
-}
-
-/** What a person entered cannot be right: the sentence, and the field to correct. */
-export class Wrong extends Error {
-  constructor(text, field) {
-    super(text);
-    this.field = field;
-  }
-}
-
-let busy = false;
-
-/** Does one thing at a time: a second click changes nothing. What fails is shown, never swallowed. */
-export async function act(work) {
-  if (busy) return;
-  busy = true;
-  say("");
-  document.body.classList.add("busy");
-  try {
-    await work();
-  } catch (error) {
-    say(error.message);
-    error.field?.focus();
-    error.field?.select?.();
-  } finally {
-    busy = false;
-    document.body.classList.remove("busy");
-  }
-}
-
-/** Has a form do its work in place of the browser's own sending. */
-export function onSubmit(id, work) {
-  const form = find(id);
-  form.addEventListener("submit", (event) => {
-    event.preventDefault();
-    act(() => work(form.elements, form));
-  });
-}
-
-/** The reply of a message that may come twice, or an error in words. */
-export async function replyTo(method, target, body) {
-  const outcome = await askAgain(method, target, body);
-  if (outcome.done !== undefined) return outcome.done;
-  throw new Error(outcome.refused ? inWords(outcome.refused) : `${outcome.unknown} Try again.`);
-}
-
-/** The meter number in a field. */
-export function meterIn(field) {
-  const meter = digits(field.value);
-  if (isMeterNumber(meter)) return meter;
-  throw new Wrong("This is no meter number: eleven digits, the last of which checks the others. Compare it with the meter.", field);
-}

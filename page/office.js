@@ -1,5 +1,5 @@
 // The page for tariffs and meters. Each of its messages may come twice: what is stored already changes nothing.
-import { Wrong, cents, digits, find, meterIn, onSubmit, replyTo, say, tenths } from "./desk.js";
+import { Wrong, cents, digits, find, meterIn, onSubmit, replyTo, tenths } from "./forms.js";
 
 const MOST_STEPS = 8;
 const MOST_BYTES = 1048576; // of a file
@@ -14,6 +14,7 @@ function nameIn(field) {
 function addStep() {
   const place = find("steps").children.length + 1;
   const row = document.createElement("div");
+  row.className = "step";
   for (const [name, text] of [["end", `Step ${place}: up to kWh (empty: all above)`], ["price", `Step ${place}: price of a kWh`]]) {
     const label = document.createElement("label");
     const field = Object.assign(document.createElement("input"), { className: name, inputMode: "decimal", maxLength: 12 });
@@ -45,18 +46,17 @@ function stepsIn(rows) {
 
 const isFilled = (row) => [...row.querySelectorAll("input")].some((field) => field.value.trim());
 
-async function change(target, body, text) {
-  await replyTo("POST", target, JSON.stringify(body));
-  say(text, "good");
-}
+const change = (target, body) => replyTo("POST", target, JSON.stringify(body));
 
 onSubmit("tariff-form", async ({ name, from }, form) => {
   const tariff = nameIn(name);
   const filled = [...find("steps").children].filter(isFilled);
   const steps = stepsIn(filled.length ? filled : [find("steps").firstChild]);
-  if (from.value) await change(`/tariffs/${tariff}/steps`, { from: from.value, steps }, `${tariff} has these steps from ${from.value} on.`);
-  else await change("/tariffs", { name: tariff, steps }, `The tariff ${tariff} is stored.`);
+  const day = from.value;
+  if (day) await change(`/tariffs/${tariff}/steps`, { from: day, steps });
+  else await change("/tariffs", { name: tariff, steps });
   form.reset();
+  return day ? `${tariff} has these steps from ${day} on.` : `The tariff ${tariff} is stored.`;
 });
 
 onSubmit("meter-form", async ({ meter, tariff, base, key }, form) => {
@@ -64,28 +64,32 @@ onSubmit("meter-form", async ({ meter, tariff, base, key }, form) => {
   const name = nameIn(tariff);
   const secret = digits(key.value).toLowerCase();
   if (!/^[0-9a-f]{16}$/.test(secret)) throw new Wrong("A key has sixteen digits of 0 to 9 and a to f.", key);
-  await change("/meters", { base: Number(base.value), key: secret, meter: number, tariff: name }, `The meter ${number} is stored.`);
+  await change("/meters", { base: Number(base.value), key: secret, meter: number, tariff: name });
   form.reset();
+  return `The meter ${number} is stored.`;
 });
 
 onSubmit("change-form", async ({ meter, tariff }, form) => {
   const number = meterIn(meter);
   const name = nameIn(tariff);
-  await change(`/meters/${number}/tariff`, { tariff: name }, `The meter ${number} has the tariff ${name}.`);
+  await change(`/meters/${number}/tariff`, { tariff: name });
   form.reset();
+  return `The meter ${number} has the tariff ${name}.`;
 });
 
 onSubmit("base-form", async ({ meter, base }, form) => {
   const number = meterIn(meter);
-  await change(`/meters/${number}/base`, { base: Number(base.value) }, `The meter ${number} has the base date ${base.value}. Clear the meter itself.`);
+  const year = base.value;
+  await change(`/meters/${number}/base`, { base: Number(year) });
   form.reset();
+  return `The meter ${number} has the base date ${year}. Clear the meter itself.`;
 });
 
 onSubmit("import-form", async ({ kind, file }) => {
   const chosen = file.files[0];
   if (!chosen || chosen.size > MOST_BYTES) throw new Wrong("Choose a file of at most 1048576 bytes.", file);
   const { added } = await replyTo("POST", `/imports/${kind.value}`, await chosen.arrayBuffer());
-  say(added === 1 ? "1 row was new." : `${added} rows were new.`, "good");
+  return added === 1 ? "1 row was new." : `${added} rows were new.`;
 });
 
 find("step").addEventListener("click", () => addStep().focus());

@@ -1,44 +1,22 @@
 // The cashier's page. A sale is kept in this browser before it is sent, and stays until the desk has said what
 // became of it: so a lost reply, a reload, a double click and a second tab lead to one sale and its receipt.
-import { PAUSES, Wrong, act, ask, askAgain, cents, digits, energy, find, groups, inWords, meterIn, money, onSubmit,
-  replyTo, say, time, wait } from "./desk.js";
+import { PAUSES, ask, askAgain, inWords, wait } from "./desk.js";
+import { Wrong, act, cents, find, hush, meterIn, numberIn, onSubmit, replyTo, say } from "./forms.js";
+import { PENDING, SHIFT, keep, kept, pending, shift } from "./kept.js";
+import { money, receipt, report } from "./paper.js";
 
-const PENDING = "till.pending."; // and the ref: an order that was sent and has no outcome yet, as it is sent
-const SHIFT = "till.shift"; // who sells, and the number of the shift where it is known
 const LOCK = "till.sale"; // one tab at a time sends a sale
-const NOT_KEPT = "This browser keeps nothing for this page, so a lost answer could not be mended: nothing is sold. Allow storage for this site.";
-const DOUBT = "The sale may have been made or not. Let the customer wait: it is asked for again, and is never made twice.";
+const SOON = 400; // milliseconds after a sending in which another one is not wanted: a double click, a key held down
+const ONCE = "The sale is never made twice.";
+const LONG = "If this takes long, press 'Ask again now'.";
+const SELLING = `Please wait. The office has been asked for this sale. ${LONG} ${ONCE}`;
+const AGAIN = `Please wait. The office has been asked again. ${LONG} ${ONCE}`;
+const DOUBT = "It is not known whether the sale was made. Let the customer wait.";
+const ELSEWHERE = "Another tab of this page has asked the office for this sale. Wait for the receipt there.";
+const UNANSWERED = `This sale has no answer yet. Another tab of this page may be waiting for it. If not, press 'Ask again now'. ${ONCE}`;
 const MOST = 100000000; // cents of one tender
 
-/** What this browser keeps under a name; null where it keeps nothing. */
-function kept(name) {
-  try {
-    return localStorage.getItem(name);
-  } catch {
-    return null;
-  }
-}
-
-/** The names of the orders without an outcome. Each has its own: a tab may see for a moment what another tab has
- * removed already, or not yet what it keeps, and so must never write over its order. */
-function pending() {
-  try {
-    return Object.keys(localStorage).filter((name) => name.startsWith(PENDING));
-  } catch {
-    return [];
-  }
-}
-
-const shift = () => JSON.parse(kept(SHIFT));
-
-function keep(name, text) {
-  try {
-    localStorage.setItem(name, text);
-  } catch {
-    // Whether it is kept is seen below.
-  }
-  if (kept(name) !== text) throw new Error(NOT_KEPT);
-}
+let closing = null; // the shift that the cashier was asked about, whether to close it
 
 /** 128 random bits in 32 hexadecimal digits: no other order of any till has this ref. */
 function newRef() {
@@ -52,105 +30,166 @@ function isSaleOf(sale, order) {
     && /^\d{20}$/.test(sale.token);
 }
 
-/** Shows what this browser knows: who sells, and whether a sale is without an outcome. */
+/** Shows what this browser knows: who sells, whether a sale is without an outcome, and the question whether to close
+ * the shift, while it is about the shift that is open. */
 function show() {
   const who = shift();
-  const order = JSON.parse(kept(pending()[0]));
+  const name = pending()[0];
+  const order = JSON.parse(kept(name));
+  if (order && find("doubt").dataset.name !== name) tell(UNANSWERED); // until this tab asks for it
+  find("doubt").dataset.name = name ?? "";
+  if (closing && (closing.operator !== who?.operator || (closing.number ?? who.number) !== who.number)) closing = null;
   find("who").textContent = who ? `${who.operator}, shift ${who.number ?? "open"}` : "";
   find("doubt").hidden = !order;
   find("order").textContent = order ? `Meter ${order.meter}, ${money(order.tender)} paid` : "";
   find("start").hidden = Boolean(who || order);
   find("sale").hidden = !who || Boolean(order) || !find("paper").hidden;
   find("more").hidden = Boolean(order);
-  find("end").hidden = !who;
+  find("end").hidden = !who || Boolean(closing);
+  find("end-form").hidden = !closing;
 }
 
-/** Shows the page again and leads the keyboard to where the work goes on. */
+/** Shows the page again and leads the keyboard and the eye to where the work goes on. */
 function showAt(id) {
   show();
-  find(id).focus();
+  const place = find(id);
+  place.focus({ preventScroll: true });
+  place.scrollIntoView({ block: place.offsetHeight > innerHeight ? "start" : "nearest" });
+}
+
+/** Leads the keyboard to what is to be done next. */
+function showNext() {
+  showAt(shift() ? "meter" : "operator");
+}
+
+/** Says what becomes of the sale that is under way, and what can be done stays in the window. */
+function tell(text) {
+  find("why").textContent = text;
+  find("retry").scrollIntoView({ block: "nearest" });
 }
 
 /** Puts a receipt or a report on the paper that the screen shows and the printer prints. */
-function showPaper(title, ...parts) {
+function showPaper([title, ...parts]) {
   find("title").textContent = title;
   find("content").replaceChildren(...parts);
+  find("print").disabled = false;
   find("paper").hidden = false;
   showAt("paper");
 }
 
-function element(name, className, ...parts) {
-  const made = document.createElement(name);
-  made.className = className;
-  made.append(...parts);
-  return made;
+/** Takes the paper away, so that nothing of an earlier sale can be printed. */
+function clearPaper() {
+  find("title").textContent = "";
+  find("content").replaceChildren();
+  find("print").disabled = true;
+  find("paper").hidden = true;
+  show();
 }
 
-/** Rows of names and values. */
-function list(rows) {
-  return element("dl", "", ...rows.flatMap(([name, value]) => [element("dt", "", name), element("dd", "", value)]));
+/** What 'Ask again now' cuts short: this tab's request that is under way, or the pause after it. */
+let cut = null;
+let sent = 0; // when that request was sent, in milliseconds
+let pressed = false;
+
+/** Sends an order once. When it is given up, the same order can be sent anew: the desk knows it by its ref. */
+function send(body) {
+  const stop = new AbortController();
+  cut = () => stop.abort();
+  sent = performance.now();
+  pressed = false;
+  return ask("POST", "/sales", body, stop);
 }
 
-function showReceipt(sale, title) {
-  showPaper(title, list([
-    ["Sale", sale.number], ["Meter", sale.meter], ["Time", time(new Date(1000 * sale.moment).toISOString())],
-    ["Energy", energy(sale.tenths)], ["Price", money(sale.price)], ["Paid", money(sale.tender)],
-    ["Change", money(sale.change)],
-  ]), element("p", "token", ...groups(sale.token).split(" ").flatMap((group) => [element("span", "", group), " "])));
-}
-
-/** The report of a shift: docs/TEXTS.md has its lines. */
-function showReport(text) {
-  const lines = text.trimEnd().split("\n");
-  const [[, number, operator], [, opened], [, closed]] = lines.slice(0, 3).map((line) => line.split(" "));
-  const [sales, sum, cash] = lines.slice(-3).map((line) => Number(line.split(" ")[1]));
-  const rows = lines.slice(3, -3).map((line) => line.trim().split(/ +/)).map(([sale, meter, amount, price]) =>
-    element("tr", "", ...[sale, meter, energy(amount), money(price)].map((cell) => element("td", "", cell))));
-  const head = ["Sale", "Meter", "Energy", "Price"].map((name) => element("th", "", name));
-  showPaper(`Shift ${number}, ${operator}`, list([
-    ["Opened", time(opened)], ["Closed", closed === "-" ? "still open" : time(closed)], ["Sales", sales],
-    ["Energy", energy(sum)], ["Cash", money(cash)],
-  ]), element("table", "", element("thead", "", element("tr", "", ...head)), element("tbody", "", ...rows)));
+/** Waits for a time, or until somebody presses 'Ask again now'. */
+function rest(pause) {
+  return new Promise((go) => {
+    cut = go;
+    setTimeout(go, pause);
+  });
 }
 
 /** Sends the order under a name until its outcome is known, or the tries are used up. Only under the lock. An error
  * without a number comes before the office has looked for the ref, so it settles an order that is `fresh` alone. */
-async function settle(name, fresh) {
+async function askUntilKnown(name, fresh) {
   const body = kept(name);
   const order = JSON.parse(body);
-  find("why").textContent = "";
-  show();
-  for (const pause of [...PAUSES, null]) {
-    const { done, refused, unknown, waits } = await ask("POST", "/sales", body);
-    if (done && isSaleOf(done, order)) {
-      showReceipt(done, "Receipt");
-      localStorage.removeItem(name);
-      find("order-form").reset();
-      // The number was not known where the answer to the opening was lost.
-      const who = shift();
-      if (who?.operator === order.operator && !who.number) keep(SHIFT, JSON.stringify({ ...who, number: done.shift }));
-      return show();
-    }
-    if (refused && (refused.refusal || fresh)) {
-      localStorage.removeItem(name);
-      if (refused.error === "NoShift" && shift()?.operator === order.operator) localStorage.removeItem(SHIFT);
-      showAt(shift() ? "meter" : "operator");
-      return say(inWords(refused));
-    }
+  showAt(document.activeElement === find("retry") ? "retry" : "doubt");
+  tell(SELLING);
+  let pauses = [...PAUSES];
+  while (true) {
+    const { done, refused, unknown, waits } = await send(body);
+    if (done && isSaleOf(done, order)) return sold(name, order, done);
+    if (refused && (refused.refusal || fresh)) return notSold(name, order, refused);
     fresh = false;
-    find("why").textContent = `${unknown ?? "The answer was not to this sale."} ${DOUBT}`;
-    if (!waits || pause === null) break;
-    await wait(pause);
+    if (!pressed) {
+      const isLast = !waits || pauses.length === 0;
+      const next = isLast ? "Press 'Ask again now'." : "The page asks again by itself.";
+      tell(`${unknown ?? "The answer was not to this sale."} ${DOUBT} ${next} ${ONCE}`);
+      if (isLast) return find("retry").focus();
+      await rest(pauses.shift());
+    }
+    if (pressed) {
+      pauses = [...PAUSES];
+      tell(AGAIN);
+    }
   }
-  find("retry").focus();
+}
+
+async function settle(name, fresh) {
+  try {
+    await askUntilKnown(name, fresh);
+  } finally {
+    cut = null;
+    show();
+  }
+}
+
+/** The order was sold, now or before: its receipt is on the screen before it is forgotten. */
+function sold(name, order, sale) {
+  showPaper(receipt(sale, "Receipt"));
+  localStorage.removeItem(name);
+  find("order-form").reset();
+  // The number was not known where the answer to the opening was lost.
+  const who = shift();
+  if (who?.operator === order.operator && !who.number) keep(SHIFT, JSON.stringify({ ...who, number: sale.shift }));
+  showAt("paper");
+}
+
+/** The order was refused, so that it can be corrected or left. */
+function notSold(name, order, refused) {
+  localStorage.removeItem(name);
+  if (refused.error === "NoShift" && shift()?.operator === order.operator) localStorage.removeItem(SHIFT);
+  clearPaper();
+  const isOpen = Boolean(shift());
+  const field = refused.error === "TooLittle" ? "tender" : "meter"; // what may have to be corrected
+  showAt(isOpen ? field : "operator");
+  say(isOpen ? "order-form" : "start-form", inWords(refused));
 }
 
 /** Has the one tab that may do so send an order that is without an outcome. */
 function resume() {
-  return act(() => navigator.locks.request(LOCK, async () => {
+  const work = async () => {
+    find("retry").hidden = false;
     await wait(PAUSES[0]); // until what another tab has settled is seen here
     if (pending()[0]) await settle(pending()[0], false);
-  }).finally(show));
+    else showNext();
+  };
+  return act("doubt", async () => {
+    tell(SELLING);
+    const lock = await navigator.locks.request(LOCK, { ifAvailable: true }, (it) => it && work().then(() => it));
+    if (lock) return;
+    tell(ELSEWHERE);
+    find("retry").hidden = true; // until the other tab has its answer, or is closed
+    await navigator.locks.request(LOCK, work);
+  });
+}
+
+/** Does at once what 'Ask again now' says: never beside a request, which is given up first. */
+function press() {
+  if (!cut) return resume();
+  if (performance.now() - sent < SOON) return;
+  pressed = true;
+  cut();
 }
 
 onSubmit("start-form", async ({ operator }) => {
@@ -161,7 +200,8 @@ onSubmit("start-form", async ({ operator }) => {
   if (!done && refused?.error !== "ShiftOpen") throw new Error(refused ? inWords(refused) : `${unknown} Try again.`);
   keep(SHIFT, JSON.stringify({ operator: name, number: done?.shift ?? null }));
   showAt("meter");
-  say(done ? `Shift ${done.shift} is open.` : `${inWords(refused)} Its number comes with the next sale.`, "good");
+  const text = done ? `Shift ${done.shift} is open.` : `${inWords(refused)} Its number comes with the next sale.`;
+  say("order-form", text, "good");
 });
 
 onSubmit("order-form", ({ meter, tender }) => navigator.locks.request(LOCK, { ifAvailable: true }, async (lock) => {
@@ -174,52 +214,77 @@ onSubmit("order-form", ({ meter, tender }) => navigator.locks.request(LOCK, { if
   await settle(PENDING + order.ref, true);
 }));
 
-onSubmit("reprint-form", async ({ number }) => {
-  showReceipt(await replyTo("GET", `/sales/${numberIn(number)}`), "Receipt, printed again");
-});
+/** Shows what a number in a field asks for. The paper is taken away first: what is refused leaves none to print. */
+async function showPaperOf(field, target, partsOf) {
+  clearPaper();
+  showPaper(partsOf(await replyTo("GET", `${target}${numberIn(field)}`, undefined, field)));
+}
 
-onSubmit("report-form", async ({ number }) => showReport(await replyTo("GET", `/shifts/${numberIn(number)}`)));
+onSubmit("reprint-form", ({ number }) =>
+  showPaperOf(number, "/sales/", (sale) => receipt(sale, "Receipt, printed again")));
+
+onSubmit("report-form", ({ number }) => showPaperOf(number, "/shifts/", report));
+
+/** Asks whether the shift is to be closed, which no single click does. */
+function askToClose() {
+  closing = shift();
+  if (!closing) return show();
+  const { operator, number } = closing;
+  const name = number ? `shift ${number}` : "the shift";
+  find("end-question").textContent = `Close ${name} of ${operator}? It is closed at every till where ${operator} sells, `
+    + `not only at this one. To sell again, ${operator} opens a new shift.`;
+  find("end-now").textContent = `Close ${name}`;
+  showAt("keep");
+  find("end-form").scrollIntoView({ block: "nearest" });
+}
+
+function keepOpen() {
+  closing = null;
+  showAt("close");
+}
 
 onSubmit("end-form", async () => {
-  const { operator, number } = shift();
+  const { operator, number } = closing;
   const { done, refused, unknown } = await askAgain("POST", "/shifts/close", JSON.stringify({ operator }));
   // The answer to a closing that was lost is that no shift is open.
   if (!done && refused?.error !== "NoShift") throw new Error(refused ? inWords(refused) : `${unknown} Try again.`);
   leave();
   const closed = done?.shift ?? number;
-  if (closed) showReport(await replyTo("GET", `/shifts/${closed}`));
-  say(closed ? `Shift ${closed} is closed.` : "Your shift is closed.", "good");
+  const text = closed ? `Shift ${closed} is closed.` : "Your shift is closed.";
+  say("start-form", text, "good");
+  if (!closed) return;
+  const { done: lines } = await askAgain("GET", `/shifts/${closed}`);
+  if (lines) showPaper(report(lines));
+  if (lines) say("paper", text, "good");
+  else say("start-form", `${text} Its report did not come. Ask for it below.`, "good");
 });
 
 /** Forgets who sells. */
 function leave() {
   localStorage.removeItem(SHIFT);
   find("order-form").reset();
-  find("paper").hidden = true;
-  showAt("operator");
+  clearPaper();
+  showNext();
 }
 
-/** The number of a sale or a shift in a field. */
-function numberIn(field) {
-  const text = digits(field.value);
-  if (/^[1-9]\d{0,8}$|^1000000000$/.test(text)) return text;
-  throw new Wrong("Write a number of 1 or more.", field);
-}
-
-find("other").addEventListener("click", () => act(leave));
-find("retry").addEventListener("click", resume);
+find("other").addEventListener("click", () => act("start-form", leave));
+find("retry").addEventListener("click", press);
 find("print").addEventListener("click", () => print());
 find("next").addEventListener("click", ({ detail }) => {
   if (detail > 1) return; // the second half of a double click was meant for what stood here before
-  find("paper").hidden = true;
-  say("");
-  showAt(shift() ? "meter" : "operator");
+  hush();
+  clearPaper();
+  showNext();
 });
+find("close").addEventListener("click", () => act("end-form", askToClose));
+find("keep").addEventListener("click", () => act("end-form", keepOpen));
+find("end-now").addEventListener("click", (event) => event.detail > 1 && event.preventDefault()); // as above
+find("end-form").addEventListener("keydown", ({ key }) => key === "Escape" && act("end-form", keepOpen));
 addEventListener("storage", show); // another tab has sold, or opened or closed the shift
 
 if (navigator.locks) {
-  showAt(shift() ? "meter" : "operator");
+  showNext();
   if (pending()[0]) resume();
 } else {
-  say("This page sells over https alone.");
+  say("message", "This page sells over https alone.");
 }

@@ -1,0 +1,44 @@
+// What stands on a receipt and on a report, on the screen and on paper, each with its title first.
+
+export const money = (amount) => (amount / 100).toFixed(2);
+const energy = (amount) => `${(amount / 10).toFixed(1)} kWh`;
+const time = (text) => text.replace("T", " ").replace(/(\.\d+)?Z$/, " UTC");
+
+function element(name, className, ...parts) {
+  const made = document.createElement(name);
+  made.className = className;
+  made.append(...parts);
+  return made;
+}
+
+/** Rows of names and values. */
+function list(rows) {
+  return element("dl", "", ...rows.flatMap(([name, value]) => [element("dt", "", name), element("dd", "", value)]));
+}
+
+/** A token in groups of four digits, which break over lines between them alone. */
+function groups(token) {
+  return token.match(/\d{4}/g).flatMap((group) => [element("span", "", group), " "]);
+}
+
+export function receipt(sale, title) {
+  return [title, list([
+    ["Sale", sale.number], ["Meter", sale.meter], ["Time", time(new Date(1000 * sale.moment).toISOString())],
+    ["Energy", energy(sale.tenths)], ["Price", money(sale.price)], ["Paid", money(sale.tender)],
+    ["Change", money(sale.change)],
+  ]), element("p", "token", ...groups(sale.token))];
+}
+
+/** The report of a shift: docs/TEXTS.md has its lines. */
+export function report(text) {
+  const lines = text.trimEnd().split("\n");
+  const [[, number, operator], [, opened], [, closed]] = lines.slice(0, 3).map((line) => line.split(" "));
+  const [sales, sum, cash] = lines.slice(-3).map((line) => Number(line.split(" ")[1]));
+  const rows = lines.slice(3, -3).map((line) => line.trim().split(/ +/)).map(([sale, meter, amount, price]) =>
+    element("tr", "", ...[sale, meter, energy(amount), money(price)].map((cell) => element("td", "", cell))));
+  const head = ["Sale", "Meter", "Energy", "Price"].map((name) => element("th", "", name));
+  return [`Shift ${number}, ${operator}`, list([
+    ["Opened", time(opened)], ["Closed", closed === "-" ? "still open" : time(closed)], ["Sales", sales],
+    ["Energy", energy(sum)], ["Cash", money(cash)],
+  ]), element("table", "", element("thead", "", element("tr", "", ...head)), element("tbody", "", ...rows))];
+}
