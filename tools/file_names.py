@@ -8,6 +8,7 @@ from pathlib import Path
 from program import AT, RECEIPT, TOP, VEND, WAIT, expect, is_sound, prepare, sell_words, vend
 
 UNOPENED = (1, b"", b"open 3 Store\n")
+MISSING = (1, b"", b"file\n")
 # Who has no right to a file that only others may write.
 NOBODY = 65534
 
@@ -96,8 +97,12 @@ def check_folders(folder):
     sells(file)
     for words in (report_words(folder / "folder.db"), sell_words(folder / "folder.db", "A-1"),
                   report_words(f"{file}/"), report_words(file / "office.db"),
-                  report_words("/"), report_words("")):
+                  report_words("/"), sell_words("", "A-1")):
         expect(vend(*words), *UNOPENED)
+    for name in ("", folder / "none.db", folder / "none" / "office.db"):
+        expect(vend(*report_words(name)), *MISSING)
+    if (folder / "none.db").exists():
+        raise SystemExit("wrong: a report has made a file")
     if any((folder / "folder.db").iterdir()):
         raise SystemExit("wrong: something was made in a folder that is no office")
     for kind in ("tariffs", "meters"):
@@ -138,8 +143,9 @@ def check_rights(folder):
     Path(f"{file}-wal").unlink(missing_ok=True)
     shop.chmod(0o555)
     for words in (report_words("office.db"), sell_words("office.db", "A-2"),
-                  report_words("new.db")):
+                  sell_words("new.db", "A-2")):
         expect(as_other(words, shop), *UNOPENED)
+    expect(as_other(report_words("new.db"), shop), *MISSING)
     shop.chmod(0o777)
     if file.read_bytes() != before or (shop / "new.db").exists():
         raise SystemExit("wrong: a file that could not be written has changed")

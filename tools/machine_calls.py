@@ -1,6 +1,7 @@
 """What the program asks of the system: which files it opens, when it has to do with sockets, when it pauses,
 and which salt it gives the log of a file: a part of tools/check_program. It is no script of its own. tools/watch_calls.c
 watches; cc builds it."""
+import fcntl
 import http.client
 import json
 import os
@@ -28,6 +29,10 @@ TOKEN = "00072057602627981690"
 # More than the pieces after which the desk pauses for a client that sends little at a time.
 MANY = 600
 APART = 0.0005  # seconds between two bytes
+# How often a command that waits for its file pauses, in a second that it may wait.
+PAUSES = 100
+# The bytes of a database file that SQLite locks: where they begin, and how many.
+LOCKED = (1 << 30, 512)
 
 
 class Watcher:
@@ -197,6 +202,37 @@ def check_pauses(folder, watcher):
         raise SystemExit(f"wrong: to single bytes serve answered {reply}, or it did not pause")
 
 
+def check_waits(folder, watcher):
+    """While another program has the file, a command pauses as often as it may, and then fails. It opens
+    nothing else, and with no time to wait it does not pause."""
+    file = folder / "waits.db"
+    prepare(file)
+    rows, given = str(TOP / "examples" / "tariffs.csv"), ["--file", str(file)]
+    commands = (
+        ["import", *given, "--at", AT, "tariffs", rows], sell_words(file, "A-1"),
+        ["shift", *given, "--operator", "bob", "open"], ["audit", *given],
+        ["base", *given, "--meter", METER, "--base", "2014"],
+        *(["report", *given, "--kind", kind] for kind in ("shift", "receipt", "totals", "sales")),
+        ["serve", *given, "--listen", "127.0.0.1:0", "--connections", "1"])
+    with open(file, "r+b") as held:
+        fcntl.lockf(held, fcntl.LOCK_EX | fcntl.LOCK_NB, LOCKED[1], LOCKED[0])
+        for words in commands:
+            opened = {os.path.realpath(it) for it in (file, *({rows} & set(words)))}
+            for wait in (0, 1):
+                expect(watcher.run([*words, "--wait", str(wait)]), 1, b"", b"open 3 Store\n")
+                found = watcher.calls()
+                if found != (opened, 0, ["sleep"] * PAUSES * wait):
+                    raise SystemExit(f"wrong: {words} --wait {wait} asked of the system {found}")
+        expect(watcher.run(commands[1]), 1, b"", b"open 3 Store\n")
+        if watcher.calls()[2] != ["sleep"] * PAUSES * 5:
+            raise SystemExit("wrong: a command that is not told how long to wait waits for five seconds")
+        # What else is wrong with a file is told at once.
+        expect(watcher.run(["report", "--file", str(folder), "--kind", "sales"]), 1, b"", b"open 3 Store\n")
+        expect(watcher.run(["report", "--file", "none.db", "--kind", "sales"]), 1, b"", b"file\n")
+        if watcher.calls() != (set(), 0, []):
+            raise SystemExit(f"wrong: for a file that is not there a report asked {watcher.calls()}")
+
+
 class Served:
     """`serve` for so many connections, watched."""
 
@@ -229,9 +265,9 @@ class Served:
         client.close()
         return found
 
-    def finish(self):
+    def finish(self, said=b""):
         out, err = self.process.communicate(timeout=WAIT)
-        if (self.process.returncode, out, err) != (0, b"", b""):
+        if (self.process.returncode, out, err) != (0, b"", said):
             raise SystemExit(f"wrong: serve ended with {self.process.returncode}, {out}, {err}")
 
 
@@ -266,7 +302,7 @@ def check_opened_again(folder, watcher):
         client.close()
         if served.ask("GET", "/sales/1")[0] != 200:
             raise SystemExit("wrong: a file that was opened again")
-        served.finish()
+        served.finish(said=b"stopped 16 Store\nopen\n")
     found = watcher.calls()
     if found != (files_of(file), FIRST_SALT + 2, HAS + ["accept"] * 2):
         raise SystemExit(f"wrong: a file that was opened again: {found}")
@@ -281,6 +317,7 @@ def check_machine_calls(folder):
     check_salts(folder, watcher)
     check_calls(folder, watcher)
     check_pauses(folder, watcher)
+    check_waits(folder, watcher)
     check_opened_again(folder, watcher)
-    print("calls of the system: no file, socket or salt but those of the words, and a "
-          "pause for single bytes alone")
+    print("calls of the system: no file, socket or salt but those of the words, and a pause for single "
+          "bytes, and for a file that is in use, alone")

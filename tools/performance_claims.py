@@ -1,0 +1,87 @@
+"""Which numbers of the pages come from docs/performance.txt, and whether they are its numbers. A claim
+is a pattern with a group for each number, and what these have to be: numbers of the tables there,
+rounded as the page writes them."""
+import re
+from pathlib import Path
+
+DOCS = Path(__file__).resolve().parent.parent / "docs"
+
+
+def tables():
+    """The tables of the page, by their titles: each a list of rows by the words of its head."""
+    found, text = {}, (DOCS / "performance.txt").read_text(encoding="utf-8")
+    for title, body in re.findall(r"^### (.*)\n\n((?:\|.*\n)+)", text, re.MULTILINE):
+        head, _, *rows = [[cell.strip() for cell in line.strip("|\n ").split("|")]
+                          for line in body.splitlines()]
+        found[title] = [dict(zip(head, row)) for row in rows]
+    return found
+
+
+def number(cell):
+    """The number of a cell: of a ratio the median, which stands in front of its brackets."""
+    return float(re.sub(r"[*,]", "", cell).split()[0].strip("()"))
+
+
+def claims():
+    """Each claim: a page, a pattern, and its numbers."""
+    all_tables = tables()
+
+    def cells(title, column, **where):
+        rows = [row for row in all_tables[title]
+                if all(row[name.replace("_", " ")] == value for name, value in where.items())]
+        return [number(row[column]) for row in rows]
+
+    replies = "Replies in a second, on one kept connection"
+    commands = "Commands, from start to end, in ms"
+    sale = "A sale, by the sales before it"
+    older = "Opening a file of format 1, and one of format 4"
+    audit = "An audit of a file of format 4, beside an opening"
+    sold = cells(replies, "vend to Python", Message="sale", At_once="1") + \
+        cells(sale, "vend to Python")
+    reprinted = cells(replies, "vend to Python", Message="reprint", At_once="1")
+    beside_c = cells(sale, "vend to C")
+    sells = {row["Sales in the file"]: row for row in all_tables[commands]
+             if row["Command"] == "one sale (`sell`)"}
+    migrations = cells(older, "1 to 4, times as long")
+    audits = [(int(row["Sales in the file"].replace(",", "")), number(row["audit, ms"]))
+              for row in all_tables[audit]]
+    most = all_tables[older][-1]
+    page = "docs/PERFORMANCE.md"
+    yield page, r"one message at a time \| (\S+) to (\S+) \| (\S+) to (\S+) \|", \
+        [min(sold), max(sold), min(beside_c), max(beside_c)]
+    yield page, r"reprints at the desk \| (\S+) to (\S+) \|", [min(reprinted), max(reprinted)]
+    for count, written in (("100", "100 sales in the file"), ("1000", "1,000 sales"),
+                           ("10000", "10,000 sales")):
+        yield page, rf"`sell`, {written} \| (\S+) \|", [number(sells[count]["vend to Python"])]
+    yield page, r"`sell`, 100,000 sales \((\S+) s against (\S+) ms\) \| (\S+) \|", \
+        [number(sells["100000"]["vend"]) / 1000, number(sells["100000"]["Python"]),
+         number(sells["100000"]["vend to Python"])]
+    yield page, r"export of 10,000 sales \| (\S+) \|", \
+        cells(commands, "vend to Python", Command="the export of all sales (`report`)")
+    yield page, r"import of 10,000 meters \| (\S+) \|", \
+        cells(commands, "vend to Python", Command="an import of 10000 meters (`import`)")
+    yield page, r"opening takes (\S+) to (\S+) times as long as later ones", \
+        [min(migrations), max(migrations)]
+    yield page, r"it holds (\d+) MiB where they hold (\d+)", \
+        [number(most["format 1, MiB at most"]), number(most["format 4, MiB at most"])]
+    per_sale = [ms * 1000 / count for count, ms in audits if count >= 10000]
+    yield page, r"opening, (\d+) to (\d+) µs a sale", [min(per_sale), max(per_sale)]
+    yield "docs/FAQ.md", r"a `sell` takes (\S+) s\.", [number(sells["100000"]["vend"]) / 1000]
+    yield "CHANGELOG.md", r"takes (\S+) to (\S+) times as long as a later one", \
+        [min(migrations), max(migrations)]
+
+
+def wrong_claims(texts):
+    """A line for each claim that a page does not make, or that is another number."""
+    count = 0
+    for page, pattern, numbers in claims():
+        found = re.search(pattern, texts[page])
+        if not found:
+            yield f"{page} has nothing like {pattern}"
+            continue
+        for written, real in zip(found.groups(), numbers):
+            count += 1
+            digits = len(written.partition(".")[2])
+            if abs(float(written) - real) > 0.5 * 10 ** -digits + 1e-9:
+                yield f"{page}: {written}, where docs/performance.txt has {real:.4g}"
+    print(f"pages: {count} numbers of docs/performance.txt")
