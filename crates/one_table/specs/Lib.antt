@@ -1,3 +1,4 @@
+pub mod Over
 pub mod Place
 pub mod ReadFaults
 pub mod Answer

@@ -2,6 +2,7 @@ ghost use Rattle.std.specs.Prelude.{◌≡◌, false, [], IsTrue, IfOk, IfErr, O
 ghost use Rattle.sqlite.specs.Values.{bound};
 ghost use Rattle.sqlite.specs.State.{HasCleanDisk, IsUnchanged, Survives};
 ghost use Rattle.sqlite.specs.Held.{state};
+ghost use Rattle.one_table.specs.Over.{Over};
 ghost use Rattle.one_table.specs.Answer.{OnlyAsks, IsLeft, GivesGathered, FailsToGather};
 ghost use Rattle.one_table.specs.ReadsOnly.{ReadsOnly};
 ghost use Rattle.one_table.specs.Taking.{TakesAll, StopsTaking};
@@ -58,13 +59,12 @@ pub fn fold_rows<S: Alter, X: FromRow, A: Gather<X> + Drop>(
     params: &[ValueRef<'_>],
     start: A,
 ) -> Result<A, ReadFault>
-    ensures given { HasCleanDisk (state S.Store conn.new)
-        → OnlyAsks sql.now (state S.Store conn.old)
-        → IfOk result (GivesGathered X.FromRow.reads_as A.gathered start sql.now (bound params.now)
-        (state S.Store conn.old) (state S.Store conn.new)) }
-    ensures reads { ReadsOnly (OnlyAsks sql.now) IsUnchanged
-        (λ a b. FailsToGather X.FromRow.reads_as A.gathered start sql.now (bound params.now) a b
-        A.has_room X.FromRow.is_readable) (state S.Store conn.old) (state S.Store conn.new) result }
+    ensures given { Over S.Store conn (λ old new. HasCleanDisk new → OnlyAsks sql.now old
+        → IfOk result (GivesGathered X.FromRow.reads_as A.gathered start sql.now (bound
+        params.now) old new)) }
+    ensures reads { Over S.Store conn (λ old new. ReadsOnly (OnlyAsks sql.now) IsUnchanged (λ a b.
+        FailsToGather X.FromRow.reads_as A.gathered start sql.now (bound params.now) a b
+        A.has_room X.FromRow.is_readable) old new result) }
 {
     let statement = conn.prepare(sql)?;
     let mut rows = conn.query_prepared(&statement, params)?;

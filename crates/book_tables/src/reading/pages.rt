@@ -3,7 +3,7 @@
 
 ghost use Rattle.std.specs.Prelude.{◌≡◌, IsPermutation, codes, filter, map, nat_lt, option_map, slice_get, take, IfOk, OnOk};
 ghost use Rattle.sqlite.specs.State.{HasCleanDisk};
-ghost use Rattle.sqlite.specs.Held.{state};
+ghost use Rattle.one_table.specs.Over.{Inside};
 ghost use Rattle.sqlite.specs.Values.{bound};
 ghost use Rattle.vend_core.specs.Office.Lookup.{greatest_of};
 ghost use Rattle.vend_core.specs.Name.{IsMeterNo};
@@ -70,15 +70,12 @@ fn records_inside<S: Alter, T: Record + Drop>(
     params: &[ValueRef<'_>],
 ) -> Result<Vec<T>, TableError>
     ensures same_reference { tx.new.conn.ghost_name ≡ tx.old.conn.ghost_name }
-    ensures given { HasCleanDisk (state S.Store tx.new.conn.now)
-        → IfOk result (λ found. GivesAll (IsShown T.Record.shown T.Record.keeps) sql.now
-        (bound params.now) (state S.Store tx.old.conn.now) (state S.Store tx.new.conn.now)
-        found.items) }
-    ensures reads { ReadsInside (OnlyAsks sql.now)
-        (FailsToShowRow (ShowsRecord T.Record.shown T.Record.keeps) sql.now (bound params.now))
-        (state S.Store tx.old.conn.now) (state S.Store tx.new.conn.now) result }
-    ensures transaction { KeepsTransaction
-        (state S.Store tx.old.conn.now) (state S.Store tx.new.conn.now) result }
+    ensures given { Inside S.Store tx (λ old new. HasCleanDisk new
+        → IfOk result (λ found. GivesAll (IsShown T.Record.shown T.Record.keeps) sql.now (bound
+        params.now) old new found.items)) }
+    ensures reads { Inside S.Store tx (λ old new. ReadsInside (OnlyAsks sql.now) (FailsToShowRow
+        (ShowsRecord T.Record.shown T.Record.keeps) sql.now (bound params.now)) old new result) }
+    ensures transaction { Inside S.Store tx (λ old new. KeepsTransaction old new result) }
 {
     let shown: Vec<Shown<T>> = read_rows_inside(alloc, tx, sql, params)?;
     Ok(records_of(alloc, shown)?)
@@ -102,17 +99,14 @@ pub fn sales_inside<S: Alter>(
     limit: u32,
 ) -> Result<Vec<Sale>, TableError>
     ensures same_reference { tx.new.conn.ghost_name ≡ tx.old.conn.ghost_name }
-    ensures given { SaysOfTable sales_kept (λ rows found. found.items
-        ≡ take limit (filter (λ s. nat_lt number s.number) rows.sales))
-        (state S.Store tx.old.conn.now) (state S.Store tx.new.conn.now) result }
-    ensures shows { HasCleanDisk (state S.Store tx.new.conn.now)
-        → HasTable sales_kept (state S.Store tx.old.conn.now)
-        → IfOk result (λ found. ShowsPage number limit found.items
-        (rows_in (state S.Store tx.old.conn.now).now (codes "sales"))) }
-    ensures reads { ReadsTableInside sales_kept
-        (state S.Store tx.old.conn.now) (state S.Store tx.new.conn.now) result }
-    ensures transaction { KeepsTransaction
-        (state S.Store tx.old.conn.now) (state S.Store tx.new.conn.now) result }
+    ensures given { Inside S.Store tx (λ old new. SaysOfTable sales_kept (λ rows found.
+        found.items ≡ take limit (filter (λ s. nat_lt number s.number) rows.sales)) old new
+        result) }
+    ensures shows { Inside S.Store tx (λ old new. HasCleanDisk new → HasTable sales_kept old
+        → IfOk result (λ found. ShowsPage number limit found.items (rows_in old.now (codes
+        "sales")))) }
+    ensures reads { Inside S.Store tx (λ old new. ReadsTableInside sales_kept old new result) }
+    ensures transaction { Inside S.Store tx (λ old new. KeepsTransaction old new result) }
 {
     let booked: Vec<Booked> = records_inside(
         alloc,
@@ -132,14 +126,10 @@ pub fn first_sale_inside<S: Alter>(
     tx: &mut Transaction<'_, S>,
 ) -> Result<(), TableError>
     ensures same_reference { tx.new.conn.ghost_name ≡ tx.old.conn.ghost_name }
-    ensures shows { HasCleanDisk (state S.Store tx.new.conn.now)
-        → HasTable sales_kept (state S.Store tx.old.conn.now)
-        → OnOk result (StartsFrom1
-        (rows_in (state S.Store tx.old.conn.now).now (codes "sales"))) }
-    ensures reads { ReadsTableInside sales_kept
-        (state S.Store tx.old.conn.now) (state S.Store tx.new.conn.now) result }
-    ensures transaction { KeepsTransaction
-        (state S.Store tx.old.conn.now) (state S.Store tx.new.conn.now) result }
+    ensures shows { Inside S.Store tx (λ old new. HasCleanDisk new → HasTable sales_kept old
+        → OnOk result (StartsFrom1 (rows_in old.now (codes "sales")))) }
+    ensures reads { Inside S.Store tx (λ old new. ReadsTableInside sales_kept old new result) }
+    ensures transaction { Inside S.Store tx (λ old new. KeepsTransaction old new result) }
 {
     let _least: Vec<u32> = records_inside(alloc, tx, FIRST_SALE_NUMBER, &[])?;
     Ok(())
@@ -154,17 +144,12 @@ pub fn meters_inside<S: Alter>(
     tx: &mut Transaction<'_, S>,
 ) -> Result<Vec<MeterRow>, TableError>
     ensures same_reference { tx.new.conn.ghost_name ≡ tx.old.conn.ghost_name }
-    ensures given { SaysOfTable meters_kept
-        (λ rows found. IsPermutation (map meter_row rows.meters) found.items)
-        (state S.Store tx.old.conn.now) (state S.Store tx.new.conn.now) result }
-    ensures shows { HasCleanDisk (state S.Store tx.new.conn.now)
-        → HasTable meters_kept (state S.Store tx.old.conn.now)
-        → OnOk result (ShowMeters
-        (rows_in (state S.Store tx.old.conn.now).now (codes "meters"))) }
-    ensures reads { ReadsTableInside meters_kept
-        (state S.Store tx.old.conn.now) (state S.Store tx.new.conn.now) result }
-    ensures transaction { KeepsTransaction
-        (state S.Store tx.old.conn.now) (state S.Store tx.new.conn.now) result }
+    ensures given { Inside S.Store tx (λ old new. SaysOfTable meters_kept (λ rows found.
+        IsPermutation (map meter_row rows.meters) found.items) old new result) }
+    ensures shows { Inside S.Store tx (λ old new. HasCleanDisk new → HasTable meters_kept old
+        → OnOk result (ShowMeters (rows_in old.now (codes "meters")))) }
+    ensures reads { Inside S.Store tx (λ old new. ReadsTableInside meters_kept old new result) }
+    ensures transaction { Inside S.Store tx (λ old new. KeepsTransaction old new result) }
 {
     records_inside(alloc, tx, ALL_METERS, &[])
 }
@@ -180,14 +165,11 @@ pub fn greatest_inside<S: Alter>(
     base: Base,
 ) -> Result<Option<u32>, TableError>
     ensures same_reference { tx.new.conn.ghost_name ≡ tx.old.conn.ghost_name }
-    ensures given { SaysOfTable last_ids_kept
-        (λ rows greatest. greatest ≡ greatest_of (map (λ s. s.tid)
-        (sales_under rows.sales (meter.now, base))))
-        (state S.Store tx.old.conn.now) (state S.Store tx.new.conn.now) result }
-    ensures reads { ReadsTableInside last_ids_kept
-        (state S.Store tx.old.conn.now) (state S.Store tx.new.conn.now) result }
-    ensures transaction { KeepsTransaction
-        (state S.Store tx.old.conn.now) (state S.Store tx.new.conn.now) result }
+    ensures given { Inside S.Store tx (λ old new. SaysOfTable last_ids_kept (λ rows greatest.
+        greatest ≡ greatest_of (map (λ s. s.tid) (sales_under rows.sales (meter.now, base)))) old
+        new result) }
+    ensures reads { Inside S.Store tx (λ old new. ReadsTableInside last_ids_kept old new result) }
+    ensures transaction { Inside S.Store tx (λ old new. KeepsTransaction old new result) }
 {
     let found: Vec<Tid> = records_inside(alloc, tx, LAST_ID, &base_values(meter, base))?;
     Ok(first_of(&found))
