@@ -239,7 +239,7 @@ fn each_call(rt: HostRuntime) -> Result<(), Fail> {
         let found = told(rt.alloc(), word, text)?;
         assert_eq!(rt; found.as_str(), wanted, "{line}");
     }
-    assert_eq!(rt; rows::rows().lines().count(), 199);
+    assert_eq!(rt; rows::rows().lines().count(), 202);
     Ok(())
 }
 

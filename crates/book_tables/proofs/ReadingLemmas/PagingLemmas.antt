@@ -67,8 +67,6 @@ listed_kept : {M : Type 0} (keeps : M → Type 0) (o : Option M) → IfSome o ke
 listed_kept keeps None kept = All-nil keeps
 listed_kept keeps (Some x) kept = All-cons keeps x [] kept (All-nil keeps)
 
-}
-
 -- ---- all meters
 
 abbrev pub shown_row : MeterRow → Row

@@ -198,5 +198,3 @@ module _ (sales : List Sale) (s : Sale) (g h : Gathered) (held : IsGathered sale
     shift_totals = holds_same nat_cmp nat_cmp_total exact_unsigned (own_place {K = ℕ}) h.shift_totals _ (λ shift. totals_of (sales_in_shift (sales ++ s ∷ []) shift)) (shift_more sales s) shifts;
     small = All-push IsOfWords sales s held.small small;
   }
-
-}
