@@ -2,7 +2,7 @@
 
 ghost use Rattle.std.specs.Prelude.{◌≡◌, ◌≤◌, false, IfOk, IsTrue, OnOk};
 ghost use Rattle.sqlite.specs.State.{HasCleanDisk, IsUnchanged, Survives};
-ghost use Rattle.sqlite.specs.Held.{state};
+ghost use Rattle.one_table.specs.Over.{Over};
 ghost use Rattle.one_table.specs.ReadsOnly.{ReadsOnly};
 ghost use Rattle.kept_order.specs.InOrder.{HasTablesInOrder};
 ghost use Rattle.book_tables.specs.format.Format.{HasFormat};
@@ -42,11 +42,10 @@ fn test_told<S: Alter>(
 ) -> Result<(), ReadFault>
     requires some { 1 ≤ format }
     requires known { format ≤ present_format }
-    ensures tells { HasCleanDisk (state S.Store conn.new)
-        → IsKnown (IsSoundOf format) (state S.Store conn.old)
-        → OnOk result (HasFormat (state S.Store conn.old).now format) }
-    ensures reads { ReadsOnly (IsKnown (IsSoundOf format)) IsUnchanged FailsToRead
-        (state S.Store conn.old) (state S.Store conn.new) result }
+    ensures tells { Over S.Store conn (λ old new. HasCleanDisk new
+        → IsKnown (IsSoundOf format) old → OnOk result (HasFormat old.now format)) }
+    ensures reads { Over S.Store conn (λ old new. ReadsOnly (IsKnown (IsSoundOf format))
+        IsUnchanged FailsToRead old new result) }
 {
     let told = match format_number(alloc, conn) {
         Ok(told) => told,
@@ -67,11 +66,10 @@ fn read_told<S: Alter>(
 ) -> Result<OfficeRows, ReadFault>
     requires some { 1 ≤ format }
     requires known { format ≤ present_format }
-    ensures given { HasCleanDisk (state S.Store conn.new)
-        → IsKnown (IsSoundOf format) (state S.Store conn.old)
-        → IfOk result (IsToldAs format (state S.Store conn.old).now) }
-    ensures reads { ReadsOnly (IsKnown (IsSoundOf format)) IsUnchanged FailsToRead
-        (state S.Store conn.old) (state S.Store conn.new) result }
+    ensures given { Over S.Store conn (λ old new. HasCleanDisk new
+        → IsKnown (IsSoundOf format) old → IfOk result (IsToldAs format old.now)) }
+    ensures reads { Over S.Store conn (λ old new. ReadsOnly (IsKnown (IsSoundOf format))
+        IsUnchanged FailsToRead old new result) }
 {
     test_told(alloc, conn, format)?;
     read_office_rows(alloc, conn, format)
@@ -85,11 +83,10 @@ fn audit_format<S: Alter>(
 ) -> Result<Audited, AuditFault>
     requires some { 1 ≤ format }
     requires known { format ≤ present_format }
-    ensures given { HasCleanDisk (state S.Store conn.new)
-        → IsKnown (IsSoundOf format) (state S.Store conn.old)
-        → IfOk result (IsTested format (state S.Store conn.old).now) }
-    ensures reads { ReadsOnly (IsKnown (IsSoundOf format)) IsUnchanged FailsToAudit
-        (state S.Store conn.old) (state S.Store conn.new) result }
+    ensures given { Over S.Store conn (λ old new. HasCleanDisk new
+        → IsKnown (IsSoundOf format) old → IfOk result (IsTested format old.now)) }
+    ensures reads { Over S.Store conn (λ old new. ReadsOnly (IsKnown (IsSoundOf format))
+        IsUnchanged FailsToAudit old new result) }
 {
     let rows = match read_told(alloc, conn, format) {
         Ok(rows) => rows,
@@ -116,14 +113,11 @@ pub fn audit_tables<S: Alter>(
     alloc: Global,
     conn: &mut Connection<S>,
 ) -> Result<Audited, AuditFault>
-    ensures given { HasCleanDisk (state S.Store conn.new)
-        → IsTrue (state S.Store conn.old).is_open
-        → HasTablesInOrder (state S.Store conn.old).now
-        → HaveWholeShifts (state S.Store conn.old).now
-        → IfOk result (Passes (state S.Store conn.old).now) }
-    ensures reads { ReadsOnly (λ s. IsTrue s.is_open) IsUnchanged FailsToAudit
-        (state S.Store conn.old) (state S.Store conn.new) result }
-    ensures survives { Survives (state S.Store conn.old) (state S.Store conn.new) (λ _. ⊥) }
+    ensures given { Over S.Store conn (λ old new. HasCleanDisk new → IsTrue old.is_open
+        → HasTablesInOrder old.now → HaveWholeShifts old.now → IfOk result (Passes old.now)) }
+    ensures reads { Over S.Store conn (λ old new. ReadsOnly (λ s. IsTrue s.is_open) IsUnchanged
+        FailsToAudit old new result) }
+    ensures survives { Over S.Store conn (λ old new. Survives old new (λ _. ⊥)) }
 {
     stored_law();
     // What the law says of a database in order holds of it in any store.
@@ -150,14 +144,11 @@ pub fn audit_tables<S: Alter>(
 /// A row that is no office's, so that the database stands for none (`audit_law`); tables of no
 /// format; what the database refuses, and want of memory. In each case the database is as it was.
 pub fn audit<S: KeepsOrder>(alloc: Global, conn: &mut Connection<S>) -> Result<Audited, AuditFault>
-    ensures given { HasCleanDisk (state S.Store conn.new)
-        → IsTrue (state S.Store conn.old).is_open
-        → (state S.Store conn.old).in_transaction ≡ false
-        → HaveWholeShifts (state S.Store conn.old).now
-        → IfOk result (Passes (state S.Store conn.old).now) }
-    ensures reads { ReadsOnly (λ s. IsTrue s.is_open) IsUnchanged FailsToAudit
-        (state S.Store conn.old) (state S.Store conn.new) result }
-    ensures survives { Survives (state S.Store conn.old) (state S.Store conn.new) (λ _. ⊥) }
+    ensures given { Over S.Store conn (λ old new. HasCleanDisk new → IsTrue old.is_open
+        → old.in_transaction ≡ false → HaveWholeShifts old.now → IfOk result (Passes old.now)) }
+    ensures reads { Over S.Store conn (λ old new. ReadsOnly (λ s. IsTrue s.is_open) IsUnchanged
+        FailsToAudit old new result) }
+    ensures survives { Over S.Store conn (λ old new. Survives old new (λ _. ⊥)) }
 {
     connection_order_law(conn);
     audit_tables(alloc, conn)

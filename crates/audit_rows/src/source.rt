@@ -3,7 +3,7 @@
 ghost use Rattle.std.specs.Prelude.{IsTrue, IfOk};
 ghost use Rattle.sqlite.specs.Effect.{Database};
 ghost use Rattle.sqlite.specs.State.{HasCleanDisk, IsUnchanged};
-ghost use Rattle.sqlite.specs.Held.{state};
+ghost use Rattle.one_table.specs.Over.{Over};
 ghost use Rattle.one_table.specs.ReadsOnly.{ReadsOnly};
 ghost use Rattle.book_tables.specs.Holds.{IsKept};
 ghost use Rattle.book_tables.specs.reading.Reading.{HasTable};
@@ -24,11 +24,10 @@ pub trait Source<S: Alter>: Sized {
     ghost says: { Database → Self → Type 0 };
 
     fn read(alloc: Global, conn: &mut Connection<S>) -> Result<Self, AuditFault>
-        ensures given { HasCleanDisk (state S.Store conn.new)
-            → IsKnown known (state S.Store conn.old)
-            → IfOk result (says (state S.Store conn.old).now) }
-        ensures reads { ReadsOnly (IsKnown known) IsUnchanged FailsToAudit
-            (state S.Store conn.old) (state S.Store conn.new) result };
+        ensures given { Over S.Store conn (λ old new. HasCleanDisk new → IsKnown known old
+            → IfOk result (says old.now)) }
+        ensures reads { Over S.Store conn (λ old new. ReadsOnly (IsKnown known) IsUnchanged
+            FailsToAudit old new result) };
 }
 
 /// The records of a table, in the order that its list asks.
@@ -39,12 +38,11 @@ pub fn read_records<S: Alter, T: Listed + Drop>(
     alloc: Global,
     conn: &mut Connection<S>,
 ) -> Result<Vec<T>, AuditFault>
-    ensures given { HasCleanDisk (state S.Store conn.new)
-        → HasTable (kept_of T.name) (state S.Store conn.old)
+    ensures given { Over S.Store conn (λ old new. HasCleanDisk new → HasTable (kept_of T.name) old
         → IfOk result (λ xs. AreListed T.Record.shown T.Record.keeps T.order (kept_of T.name)
-        (state S.Store conn.old).now xs.items) }
-    ensures reads { ReadsOnly (HasTable (kept_of T.name)) IsUnchanged FailsToAudit
-        (state S.Store conn.old) (state S.Store conn.new) result }
+        old.now xs.items)) }
+    ensures reads { Over S.Store conn (λ old new. ReadsOnly (HasTable (kept_of T.name))
+        IsUnchanged FailsToAudit old new result) }
 {
     match read_table(alloc, conn) {
         Ok(Whole::Records(records)) => Ok(records),

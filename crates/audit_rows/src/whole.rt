@@ -3,7 +3,7 @@
 ghost use Rattle.std.specs.Prelude.{◌≡◌, ℕ, List, IfOk};
 ghost use Rattle.sqlite.specs.Effect.{Database};
 ghost use Rattle.sqlite.specs.State.{HasCleanDisk, IsUnchanged};
-ghost use Rattle.sqlite.specs.Held.{state};
+ghost use Rattle.one_table.specs.Over.{Over};
 ghost use Rattle.sqlite_value.specs.declared.value.Value.{Value};
 ghost use Rattle.one_table.specs.ReadsOnly.{ReadsOnly};
 ghost use Rattle.book_tables.specs.reading.Reading.{HasTable};
@@ -52,13 +52,13 @@ pub trait Listed: Record {
         → IsFalse Self.shown Self.keeps (kept_of name) db row → IsFalseRow name db row };
 }
 
-/// What is told of a reader's fault: more rows than can be counted find no memory either.
+/// What is told of a reader's fault.
 pub(crate) fn cause_of(fault: ReadFault) -> Error
     ensures { result ≡ cause_of fault }
 {
     match fault {
         ReadFault::Database(error) => error,
-        ReadFault::Row | ReadFault::TooMuch => Error::SqliteFailure(ErrorCode::OutOfMemory),
+        ReadFault::Row => Error::SqliteFailure(ErrorCode::OutOfMemory),
     }
 }
 
@@ -84,12 +84,10 @@ pub fn read_table<S: Alter, T: Listed + Drop>(
     alloc: Global,
     conn: &mut Connection<S>,
 ) -> Result<Whole<T>, Error>
-    ensures given { HasCleanDisk (state S.Store conn.new)
-        → HasTable (kept_of T.name) (state S.Store conn.old)
-        → IfOk result (IsWhole T.Record.shown T.Record.keeps T.order (kept_of T.name)
-        (state S.Store conn.old).now) }
-    ensures reads { ReadsOnly (HasTable (kept_of T.name)) IsUnchanged FailsToList
-        (state S.Store conn.old) (state S.Store conn.new) result }
+    ensures given { Over S.Store conn (λ old new. HasCleanDisk new → HasTable (kept_of T.name) old
+        → IfOk result (IsWhole T.Record.shown T.Record.keeps T.order (kept_of T.name) old.now)) }
+    ensures reads { Over S.Store conn (λ old new. ReadsOnly (HasTable (kept_of T.name))
+        IsUnchanged FailsToList old new result) }
 {
     let seen: Vec<Seen<T>> = match read_rows(alloc, conn, T::text(), &[]) {
         Ok(seen) => seen,

@@ -2,7 +2,7 @@
 
 ghost use Rattle.std.specs.Prelude.{◌≡◌, ◌≤◌, IfOk};
 ghost use Rattle.sqlite.specs.State.{HasCleanDisk, IsUnchanged};
-ghost use Rattle.sqlite.specs.Held.{state};
+ghost use Rattle.one_table.specs.Over.{Over};
 ghost use Rattle.one_table.specs.ReadsOnly.{ReadsOnly};
 ghost use Rattle.book_tables.specs.row.Rows.{present_format};
 ghost use Rattle.audit_rows.specs.Fails.{FailsToAudit, IsKnown};
@@ -22,11 +22,11 @@ fn read_as<S: Alter, R: Tables<S> + Drop>(
     format: u32,
 ) -> Result<OfficeRows, AuditFault>
     requires is { format ≡ R.format }
-    ensures given { HasCleanDisk (state S.Store conn.new)
-        → IsKnown (HasTablesOf format) (state S.Store conn.old)
-        → IfOk result (λ r. IsReadAs format (state S.Store conn.old).now (rows_of r)) }
-    ensures reads { ReadsOnly (IsKnown (HasTablesOf format)) IsUnchanged FailsToAudit
-        (state S.Store conn.old) (state S.Store conn.new) result }
+    ensures given { Over S.Store conn (λ old new. HasCleanDisk new
+        → IsKnown (HasTablesOf format) old
+        → IfOk result (λ r. IsReadAs format old.now (rows_of r))) }
+    ensures reads { Over S.Store conn (λ old new. ReadsOnly (IsKnown (HasTablesOf format))
+        IsUnchanged FailsToAudit old new result) }
 {
     let read = R::read(alloc, conn)?;
     match read.into_rows(alloc) {
@@ -46,11 +46,11 @@ pub fn read_office_rows<S: Alter>(
 ) -> Result<OfficeRows, AuditFault>
     requires some { 1 ≤ format }
     requires known { format ≤ present_format }
-    ensures given { HasCleanDisk (state S.Store conn.new)
-        → IsKnown (HasTablesOf format) (state S.Store conn.old)
-        → IfOk result (λ r. IsReadAs format (state S.Store conn.old).now (rows_of r)) }
-    ensures reads { ReadsOnly (IsKnown (HasTablesOf format)) IsUnchanged FailsToAudit
-        (state S.Store conn.old) (state S.Store conn.new) result }
+    ensures given { Over S.Store conn (λ old new. HasCleanDisk new
+        → IsKnown (HasTablesOf format) old
+        → IfOk result (λ r. IsReadAs format old.now (rows_of r))) }
+    ensures reads { Over S.Store conn (λ old new. ReadsOnly (IsKnown (HasTablesOf format))
+        IsUnchanged FailsToAudit old new result) }
 {
     if format == 1 {
         return read_as::<S, First>(alloc, conn, format);

@@ -2,7 +2,7 @@
 
 ghost use Rattle.std.specs.Prelude.{◌≡◌, ◌≢◌, Err, false};
 ghost use Rattle.sqlite.specs.State.{HasCleanDisk};
-ghost use Rattle.sqlite.specs.Held.{state};
+ghost use Rattle.one_table.specs.Over.{Over};
 ghost use Rattle.one_table.specs.Committing.{HasBeen};
 ghost use Rattle.book_tables.specs.reading.Reading.{HasAllTables};
 ghost use Rattle.book_edits.specs.Transaction.{Commits};
@@ -19,11 +19,9 @@ use vend_core::{Edit, Refusal};
 /// A commit that fails may be there after a crash, whatever it failed of.
 pub fn commit<S: Alter>(conn: &mut Connection<S>, edit: &Edit, prior: u64) -> Result<(), Refusal>
     requires { conn.old.in_transaction ≡ false }
-    ensures commits { HasCleanDisk (state S.Store conn.new)
-        → HasAllTables (state S.Store conn.old)
-        → Commits (HasBeen S.Store) edit.now prior result
-        (state S.Store conn.old) (state S.Store conn.new) }
-    ensures clean { HasCleanDisk (state S.Store conn.new) → HasCleanDisk (state S.Store conn.old) }
+    ensures commits { Over S.Store conn (λ old new. HasCleanDisk new → HasAllTables old
+        → Commits (HasBeen S.Store) edit.now prior result old new) }
+    ensures clean { Over S.Store conn (λ old new. HasCleanDisk new → HasCleanDisk old) }
     ensures never_stopped { result ≢ Err Refusal.Stopped }
     ensures outside { conn.new.in_transaction ≡ false }
 {

@@ -2,7 +2,7 @@
 
 ghost use Rattle.std.specs.Prelude.{◌≡◌, ◌≢◌, ◌+◌, Err, IfErr, IfOk, false, length};
 ghost use Rattle.sqlite.specs.State.{HasCleanDisk};
-ghost use Rattle.sqlite.specs.Held.{state};
+ghost use Rattle.one_table.specs.Over.{Over};
 ghost use Rattle.vend_core.specs.Decision.{decision};
 ghost use Rattle.vend_core.specs.Decision.Facts.{AreFacts, IsUnlessMemory};
 ghost use Rattle.vend_core.specs.Office.{Office};
@@ -32,20 +32,16 @@ pub fn decision_of<S: Alter, T: BlockTransform>(
     next_number: u64,
 ) -> Result<Decided, Refusal>
     requires { conn.old.in_transaction ≡ false }
-    ensures decides { HasCleanDisk (state S.Store conn.new)
-        → (o : Office) → Stores (state S.Store conn.old) o → next_number ≡ length o.sales + 1
-        → IsDecided (T.forwards transform.now) o at.now (change_in result) }
-    ensures nothing { HasCleanDisk (state S.Store conn.new)
-        → HasAllTables (state S.Store conn.old)
-        → ChangesNothing (state S.Store conn.old) (state S.Store conn.new) }
-    ensures failures { HasCleanDisk (state S.Store conn.new)
-        → HasAllTables (state S.Store conn.old)
-        → IfErr result (RefusesUnchanged at.now next_number
-        (state S.Store conn.old) (state S.Store conn.new)) }
-    ensures prior { HasCleanDisk (state S.Store conn.new)
-        → IfOk result (λ decided. IsPriorRead at.now next_number
-        (state S.Store conn.old) decided.prior) }
-    ensures clean { HasCleanDisk (state S.Store conn.new) → HasCleanDisk (state S.Store conn.old) }
+    ensures decides { Over S.Store conn (λ old new. HasCleanDisk new → (o : Office) → Stores old o
+        → next_number ≡ length o.sales + 1
+        → IsDecided (T.forwards transform.now) o at.now (change_in result)) }
+    ensures nothing { Over S.Store conn (λ old new. HasCleanDisk new → HasAllTables old
+        → ChangesNothing old new) }
+    ensures failures { Over S.Store conn (λ old new. HasCleanDisk new → HasAllTables old
+        → IfErr result (RefusesUnchanged at.now next_number old new)) }
+    ensures prior { Over S.Store conn (λ old new. HasCleanDisk new
+        → IfOk result (λ decided. IsPriorRead at.now next_number old decided.prior)) }
+    ensures clean { Over S.Store conn (λ old new. HasCleanDisk new → HasCleanDisk old) }
     ensures never_stopped { result ≢ Err Refusal.Stopped }
     ensures outside { conn.new.in_transaction ≡ false }
 {

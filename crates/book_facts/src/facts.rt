@@ -1,7 +1,7 @@
 //! What the tests of a request look at, read from the tables.
 
 ghost use Rattle.std.specs.Prelude.{◌≡◌, length};
-ghost use Rattle.sqlite.specs.Held.{state};
+ghost use Rattle.one_table.specs.Over.{Over};
 ghost use Rattle.vend_core.specs.Decision.Facts.{AreFacts};
 ghost use Rattle.book_tables.specs.reading.Reading.{OnlyReads};
 ghost use Rattle.book_states.specs.Members.{SaysOfOffice};
@@ -32,10 +32,9 @@ pub(crate) fn facts_of<S: Alter>(
     at: &Stamped,
     sale_count: u64,
 ) -> Result<Facts, TableError>
-    ensures facts { SaysOfOffice (λ o f. sale_count ≡ length o.sales → AreFacts o at.now f)
-        (state S.Store conn.old) (state S.Store conn.new) result }
-    ensures reads { OnlyReads IsSame
-        (state S.Store conn.old) (state S.Store conn.new) result }
+    ensures facts { Over S.Store conn (λ old new. SaysOfOffice (λ o f. sale_count ≡ length o.sales
+        → AreFacts o at.now f) old new result) }
+    ensures reads { Over S.Store conn (λ old new. OnlyReads IsSame old new result) }
 {
     match &at.request {
         Request::AddTariff(name, _) => meters::tariff_facts(alloc, conn, name),

@@ -2,7 +2,7 @@
 
 ghost use Rattle.std.specs.Prelude.{◌≡◌, ◌⊎◌, Err, IfErr, IfOk, false};
 ghost use Rattle.sqlite.specs.State.{HasCleanDisk};
-ghost use Rattle.sqlite.specs.Held.{state};
+ghost use Rattle.one_table.specs.Over.{Over};
 ghost use Rattle.vend_core.specs.Office.{Office};
 ghost use Rattle.vend_core.specs.Law.Store.{sales_above};
 ghost use Rattle.book_tables.specs.reading.Reading.{HasAllTables};
@@ -27,17 +27,13 @@ pub fn page<S: Alter>(
     limit: u32,
 ) -> Result<Vec<Sale>, Refusal>
     requires { conn.old.in_transaction ≡ false }
-    ensures given { HasCleanDisk (state S.Store conn.new)
-        → (o : Office) → Stores (state S.Store conn.old) o
-        → IfOk result (λ sales. sales.items ≡ sales_above o number limit) }
-    ensures nothing { HasCleanDisk (state S.Store conn.new)
-        → HasAllTables (state S.Store conn.old)
-        → ChangesNothing (state S.Store conn.old) (state S.Store conn.new) }
-    ensures clean { HasCleanDisk (state S.Store conn.new) → HasCleanDisk (state S.Store conn.old) }
-    ensures failures { HasCleanDisk (state S.Store conn.new)
-        → HasAllTables (state S.Store conn.old)
-        → IfErr result (λ refusal. IsToldOfRead refusal
-        (state S.Store conn.old) (state S.Store conn.new)) }
+    ensures given { Over S.Store conn (λ old new. HasCleanDisk new → (o : Office) → Stores old o
+        → IfOk result (λ sales. sales.items ≡ sales_above o number limit)) }
+    ensures nothing { Over S.Store conn (λ old new. HasCleanDisk new → HasAllTables old
+        → ChangesNothing old new) }
+    ensures clean { Over S.Store conn (λ old new. HasCleanDisk new → HasCleanDisk old) }
+    ensures failures { Over S.Store conn (λ old new. HasCleanDisk new → HasAllTables old
+        → IfErr result (λ refusal. IsToldOfRead refusal old new)) }
     ensures refusals { IfErr result (λ refusal.
         (refusal ≡ Refusal.Memory) ⊎ (refusal ≡ Refusal.Store)) }
     ensures outside { conn.new.in_transaction ≡ false }

@@ -1,7 +1,7 @@
 //! The running totals of a shift.
 
 ghost use Rattle.std.specs.Prelude.{◌≡◌, ◌⊎◌, false, Err, None, Some, IfErr, IfOk};
-ghost use Rattle.sqlite.specs.Held.{state};
+ghost use Rattle.one_table.specs.Over.{Over};
 ghost use Rattle.sqlite.specs.State.{HasCleanDisk};
 ghost use Rattle.vend_core.specs.Office.{Office};
 ghost use Rattle.book_tables.specs.reading.Reading.{HasAllTables};
@@ -22,20 +22,16 @@ use vend_core::Refusal;
 /// `NoSuchShift`; `Store` and `Memory`.
 pub fn totals<S: Alter>(conn: &mut Connection<S>, number: u32) -> Result<Totals, Refusal>
     requires { conn.old.in_transaction ≡ false }
-    ensures given { HasCleanDisk (state S.Store conn.new)
-        → (o : Office) → Stores (state S.Store conn.old) o
-        → IfOk result (λ totals. shift_totals o number ≡ Some totals) }
-    ensures none { HasCleanDisk (state S.Store conn.new)
-        → (o : Office) → Stores (state S.Store conn.old) o
-        → result ≡ Err Refusal.NoSuchShift → shift_totals o number ≡ None }
-    ensures nothing { HasCleanDisk (state S.Store conn.new)
-        → HasAllTables (state S.Store conn.old)
-        → ChangesNothing (state S.Store conn.old) (state S.Store conn.new) }
-    ensures clean { HasCleanDisk (state S.Store conn.new) → HasCleanDisk (state S.Store conn.old) }
-    ensures failures { HasCleanDisk (state S.Store conn.new)
-        → HasAllTables (state S.Store conn.old)
-        → IfErr result (λ refusal. (refusal ≡ Refusal.NoSuchShift) ⊎ IsToldOfRead refusal
-        (state S.Store conn.old) (state S.Store conn.new)) }
+    ensures given { Over S.Store conn (λ old new. HasCleanDisk new → (o : Office) → Stores old o
+        → IfOk result (λ totals. shift_totals o number ≡ Some totals)) }
+    ensures none { Over S.Store conn (λ old new. HasCleanDisk new → (o : Office) → Stores old o
+        → result ≡ Err Refusal.NoSuchShift → shift_totals o number ≡ None) }
+    ensures nothing { Over S.Store conn (λ old new. HasCleanDisk new → HasAllTables old
+        → ChangesNothing old new) }
+    ensures clean { Over S.Store conn (λ old new. HasCleanDisk new → HasCleanDisk old) }
+    ensures failures { Over S.Store conn (λ old new. HasCleanDisk new → HasAllTables old
+        → IfErr result (λ refusal. (refusal ≡ Refusal.NoSuchShift) ⊎ IsToldOfRead refusal old
+        new)) }
     ensures refusals { IfErr result (λ refusal. (refusal ≡ Refusal.NoSuchShift)
         ⊎ ((refusal ≡ Refusal.Memory) ⊎ (refusal ≡ Refusal.Store))) }
     ensures outside { conn.new.in_transaction ≡ false }

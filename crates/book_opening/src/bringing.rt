@@ -2,7 +2,7 @@
 
 ghost use Rattle.std.specs.Prelude.{⊤, ◌≡◌, ◌<◌, false, IsTrue, IfErr, OnErr, OnOk};
 ghost use Rattle.sqlite.specs.State.{HasCleanDisk, Survives};
-ghost use Rattle.sqlite.specs.Held.{state};
+ghost use Rattle.one_table.specs.Over.{Over};
 ghost use Rattle.book_tables.specs.format.Making.{IsSoundOfFormat, TellsOf};
 ghost use Rattle.book_tables.specs.row.Rows.{present_format};
 ghost use Rattle.book_opening.specs.Opening.{BringsSound, IsBrought, LeavesBrought, LeavesRefused, FaultFitsDatabase};
@@ -47,24 +47,17 @@ pub(crate) fn bring_office<S: Alter>(
 ) -> Result<(), OpenFault>
     requires outside { conn.old.in_transaction ≡ false }
     requires older { from < present_format }
-    ensures brought { HasCleanDisk (state S.Store conn.new)
-        → IsSoundOfFormat from (state S.Store conn.old)
-        → OnOk result (IsBrought from (state S.Store conn.old) (state S.Store conn.new)) }
-    ensures told { HasCleanDisk (state S.Store conn.new)
-        → IsTrue (state S.Store conn.old).is_open → IsSoundOfFormat from (state S.Store conn.old)
-        → IfErr result (FaultFitsDatabase (state S.Store conn.old)) }
-    ensures undone { HasCleanDisk (state S.Store conn.new)
-        → OnErr result (IsSame (state S.Store conn.old) (state S.Store conn.new)) }
-    ensures survives { (HasCleanDisk (state S.Store conn.old)
-        → IsTrue (state S.Store conn.old).is_open)
-        → IsSoundOfFormat from (state S.Store conn.old)
-        → Survives (state S.Store conn.old) (state S.Store conn.new)
-        (LeavesBrought (state S.Store conn.old)) }
-    ensures risks { (HasCleanDisk (state S.Store conn.old)
-        → IsTrue (state S.Store conn.old).is_open)
-        → IsSoundOfFormat from (state S.Store conn.old)
-        → IfErr result (λ fault. Survives (state S.Store conn.old) (state S.Store conn.new)
-        (LeavesRefused (state S.Store conn.old) fault)) }
+    ensures brought { Over S.Store conn (λ old new. HasCleanDisk new → IsSoundOfFormat from old
+        → OnOk result (IsBrought from old new)) }
+    ensures told { Over S.Store conn (λ old new. HasCleanDisk new → IsTrue old.is_open
+        → IsSoundOfFormat from old → IfErr result (FaultFitsDatabase old)) }
+    ensures undone { Over S.Store conn (λ old new. HasCleanDisk new
+        → OnErr result (IsSame old new)) }
+    ensures survives { Over S.Store conn (λ old new. (HasCleanDisk old → IsTrue old.is_open)
+        → IsSoundOfFormat from old → Survives old new (LeavesBrought old)) }
+    ensures risks { Over S.Store conn (λ old new. (HasCleanDisk old → IsTrue old.is_open)
+        → IsSoundOfFormat from old
+        → IfErr result (λ fault. Survives old new (LeavesRefused old fault))) }
     ensures mode { conn.new.in_transaction ≡ false }
 {
     // Outside a transaction a connection has what is committed.

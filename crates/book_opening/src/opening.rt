@@ -2,7 +2,7 @@
 
 ghost use Rattle.std.specs.Prelude.{◌≡◌, ◌⊎◌, ◌≤◌, ◌<◌, ℕ, false, IsTrue, IfErr, OnOk, OnErr};
 ghost use Rattle.sqlite.specs.State.{HasCleanDisk, IsUnchanged, Survives};
-ghost use Rattle.sqlite.specs.Held.{state};
+ghost use Rattle.one_table.specs.Over.{Over};
 ghost use Rattle.one_table.specs.Answer.{IsLeft};
 ghost use Rattle.one_table.specs.ReadsOnly.{ReadsOnly};
 ghost use Rattle.book_tables.specs.format.Format.{HasFormat};
@@ -58,14 +58,13 @@ fn fault_of_audit(fault: AuditFault) -> OpenFault
 
 // A connection that is shut tells nothing of its database.
 fn test_open<S: Alter>(conn: &mut Connection<S>) -> Result<(), OpenFault>
-    ensures same { HasCleanDisk (state S.Store conn.new)
-        → OnOk result (IsUnchanged (state S.Store conn.old) (state S.Store conn.new)) }
-    ensures kept { HasCleanDisk (state S.Store conn.new)
-        → OnErr result (IsLeft (state S.Store conn.old) (state S.Store conn.new)) }
+    ensures same { Over S.Store conn (λ old new. HasCleanDisk new
+        → OnOk result (IsUnchanged old new)) }
+    ensures kept { Over S.Store conn (λ old new. HasCleanDisk new → OnErr result (IsLeft old new)) }
     ensures mode { conn.old.in_transaction ≡ false → conn.new.in_transaction ≡ false }
     ensures faults { IfErr result
         (λ fault. (fault ≡ OpenFault.Store) ⊎ (fault ≡ OpenFault.Memory)) }
-    ensures survives { Survives (state S.Store conn.old) (state S.Store conn.new) (λ _. ⊥) }
+    ensures survives { Over S.Store conn (λ old new. Survives old new (λ _. ⊥)) }
 {
     match one_table::test_open(conn) {
         Ok(()) => Ok(()),
@@ -81,8 +80,8 @@ fn test_format<S: Alter>(
 ) -> Result<(), OpenFault>
     requires some { 1 ≤ format }
     requires known { format ≤ present_format }
-    ensures looks { LooksAt format (λ _. HasFormat (state S.Store conn.old).now format)
-        (state S.Store conn.old) (state S.Store conn.new) result }
+    ensures looks { Over S.Store conn (λ old new. LooksAt format (λ _. HasFormat old.now format)
+        old new result) }
     ensures mode { conn.old.in_transaction ≡ false → conn.new.in_transaction ≡ false }
 {
     let told = match format_number(alloc, conn) {
@@ -98,9 +97,8 @@ fn test_format<S: Alter>(
 
 // The number of the next sale, by the one that was made last.
 fn next_by_sales<S: Alter>(conn: &mut Connection<S>) -> Result<u64, OpenFault>
-    ensures looks { (format : ℕ) → 1 ≤ format → format ≤ present_format
-        → LooksAt format (IsNextSale (state S.Store conn.old))
-        (state S.Store conn.old) (state S.Store conn.new) result }
+    ensures looks { Over S.Store conn (λ old new. (format : ℕ) → 1 ≤ format
+        → format ≤ present_format → LooksAt format (IsNextSale old) old new result) }
     ensures mode { conn.old.in_transaction ≡ false → conn.new.in_transaction ≡ false }
 {
     match last_sale_number(conn) {
@@ -117,9 +115,8 @@ fn next_of_office<S: Alter>(
 ) -> Result<u64, OpenFault>
     requires some { 1 ≤ format }
     requires known { format ≤ present_format }
-    ensures looks { LooksAt format (λ next.
-        HasFormat (state S.Store conn.old).now format × IsNextSale (state S.Store conn.old) next)
-        (state S.Store conn.old) (state S.Store conn.new) result }
+    ensures looks { Over S.Store conn (λ old new. LooksAt format (λ next. HasFormat old.now format
+        × IsNextSale old next) old new result) }
     ensures mode { conn.old.in_transaction ≡ false → conn.new.in_transaction ≡ false }
 {
     test_format(alloc, conn, format)?;
@@ -128,13 +125,12 @@ fn next_of_office<S: Alter>(
 
 // All rows of all tables have to be those of an office.
 fn test_rows<S: Alter>(alloc: Global, conn: &mut Connection<S>) -> Result<(), OpenFault>
-    ensures given { HasCleanDisk (state S.Store conn.new)
-        → IsTrue (state S.Store conn.old).is_open
-        → OnOk result (IsAnOffices (state S.Store conn.old).now) }
-    ensures reads { ReadsOnly (λ s. IsTrue s.is_open) IsUnchanged (λ s _. FaultFitsDatabase s)
-        (state S.Store conn.old) (state S.Store conn.new) result }
+    ensures given { Over S.Store conn (λ old new. HasCleanDisk new → IsTrue old.is_open
+        → OnOk result (IsAnOffices old.now)) }
+    ensures reads { Over S.Store conn (λ old new. ReadsOnly (λ s. IsTrue s.is_open) IsUnchanged (λ
+        s _. FaultFitsDatabase s) old new result) }
     ensures mode { conn.old.in_transaction ≡ false → conn.new.in_transaction ≡ false }
-    ensures survives { Survives (state S.Store conn.old) (state S.Store conn.new) (λ _. ⊥) }
+    ensures survives { Over S.Store conn (λ old new. Survives old new (λ _. ⊥)) }
 {
     audit_law();
     match audit_tables(alloc, conn) {
@@ -146,10 +142,8 @@ fn test_rows<S: Alter>(alloc: Global, conn: &mut Connection<S>) -> Result<(), Op
 // Begins an office where there are no tables.
 fn next_of_none<S: Alter>(alloc: Global, conn: &mut Connection<S>) -> Result<u64, OpenFault>
     requires outside { conn.old.in_transaction ≡ false }
-    ensures ends { (HasCleanDisk (state S.Store conn.old)
-        → IsTrue (state S.Store conn.old).is_open)
-        → IsSoundOfFormat 0 (state S.Store conn.old)
-        → EndsOpening (state S.Store conn.old) (state S.Store conn.new) result }
+    ensures ends { Over S.Store conn (λ old new. (HasCleanDisk old → IsTrue old.is_open)
+        → IsSoundOfFormat 0 old → EndsOpening old new result) }
     ensures mode { conn.new.in_transaction ≡ false }
 {
     bring_office(alloc, conn, 0)?;
@@ -165,10 +159,8 @@ fn next_of_older<S: Alter>(
     requires outside { conn.old.in_transaction ≡ false }
     requires some { 1 ≤ from }
     requires older { from < present_format }
-    ensures ends { (HasCleanDisk (state S.Store conn.old)
-        → IsTrue (state S.Store conn.old).is_open)
-        → IsSoundOfFormat from (state S.Store conn.old)
-        → EndsOpening (state S.Store conn.old) (state S.Store conn.new) result }
+    ensures ends { Over S.Store conn (λ old new. (HasCleanDisk old → IsTrue old.is_open)
+        → IsSoundOfFormat from old → EndsOpening old new result) }
     ensures mode { conn.new.in_transaction ≡ false }
 {
     let outside = conn.is_autocommit();
@@ -183,9 +175,8 @@ fn next_of_older<S: Alter>(
 // format where they are of an older one; anything else is no office.
 fn next_by_schema<S: Alter>(alloc: Global, conn: &mut Connection<S>) -> Result<u64, OpenFault>
     requires outside { conn.old.in_transaction ≡ false }
-    ensures ends { (HasCleanDisk (state S.Store conn.old)
-        → IsTrue (state S.Store conn.old).is_open)
-        → EndsOpening (state S.Store conn.old) (state S.Store conn.new) result }
+    ensures ends { Over S.Store conn (λ old new. (HasCleanDisk old → IsTrue old.is_open)
+        → EndsOpening old new result) }
     ensures mode { conn.new.in_transaction ≡ false }
 {
     let outside = conn.is_autocommit();
@@ -203,7 +194,7 @@ fn next_by_schema<S: Alter>(alloc: Global, conn: &mut Connection<S>) -> Result<u
 /// there is none, and brought to the present format where it is of an older one.
 pub fn next_here<S: Alter>(alloc: Global, conn: &mut Connection<S>) -> Result<u64, OpenFault>
     requires outside { conn.old.in_transaction ≡ false }
-    ensures ends { EndsOpening (state S.Store conn.old) (state S.Store conn.new) result }
+    ensures ends { Over S.Store conn (λ old new. EndsOpening old new result) }
     ensures mode { conn.new.in_transaction ≡ false }
 {
     let outside = conn.is_autocommit();

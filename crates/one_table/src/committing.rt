@@ -2,7 +2,7 @@ ghost use Rattle.std.specs.Prelude.{◌≡◌, false, IsTrue, IfErr, OnOk, OnErr
 ghost use Rattle.sqlite_trees.specs.Tree.{Trees};
 ghost use Rattle.sqlite.specs.Effect.{Database};
 ghost use Rattle.sqlite.specs.State.{HasCleanDisk, State, Survives};
-ghost use Rattle.sqlite.specs.Held.{state};
+ghost use Rattle.one_table.specs.Over.{Inside, Over};
 ghost use Rattle.one_table.specs.InTransaction.{IsUnderWay, KeepsTransaction};
 ghost use Rattle.one_table.specs.Committing.{FailsInside, IsUndone, HasCommitted, LeavesMade, Risks, Tells, WasMade};
 
@@ -23,19 +23,13 @@ pub trait Change<S: Alter> {
 
     fn make(&self, tx: &mut Transaction<'_, S>) -> Result<(), Self::Fault>
         ensures same_reference { tx.new.conn.ghost_name ≡ tx.old.conn.ghost_name }
-        ensures made { HasCleanDisk (state S.Store tx.new.conn.now)
-            → IsUnderWay (state S.Store tx.old.conn.now)
-            → OnOk result (makes self.now (state S.Store tx.old.conn.now).now
-            (state S.Store tx.new.conn.now).now) }
-        ensures told { HasCleanDisk (state S.Store tx.new.conn.now)
-            → IsUnderWay (state S.Store tx.old.conn.now)
-            → IfErr result (tells self.now (state S.Store tx.old.conn.now).now) }
-        ensures refused { HasCleanDisk (state S.Store tx.new.conn.now)
-            → IsUnderWay (state S.Store tx.old.conn.now)
-            → IfErr result (fails self.now
-            (state S.Store tx.old.conn.now) (state S.Store tx.new.conn.now)) }
-        ensures transaction { KeepsTransaction
-            (state S.Store tx.old.conn.now) (state S.Store tx.new.conn.now) result };
+        ensures made { Inside S.Store tx (λ old new. HasCleanDisk new → IsUnderWay old
+            → OnOk result (makes self.now old.now new.now)) }
+        ensures told { Inside S.Store tx (λ old new. HasCleanDisk new → IsUnderWay old
+            → IfErr result (tells self.now old.now)) }
+        ensures refused { Inside S.Store tx (λ old new. HasCleanDisk new → IsUnderWay old
+            → IfErr result (fails self.now old new)) }
+        ensures transaction { Inside S.Store tx (λ old new. KeepsTransaction old new result) };
 }
 
 /// Why a change is not known to be committed.
@@ -54,26 +48,22 @@ pub fn change_once<S: Alter, C: Change<S>>(
     change: &C,
 ) -> Result<(), CommitFault<C::Fault>>
     requires { conn.old.in_transaction ≡ false }
-    ensures committed { HasCleanDisk (state S.Store conn.new)
-        → OnOk result ((db : Database) × C.makes change.now (state S.Store conn.old).now db
-        × HasCommitted db (state S.Store conn.old) (state S.Store conn.new)) }
-    ensures told { HasCleanDisk (state S.Store conn.new)
-        → IfErr result (Tells (C.tells change.now) (state S.Store conn.old).now) }
-    ensures refused { HasCleanDisk (state S.Store conn.new)
-        → IfErr result
-        (FailsInside S.Store (C.fails change.now) conn.old (state S.Store conn.new)) }
-    ensures undone { HasCleanDisk (state S.Store conn.new)
-        → OnErr result (IsUndone (state S.Store conn.old) (state S.Store conn.new)) }
-    ensures doubted { HasCleanDisk (state S.Store conn.new)
-        → IfErr result (WasMade S.Store (C.makes change.now)
-        (state S.Store conn.old) (state S.Store conn.new)) }
-    ensures risks { IfErr result (Risks (C.makes change.now)
-        (state S.Store conn.old) (state S.Store conn.new)) }
-    ensures crash { Survives (state S.Store conn.old) (state S.Store conn.new)
-        (LeavesMade (C.makes change.now) (state S.Store conn.old).now) }
-    ensures exact { IsTrue (state S.Store conn.new).is_open
-        → (trees : Trees) → (state S.Store conn.new).may_leave trees
-        → trees ≡ (state S.Store conn.new).committed.trees }
+    ensures committed { Over S.Store conn (λ old new. HasCleanDisk new
+        → OnOk result ((db : Database) × C.makes change.now old.now db × HasCommitted db old new)) }
+    ensures told { Over S.Store conn (λ old new. HasCleanDisk new
+        → IfErr result (Tells (C.tells change.now) old.now)) }
+    ensures refused { Over S.Store conn (λ _ new. HasCleanDisk new
+        → IfErr result (FailsInside S.Store (C.fails change.now) conn.old new)) }
+    ensures undone { Over S.Store conn (λ old new. HasCleanDisk new
+        → OnErr result (IsUndone old new)) }
+    ensures doubted { Over S.Store conn (λ old new. HasCleanDisk new
+        → IfErr result (WasMade S.Store (C.makes change.now) old new)) }
+    ensures risks { Over S.Store conn (λ old new. IfErr result (Risks (C.makes change.now) old
+        new)) }
+    ensures crash { Over S.Store conn (λ old new. Survives old new (LeavesMade (C.makes
+        change.now) old.now)) }
+    ensures exact { Over S.Store conn (λ _ new. IsTrue new.is_open → (trees : Trees)
+        → new.may_leave trees → trees ≡ new.committed.trees) }
     ensures autocommit { conn.new.in_transaction ≡ false }
 {
     let mut tx = conn.transaction();

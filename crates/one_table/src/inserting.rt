@@ -1,7 +1,7 @@
 ghost use Rattle.std.specs.Prelude.{◌≡◌, ℕ, List, IsTrue, IfErr, OnOk, length, true};
 ghost use Rattle.sqlite.specs.Values.{bound};
 ghost use Rattle.sqlite.specs.State.{HasCleanDisk};
-ghost use Rattle.sqlite.specs.Held.{state};
+ghost use Rattle.one_table.specs.Over.{Inside};
 ghost use Rattle.sqlite.specs.Table.{Table};
 ghost use Rattle.sqlite.specs.Term.{Term};
 ghost use Rattle.one_table.specs.Place.{Has};
@@ -20,22 +20,17 @@ pub fn insert<S: Alter>(
     params: &[ValueRef<'_>],
 ) -> Result<(), Error>
     ensures same_reference { tx.new.conn.ghost_name ≡ tx.old.conn.ghost_name }
-    ensures added { HasCleanDisk (state S.Store tx.new.conn.now)
+    ensures added { Inside S.Store tx (λ old new. HasCleanDisk new
         → (t : Table) (at : ℕ) (terms : List Term) → IsInsert t terms sql.now
-        → (IsTrue (state S.Store tx.old.conn.now).is_open
-        → Has (state S.Store tx.old.conn.now).now.schema at t)
-        → OnOk result (PutsRow t (new_row t terms (bound params.now)
-        ((state S.Store tx.old.conn.now).now.trees t.tree))
-        (state S.Store tx.old.conn.now) (state S.Store tx.new.conn.now)) }
-    ensures transaction { KeepsTransaction
-        (state S.Store tx.old.conn.now) (state S.Store tx.new.conn.now) result }
-    ensures refused { HasCleanDisk (state S.Store tx.new.conn.now)
+        → (IsTrue old.is_open → Has old.now.schema at t)
+        → OnOk result (PutsRow t (new_row t terms (bound params.now) (old.now.trees t.tree)) old
+        new)) }
+    ensures transaction { Inside S.Store tx (λ old new. KeepsTransaction old new result) }
+    ensures refused { Inside S.Store tx (λ old new. HasCleanDisk new
         → (t : Table) (at : ℕ) (terms : List Term) → IsInsert t terms sql.now
-        → is_whole sql.now (length (bound params.now)) ≡ true
-        → (IsTrue (state S.Store tx.old.conn.now).is_open
-        → Has (state S.Store tx.old.conn.now).now.schema at t)
-        → IfErr result (FailsToWrite (insert_as at t terms) (bound params.now)
-        (state S.Store tx.old.conn.now) (state S.Store tx.new.conn.now)) }
+        → is_whole sql.now (length (bound params.now)) ≡ true → (IsTrue old.is_open
+        → Has old.now.schema at t)
+        → IfErr result (FailsToWrite (insert_as at t terms) (bound params.now) old new)) }
 {
     run(tx, sql, params)
 }

@@ -2,7 +2,7 @@
 ghost use Rattle.std.specs.Prelude.{◌≡◌, ◌<◌, ◌⊎◌, true, List, Ok, OnOk, OnErr, IsTrue, map, length};
 ghost use Rattle.std.specs.List.{list_all};
 ghost use Rattle.sqlite.specs.Effect.{IsDatabase};
-ghost use Rattle.sqlite.specs.Held.{state};
+ghost use Rattle.one_table.specs.Over.{Inside};
 ghost use Rattle.sqlite.specs.State.{HasCleanDisk};
 ghost use Rattle.sqlite_resolve.specs.Compile.{table_defined_by};
 ghost use Rattle.sqlite_schema.specs.declared.schema.Table.{Table};
@@ -16,14 +16,11 @@ use sqlite::{Alter, Error, Transaction};
 fn create_table<S: Alter>(tx: &mut Transaction<'_, S>, text: &str) -> Result<(), Error>
     requires { is_creation text.now ≡ true }
     ensures same_reference { tx.new.conn.ghost_name ≡ tx.old.conn.ghost_name }
-    ensures added { HasCleanDisk (state S.Store tx.new.conn.now)
-        → (t : Table) → table_defined_by text.now ≡ Ok t → OnOk result (MakesTable t
-        (state S.Store tx.old.conn.now).now (state S.Store tx.new.conn.now).now) }
-    ensures inside { HasCleanDisk (state S.Store tx.new.conn.now)
-        → OnOk result (StaysInside
-        (state S.Store tx.old.conn.now) (state S.Store tx.new.conn.now)) }
-    ensures transaction { KeepsTransaction
-        (state S.Store tx.old.conn.now) (state S.Store tx.new.conn.now) result }
+    ensures added { Inside S.Store tx (λ old new. HasCleanDisk new → (t : Table)
+        → table_defined_by text.now ≡ Ok t → OnOk result (MakesTable t old.now new.now)) }
+    ensures inside { Inside S.Store tx (λ old new. HasCleanDisk new
+        → OnOk result (StaysInside old new)) }
+    ensures transaction { Inside S.Store tx (λ old new. KeepsTransaction old new result) }
 {
     run(tx, text, &[])
 }
@@ -39,16 +36,12 @@ pub fn create_tables<S: Alter>(tx: &mut Transaction<'_, S>, texts: &[&str]) -> R
     requires some { 0 < length texts.now }
     requires creations { list_all (λ t. is_creation t.now) texts.now ≡ true }
     ensures same_reference { tx.new.conn.ghost_name ≡ tx.old.conn.ghost_name }
-    ensures added { HasCleanDisk (state S.Store tx.new.conn.now)
-        → (IsTrue (state S.Store tx.old.conn.now).is_open
-        → IsDatabase (state S.Store tx.old.conn.now).now)
-        → (ts : List Table) → AreDefined (map (λ t. t.now) texts.now) ts → OnOk result (MakesTables
-        ts (state S.Store tx.old.conn.now).now (state S.Store tx.new.conn.now).now) }
-    ensures inside { HasCleanDisk (state S.Store tx.new.conn.now)
-        → OnOk result (StaysInside
-        (state S.Store tx.old.conn.now) (state S.Store tx.new.conn.now)) }
-    ensures transaction { KeepsTransaction
-        (state S.Store tx.old.conn.now) (state S.Store tx.new.conn.now) result }
+    ensures added { Inside S.Store tx (λ old new. HasCleanDisk new → (IsTrue old.is_open
+        → IsDatabase old.now) → (ts : List Table) → AreDefined (map (λ t. t.now) texts.now) ts
+        → OnOk result (MakesTables ts old.now new.now)) }
+    ensures inside { Inside S.Store tx (λ old new. HasCleanDisk new
+        → OnOk result (StaysInside old new)) }
+    ensures transaction { Inside S.Store tx (λ old new. KeepsTransaction old new result) }
 {
     'texts: for text in texts {
         create_table(tx, text)?;

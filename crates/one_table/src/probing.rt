@@ -1,6 +1,6 @@
 ghost use Rattle.std.specs.Prelude.{◌≡◌, false, IsTrue, IfErr, OnOk, OnErr};
 ghost use Rattle.sqlite.specs.State.{Fails, HasCleanDisk, IsUnchanged, Survives};
-ghost use Rattle.sqlite.specs.Held.{state};
+ghost use Rattle.one_table.specs.Over.{Over};
 ghost use Rattle.one_table.specs.Answer.{IsLeft};
 
 use sqlite::{Alter, Connection, Error};
@@ -15,16 +15,15 @@ const NOTHING: &str = "";
 /// # Errors
 /// Those of the database: that the connection is shut, or that there is no memory for a text.
 pub fn test_open<S: Alter>(conn: &mut Connection<S>) -> Result<(), Error>
-    ensures open { HasCleanDisk (state S.Store conn.new)
-        → OnOk result (IsTrue (state S.Store conn.old).is_open) }
-    ensures same { HasCleanDisk (state S.Store conn.new)
-        → OnOk result (IsUnchanged (state S.Store conn.old) (state S.Store conn.new)) }
-    ensures kept { HasCleanDisk (state S.Store conn.new)
-        → OnErr result (IsLeft (state S.Store conn.old) (state S.Store conn.new)) }
-    ensures faults { HasCleanDisk (state S.Store conn.new)
-        → IfErr result (Fails (state S.Store conn.old) (state S.Store conn.new) ⊥) }
+    ensures open { Over S.Store conn (λ old new. HasCleanDisk new
+        → OnOk result (IsTrue old.is_open)) }
+    ensures same { Over S.Store conn (λ old new. HasCleanDisk new
+        → OnOk result (IsUnchanged old new)) }
+    ensures kept { Over S.Store conn (λ old new. HasCleanDisk new → OnErr result (IsLeft old new)) }
+    ensures faults { Over S.Store conn (λ old new. HasCleanDisk new
+        → IfErr result (Fails old new ⊥)) }
     ensures mode { conn.old.in_transaction ≡ false → conn.new.in_transaction ≡ false }
-    ensures survives { Survives (state S.Store conn.old) (state S.Store conn.new) (λ _. ⊥) }
+    ensures survives { Over S.Store conn (λ old new. Survives old new (λ _. ⊥)) }
 {
     match conn.prepare(NOTHING) {
         Ok(_) => Ok(()),

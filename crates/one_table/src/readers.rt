@@ -2,7 +2,7 @@ ghost use Rattle.std.specs.Prelude.{◌≡◌, Any, IfErr, IfOk};
 ghost use Rattle.std.specs.List.{AllZip};
 ghost use Rattle.sqlite.specs.Values.{bound};
 ghost use Rattle.sqlite.specs.State.{HasCleanDisk, IsUnchanged, FailsToQuery, Shown};
-ghost use Rattle.sqlite.specs.Held.{state};
+ghost use Rattle.one_table.specs.Over.{Inside, Over};
 ghost use Rattle.one_table.specs.Answer.{OnlyAsks, GivesAll, GivesFirst, FailsToRead};
 ghost use Rattle.one_table.specs.InTransaction.{KeepsTransaction};
 ghost use Rattle.one_table.specs.ReadFaults.{OnlyWhere};
@@ -23,13 +23,10 @@ fn answer<S: Alter>(
     sql: &str,
     params: &[ValueRef<'_>],
 ) -> Result<Vec<Row>, Error>
-    ensures given { HasCleanDisk (state S.Store conn.new)
-        → OnlyAsks sql.now (state S.Store conn.old)
-        → IfOk result (λ rows. Shown sql.now (bound params.now)
-        (state S.Store conn.old) (state S.Store conn.new) rows.items) }
-    ensures reads { ReadsOnly (OnlyAsks sql.now) IsUnchanged
-        (FailsToQuery sql.now (bound params.now))
-        (state S.Store conn.old) (state S.Store conn.new) result }
+    ensures given { Over S.Store conn (λ old new. HasCleanDisk new → OnlyAsks sql.now old
+        → IfOk result (λ rows. Shown sql.now (bound params.now) old new rows.items)) }
+    ensures reads { Over S.Store conn (λ old new. ReadsOnly (OnlyAsks sql.now) IsUnchanged
+        (FailsToQuery sql.now (bound params.now)) old new result) }
 {
     test_open(conn)?;
     conn.query_all(sql, params)
@@ -42,13 +39,10 @@ pub fn read_row<S: Alter, X: FromRow>(
     sql: &str,
     params: &[ValueRef<'_>],
 ) -> Result<Option<X>, ReadFault>
-    ensures given { HasCleanDisk (state S.Store conn.new)
-        → OnlyAsks sql.now (state S.Store conn.old)
-        → IfOk result (GivesFirst X.FromRow.reads_as sql.now (bound params.now)
-        (state S.Store conn.old) (state S.Store conn.new)) }
-    ensures reads { ReadsOnly (OnlyAsks sql.now) IsUnchanged
-        (FailsToRead X.FromRow.is_readable sql.now (bound params.now))
-        (state S.Store conn.old) (state S.Store conn.new) result }
+    ensures given { Over S.Store conn (λ old new. HasCleanDisk new → OnlyAsks sql.now old
+        → IfOk result (GivesFirst X.FromRow.reads_as sql.now (bound params.now) old new)) }
+    ensures reads { Over S.Store conn (λ old new. ReadsOnly (OnlyAsks sql.now) IsUnchanged
+        (FailsToRead X.FromRow.is_readable sql.now (bound params.now)) old new result) }
 {
     let rows = answer(conn, sql, params)?;
     match rows.first() {
@@ -77,13 +71,11 @@ pub fn read_rows<S: Alter, X: FromRow + Drop>(
     sql: &str,
     params: &[ValueRef<'_>],
 ) -> Result<Vec<X>, ReadFault>
-    ensures given { HasCleanDisk (state S.Store conn.new)
-        → OnlyAsks sql.now (state S.Store conn.old)
-        → IfOk result (λ found. GivesAll X.FromRow.reads_as sql.now (bound params.now)
-        (state S.Store conn.old) (state S.Store conn.new) found.items) }
-    ensures reads { ReadsOnly (OnlyAsks sql.now) IsUnchanged
-        (FailsToRead X.FromRow.is_readable sql.now (bound params.now))
-        (state S.Store conn.old) (state S.Store conn.new) result }
+    ensures given { Over S.Store conn (λ old new. HasCleanDisk new → OnlyAsks sql.now old
+        → IfOk result (λ found. GivesAll X.FromRow.reads_as sql.now (bound params.now) old new
+        found.items)) }
+    ensures reads { Over S.Store conn (λ old new. ReadsOnly (OnlyAsks sql.now) IsUnchanged
+        (FailsToRead X.FromRow.is_readable sql.now (bound params.now)) old new result) }
 {
     let rows = answer(conn, sql, params)?;
     values(alloc, &rows)
@@ -97,14 +89,12 @@ pub fn read_rows_inside<S: Alter, X: FromRow + Drop>(
     params: &[ValueRef<'_>],
 ) -> Result<Vec<X>, ReadFault>
     ensures same_reference { tx.new.conn.ghost_name ≡ tx.old.conn.ghost_name }
-    ensures given { HasCleanDisk (state S.Store tx.new.conn.now)
-        → IfOk result (λ found. GivesAll X.FromRow.reads_as sql.now (bound params.now)
-        (state S.Store tx.old.conn.now) (state S.Store tx.new.conn.now) found.items) }
-    ensures reads { ReadsInside (OnlyAsks sql.now)
-        (FailsToRead X.FromRow.is_readable sql.now (bound params.now))
-        (state S.Store tx.old.conn.now) (state S.Store tx.new.conn.now) result }
-    ensures transaction { KeepsTransaction
-        (state S.Store tx.old.conn.now) (state S.Store tx.new.conn.now) result }
+    ensures given { Inside S.Store tx (λ old new. HasCleanDisk new
+        → IfOk result (λ found. GivesAll X.FromRow.reads_as sql.now (bound params.now) old new
+        found.items)) }
+    ensures reads { Inside S.Store tx (λ old new. ReadsInside (OnlyAsks sql.now) (FailsToRead
+        X.FromRow.is_readable sql.now (bound params.now)) old new result) }
+    ensures transaction { Inside S.Store tx (λ old new. KeepsTransaction old new result) }
 {
     let rows = show(tx, sql, params)?;
     values(alloc, &rows)

@@ -1,7 +1,7 @@
 ghost use Rattle.std.specs.Prelude.{◌≡◌, ℕ, true, IsTrue, IfErr, OnOk, length};
 ghost use Rattle.sqlite.specs.Values.{bound};
 ghost use Rattle.sqlite.specs.State.{HasCleanDisk};
-ghost use Rattle.sqlite.specs.Held.{state};
+ghost use Rattle.one_table.specs.Over.{Inside};
 ghost use Rattle.sqlite.specs.Table.{Table};
 ghost use Rattle.sqlite.specs.Query.{Query};
 ghost use Rattle.one_table.specs.Place.{Has};
@@ -21,22 +21,16 @@ pub fn update<S: Alter>(
     params: &[ValueRef<'_>],
 ) -> Result<(), Error>
     ensures same_reference { tx.new.conn.ghost_name ≡ tx.old.conn.ghost_name }
-    ensures changed { HasCleanDisk (state S.Store tx.new.conn.now)
+    ensures changed { Inside S.Store tx (λ old new. HasCleanDisk new
+        → (t : Table) (at : ℕ) (q : Query) → IsUpdate t q sql.now → (IsTrue old.is_open
+        → Has old.now.schema at t × (is_left_alone old.now.schema t.tree ≡ true))
+        → OnOk result (SetsRows t q (bound params.now) old new)) }
+    ensures transaction { Inside S.Store tx (λ old new. KeepsTransaction old new result) }
+    ensures refused { Inside S.Store tx (λ old new. HasCleanDisk new
         → (t : Table) (at : ℕ) (q : Query) → IsUpdate t q sql.now
-        → (IsTrue (state S.Store tx.old.conn.now).is_open
-        → Has (state S.Store tx.old.conn.now).now.schema at t
-        × (is_left_alone (state S.Store tx.old.conn.now).now.schema t.tree ≡ true))
-        → OnOk result (SetsRows t q (bound params.now)
-        (state S.Store tx.old.conn.now) (state S.Store tx.new.conn.now)) }
-    ensures transaction { KeepsTransaction
-        (state S.Store tx.old.conn.now) (state S.Store tx.new.conn.now) result }
-    ensures refused { HasCleanDisk (state S.Store tx.new.conn.now)
-        → (t : Table) (at : ℕ) (q : Query) → IsUpdate t q sql.now
-        → is_whole sql.now (length (bound params.now)) ≡ true
-        → (IsTrue (state S.Store tx.old.conn.now).is_open
-        → Has (state S.Store tx.old.conn.now).now.schema at t)
-        → IfErr result (FailsToWrite (update_as at q) (bound params.now)
-        (state S.Store tx.old.conn.now) (state S.Store tx.new.conn.now)) }
+        → is_whole sql.now (length (bound params.now)) ≡ true → (IsTrue old.is_open
+        → Has old.now.schema at t)
+        → IfErr result (FailsToWrite (update_as at q) (bound params.now) old new)) }
 {
     run(tx, sql, params)
 }

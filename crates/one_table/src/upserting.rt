@@ -1,7 +1,7 @@
 ghost use Rattle.std.specs.Prelude.{◌≡◌, ℕ, IsTrue, IfErr, IfOk, OnOk, length, true};
 ghost use Rattle.sqlite.specs.Values.{bound};
 ghost use Rattle.sqlite.specs.State.{HasCleanDisk};
-ghost use Rattle.sqlite.specs.Held.{state};
+ghost use Rattle.one_table.specs.Over.{Inside};
 ghost use Rattle.sqlite_value.specs.Order.{Row as Stored};
 ghost use Rattle.sqlite.specs.Table.{Table};
 ghost use Rattle.one_table.specs.InTransaction.{IsUnderWay, KeepsTransaction};
@@ -27,41 +27,26 @@ pub fn upsert<S: Alter, X: FromRow>(
     params: &[ValueRef<'_>],
 ) -> Result<X, ReadFault>
     ensures same_reference { tx.new.conn.ghost_name ≡ tx.old.conn.ghost_name }
-    ensures merged { HasCleanDisk (state S.Store tx.new.conn.now)
-        → IsUnderWay (state S.Store tx.old.conn.now)
+    ensures merged { Inside S.Store tx (λ old new. HasCleanDisk new → IsUnderWay old
+        → (t : Table) (at : ℕ) (m : Merging) → IsUpsert t m sql.now → (IsTrue old.is_open
+        → TakesUpserts old.now at t)
+        → IfOk result (λ x. (row : Stored) × X.FromRow.reads_as (shown_row t m (bound params.now)
+        row) x × Upserts t m (bound params.now) old new row)) }
+    ensures touched { Inside S.Store tx (λ old new. HasCleanDisk new → IsUnderWay old
+        → (t : Table) (at : ℕ) (m : Merging) → IsUpsert t m sql.now → (IsTrue old.is_open
+        → StandsForUpserts old.now.schema at t)
+        → OnOk result (Touches t m (bound params.now) old new)) }
+    ensures transaction { Inside S.Store tx (λ old new. KeepsTransaction old new result) }
+    ensures refused { Inside S.Store tx (λ old new. HasCleanDisk new → IsUnderWay old
         → (t : Table) (at : ℕ) (m : Merging) → IsUpsert t m sql.now
-        → (IsTrue (state S.Store tx.old.conn.now).is_open
-        → TakesUpserts (state S.Store tx.old.conn.now).now at t)
-        → IfOk result (λ x. (row : Stored)
-        × X.FromRow.reads_as (shown_row t m (bound params.now) row) x
-        × Upserts t m (bound params.now)
-        (state S.Store tx.old.conn.now) (state S.Store tx.new.conn.now) row) }
-    ensures touched { HasCleanDisk (state S.Store tx.new.conn.now)
-        → IsUnderWay (state S.Store tx.old.conn.now)
+        → is_whole sql.now (length (bound params.now)) ≡ true → (IsTrue old.is_open
+        → TakesUpserts old.now at t)
+        → IfErr result (FailsToUpsert t m (bound params.now) old new at X.FromRow.is_readable)) }
+    ensures failed { Inside S.Store tx (λ old new. HasCleanDisk new → IsUnderWay old
         → (t : Table) (at : ℕ) (m : Merging) → IsUpsert t m sql.now
-        → (IsTrue (state S.Store tx.old.conn.now).is_open
-        → StandsForUpserts (state S.Store tx.old.conn.now).now.schema at t)
-        → OnOk result (Touches t m (bound params.now)
-        (state S.Store tx.old.conn.now) (state S.Store tx.new.conn.now)) }
-    ensures transaction { KeepsTransaction
-        (state S.Store tx.old.conn.now) (state S.Store tx.new.conn.now) result }
-    ensures refused { HasCleanDisk (state S.Store tx.new.conn.now)
-        → IsUnderWay (state S.Store tx.old.conn.now)
-        → (t : Table) (at : ℕ) (m : Merging) → IsUpsert t m sql.now
-        → is_whole sql.now (length (bound params.now)) ≡ true
-        → (IsTrue (state S.Store tx.old.conn.now).is_open
-        → TakesUpserts (state S.Store tx.old.conn.now).now at t)
-        → IfErr result (FailsToUpsert t m (bound params.now)
-        (state S.Store tx.old.conn.now) (state S.Store tx.new.conn.now) at
-        X.FromRow.is_readable) }
-    ensures failed { HasCleanDisk (state S.Store tx.new.conn.now)
-        → IsUnderWay (state S.Store tx.old.conn.now)
-        → (t : Table) (at : ℕ) (m : Merging) → IsUpsert t m sql.now
-        → is_whole sql.now (length (bound params.now)) ≡ true
-        → (IsTrue (state S.Store tx.old.conn.now).is_open
-        → StandsForUpserts (state S.Store tx.old.conn.now).now.schema at t)
-        → IfErr result (FailsToTouch t m (bound params.now)
-        (state S.Store tx.old.conn.now) (state S.Store tx.new.conn.now) at) }
+        → is_whole sql.now (length (bound params.now)) ≡ true → (IsTrue old.is_open
+        → StandsForUpserts old.now.schema at t)
+        → IfErr result (FailsToTouch t m (bound params.now) old new at)) }
 {
     let rows = show(tx, sql, params)?;
     match rows.first() {

@@ -1,7 +1,7 @@
 ghost use Rattle.std.specs.Prelude.{◌≡◌, ℕ, Ok, OnOk, IfOk, IfErr};
 ghost use Rattle.sqlite.specs.Values.{bound};
 ghost use Rattle.sqlite.specs.State.{HasCleanDisk, ExecutesInside, Shown};
-ghost use Rattle.sqlite.specs.Held.{state};
+ghost use Rattle.one_table.specs.Over.{Inside};
 ghost use Rattle.one_table.specs.InTransaction.{FailsToRun, FailsToShow, KeepsTransaction};
 
 use sqlite::types::ValueRef;
@@ -14,14 +14,12 @@ pub(crate) fn run<S: Alter>(
     params: &[ValueRef<'_>],
 ) -> Result<(), Error>
     ensures same_reference { tx.new.conn.ghost_name ≡ tx.old.conn.ghost_name }
-    ensures ran { HasCleanDisk (state S.Store tx.new.conn.now)
-        → OnOk result ((count : ℕ) × ExecutesInside 0 sql.now (bound params.now)
-        (state S.Store tx.old.conn.now) (state S.Store tx.new.conn.now) (Ok count)) }
-    ensures transaction { KeepsTransaction
-        (state S.Store tx.old.conn.now) (state S.Store tx.new.conn.now) result }
-    ensures refused { HasCleanDisk (state S.Store tx.new.conn.now)
-        → IfErr result (FailsToRun sql.now (bound params.now)
-        (state S.Store tx.old.conn.now) (state S.Store tx.new.conn.now)) }
+    ensures ran { Inside S.Store tx (λ old new. HasCleanDisk new
+        → OnOk result ((count : ℕ) × ExecutesInside 0 sql.now (bound params.now) old new (Ok
+        count))) }
+    ensures transaction { Inside S.Store tx (λ old new. KeepsTransaction old new result) }
+    ensures refused { Inside S.Store tx (λ old new. HasCleanDisk new
+        → IfErr result (FailsToRun sql.now (bound params.now) old new)) }
 {
     tx.execute(sql, params)?;
     Ok(())
@@ -34,14 +32,11 @@ pub(crate) fn show<S: Alter>(
     params: &[ValueRef<'_>],
 ) -> Result<Vec<Row>, Error>
     ensures same_reference { tx.new.conn.ghost_name ≡ tx.old.conn.ghost_name }
-    ensures shown { HasCleanDisk (state S.Store tx.new.conn.now)
-        → IfOk result (λ rows. Shown sql.now (bound params.now)
-        (state S.Store tx.old.conn.now) (state S.Store tx.new.conn.now) rows.items) }
-    ensures transaction { KeepsTransaction
-        (state S.Store tx.old.conn.now) (state S.Store tx.new.conn.now) result }
-    ensures refused { HasCleanDisk (state S.Store tx.new.conn.now)
-        → IfErr result (FailsToShow sql.now (bound params.now)
-        (state S.Store tx.old.conn.now) (state S.Store tx.new.conn.now)) }
+    ensures shown { Inside S.Store tx (λ old new. HasCleanDisk new
+        → IfOk result (λ rows. Shown sql.now (bound params.now) old new rows.items)) }
+    ensures transaction { Inside S.Store tx (λ old new. KeepsTransaction old new result) }
+    ensures refused { Inside S.Store tx (λ old new. HasCleanDisk new
+        → IfErr result (FailsToShow sql.now (bound params.now) old new)) }
 {
     tx.query_all(sql, params)
 }

@@ -2,7 +2,7 @@
 
 ghost use Rattle.std.specs.Prelude.{◌≡◌, ◌≤◌, [], ◌∷◌, length, IfErr, OnOk};
 ghost use Rattle.sqlite.specs.State.{HasCleanDisk};
-ghost use Rattle.sqlite.specs.Held.{state};
+ghost use Rattle.one_table.specs.Over.{Inside};
 ghost use Rattle.one_table.specs.InTransaction.{IsUnderWay, KeepsTransaction};
 ghost use Rattle.book_tables.specs.writing.Failing.{FailsToWriteAll};
 ghost use Rattle.book_tables.specs.reading.Reading.{HasAllTables};
@@ -23,17 +23,11 @@ pub(crate) fn add_rows<S: Alter>(
     rows: &[Row],
 ) -> Result<(), TableError>
     ensures same_reference { tx.new.conn.ghost_name ≡ tx.old.conn.ghost_name }
-    ensures added { HasCleanDisk (state S.Store tx.new.conn.now)
-        → IsUnderWay (state S.Store tx.old.conn.now) → HasAllTables (state S.Store tx.old.conn.now)
-        → OnOk result (MakesRows rows.now
-        (state S.Store tx.old.conn.now).now (state S.Store tx.new.conn.now).now) }
-    ensures refused { HasCleanDisk (state S.Store tx.new.conn.now)
-        → IsUnderWay (state S.Store tx.old.conn.now)
-        → HasAllTables (state S.Store tx.old.conn.now)
-        → 1 ≤ length rows.now → IfErr result (FailsToWriteAll
-        (state S.Store tx.old.conn.now) (state S.Store tx.new.conn.now)) }
-    ensures transaction { KeepsTransaction
-        (state S.Store tx.old.conn.now) (state S.Store tx.new.conn.now) result }
+    ensures added { Inside S.Store tx (λ old new. HasCleanDisk new → IsUnderWay old
+        → HasAllTables old → OnOk result (MakesRows rows.now old.now new.now)) }
+    ensures refused { Inside S.Store tx (λ old new. HasCleanDisk new → IsUnderWay old
+        → HasAllTables old → 1 ≤ length rows.now → IfErr result (FailsToWriteAll old new)) }
+    ensures transaction { Inside S.Store tx (λ old new. KeepsTransaction old new result) }
 {
     let Some((first, others)) = rows.split_first() else {
         return Err(TableError::Database(Error::SqliteFailure(ErrorCode::TransactionState)));
@@ -47,17 +41,11 @@ pub(crate) fn add_rows<S: Alter>(
 
 fn add_row<S: Alter>(tx: &mut Transaction<'_, S>, row: &Row) -> Result<(), TableError>
     ensures same_reference { tx.new.conn.ghost_name ≡ tx.old.conn.ghost_name }
-    ensures added { HasCleanDisk (state S.Store tx.new.conn.now)
-        → HasAllTables (state S.Store tx.old.conn.now)
-        → OnOk result (MakesRows (row.now ∷ [])
-        (state S.Store tx.old.conn.now).now (state S.Store tx.new.conn.now).now) }
-    ensures refused { HasCleanDisk (state S.Store tx.new.conn.now)
-        → IsUnderWay (state S.Store tx.old.conn.now)
-        → HasAllTables (state S.Store tx.old.conn.now)
-        → IfErr result (FailsToWriteAll
-        (state S.Store tx.old.conn.now) (state S.Store tx.new.conn.now)) }
-    ensures transaction { KeepsTransaction
-        (state S.Store tx.old.conn.now) (state S.Store tx.new.conn.now) result }
+    ensures added { Inside S.Store tx (λ old new. HasCleanDisk new → HasAllTables old
+        → OnOk result (MakesRows (row.now ∷ []) old.now new.now)) }
+    ensures refused { Inside S.Store tx (λ old new. HasCleanDisk new → IsUnderWay old
+        → HasAllTables old → IfErr result (FailsToWriteAll old new)) }
+    ensures transaction { Inside S.Store tx (λ old new. KeepsTransaction old new result) }
 {
     members_law();
     match row {

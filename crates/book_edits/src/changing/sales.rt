@@ -2,7 +2,7 @@
 
 ghost use Rattle.std.specs.Prelude.{◌≡◌, IfErr, OnOk};
 ghost use Rattle.sqlite.specs.State.{HasCleanDisk};
-ghost use Rattle.sqlite.specs.Held.{state};
+ghost use Rattle.one_table.specs.Over.{Inside};
 ghost use Rattle.one_table.specs.InTransaction.{IsUnderWay, KeepsTransaction};
 ghost use Rattle.book_tables.specs.reading.Reading.{HasAllTables};
 ghost use Rattle.vend_core.specs.declared.decision.change.Edit.TheVariants.{AddSale};
@@ -23,18 +23,11 @@ pub(crate) fn add_counted<S: Alter>(
     prior: u64,
 ) -> Result<(), TableError>
     ensures same_reference { tx.new.conn.ghost_name ≡ tx.old.conn.ghost_name }
-    ensures added { HasCleanDisk (state S.Store tx.new.conn.now)
-        → IsUnderWay (state S.Store tx.old.conn.now)
-        → HasAllTables (state S.Store tx.old.conn.now)
-        → OnOk result (AddsAsComputed sale.now prior
-        (state S.Store tx.old.conn.now) (state S.Store tx.new.conn.now)) }
-    ensures refused { HasCleanDisk (state S.Store tx.new.conn.now)
-        → IsUnderWay (state S.Store tx.old.conn.now)
-        → HasAllTables (state S.Store tx.old.conn.now)
-        → IfErr result (FailsToMake (AddSale sale.now) prior
-        (state S.Store tx.old.conn.now) (state S.Store tx.new.conn.now)) }
-    ensures transaction { KeepsTransaction
-        (state S.Store tx.old.conn.now) (state S.Store tx.new.conn.now) result }
+    ensures added { Inside S.Store tx (λ old new. HasCleanDisk new → IsUnderWay old
+        → HasAllTables old → OnOk result (AddsAsComputed sale.now prior old new)) }
+    ensures refused { Inside S.Store tx (λ old new. HasCleanDisk new → IsUnderWay old
+        → HasAllTables old → IfErr result (FailsToMake (AddSale sale.now) prior old new)) }
+    ensures transaction { Inside S.Store tx (λ old new. KeepsTransaction old new result) }
 {
     let totals = add_sold(tx, sale)?;
     let tenths = u64::from(sale.tenths.tenths());

@@ -2,7 +2,7 @@
 
 ghost use Rattle.std.specs.Prelude.{◌≡◌, ◌<◌};
 ghost use Rattle.sqlite.specs.State.{IsUnchanged};
-ghost use Rattle.sqlite.specs.Held.{state};
+ghost use Rattle.one_table.specs.Over.{Over};
 ghost use Rattle.sts_fields.specs.Calendar.{month_at};
 ghost use Rattle.vend_core.specs.Decision.{account_of};
 ghost use Rattle.vend_core.specs.Office.Lookup.{greatest_of, prior, used};
@@ -26,10 +26,9 @@ pub(crate) fn account_numbered<S: Alter>(
     number: &MeterNo,
     moment: Moment,
 ) -> Result<Option<MeterAccount>, TableError>
-    ensures facts { SaysOfOffice (λ o found. found ≡ account_of o number.now moment)
-        (state S.Store conn.old) (state S.Store conn.new) result }
-    ensures reads { OnlyReads IsUnchanged
-        (state S.Store conn.old) (state S.Store conn.new) result }
+    ensures facts { Over S.Store conn (λ old new. SaysOfOffice (λ o found. found ≡ account_of o
+        number.now moment) old new result) }
+    ensures reads { Over S.Store conn (λ old new. OnlyReads IsUnchanged old new result) }
 {
     members_law();
     let there = meters::meter_numbered(conn, number)?;
@@ -53,15 +52,14 @@ fn account_at<S: Alter>(
     meter: Meter,
     steps: Steps,
 ) -> Result<MeterAccount, TableError>
-    ensures facts { SaysOfOffice (λ o b. b ≡ record {
+    ensures facts { Over S.Store conn (λ old new. SaysOfOffice (λ o b. b ≡ record {
       meter = meter;
       steps = steps;
       last = greatest_of (used o number.now meter.base);
-      prior = prior o number.now (month_at moment);
-    })
-        (state S.Store conn.old) (state S.Store conn.new) result }
-    ensures reads { OnlyReads IsUnchanged
-        (state S.Store conn.old) (state S.Store conn.new) result }
+      prior = prior o
+          number.now (month_at moment);
+    }) old new result) }
+    ensures reads { Over S.Store conn (λ old new. OnlyReads IsUnchanged old new result) }
 {
     store_law();
     let last = totals::greatest_tid(conn, number, meter.base)?;

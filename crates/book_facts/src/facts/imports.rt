@@ -2,7 +2,7 @@
 
 ghost use Rattle.std.specs.Prelude.{◌≡◌, ℕ, false, true, Err, List, Some};
 ghost use Rattle.sqlite.specs.State.{IsUnchanged};
-ghost use Rattle.sqlite.specs.Held.{state};
+ghost use Rattle.one_table.specs.Over.{Over};
 ghost use Rattle.tariff.specs.declared.step.Step.{Step};
 ghost use Rattle.vend_core.specs.Decision.{row_decision};
 ghost use Rattle.vend_core.specs.Decision.Facts.{AreRowsFacts, row_facts};
@@ -26,11 +26,10 @@ pub(crate) fn import_facts<S: Alter>(
     conn: &mut Connection<S>,
     rows: &Rows,
 ) -> Result<Facts, TableError>
-    ensures facts { SaysOfOffice (λ o f. (today : ℕ) → (fs : List RowFacts) × (f.rows ≡ Some fs)
-        × AreRowsFacts o today rows.now fs)
-        (state S.Store conn.old) (state S.Store conn.new) result }
-    ensures reads { OnlyReads IsSame
-        (state S.Store conn.old) (state S.Store conn.new) result }
+    ensures facts { Over S.Store conn (λ old new. SaysOfOffice (λ o f. (today : ℕ)
+        → (fs : List RowFacts) × (f.rows ≡ Some fs) × AreRowsFacts o today rows.now fs) old new
+        result) }
+    ensures reads { Over S.Store conn (λ old new. OnlyReads IsSame old new result) }
 {
     let found = found_of(alloc, conn, rows.as_slice())?;
     Ok(Facts {
@@ -44,11 +43,9 @@ fn found_of<S: Alter>(
     conn: &mut Connection<S>,
     rows: &[Row],
 ) -> Result<Vec<RowFacts>, TableError>
-    ensures facts { SaysOfOffice
-        (λ o found. (today : ℕ) → AreRowsFacts o today rows.now found.items)
-        (state S.Store conn.old) (state S.Store conn.new) result }
-    ensures reads { OnlyReads IsSame
-        (state S.Store conn.old) (state S.Store conn.new) result }
+    ensures facts { Over S.Store conn (λ old new. SaysOfOffice (λ o found. (today : ℕ)
+        → AreRowsFacts o today rows.now found.items) old new result) }
+    ensures reads { Over S.Store conn (λ old new. OnlyReads IsSame old new result) }
 {
     let mut found = Vec::new(alloc);
     for row in rows {
@@ -67,10 +64,9 @@ fn row_facts<S: Alter>(
     conn: &mut Connection<S>,
     row: &Row,
 ) -> Result<RowFacts, TableError>
-    ensures facts { SaysOfOffice (λ o found. found ≡ row_facts o row.now)
-        (state S.Store conn.old) (state S.Store conn.new) result }
-    ensures reads { OnlyReads IsUnchanged
-        (state S.Store conn.old) (state S.Store conn.new) result }
+    ensures facts { Over S.Store conn (λ old new. SaysOfOffice (λ o found. found ≡ row_facts o
+        row.now) old new result) }
+    ensures reads { Over S.Store conn (λ old new. OnlyReads IsUnchanged old new result) }
 {
     match row {
         Row::Tariff(name, _) => {
@@ -88,11 +84,9 @@ fn steps_row_facts<S: Alter>(
     name: &TariffName,
     day: Day,
 ) -> Result<RowFacts, TableError>
-    ensures facts { SaysOfOffice (λ o found. (steps : List Step)
-        → found ≡ row_facts o (Row.Steps name.now day steps))
-        (state S.Store conn.old) (state S.Store conn.new) result }
-    ensures reads { OnlyReads IsUnchanged
-        (state S.Store conn.old) (state S.Store conn.new) result }
+    ensures facts { Over S.Store conn (λ old new. SaysOfOffice (λ o found. (steps : List Step)
+        → found ≡ row_facts o (Row.Steps name.now day steps)) old new result) }
+    ensures reads { Over S.Store conn (λ old new. OnlyReads IsUnchanged old new result) }
 {
     let has_tariff = tariffs::has_tariff(conn, name)?;
     let steps = dated_steps::steps_from(alloc, conn, name, day)?;
@@ -104,10 +98,9 @@ fn meter_row_facts<S: Alter>(
     number: &MeterNo,
     meter: &Meter,
 ) -> Result<RowFacts, TableError>
-    ensures facts { SaysOfOffice (λ o found. found ≡ row_facts o (Row.Meter number.now meter.now))
-        (state S.Store conn.old) (state S.Store conn.new) result }
-    ensures reads { OnlyReads IsUnchanged
-        (state S.Store conn.old) (state S.Store conn.new) result }
+    ensures facts { Over S.Store conn (λ old new. SaysOfOffice (λ o found. found ≡ row_facts o
+        (Row.Meter number.now meter.now)) old new result) }
+    ensures reads { Over S.Store conn (λ old new. OnlyReads IsUnchanged old new result) }
 {
     members_law();
     let there = meters::meter_numbered(conn, number)?;

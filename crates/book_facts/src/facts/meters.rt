@@ -2,7 +2,7 @@
 
 ghost use Rattle.std.specs.Prelude.{◌≡◌, ℕ};
 ghost use Rattle.sqlite.specs.State.{IsUnchanged};
-ghost use Rattle.sqlite.specs.Held.{state};
+ghost use Rattle.one_table.specs.Over.{Over};
 ghost use Rattle.vend_core.specs.Decision.Facts.{AreMeterFacts, AreSettingFacts};
 ghost use Rattle.book_tables.specs.reading.Reading.{OnlyReads};
 ghost use Rattle.book_states.specs.Members.{SaysOfOffice};
@@ -19,10 +19,9 @@ pub(crate) fn tariff_facts<S: Alter>(
     conn: &mut Connection<S>,
     name: &TariffName,
 ) -> Result<Facts, TableError>
-    ensures facts { SaysOfOffice (λ o f. f.tariff ≡ o.tariffs name.now)
-        (state S.Store conn.old) (state S.Store conn.new) result }
-    ensures reads { OnlyReads IsUnchanged
-        (state S.Store conn.old) (state S.Store conn.new) result }
+    ensures facts { Over S.Store conn (λ old new. SaysOfOffice (λ o f. f.tariff ≡ o.tariffs
+        name.now) old new result) }
+    ensures reads { Over S.Store conn (λ old new. OnlyReads IsUnchanged old new result) }
 {
     let steps = tariffs::steps_of(alloc, conn, name)?;
     Ok(Facts {
@@ -36,10 +35,9 @@ pub(crate) fn moving_facts<S: Alter>(
     conn: &mut Connection<S>,
     number: &MeterNo,
 ) -> Result<Facts, TableError>
-    ensures facts { SaysOfOffice (λ o f. f.meter ≡ o.meters number.now)
-        (state S.Store conn.old) (state S.Store conn.new) result }
-    ensures reads { OnlyReads IsUnchanged
-        (state S.Store conn.old) (state S.Store conn.new) result }
+    ensures facts { Over S.Store conn (λ old new. SaysOfOffice (λ o f. f.meter ≡ o.meters
+        number.now) old new result) }
+    ensures reads { Over S.Store conn (λ old new. OnlyReads IsUnchanged old new result) }
 {
     members_law();
     let there = meters::meter_numbered(conn, number)?;
@@ -55,10 +53,9 @@ pub(crate) fn meter_facts<S: Alter>(
     number: &MeterNo,
     meter: &Meter,
 ) -> Result<Facts, TableError>
-    ensures facts { SaysOfOffice (λ o. AreMeterFacts o number.now meter.now)
-        (state S.Store conn.old) (state S.Store conn.new) result }
-    ensures reads { OnlyReads IsUnchanged
-        (state S.Store conn.old) (state S.Store conn.new) result }
+    ensures facts { Over S.Store conn (λ old new. SaysOfOffice (λ o. AreMeterFacts o number.now
+        meter.now) old new result) }
+    ensures reads { Over S.Store conn (λ old new. OnlyReads IsUnchanged old new result) }
 {
     members_law();
     let there = meters::meter_numbered(conn, number)?;
@@ -82,10 +79,9 @@ pub(crate) fn setting_facts<S: Alter>(
     number: &MeterNo,
     name: &TariffName,
 ) -> Result<Facts, TableError>
-    ensures facts { SaysOfOffice (λ o. AreSettingFacts o number.now name.now)
-        (state S.Store conn.old) (state S.Store conn.new) result }
-    ensures reads { OnlyReads IsUnchanged
-        (state S.Store conn.old) (state S.Store conn.new) result }
+    ensures facts { Over S.Store conn (λ old new. SaysOfOffice (λ o. AreSettingFacts o number.now
+        name.now) old new result) }
+    ensures reads { Over S.Store conn (λ old new. OnlyReads IsUnchanged old new result) }
 {
     members_law();
     let there = meters::meter_numbered(conn, number)?;

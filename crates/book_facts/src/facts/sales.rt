@@ -2,7 +2,7 @@
 
 ghost use Rattle.std.specs.Prelude.{◌≡◌, length};
 ghost use Rattle.sqlite.specs.State.{IsUnchanged};
-ghost use Rattle.sqlite.specs.Held.{state};
+ghost use Rattle.one_table.specs.Over.{Over};
 ghost use Rattle.vend_core.specs.Decision.Facts.{AreSaleFacts};
 ghost use Rattle.vend_core.specs.Office.Lookup.{sale_numbered};
 ghost use Rattle.book_tables.specs.reading.Reading.{OnlyReads};
@@ -27,11 +27,9 @@ pub(crate) fn sale_facts<S: Alter>(
     order: &Order,
     sale_count: u64,
 ) -> Result<Facts, TableError>
-    ensures facts { SaysOfOffice
-        (λ o f. sale_count ≡ length o.sales → AreSaleFacts o moment order.now f)
-        (state S.Store conn.old) (state S.Store conn.new) result }
-    ensures reads { OnlyReads IsUnchanged
-        (state S.Store conn.old) (state S.Store conn.new) result }
+    ensures facts { Over S.Store conn (λ old new. SaysOfOffice (λ o f. sale_count ≡ length o.sales
+        → AreSaleFacts o moment order.now f) old new result) }
+    ensures reads { Over S.Store conn (λ old new. OnlyReads IsUnchanged old new result) }
 {
     let mut facts = Facts::none();
     facts.first_sale = sales::sale_of_ref(conn, &order.operator, &order.order_ref)?;
@@ -52,10 +50,9 @@ pub(crate) fn reprint_facts<S: Alter>(
     conn: &mut Connection<S>,
     number: u32,
 ) -> Result<Facts, TableError>
-    ensures facts { SaysOfOffice (λ o f. f.sale ≡ sale_numbered o number)
-        (state S.Store conn.old) (state S.Store conn.new) result }
-    ensures reads { OnlyReads IsUnchanged
-        (state S.Store conn.old) (state S.Store conn.new) result }
+    ensures facts { Over S.Store conn (λ old new. SaysOfOffice (λ o f. f.sale ≡ sale_numbered o
+        number) old new result) }
+    ensures reads { Over S.Store conn (λ old new. OnlyReads IsUnchanged old new result) }
 {
     let sale = sales::sale_numbered(conn, number)?;
     Ok(Facts {

@@ -2,7 +2,7 @@
 
 ghost use Rattle.std.specs.Prelude.{◌≡◌};
 ghost use Rattle.sqlite.specs.State.{IsUnchanged};
-ghost use Rattle.sqlite.specs.Held.{state};
+ghost use Rattle.one_table.specs.Over.{Over};
 ghost use Rattle.vend_core.specs.Decision.Facts.{AreOpeningFacts, report_of};
 ghost use Rattle.vend_core.specs.Office.Lookup.{open_shift};
 ghost use Rattle.book_tables.specs.reading.Reading.{OnlyReads};
@@ -20,10 +20,9 @@ pub(crate) fn opening_facts<S: Alter>(
     conn: &mut Connection<S>,
     operator: &Operator,
 ) -> Result<Facts, TableError>
-    ensures facts { SaysOfOffice (λ o. AreOpeningFacts o operator.now)
-        (state S.Store conn.old) (state S.Store conn.new) result }
-    ensures reads { OnlyReads IsUnchanged
-        (state S.Store conn.old) (state S.Store conn.new) result }
+    ensures facts { Over S.Store conn (λ old new. SaysOfOffice (λ o. AreOpeningFacts o
+        operator.now) old new result) }
+    ensures reads { Over S.Store conn (λ old new. OnlyReads IsUnchanged old new result) }
 {
     let open_shift = shifts::open_shift(conn, operator)?;
     if open_shift.is_some() {
@@ -45,10 +44,9 @@ pub(crate) fn closing_facts<S: Alter>(
     conn: &mut Connection<S>,
     operator: &Operator,
 ) -> Result<Facts, TableError>
-    ensures facts { SaysOfOffice (λ o f. f.open_shift ≡ open_shift o operator.now)
-        (state S.Store conn.old) (state S.Store conn.new) result }
-    ensures reads { OnlyReads IsUnchanged
-        (state S.Store conn.old) (state S.Store conn.new) result }
+    ensures facts { Over S.Store conn (λ old new. SaysOfOffice (λ o f. f.open_shift ≡ open_shift o
+        operator.now) old new result) }
+    ensures reads { Over S.Store conn (λ old new. OnlyReads IsUnchanged old new result) }
 {
     let open_shift = shifts::open_shift(conn, operator)?;
     Ok(Facts {
@@ -63,10 +61,9 @@ pub(crate) fn report_facts<S: Alter>(
     conn: &mut Connection<S>,
     number: u32,
 ) -> Result<Facts, TableError>
-    ensures facts { SaysOfOffice (λ o f. f.report ≡ report_of o number)
-        (state S.Store conn.old) (state S.Store conn.new) result }
-    ensures reads { OnlyReads IsUnchanged
-        (state S.Store conn.old) (state S.Store conn.new) result }
+    ensures facts { Over S.Store conn (λ old new. SaysOfOffice (λ o f. f.report ≡ report_of o
+        number) old new result) }
+    ensures reads { Over S.Store conn (λ old new. OnlyReads IsUnchanged old new result) }
 {
     let found = shifts::shift_numbered(conn, number)?;
     let Some(shift) = found else {
@@ -84,10 +81,9 @@ pub(crate) fn totals_of<S: Alter>(
     conn: &mut Connection<S>,
     number: u32,
 ) -> Result<Option<Totals>, TableError>
-    ensures facts { SaysOfOffice (λ o found. found ≡ shift_totals o number)
-        (state S.Store conn.old) (state S.Store conn.new) result }
-    ensures reads { OnlyReads IsUnchanged
-        (state S.Store conn.old) (state S.Store conn.new) result }
+    ensures facts { Over S.Store conn (λ old new. SaysOfOffice (λ o found. found ≡ shift_totals o
+        number) old new result) }
+    ensures reads { Over S.Store conn (λ old new. OnlyReads IsUnchanged old new result) }
 {
     let found = shifts::shift_numbered(conn, number)?;
     if found.is_none() {

@@ -2,7 +2,7 @@
 
 ghost use Rattle.std.specs.Prelude.{◌≡◌};
 ghost use Rattle.std.specs.Option.{option_or};
-ghost use Rattle.sqlite.specs.Held.{state};
+ghost use Rattle.one_table.specs.Over.{Over};
 ghost use Rattle.sqlite.specs.State.{IsUnchanged};
 ghost use Rattle.vend_core.specs.Decision.Facts.{AreDatedFacts};
 ghost use Rattle.vend_core.specs.Office.Lookup.{latest};
@@ -24,11 +24,9 @@ pub(crate) fn steps_on<S: Alter>(
     name: &TariffName,
     day: Day,
 ) -> Result<Option<Steps>, TableError>
-    ensures facts { SaysOfOffice (λ o found. found
-        ≡ option_or (latest (o.dated_steps name.now) day) (o.tariffs name.now))
-        (state S.Store conn.old) (state S.Store conn.new) result }
-    ensures reads { OnlyReads IsUnchanged
-        (state S.Store conn.old) (state S.Store conn.new) result }
+    ensures facts { Over S.Store conn (λ old new. SaysOfOffice (λ o found. found ≡ option_or
+        (latest (o.dated_steps name.now) day) (o.tariffs name.now)) old new result) }
+    ensures reads { Over S.Store conn (λ old new. OnlyReads IsUnchanged old new result) }
 {
     let begun = dated_steps::latest_steps(alloc, conn, name, day)?;
     if begun.is_some() {
@@ -45,10 +43,9 @@ pub(crate) fn dated_facts<S: Alter>(
     name: &TariffName,
     day: Day,
 ) -> Result<Facts, TableError>
-    ensures facts { SaysOfOffice (λ o. AreDatedFacts o name.now day)
-        (state S.Store conn.old) (state S.Store conn.new) result }
-    ensures reads { OnlyReads IsUnchanged
-        (state S.Store conn.old) (state S.Store conn.new) result }
+    ensures facts { Over S.Store conn (λ old new. SaysOfOffice (λ o. AreDatedFacts o name.now day)
+        old new result) }
+    ensures reads { Over S.Store conn (λ old new. OnlyReads IsUnchanged old new result) }
 {
     let has_tariff = tariffs::has_tariff(conn, name)?;
     if !has_tariff {

@@ -3,7 +3,7 @@
 ghost use Rattle.std.specs.Prelude.{◌≡◌, ◌≢◌, IfErr, OnOk, codes};
 ghost use Rattle.std.specs.BTreeMap.{values};
 ghost use Rattle.sqlite.specs.Effect.{IsDatabase};
-ghost use Rattle.sqlite.specs.Held.{state};
+ghost use Rattle.one_table.specs.Over.{Inside};
 ghost use Rattle.sqlite.specs.State.{HasCleanDisk};
 ghost use Rattle.one_table.specs.InTransaction.{IsUnderWay, KeepsTransaction};
 ghost use Rattle.book_tables.specs.format.Filling.{AwaitsSomeBases, FillsBases, FillsTotals, GoesOn, HasSomeTotals, PutsFirst};
@@ -26,12 +26,9 @@ use sts_fields::amount_law;
 // Puts the last identifiers in.
 fn put_last_ids<S: Alter>(tx: &mut Transaction<'_, S>, ids: &LastIds) -> Result<(), TableError>
     ensures same_reference { tx.new.conn.ghost_name ≡ tx.old.conn.ghost_name }
-    ensures puts { HasCleanDisk (state S.Store tx.new.conn.now)
-        → HasAllTables (state S.Store tx.old.conn.now)
-        → OnOk result (PutsFirst with_last_ids AreAnyIds (values ids.now)
-        (state S.Store tx.old.conn.now) (state S.Store tx.new.conn.now)) }
-    ensures goes_on { GoesOn
-        (state S.Store tx.old.conn.now) (state S.Store tx.new.conn.now) result }
+    ensures puts { Inside S.Store tx (λ old new. HasCleanDisk new → HasAllTables old
+        → OnOk result (PutsFirst with_last_ids AreAnyIds (values ids.now) old new)) }
+    ensures goes_on { Inside S.Store tx (λ old new. GoesOn old new result) }
     ensures database { IfErr result (λ e. e ≢ TableError.RowOfNoOffice) }
 {
     'rows: for row in ids.values() {
@@ -43,12 +40,9 @@ fn put_last_ids<S: Alter>(tx: &mut Transaction<'_, S>, ids: &LastIds) -> Result<
 // Puts the tenths of the meters in the months in.
 fn put_months<S: Alter>(tx: &mut Transaction<'_, S>, months: &MonthTenths) -> Result<(), TableError>
     ensures same_reference { tx.new.conn.ghost_name ≡ tx.old.conn.ghost_name }
-    ensures puts { HasCleanDisk (state S.Store tx.new.conn.now)
-        → HasAllTables (state S.Store tx.old.conn.now)
-        → OnOk result (PutsFirst with_month_tenths FitMonths
-        (values months.now) (state S.Store tx.old.conn.now) (state S.Store tx.new.conn.now)) }
-    ensures goes_on { GoesOn
-        (state S.Store tx.old.conn.now) (state S.Store tx.new.conn.now) result }
+    ensures puts { Inside S.Store tx (λ old new. HasCleanDisk new → HasAllTables old
+        → OnOk result (PutsFirst with_month_tenths FitMonths (values months.now) old new)) }
+    ensures goes_on { Inside S.Store tx (λ old new. GoesOn old new result) }
     ensures database { IfErr result (λ e. e ≢ TableError.RowOfNoOffice) }
 {
     'rows: for row in months.values() {
@@ -60,12 +54,9 @@ fn put_months<S: Alter>(tx: &mut Transaction<'_, S>, months: &MonthTenths) -> Re
 // Puts the totals of the shifts in.
 fn put_shifts<S: Alter>(tx: &mut Transaction<'_, S>, shifts: &ShiftTotals) -> Result<(), TableError>
     ensures same_reference { tx.new.conn.ghost_name ≡ tx.old.conn.ghost_name }
-    ensures puts { HasCleanDisk (state S.Store tx.new.conn.now)
-        → HasAllTables (state S.Store tx.old.conn.now)
-        → OnOk result (PutsFirst with_shift_totals FitShifts
-        (values shifts.now) (state S.Store tx.old.conn.now) (state S.Store tx.new.conn.now)) }
-    ensures goes_on { GoesOn
-        (state S.Store tx.old.conn.now) (state S.Store tx.new.conn.now) result }
+    ensures puts { Inside S.Store tx (λ old new. HasCleanDisk new → HasAllTables old
+        → OnOk result (PutsFirst with_shift_totals FitShifts (values shifts.now) old new)) }
+    ensures goes_on { Inside S.Store tx (λ old new. GoesOn old new result) }
     ensures database { IfErr result (λ e. e ≢ TableError.RowOfNoOffice) }
 {
     'rows: for row in shifts.values() {
@@ -83,20 +74,14 @@ pub(crate) fn fill_totals<S: Alter>(
     tx: &mut Transaction<'_, S>,
 ) -> Result<(), TableError>
     ensures same_reference { tx.new.conn.ghost_name ≡ tx.old.conn.ghost_name }
-    ensures fills { HasCleanDisk (state S.Store tx.new.conn.now)
-        → IsUnderWay (state S.Store tx.old.conn.now)
-        → HasAllTables (state S.Store tx.old.conn.now)
-        → OnOk result (FillsTotals
-        (state S.Store tx.old.conn.now) (state S.Store tx.new.conn.now)) }
-    ensures shows { HasCleanDisk (state S.Store tx.new.conn.now)
-        → IsUnderWay (state S.Store tx.old.conn.now)
-        → HasAllTables (state S.Store tx.old.conn.now)
-        → IsDatabase (state S.Store tx.old.conn.now).now
-        → OnOk result (ShowSales (rows_in (state S.Store tx.old.conn.now).now (codes "sales"))) }
-    ensures transaction { KeepsTransaction
-        (state S.Store tx.old.conn.now) (state S.Store tx.new.conn.now) result }
-    ensures no_false_row { FindsNoFalseRow (HasSomeTotals 0)
-        (state S.Store tx.old.conn.now) (state S.Store tx.new.conn.now) result }
+    ensures fills { Inside S.Store tx (λ old new. HasCleanDisk new → IsUnderWay old
+        → HasAllTables old → OnOk result (FillsTotals old new)) }
+    ensures shows { Inside S.Store tx (λ old new. HasCleanDisk new → IsUnderWay old
+        → HasAllTables old → IsDatabase old.now
+        → OnOk result (ShowSales (rows_in old.now (codes "sales")))) }
+    ensures transaction { Inside S.Store tx (λ old new. KeepsTransaction old new result) }
+    ensures no_false_row { Inside S.Store tx (λ old new. FindsNoFalseRow (HasSomeTotals 0) old new
+        result) }
 {
     amount_law();
     let gathered = gather(alloc, tx)?;
@@ -115,18 +100,13 @@ pub(crate) fn fill_bases<S: Alter>(
     tx: &mut Transaction<'_, S>,
 ) -> Result<(), TableError>
     ensures same_reference { tx.new.conn.ghost_name ≡ tx.old.conn.ghost_name }
-    ensures fills { HasCleanDisk (state S.Store tx.new.conn.now)
-        → IsUnderWay (state S.Store tx.old.conn.now)
-        → HasAllTables (state S.Store tx.old.conn.now)
-        → OnOk result (FillsBases
-        (state S.Store tx.old.conn.now) (state S.Store tx.new.conn.now)) }
-    ensures shows { HasCleanDisk (state S.Store tx.new.conn.now)
-        → HasAllTables (state S.Store tx.old.conn.now)
-        → OnOk result (ShowMeters (rows_in (state S.Store tx.old.conn.now).now (codes "meters"))) }
-    ensures transaction { KeepsTransaction
-        (state S.Store tx.old.conn.now) (state S.Store tx.new.conn.now) result }
-    ensures no_false_row { FindsNoFalseRow AwaitsSomeBases
-        (state S.Store tx.old.conn.now) (state S.Store tx.new.conn.now) result }
+    ensures fills { Inside S.Store tx (λ old new. HasCleanDisk new → IsUnderWay old
+        → HasAllTables old → OnOk result (FillsBases old new)) }
+    ensures shows { Inside S.Store tx (λ old new. HasCleanDisk new → HasAllTables old
+        → OnOk result (ShowMeters (rows_in old.now (codes "meters")))) }
+    ensures transaction { Inside S.Store tx (λ old new. KeepsTransaction old new result) }
+    ensures no_false_row { Inside S.Store tx (λ old new. FindsNoFalseRow AwaitsSomeBases old new
+        result) }
 {
     let found = meters_inside(alloc, tx)?;
     'bases: for present in &found {

@@ -1,7 +1,7 @@
 //! The running totals of all sales, gathered in memory page by page.
 
 ghost use Rattle.std.specs.Prelude.{◌≡◌, ◌≤◌, length, IfOk};
-ghost use Rattle.sqlite.specs.Held.{state};
+ghost use Rattle.one_table.specs.Over.{Inside};
 ghost use Rattle.sqlite.specs.State.{HasCleanDisk};
 ghost use Rattle.one_table.specs.InTransaction.{KeepsTransaction};
 ghost use Rattle.book_tables.specs.Kept.{sales_kept};
@@ -27,14 +27,12 @@ fn gather_page<S: Alter>(
     gathered: &mut Gathered,
 ) -> Result<u32, TableError>
     ensures same_reference { tx.new.conn.ghost_name ≡ tx.old.conn.ghost_name }
-    ensures looks { Looks sales_kept (λ last rows. ShowsUpto done last rows)
-        (state S.Store tx.old.conn.now) (state S.Store tx.new.conn.now) result }
-    ensures gathers { HasCleanDisk (state S.Store tx.new.conn.now)
-        → (rows : Rows) → HasTableRows sales_kept (state S.Store tx.old.conn.now) rows
-        → AreOfOffice rows → done ≤ length rows.sales
-        → IfOk result (λ last. GathersUpto rows.sales done last gathered.old gathered.new) }
-    ensures transaction { KeepsTransaction
-        (state S.Store tx.old.conn.now) (state S.Store tx.new.conn.now) result }
+    ensures looks { Inside S.Store tx (λ old new. Looks sales_kept (λ last rows. ShowsUpto done
+        last rows) old new result) }
+    ensures gathers { Inside S.Store tx (λ old new. HasCleanDisk new → (rows : Rows)
+        → HasTableRows sales_kept old rows → AreOfOffice rows → done ≤ length rows.sales
+        → IfOk result (λ last. GathersUpto rows.sales done last gathered.old gathered.new)) }
+    ensures transaction { Inside S.Store tx (λ old new. KeepsTransaction old new result) }
 {
     let page = sales_inside(alloc, tx, done, PAGE)?;
     let Some(last) = last_of(&page, done) else {
@@ -53,13 +51,12 @@ pub(crate) fn gather<S: Alter>(
     tx: &mut Transaction<'_, S>,
 ) -> Result<Gathered, TableError>
     ensures same_reference { tx.new.conn.ghost_name ≡ tx.old.conn.ghost_name }
-    ensures looks { Looks sales_kept (λ _ rows. ShowSales rows)
-        (state S.Store tx.old.conn.now) (state S.Store tx.new.conn.now) result }
-    ensures gathers { HasCleanDisk (state S.Store tx.new.conn.now)
-        → (rows : Rows) → HasTableRows sales_kept (state S.Store tx.old.conn.now) rows
-        → AreOfOffice rows → IfOk result (λ gathered. IsGathered rows.sales gathered) }
-    ensures transaction { KeepsTransaction
-        (state S.Store tx.old.conn.now) (state S.Store tx.new.conn.now) result }
+    ensures looks { Inside S.Store tx (λ old new. Looks sales_kept (λ _ rows. ShowSales rows) old
+        new result) }
+    ensures gathers { Inside S.Store tx (λ old new. HasCleanDisk new → (rows : Rows)
+        → HasTableRows sales_kept old rows → AreOfOffice rows
+        → IfOk result (λ gathered. IsGathered rows.sales gathered)) }
+    ensures transaction { Inside S.Store tx (λ old new. KeepsTransaction old new result) }
 {
     first_sale_inside(alloc, tx)?;
     let mut gathered = Gathered::new(alloc);

@@ -1,7 +1,7 @@
 //! A look at the sales of an older format: whether each is one, and none is missing.
 
 ghost use Rattle.std.specs.Prelude.{◌≡◌, ◌≤◌, ◌+◌, length, IfOk, MatchOption};
-ghost use Rattle.sqlite.specs.Held.{state};
+ghost use Rattle.one_table.specs.Over.{Inside};
 ghost use Rattle.sqlite.specs.State.{HasCleanDisk};
 ghost use Rattle.one_table.specs.InTransaction.{KeepsTransaction};
 ghost use Rattle.book_tables.specs.Kept.{sales_kept};
@@ -41,14 +41,12 @@ fn look_at_page<S: Alter>(
     done: u32,
 ) -> Result<u32, TableError>
     ensures same_reference { tx.new.conn.ghost_name ≡ tx.old.conn.ghost_name }
-    ensures looks { Looks sales_kept (λ last rows. ShowsUpto done last rows)
-        (state S.Store tx.old.conn.now) (state S.Store tx.new.conn.now) result }
-    ensures within { HasCleanDisk (state S.Store tx.new.conn.now)
-        → (rows : Rows) → HasTableRows sales_kept (state S.Store tx.old.conn.now) rows
-        → AreOfOffice rows → done ≤ length rows.sales
-        → IfOk result (λ last. last ≤ length rows.sales) }
-    ensures transaction { KeepsTransaction
-        (state S.Store tx.old.conn.now) (state S.Store tx.new.conn.now) result }
+    ensures looks { Inside S.Store tx (λ old new. Looks sales_kept (λ last rows. ShowsUpto done
+        last rows) old new result) }
+    ensures within { Inside S.Store tx (λ old new. HasCleanDisk new → (rows : Rows)
+        → HasTableRows sales_kept old rows → AreOfOffice rows → done ≤ length rows.sales
+        → IfOk result (λ last. last ≤ length rows.sales)) }
+    ensures transaction { Inside S.Store tx (λ old new. KeepsTransaction old new result) }
 {
     let page = sales_inside(alloc, tx, done, PAGE)?;
     match last_of(&page, done) {
@@ -66,10 +64,9 @@ pub(crate) fn look_at_sales<S: Alter>(
     tx: &mut Transaction<'_, S>,
 ) -> Result<(), TableError>
     ensures same_reference { tx.new.conn.ghost_name ≡ tx.old.conn.ghost_name }
-    ensures looks { Looks sales_kept (λ _ rows. ShowSales rows)
-        (state S.Store tx.old.conn.now) (state S.Store tx.new.conn.now) result }
-    ensures transaction { KeepsTransaction
-        (state S.Store tx.old.conn.now) (state S.Store tx.new.conn.now) result }
+    ensures looks { Inside S.Store tx (λ old new. Looks sales_kept (λ _ rows. ShowSales rows) old
+        new result) }
+    ensures transaction { Inside S.Store tx (λ old new. KeepsTransaction old new result) }
 {
     first_sale_inside(alloc, tx)?;
     let mut done = 0;

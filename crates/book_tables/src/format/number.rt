@@ -3,7 +3,7 @@
 ghost use Rattle.std.specs.Prelude.{◌<◌, ◌^◌, IsTrue, IfOk};
 ghost use Rattle.sqlite.specs.Effect.{IsDatabase};
 ghost use Rattle.sqlite.specs.State.{HasCleanDisk};
-ghost use Rattle.sqlite.specs.Held.{state};
+ghost use Rattle.one_table.specs.Over.{Over};
 ghost use Rattle.book_tables.specs.format.Format.{IsFormatOf};
 ghost use Rattle.book_tables.specs.Kept.{about_kept};
 ghost use Rattle.book_tables.specs.row.ReadBack.{ReadsBack};
@@ -59,12 +59,9 @@ pub fn format_number<S: Alter>(
     alloc: Global,
     conn: &mut Connection<S>,
 ) -> Result<Option<u32>, TableError>
-    ensures given { HasCleanDisk (state S.Store conn.new)
-        → HasTable about_kept (state S.Store conn.old)
-        → (IsTrue (state S.Store conn.old).is_open → IsDatabase (state S.Store conn.old).now)
-        → IfOk result (IsFormatOf (state S.Store conn.old).now) }
-    ensures reads { ReadsTable about_kept
-        (state S.Store conn.old) (state S.Store conn.new) result }
+    ensures given { Over S.Store conn (λ old new. HasCleanDisk new → HasTable about_kept old
+        → (IsTrue old.is_open → IsDatabase old.now) → IfOk result (IsFormatOf old.now)) }
+    ensures reads { Over S.Store conn (λ old new. ReadsTable about_kept old new result) }
 {
     let told: Vec<Told> = read_rows(alloc, conn, FORMAT, &[])?;
     if told.len() != 1 {

@@ -2,7 +2,7 @@
 
 ghost use Rattle.std.specs.Prelude.{◌≡◌, ◌≢◌, ◌<◌, ℕ, suc, IfErr, OnOk};
 ghost use Rattle.sqlite.specs.State.{HasCleanDisk};
-ghost use Rattle.sqlite.specs.Held.{state};
+ghost use Rattle.one_table.specs.Over.{Inside};
 ghost use Rattle.one_table.specs.InTransaction.{KeepsTransaction, StaysInside};
 ghost use Rattle.book_tables.specs.format.Making.{BringsInside, IsSoundOfFormat, MakesMissing, TellsOf, TellsPresent};
 ghost use Rattle.book_tables.specs.row.Rows.{present_format};
@@ -23,16 +23,12 @@ use std::alloc::Global;
 fn make_missing<S: Alter>(tx: &mut Transaction<'_, S>, from: u32) -> Result<(), TableError>
     requires { from < present_format }
     ensures same_reference { tx.new.conn.ghost_name ≡ tx.old.conn.ghost_name }
-    ensures made { HasCleanDisk (state S.Store tx.new.conn.now)
-        → IsSoundOfFormat from (state S.Store tx.old.conn.now)
-        → OnOk result (MakesMissing from
-        (state S.Store tx.old.conn.now).now (state S.Store tx.new.conn.now).now) }
+    ensures made { Inside S.Store tx (λ old new. HasCleanDisk new → IsSoundOfFormat from old
+        → OnOk result (MakesMissing from old.now new.now)) }
     ensures database { IfErr result (λ e. e ≢ TableError.RowOfNoOffice) }
-    ensures inside { HasCleanDisk (state S.Store tx.new.conn.now)
-        → OnOk result (StaysInside
-        (state S.Store tx.old.conn.now) (state S.Store tx.new.conn.now)) }
-    ensures transaction { KeepsTransaction
-        (state S.Store tx.old.conn.now) (state S.Store tx.new.conn.now) result }
+    ensures inside { Inside S.Store tx (λ old new. HasCleanDisk new
+        → OnOk result (StaysInside old new)) }
+    ensures transaction { Inside S.Store tx (λ old new. KeepsTransaction old new result) }
 {
     create_tables(tx, tables_after(from).texts)?;
     Ok(())
@@ -42,8 +38,7 @@ fn make_missing<S: Alter>(tx: &mut Transaction<'_, S>, from: u32) -> Result<(), 
 fn tell_first<S: Alter>(tx: &mut Transaction<'_, S>) -> Result<(), TableError>
     ensures same_reference { tx.new.conn.ghost_name ≡ tx.old.conn.ghost_name }
     ensures database { IfErr result (λ e. e ≢ TableError.RowOfNoOffice) }
-    ensures writes { WritesTables (TellsPresent 0)
-        (state S.Store tx.old.conn.now) (state S.Store tx.new.conn.now) result }
+    ensures writes { Inside S.Store tx (λ old new. WritesTables (TellsPresent 0) old new result) }
 {
     put(tx, NEW_FORMAT, &[])
 }
@@ -52,14 +47,11 @@ fn tell_first<S: Alter>(tx: &mut Transaction<'_, S>) -> Result<(), TableError>
 // none.
 fn begin<S: Alter>(tx: &mut Transaction<'_, S>) -> Result<(), TableError>
     ensures same_reference { tx.new.conn.ghost_name ≡ tx.old.conn.ghost_name }
-    ensures brings { HasCleanDisk (state S.Store tx.new.conn.now)
-        → IsSoundOfFormat 0 (state S.Store tx.old.conn.now)
-        → OnOk result (BringsInside 0
-        (state S.Store tx.old.conn.now) (state S.Store tx.new.conn.now)) }
-    ensures told { HasCleanDisk (state S.Store tx.new.conn.now)
-        → IfErr result (TellsOf 0 (state S.Store tx.old.conn.now).now) }
-    ensures transaction { KeepsTransaction
-        (state S.Store tx.old.conn.now) (state S.Store tx.new.conn.now) result }
+    ensures brings { Inside S.Store tx (λ old new. HasCleanDisk new → IsSoundOfFormat 0 old
+        → OnOk result (BringsInside 0 old new)) }
+    ensures told { Inside S.Store tx (λ old new. HasCleanDisk new
+        → IfErr result (TellsOf 0 old.now)) }
+    ensures transaction { Inside S.Store tx (λ old new. KeepsTransaction old new result) }
 {
     make_missing(tx, 0)?;
     tell_first(tx)
@@ -69,8 +61,8 @@ fn begin<S: Alter>(tx: &mut Transaction<'_, S>) -> Result<(), TableError>
 fn tell_present<S: Alter>(tx: &mut Transaction<'_, S>) -> Result<(), TableError>
     ensures same_reference { tx.new.conn.ghost_name ≡ tx.old.conn.ghost_name }
     ensures database { IfErr result (λ e. e ≢ TableError.RowOfNoOffice) }
-    ensures writes { (before : ℕ) → WritesTables (TellsPresent (suc before))
-        (state S.Store tx.old.conn.now) (state S.Store tx.new.conn.now) result }
+    ensures writes { Inside S.Store tx (λ old new. (before : ℕ)
+        → WritesTables (TellsPresent (suc before)) old new result) }
 {
     set(tx, FORMAT_SET, &[])
 }
@@ -78,14 +70,11 @@ fn tell_present<S: Alter>(tx: &mut Transaction<'_, S>) -> Result<(), TableError>
 // The tables of format 1, which has no totals and no bases.
 fn bring_first<S: Alter>(alloc: Global, tx: &mut Transaction<'_, S>) -> Result<(), TableError>
     ensures same_reference { tx.new.conn.ghost_name ≡ tx.old.conn.ghost_name }
-    ensures brings { HasCleanDisk (state S.Store tx.new.conn.now)
-        → IsSoundOfFormat 1 (state S.Store tx.old.conn.now)
-        → OnOk result (BringsInside 1
-        (state S.Store tx.old.conn.now) (state S.Store tx.new.conn.now)) }
-    ensures told { HasCleanDisk (state S.Store tx.new.conn.now)
-        → IfErr result (TellsOf 1 (state S.Store tx.old.conn.now).now) }
-    ensures transaction { KeepsTransaction
-        (state S.Store tx.old.conn.now) (state S.Store tx.new.conn.now) result }
+    ensures brings { Inside S.Store tx (λ old new. HasCleanDisk new → IsSoundOfFormat 1 old
+        → OnOk result (BringsInside 1 old new)) }
+    ensures told { Inside S.Store tx (λ old new. HasCleanDisk new
+        → IfErr result (TellsOf 1 old.now)) }
+    ensures transaction { Inside S.Store tx (λ old new. KeepsTransaction old new result) }
 {
     make_missing(tx, 1)?;
     fill_totals(alloc, tx)?;
@@ -96,14 +85,11 @@ fn bring_first<S: Alter>(alloc: Global, tx: &mut Transaction<'_, S>) -> Result<(
 // The tables of format 2, which has no bases.
 fn bring_second<S: Alter>(alloc: Global, tx: &mut Transaction<'_, S>) -> Result<(), TableError>
     ensures same_reference { tx.new.conn.ghost_name ≡ tx.old.conn.ghost_name }
-    ensures brings { HasCleanDisk (state S.Store tx.new.conn.now)
-        → IsSoundOfFormat 2 (state S.Store tx.old.conn.now)
-        → OnOk result (BringsInside 2
-        (state S.Store tx.old.conn.now) (state S.Store tx.new.conn.now)) }
-    ensures told { HasCleanDisk (state S.Store tx.new.conn.now)
-        → IfErr result (TellsOf 2 (state S.Store tx.old.conn.now).now) }
-    ensures transaction { KeepsTransaction
-        (state S.Store tx.old.conn.now) (state S.Store tx.new.conn.now) result }
+    ensures brings { Inside S.Store tx (λ old new. HasCleanDisk new → IsSoundOfFormat 2 old
+        → OnOk result (BringsInside 2 old new)) }
+    ensures told { Inside S.Store tx (λ old new. HasCleanDisk new
+        → IfErr result (TellsOf 2 old.now)) }
+    ensures transaction { Inside S.Store tx (λ old new. KeepsTransaction old new result) }
 {
     make_missing(tx, 2)?;
     look_at_sales(alloc, tx)?;
@@ -114,14 +100,11 @@ fn bring_second<S: Alter>(alloc: Global, tx: &mut Transaction<'_, S>) -> Result<
 // The tables of format 3, which has no steps of later days.
 fn bring_third<S: Alter>(alloc: Global, tx: &mut Transaction<'_, S>) -> Result<(), TableError>
     ensures same_reference { tx.new.conn.ghost_name ≡ tx.old.conn.ghost_name }
-    ensures brings { HasCleanDisk (state S.Store tx.new.conn.now)
-        → IsSoundOfFormat 3 (state S.Store tx.old.conn.now)
-        → OnOk result (BringsInside 3
-        (state S.Store tx.old.conn.now) (state S.Store tx.new.conn.now)) }
-    ensures told { HasCleanDisk (state S.Store tx.new.conn.now)
-        → IfErr result (TellsOf 3 (state S.Store tx.old.conn.now).now) }
-    ensures transaction { KeepsTransaction
-        (state S.Store tx.old.conn.now) (state S.Store tx.new.conn.now) result }
+    ensures brings { Inside S.Store tx (λ old new. HasCleanDisk new → IsSoundOfFormat 3 old
+        → OnOk result (BringsInside 3 old new)) }
+    ensures told { Inside S.Store tx (λ old new. HasCleanDisk new
+        → IfErr result (TellsOf 3 old.now)) }
+    ensures transaction { Inside S.Store tx (λ old new. KeepsTransaction old new result) }
 {
     make_missing(tx, 3)?;
     look_at_sales(alloc, tx)?;
@@ -145,14 +128,11 @@ pub fn bring<S: Alter>(
 ) -> Result<(), TableError>
     requires { from < present_format }
     ensures same_reference { tx.new.conn.ghost_name ≡ tx.old.conn.ghost_name }
-    ensures brings { HasCleanDisk (state S.Store tx.new.conn.now)
-        → IsSoundOfFormat from (state S.Store tx.old.conn.now)
-        → OnOk result (BringsInside from
-        (state S.Store tx.old.conn.now) (state S.Store tx.new.conn.now)) }
-    ensures told { HasCleanDisk (state S.Store tx.new.conn.now)
-        → IfErr result (TellsOf from (state S.Store tx.old.conn.now).now) }
-    ensures transaction { KeepsTransaction
-        (state S.Store tx.old.conn.now) (state S.Store tx.new.conn.now) result }
+    ensures brings { Inside S.Store tx (λ old new. HasCleanDisk new → IsSoundOfFormat from old
+        → OnOk result (BringsInside from old new)) }
+    ensures told { Inside S.Store tx (λ old new. HasCleanDisk new
+        → IfErr result (TellsOf from old.now)) }
+    ensures transaction { Inside S.Store tx (λ old new. KeepsTransaction old new result) }
 {
     match from {
         0 => begin(tx),

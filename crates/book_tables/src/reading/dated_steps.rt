@@ -2,7 +2,7 @@
 
 ghost use Rattle.std.specs.Prelude.{◌≡◌, IfOk};
 ghost use Rattle.sqlite.specs.State.{HasCleanDisk};
-ghost use Rattle.sqlite.specs.Held.{state};
+ghost use Rattle.one_table.specs.Over.{Over};
 ghost use Rattle.sts_fields.specs.Day.{IsDay};
 ghost use Rattle.vend_core.specs.Office.Lookup.{latest};
 ghost use Rattle.vend_core.specs.Office.{IsOffice, Office};
@@ -49,12 +49,10 @@ pub fn steps_from<S: Alter>(
     name: &TariffName,
     day: Day,
 ) -> Result<Option<Steps>, TableError>
-    ensures given { HasCleanDisk (state S.Store conn.new)
-        → (rows : Rows) (o : Office) → HasTableRows dated_steps_kept (state S.Store conn.old) rows
-        → IsOffice o → AreMembersOf rows o
-        → IfOk result (λ found. found ≡ o.dated_steps name.now day) }
-    ensures reads { ReadsTable dated_steps_kept
-        (state S.Store conn.old) (state S.Store conn.new) result }
+    ensures given { Over S.Store conn (λ old new. HasCleanDisk new → (rows : Rows) (o : Office)
+        → HasTableRows dated_steps_kept old rows → IsOffice o → AreMembersOf rows o
+        → IfOk result (λ found. found ≡ o.dated_steps name.now day)) }
+    ensures reads { Over S.Store conn (λ old new. ReadsTable dated_steps_kept old new result) }
 {
     let shown: Vec<Step> = all_records(alloc, conn, STEPS_FROM, &dated_values(name, day))?;
     tariff_of(alloc, &shown)
@@ -70,12 +68,10 @@ pub fn first_day_until<S: Alter>(
     name: &TariffName,
     day: Day,
 ) -> Result<Option<Day>, TableError>
-    ensures given { HasCleanDisk (state S.Store conn.new)
-        → (rows : Rows) (o : Office) → HasTableRows dated_steps_kept (state S.Store conn.old) rows
-        → IsOffice o → AreMembersOf rows o
-        → IfOk result (IsFirstDay (o.dated_steps name.now) day) }
-    ensures reads { ReadsTable dated_steps_kept
-        (state S.Store conn.old) (state S.Store conn.new) result }
+    ensures given { Over S.Store conn (λ old new. HasCleanDisk new → (rows : Rows) (o : Office)
+        → HasTableRows dated_steps_kept old rows → IsOffice o → AreMembersOf rows o
+        → IfOk result (IsFirstDay (o.dated_steps name.now) day)) }
+    ensures reads { Over S.Store conn (λ old new. ReadsTable dated_steps_kept old new result) }
 {
     store_law();
     first_record(conn, FIRST_DAY_UNTIL, &dated_values(name, day))
@@ -91,12 +87,10 @@ pub fn latest_steps<S: Alter>(
     name: &TariffName,
     day: Day,
 ) -> Result<Option<Steps>, TableError>
-    ensures given { HasCleanDisk (state S.Store conn.new)
-        → (rows : Rows) (o : Office) → HasTableRows dated_steps_kept (state S.Store conn.old) rows
-        → IsOffice o → AreMembersOf rows o
-        → IfOk result (λ found. found ≡ latest (o.dated_steps name.now) day) }
-    ensures reads { ReadsTable dated_steps_kept
-        (state S.Store conn.old) (state S.Store conn.new) result }
+    ensures given { Over S.Store conn (λ old new. HasCleanDisk new → (rows : Rows) (o : Office)
+        → HasTableRows dated_steps_kept old rows → IsOffice o → AreMembersOf rows o
+        → IfOk result (λ found. found ≡ latest (o.dated_steps name.now) day)) }
+    ensures reads { Over S.Store conn (λ old new. ReadsTable dated_steps_kept old new result) }
 {
     store_law();
     let begun = first_day_until(conn, name, day)?;

@@ -3,7 +3,7 @@
 ghost use Rattle.std.specs.Prelude.{◌≡◌, map, IfOk};
 ghost use Rattle.sqlite.specs.Values.{bound};
 ghost use Rattle.sqlite.specs.State.{HasCleanDisk, IsUnchanged};
-ghost use Rattle.sqlite.specs.Held.{state};
+ghost use Rattle.one_table.specs.Over.{Over};
 ghost use Rattle.one_table.specs.Answer.{GivesAll, OnlyAsks};
 ghost use Rattle.one_table.specs.ReadsOnly.{ReadsOnly};
 ghost use Rattle.book_tables.specs.reading.Reading.{FailsToShowRow, IsShown, ShowsRecord};
@@ -31,13 +31,12 @@ pub(crate) fn all_records<S: Alter, T: Record + Drop>(
     sql: &str,
     params: &[ValueRef<'_>],
 ) -> Result<Vec<T>, TableError>
-    ensures given { HasCleanDisk (state S.Store conn.new)
-        → OnlyAsks sql.now (state S.Store conn.old)
-        → IfOk result (λ found. GivesAll (IsShown T.Record.shown T.Record.keeps) sql.now
-        (bound params.now) (state S.Store conn.old) (state S.Store conn.new) found.items) }
-    ensures reads { ReadsOnly (OnlyAsks sql.now) IsUnchanged
+    ensures given { Over S.Store conn (λ old new. HasCleanDisk new → OnlyAsks sql.now old
+        → IfOk result (λ found. GivesAll (IsShown T.Record.shown T.Record.keeps) sql.now (bound
+        params.now) old new found.items)) }
+    ensures reads { Over S.Store conn (λ old new. ReadsOnly (OnlyAsks sql.now) IsUnchanged
         (FailsToShowRow (ShowsRecord T.Record.shown T.Record.keeps) sql.now (bound params.now))
-        (state S.Store conn.old) (state S.Store conn.new) result }
+        old new result) }
 {
     let shown: Vec<Shown<T>> = read_rows(alloc, conn, sql, params)?;
     Ok(records_of(alloc, shown)?)

@@ -1,7 +1,7 @@
 //! The statements on the table of meters.
 
 ghost use Rattle.std.specs.Prelude.{◌≡◌, bytes_eq, find, option_map};
-ghost use Rattle.sqlite.specs.Held.{state};
+ghost use Rattle.one_table.specs.Over.{Over};
 ghost use Rattle.book_tables.specs.Kept.{meters_kept};
 ghost use Rattle.book_tables.specs.reading.Reading.{ReadsTable, SaysOfTable};
 
@@ -20,11 +20,9 @@ pub fn meter_numbered<S: Alter>(
     conn: &mut Connection<S>,
     number: &MeterNo,
 ) -> Result<Option<Meter>, TableError>
-    ensures given { SaysOfTable meters_kept (λ rows found. found ≡ option_map (λ r. r.1)
-        (find (λ r. bytes_eq r.0 number.now) rows.meters))
-        (state S.Store conn.old) (state S.Store conn.new) result }
-    ensures reads { ReadsTable meters_kept
-        (state S.Store conn.old) (state S.Store conn.new) result }
+    ensures given { Over S.Store conn (λ old new. SaysOfTable meters_kept (λ rows found. found ≡
+        option_map (λ r. r.1) (find (λ r. bytes_eq r.0 number.now) rows.meters)) old new result) }
+    ensures reads { Over S.Store conn (λ old new. ReadsTable meters_kept old new result) }
 {
     first_record(conn, METER_NUMBERED, &meter_no_values(number))
 }

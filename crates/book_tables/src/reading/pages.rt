@@ -1,21 +1,19 @@
 //! Reads inside a transaction, as one makes that brings a file of an older format up to the present
 //! one.
 
-ghost use Rattle.std.specs.Prelude.{◌≡◌, IsPermutation, codes, filter, map, nat_lt, option_map, slice_get, take, IfOk, OnOk};
+ghost use Rattle.std.specs.Prelude.{◌≡◌, IsPermutation, codes, filter, map, nat_lt, take, IfOk, OnOk};
 ghost use Rattle.sqlite.specs.State.{HasCleanDisk};
-ghost use Rattle.sqlite.specs.Held.{state};
+ghost use Rattle.one_table.specs.Over.{Inside};
 ghost use Rattle.sqlite.specs.Values.{bound};
-ghost use Rattle.vend_core.specs.Office.Lookup.{greatest_of};
 ghost use Rattle.vend_core.specs.Name.{IsMeterNo};
 ghost use Rattle.one_table.specs.Answer.{GivesAll, OnlyAsks};
 ghost use Rattle.one_table.specs.InTransaction.{KeepsTransaction};
 ghost use Rattle.one_table.specs.ReadsOnly.{ReadsInside};
-ghost use Rattle.book_tables.specs.Kept.{last_ids_kept, meters_kept, sales_kept};
+ghost use Rattle.book_tables.specs.Kept.{meters_kept, sales_kept};
 ghost use Rattle.book_tables.specs.Holds.{rows_in};
 ghost use Rattle.book_tables.specs.format.Looking.{ShowMeters, ShowsPage, StartsFrom1};
 ghost use Rattle.book_tables.specs.reading.Reading.{FailsToShowRow, HasTable, IsShown, ReadsTableInside, SaysOfTable, ShowsRecord, meter_row};
 ghost use Rattle.book_tables.specs.row.Rows.{meter_columns};
-ghost use Rattle.book_tables.specs.Stands.{sales_under};
 ghost use Rattle.book_tables.specs.row.Values.{AreMeterValues};
 
 use crate::error::TableError;
@@ -23,14 +21,12 @@ use crate::reading::lists::records_of;
 use crate::row::cells;
 use crate::row::office_records::Booked;
 use crate::row::record::{Record, Shown};
-use crate::row::total_records::Tid;
-use crate::row::values::{base_values, page_values};
-use crate::texts::{ALL_METERS, BOOKED_SALES_AFTER, FIRST_SALE_NUMBER, LAST_ID};
+use crate::row::values::page_values;
+use crate::texts::{ALL_METERS, BOOKED_SALES_AFTER, FIRST_SALE_NUMBER};
 use one_table::read_rows_inside;
 use sqlite::types::ValueRef;
 use sqlite::{Alter, Row, Transaction};
 use std::alloc::{AllocError, Global};
-use sts_fields::Base;
 use vend_core::{Meter, MeterNo, Sale};
 
 /// A meter under its number.
@@ -70,15 +66,12 @@ fn records_inside<S: Alter, T: Record + Drop>(
     params: &[ValueRef<'_>],
 ) -> Result<Vec<T>, TableError>
     ensures same_reference { tx.new.conn.ghost_name ≡ tx.old.conn.ghost_name }
-    ensures given { HasCleanDisk (state S.Store tx.new.conn.now)
-        → IfOk result (λ found. GivesAll (IsShown T.Record.shown T.Record.keeps) sql.now
-        (bound params.now) (state S.Store tx.old.conn.now) (state S.Store tx.new.conn.now)
-        found.items) }
-    ensures reads { ReadsInside (OnlyAsks sql.now)
-        (FailsToShowRow (ShowsRecord T.Record.shown T.Record.keeps) sql.now (bound params.now))
-        (state S.Store tx.old.conn.now) (state S.Store tx.new.conn.now) result }
-    ensures transaction { KeepsTransaction
-        (state S.Store tx.old.conn.now) (state S.Store tx.new.conn.now) result }
+    ensures given { Inside S.Store tx (λ old new. HasCleanDisk new
+        → IfOk result (λ found. GivesAll (IsShown T.Record.shown T.Record.keeps) sql.now (bound
+        params.now) old new found.items)) }
+    ensures reads { Inside S.Store tx (λ old new. ReadsInside (OnlyAsks sql.now) (FailsToShowRow
+        (ShowsRecord T.Record.shown T.Record.keeps) sql.now (bound params.now)) old new result) }
+    ensures transaction { Inside S.Store tx (λ old new. KeepsTransaction old new result) }
 {
     let shown: Vec<Shown<T>> = read_rows_inside(alloc, tx, sql, params)?;
     Ok(records_of(alloc, shown)?)
@@ -102,17 +95,14 @@ pub fn sales_inside<S: Alter>(
     limit: u32,
 ) -> Result<Vec<Sale>, TableError>
     ensures same_reference { tx.new.conn.ghost_name ≡ tx.old.conn.ghost_name }
-    ensures given { SaysOfTable sales_kept (λ rows found. found.items
-        ≡ take limit (filter (λ s. nat_lt number s.number) rows.sales))
-        (state S.Store tx.old.conn.now) (state S.Store tx.new.conn.now) result }
-    ensures shows { HasCleanDisk (state S.Store tx.new.conn.now)
-        → HasTable sales_kept (state S.Store tx.old.conn.now)
-        → IfOk result (λ found. ShowsPage number limit found.items
-        (rows_in (state S.Store tx.old.conn.now).now (codes "sales"))) }
-    ensures reads { ReadsTableInside sales_kept
-        (state S.Store tx.old.conn.now) (state S.Store tx.new.conn.now) result }
-    ensures transaction { KeepsTransaction
-        (state S.Store tx.old.conn.now) (state S.Store tx.new.conn.now) result }
+    ensures given { Inside S.Store tx (λ old new. SaysOfTable sales_kept (λ rows found.
+        found.items ≡ take limit (filter (λ s. nat_lt number s.number) rows.sales)) old new
+        result) }
+    ensures shows { Inside S.Store tx (λ old new. HasCleanDisk new → HasTable sales_kept old
+        → IfOk result (λ found. ShowsPage number limit found.items (rows_in old.now (codes
+        "sales")))) }
+    ensures reads { Inside S.Store tx (λ old new. ReadsTableInside sales_kept old new result) }
+    ensures transaction { Inside S.Store tx (λ old new. KeepsTransaction old new result) }
 {
     let booked: Vec<Booked> = records_inside(
         alloc,
@@ -132,14 +122,10 @@ pub fn first_sale_inside<S: Alter>(
     tx: &mut Transaction<'_, S>,
 ) -> Result<(), TableError>
     ensures same_reference { tx.new.conn.ghost_name ≡ tx.old.conn.ghost_name }
-    ensures shows { HasCleanDisk (state S.Store tx.new.conn.now)
-        → HasTable sales_kept (state S.Store tx.old.conn.now)
-        → OnOk result (StartsFrom1
-        (rows_in (state S.Store tx.old.conn.now).now (codes "sales"))) }
-    ensures reads { ReadsTableInside sales_kept
-        (state S.Store tx.old.conn.now) (state S.Store tx.new.conn.now) result }
-    ensures transaction { KeepsTransaction
-        (state S.Store tx.old.conn.now) (state S.Store tx.new.conn.now) result }
+    ensures shows { Inside S.Store tx (λ old new. HasCleanDisk new → HasTable sales_kept old
+        → OnOk result (StartsFrom1 (rows_in old.now (codes "sales")))) }
+    ensures reads { Inside S.Store tx (λ old new. ReadsTableInside sales_kept old new result) }
+    ensures transaction { Inside S.Store tx (λ old new. KeepsTransaction old new result) }
 {
     let _least: Vec<u32> = records_inside(alloc, tx, FIRST_SALE_NUMBER, &[])?;
     Ok(())
@@ -154,50 +140,12 @@ pub fn meters_inside<S: Alter>(
     tx: &mut Transaction<'_, S>,
 ) -> Result<Vec<MeterRow>, TableError>
     ensures same_reference { tx.new.conn.ghost_name ≡ tx.old.conn.ghost_name }
-    ensures given { SaysOfTable meters_kept
-        (λ rows found. IsPermutation (map meter_row rows.meters) found.items)
-        (state S.Store tx.old.conn.now) (state S.Store tx.new.conn.now) result }
-    ensures shows { HasCleanDisk (state S.Store tx.new.conn.now)
-        → HasTable meters_kept (state S.Store tx.old.conn.now)
-        → OnOk result (ShowMeters
-        (rows_in (state S.Store tx.old.conn.now).now (codes "meters"))) }
-    ensures reads { ReadsTableInside meters_kept
-        (state S.Store tx.old.conn.now) (state S.Store tx.new.conn.now) result }
-    ensures transaction { KeepsTransaction
-        (state S.Store tx.old.conn.now) (state S.Store tx.new.conn.now) result }
+    ensures given { Inside S.Store tx (λ old new. SaysOfTable meters_kept (λ rows found.
+        IsPermutation (map meter_row rows.meters) found.items) old new result) }
+    ensures shows { Inside S.Store tx (λ old new. HasCleanDisk new → HasTable meters_kept old
+        → OnOk result (ShowMeters (rows_in old.now (codes "meters")))) }
+    ensures reads { Inside S.Store tx (λ old new. ReadsTableInside meters_kept old new result) }
+    ensures transaction { Inside S.Store tx (λ old new. KeepsTransaction old new result) }
 {
     records_inside(alloc, tx, ALL_METERS, &[])
-}
-
-/// The greatest identifier that is kept of a meter under a base.
-///
-/// # Errors
-/// What the database refuses, and a row that is no office's.
-pub fn greatest_inside<S: Alter>(
-    alloc: Global,
-    tx: &mut Transaction<'_, S>,
-    meter: &MeterNo,
-    base: Base,
-) -> Result<Option<u32>, TableError>
-    ensures same_reference { tx.new.conn.ghost_name ≡ tx.old.conn.ghost_name }
-    ensures given { SaysOfTable last_ids_kept
-        (λ rows greatest. greatest ≡ greatest_of (map (λ s. s.tid)
-        (sales_under rows.sales (meter.now, base))))
-        (state S.Store tx.old.conn.now) (state S.Store tx.new.conn.now) result }
-    ensures reads { ReadsTableInside last_ids_kept
-        (state S.Store tx.old.conn.now) (state S.Store tx.new.conn.now) result }
-    ensures transaction { KeepsTransaction
-        (state S.Store tx.old.conn.now) (state S.Store tx.new.conn.now) result }
-{
-    let found: Vec<Tid> = records_inside(alloc, tx, LAST_ID, &base_values(meter, base))?;
-    Ok(first_of(&found))
-}
-
-fn first_of(found: &[Tid]) -> Option<u32>
-    ensures { result ≡ option_map (λ tid. tid.number) (slice_get found.now 0) }
-{
-    match found.first() {
-        Some(tid) => Some(tid.number),
-        None => None,
-    }
 }

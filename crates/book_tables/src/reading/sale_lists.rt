@@ -1,7 +1,7 @@
 //! The statements that list sales, by number.
 
 ghost use Rattle.std.specs.Prelude.{◌≡◌, ◌==◌, filter, nat_lt, take};
-ghost use Rattle.sqlite.specs.Held.{state};
+ghost use Rattle.one_table.specs.Over.{Over};
 ghost use Rattle.book_tables.specs.Kept.{sales_kept};
 ghost use Rattle.book_tables.specs.reading.Reading.{ReadsTable, SaysOfTable};
 
@@ -23,11 +23,10 @@ pub fn sales_after<S: Alter>(
     number: u32,
     limit: u32,
 ) -> Result<Vec<Sale>, TableError>
-    ensures given { SaysOfTable sales_kept (λ rows found. found.items
-        ≡ take limit (filter (λ s. nat_lt number s.number) rows.sales))
-        (state S.Store conn.old) (state S.Store conn.new) result }
-    ensures reads { ReadsTable sales_kept
-        (state S.Store conn.old) (state S.Store conn.new) result }
+    ensures given { Over S.Store conn (λ old new. SaysOfTable sales_kept (λ rows found.
+        found.items ≡ take limit (filter (λ s. nat_lt number s.number) rows.sales)) old new
+        result) }
+    ensures reads { Over S.Store conn (λ old new. ReadsTable sales_kept old new result) }
 {
     all_records(alloc, conn, SALES_AFTER, &page_values(number, limit))
 }
@@ -41,11 +40,9 @@ pub fn sales_of_shift<S: Alter>(
     conn: &mut Connection<S>,
     shift: u32,
 ) -> Result<Vec<Sale>, TableError>
-    ensures given { SaysOfTable sales_kept
-        (λ rows found. found.items ≡ filter (λ s. s.shift == shift) rows.sales)
-        (state S.Store conn.old) (state S.Store conn.new) result }
-    ensures reads { ReadsTable sales_kept
-        (state S.Store conn.old) (state S.Store conn.new) result }
+    ensures given { Over S.Store conn (λ old new. SaysOfTable sales_kept (λ rows found.
+        found.items ≡ filter (λ s. s.shift == shift) rows.sales) old new result) }
+    ensures reads { Over S.Store conn (λ old new. ReadsTable sales_kept old new result) }
 {
     all_records(alloc, conn, SALES_OF_SHIFT, &number_values(shift))
 }

@@ -2,7 +2,7 @@
 
 ghost use Rattle.std.specs.Prelude.{◌≡◌, ◌&&◌, ◌==◌, bytes_eq, find, length, option_map, unwrap_or, None};
 ghost use Rattle.std.specs.List.{last_or};
-ghost use Rattle.sqlite.specs.Held.{state};
+ghost use Rattle.one_table.specs.Over.{Over};
 ghost use Rattle.book_tables.specs.Kept.{sales_kept};
 ghost use Rattle.book_tables.specs.reading.Reading.{ReadsTable, SaysOfTable};
 
@@ -21,11 +21,9 @@ pub fn sale_numbered<S: Alter>(
     conn: &mut Connection<S>,
     number: u32,
 ) -> Result<Option<Sale>, TableError>
-    ensures given { SaysOfTable sales_kept
-        (λ rows found. found ≡ find (λ s. s.number == number) rows.sales)
-        (state S.Store conn.old) (state S.Store conn.new) result }
-    ensures reads { ReadsTable sales_kept
-        (state S.Store conn.old) (state S.Store conn.new) result }
+    ensures given { Over S.Store conn (λ old new. SaysOfTable sales_kept (λ rows found. found ≡
+        find (λ s. s.number == number) rows.sales) old new result) }
+    ensures reads { Over S.Store conn (λ old new. ReadsTable sales_kept old new result) }
 {
     first_record(conn, SALE_NUMBERED, &number_values(number))
 }
@@ -39,12 +37,10 @@ pub fn sale_of_ref<S: Alter>(
     operator: &Operator,
     order_ref: &Ref,
 ) -> Result<Option<Sale>, TableError>
-    ensures given { SaysOfTable sales_kept
-        (λ rows found. found ≡ find (λ s. bytes_eq s.operator operator.now
-        && bytes_eq s.order_ref order_ref.now) rows.sales)
-        (state S.Store conn.old) (state S.Store conn.new) result }
-    ensures reads { ReadsTable sales_kept
-        (state S.Store conn.old) (state S.Store conn.new) result }
+    ensures given { Over S.Store conn (λ old new. SaysOfTable sales_kept (λ rows found. found ≡
+        find (λ s. bytes_eq s.operator operator.now && bytes_eq s.order_ref order_ref.now)
+        rows.sales) old new result) }
+    ensures reads { Over S.Store conn (λ old new. ReadsTable sales_kept old new result) }
 {
     first_record(conn, SALE_OF_REF, &ref_values(operator, order_ref))
 }
@@ -55,13 +51,11 @@ pub fn sale_of_ref<S: Alter>(
 /// # Errors
 /// What the database refuses, and a row that is no office's.
 pub fn last_sale_number<S: Alter>(conn: &mut Connection<S>) -> Result<Option<u32>, TableError>
-    ensures given { SaysOfTable sales_kept
-        (λ rows found. found ≡ option_map (λ s. s.number) (last_or None rows.sales))
-        (state S.Store conn.old) (state S.Store conn.new) result }
-    ensures counted { SaysOfTable sales_kept (λ rows found. unwrap_or found 0 ≡ length rows.sales)
-        (state S.Store conn.old) (state S.Store conn.new) result }
-    ensures reads { ReadsTable sales_kept
-        (state S.Store conn.old) (state S.Store conn.new) result }
+    ensures given { Over S.Store conn (λ old new. SaysOfTable sales_kept (λ rows found. found ≡
+        option_map (λ s. s.number) (last_or None rows.sales)) old new result) }
+    ensures counted { Over S.Store conn (λ old new. SaysOfTable sales_kept (λ rows found.
+        unwrap_or found 0 ≡ length rows.sales) old new result) }
+    ensures reads { Over S.Store conn (λ old new. ReadsTable sales_kept old new result) }
 {
     first_record(conn, LAST_SALE_NUMBER, &[])
 }

@@ -2,7 +2,7 @@
 
 ghost use Rattle.std.specs.Prelude.{◌≡◌, ◌&&◌, ◌==◌, bytes_eq, find, is_none, length, option_map, unwrap_or, None};
 ghost use Rattle.std.specs.List.{last_or};
-ghost use Rattle.sqlite.specs.Held.{state};
+ghost use Rattle.one_table.specs.Over.{Over};
 ghost use Rattle.book_tables.specs.Kept.{shifts_kept};
 ghost use Rattle.book_tables.specs.reading.Reading.{ReadsTable, SaysOfTable};
 
@@ -21,11 +21,9 @@ pub fn shift_numbered<S: Alter>(
     conn: &mut Connection<S>,
     number: u32,
 ) -> Result<Option<Shift>, TableError>
-    ensures given { SaysOfTable shifts_kept
-        (λ rows found. found ≡ find (λ s. s.number == number) rows.shifts)
-        (state S.Store conn.old) (state S.Store conn.new) result }
-    ensures reads { ReadsTable shifts_kept
-        (state S.Store conn.old) (state S.Store conn.new) result }
+    ensures given { Over S.Store conn (λ old new. SaysOfTable shifts_kept (λ rows found. found ≡
+        find (λ s. s.number == number) rows.shifts) old new result) }
+    ensures reads { Over S.Store conn (λ old new. ReadsTable shifts_kept old new result) }
 {
     first_record(conn, SHIFT_NUMBERED, &number_values(number))
 }
@@ -38,12 +36,10 @@ pub fn open_shift<S: Alter>(
     conn: &mut Connection<S>,
     operator: &Operator,
 ) -> Result<Option<Shift>, TableError>
-    ensures given { SaysOfTable shifts_kept
-        (λ rows found. found ≡ find (λ s. bytes_eq s.operator operator.now
-        && is_none s.closed) rows.shifts)
-        (state S.Store conn.old) (state S.Store conn.new) result }
-    ensures reads { ReadsTable shifts_kept
-        (state S.Store conn.old) (state S.Store conn.new) result }
+    ensures given { Over S.Store conn (λ old new. SaysOfTable shifts_kept (λ rows found. found ≡
+        find (λ s. bytes_eq s.operator operator.now && is_none s.closed) rows.shifts) old new
+        result) }
+    ensures reads { Over S.Store conn (λ old new. ReadsTable shifts_kept old new result) }
 {
     first_record(conn, OPEN_SHIFT, &operator_values(operator))
 }
@@ -54,13 +50,11 @@ pub fn open_shift<S: Alter>(
 /// # Errors
 /// What the database refuses, and a row that is no office's.
 pub fn last_shift_number<S: Alter>(conn: &mut Connection<S>) -> Result<Option<u32>, TableError>
-    ensures given { SaysOfTable shifts_kept
-        (λ rows found. found ≡ option_map (λ s. s.number) (last_or None rows.shifts))
-        (state S.Store conn.old) (state S.Store conn.new) result }
-    ensures counted { SaysOfTable shifts_kept (λ rows found. unwrap_or found 0 ≡ length rows.shifts)
-        (state S.Store conn.old) (state S.Store conn.new) result }
-    ensures reads { ReadsTable shifts_kept
-        (state S.Store conn.old) (state S.Store conn.new) result }
+    ensures given { Over S.Store conn (λ old new. SaysOfTable shifts_kept (λ rows found. found ≡
+        option_map (λ s. s.number) (last_or None rows.shifts)) old new result) }
+    ensures counted { Over S.Store conn (λ old new. SaysOfTable shifts_kept (λ rows found.
+        unwrap_or found 0 ≡ length rows.shifts) old new result) }
+    ensures reads { Over S.Store conn (λ old new. ReadsTable shifts_kept old new result) }
 {
     first_record(conn, LAST_SHIFT_NUMBER, &[])
 }

@@ -2,7 +2,7 @@
 
 ghost use Rattle.std.specs.Prelude.{◌≡◌, ◌≢◌, ◌↔◌, ◌⊎◌, [], unwrap_or, Contains, IsTrue, IfOk, IfErr, IfSome};
 ghost use Rattle.sqlite.specs.State.{HasCleanDisk};
-ghost use Rattle.sqlite.specs.Held.{state};
+ghost use Rattle.one_table.specs.Over.{Over};
 ghost use Rattle.tariff.specs.Steps.{IsSteps};
 ghost use Rattle.vend_core.specs.Office.{IsOffice, Office};
 ghost use Rattle.book_tables.specs.Kept.{steps_kept, tariffs_kept};
@@ -25,11 +25,9 @@ use vend_core::TariffName;
 /// # Errors
 /// What the database refuses, and a row that is no office's.
 pub fn has_tariff<S: Alter>(conn: &mut Connection<S>, name: &TariffName) -> Result<bool, TableError>
-    ensures given { SaysOfTable tariffs_kept
-        (λ rows there. IsTrue there ↔ Contains rows.tariffs name.now)
-        (state S.Store conn.old) (state S.Store conn.new) result }
-    ensures reads { ReadsTable tariffs_kept
-        (state S.Store conn.old) (state S.Store conn.new) result }
+    ensures given { Over S.Store conn (λ old new. SaysOfTable tariffs_kept (λ rows there. IsTrue
+        there ↔ Contains rows.tariffs name.now) old new result) }
+    ensures reads { Over S.Store conn (λ old new. ReadsTable tariffs_kept old new result) }
 {
     let found: Option<TariffName> = first_record(conn, TARIFF_NAMED, &tariff_values(name))?;
     Ok(found.is_some())
@@ -65,12 +63,10 @@ pub fn steps_of<S: Alter>(
     conn: &mut Connection<S>,
     name: &TariffName,
 ) -> Result<Option<Steps>, TableError>
-    ensures given { HasCleanDisk (state S.Store conn.new)
-        → (rows : Rows) (o : Office) → HasTableRows steps_kept (state S.Store conn.old) rows
-        → IsOffice o → AreMembersOf rows o
-        → IfOk result (λ found. found ≡ o.tariffs name.now) }
-    ensures reads { ReadsTable steps_kept
-        (state S.Store conn.old) (state S.Store conn.new) result }
+    ensures given { Over S.Store conn (λ old new. HasCleanDisk new → (rows : Rows) (o : Office)
+        → HasTableRows steps_kept old rows → IsOffice o → AreMembersOf rows o
+        → IfOk result (λ found. found ≡ o.tariffs name.now)) }
+    ensures reads { Over S.Store conn (λ old new. ReadsTable steps_kept old new result) }
 {
     let shown: Vec<Step> = all_records(alloc, conn, STEPS_OF, &tariff_values(name))?;
     tariff_of(alloc, &shown)

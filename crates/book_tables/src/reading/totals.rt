@@ -2,7 +2,7 @@
 //! a shift.
 
 ghost use Rattle.std.specs.Prelude.{◌≡◌, length, map, option_map, sum_by, unwrap_or};
-ghost use Rattle.sqlite.specs.Held.{state};
+ghost use Rattle.one_table.specs.Over.{Over};
 ghost use Rattle.vend_core.specs.Law.Cash.{cash_of};
 ghost use Rattle.vend_core.specs.Office.Lookup.{greatest_of};
 ghost use Rattle.book_tables.specs.Kept.{last_ids_kept, month_tenths_kept, shift_totals_kept};
@@ -29,12 +29,10 @@ pub fn greatest_tid<S: Alter>(
     meter: &MeterNo,
     base: Base,
 ) -> Result<Option<u32>, TableError>
-    ensures given { SaysOfTable last_ids_kept
-        (λ rows greatest. greatest ≡ greatest_of (map (λ s. s.tid)
-        (sales_under rows.sales (meter.now, base))))
-        (state S.Store conn.old) (state S.Store conn.new) result }
-    ensures reads { ReadsTable last_ids_kept
-        (state S.Store conn.old) (state S.Store conn.new) result }
+    ensures given { Over S.Store conn (λ old new. SaysOfTable last_ids_kept (λ rows greatest.
+        greatest ≡ greatest_of (map (λ s. s.tid) (sales_under rows.sales (meter.now, base)))) old
+        new result) }
+    ensures reads { Over S.Store conn (λ old new. ReadsTable last_ids_kept old new result) }
 {
     let found: Option<Tid> = first_record(conn, LAST_ID, &base_values(meter, base))?;
     Ok(number_of(found))
@@ -58,11 +56,10 @@ pub fn tenths_in_month<S: Alter>(
     meter: &MeterNo,
     month: u32,
 ) -> Result<u64, TableError>
-    ensures given { SaysOfTable month_tenths_kept (λ rows tenths. tenths ≡ sum_by (λ s. s.tenths)
-        (sales_in_month rows.sales (meter.now, month)))
-        (state S.Store conn.old) (state S.Store conn.new) result }
-    ensures reads { ReadsTable month_tenths_kept
-        (state S.Store conn.old) (state S.Store conn.new) result }
+    ensures given { Over S.Store conn (λ old new. SaysOfTable month_tenths_kept (λ rows tenths.
+        tenths ≡ sum_by (λ s. s.tenths) (sales_in_month rows.sales (meter.now, month))) old new
+        result) }
+    ensures reads { Over S.Store conn (λ old new. ReadsTable month_tenths_kept old new result) }
 {
     amount_law();
     let found: Option<Tenths> = first_record(conn, MONTH_TENTHS, &month_values(meter, month))?;
@@ -83,13 +80,15 @@ fn sum_of(found: Option<Tenths>) -> u64
 /// # Errors
 /// What the database refuses, and a row that is no office's.
 pub fn totals_of_shift<S: Alter>(conn: &mut Connection<S>, shift: u32) -> Result<Totals, TableError>
-    ensures given { SaysOfTable shift_totals_kept (λ rows totals. totals ≡ record {
-      sales = length (sales_in_shift rows.sales shift);
-      tenths = sum_by (λ s. s.tenths) (sales_in_shift rows.sales shift);
-      cash = cash_of (sales_in_shift rows.sales shift);
-    }) (state S.Store conn.old) (state S.Store conn.new) result }
-    ensures reads { ReadsTable shift_totals_kept
-        (state S.Store conn.old) (state S.Store conn.new) result }
+    ensures given { Over S.Store conn (λ old new. SaysOfTable shift_totals_kept (λ rows totals.
+        totals ≡ record {
+          sales = length (sales_in_shift rows.sales shift);
+          tenths = sum_by (λ s.
+              s.tenths) (sales_in_shift rows.sales shift);
+          cash = cash_of (sales_in_shift rows.sales
+              shift);
+        }) old new result) }
+    ensures reads { Over S.Store conn (λ old new. ReadsTable shift_totals_kept old new result) }
 {
     amount_law();
     let found: Option<Totals> = first_record(conn, SHIFT_TOTALS, &number_values(shift))?;

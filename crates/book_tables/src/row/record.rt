@@ -4,7 +4,7 @@ ghost use Rattle.std.specs.Prelude.{IfOk};
 ghost use Rattle.sqlite.specs.Order.{Row};
 ghost use Rattle.sqlite.specs.Values.{bound};
 ghost use Rattle.sqlite.specs.State.{HasCleanDisk, IsUnchanged};
-ghost use Rattle.sqlite.specs.Held.{state};
+ghost use Rattle.one_table.specs.Over.{Over};
 ghost use Rattle.one_table.specs.Answer.{GivesFirst, OnlyAsks};
 ghost use Rattle.one_table.specs.ReadsOnly.{ReadsOnly};
 ghost use Rattle.book_tables.specs.row.ReadBack.{ReadsBack};
@@ -52,13 +52,12 @@ pub(crate) fn first_record<S: Alter, T: Record>(
     sql: &str,
     params: &[ValueRef<'_>],
 ) -> Result<Option<T>, TableError>
-    ensures given { HasCleanDisk (state S.Store conn.new)
-        → OnlyAsks sql.now (state S.Store conn.old)
-        → IfOk result (GivesFirst (IsShown T.Record.shown T.Record.keeps) sql.now (bound params.now)
-        (state S.Store conn.old) (state S.Store conn.new)) }
-    ensures reads { ReadsOnly (OnlyAsks sql.now) IsUnchanged
+    ensures given { Over S.Store conn (λ old new. HasCleanDisk new → OnlyAsks sql.now old
+        → IfOk result (GivesFirst (IsShown T.Record.shown T.Record.keeps) sql.now (bound
+        params.now) old new)) }
+    ensures reads { Over S.Store conn (λ old new. ReadsOnly (OnlyAsks sql.now) IsUnchanged
         (FailsToShowRow (ShowsRecord T.Record.shown T.Record.keeps) sql.now (bound params.now))
-        (state S.Store conn.old) (state S.Store conn.new) result }
+        old new result) }
 {
     let found: Option<Shown<T>> = read_row(conn, sql, params)?;
     match found {

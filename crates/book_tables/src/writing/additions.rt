@@ -2,7 +2,7 @@
 
 ghost use Rattle.std.specs.Prelude.{◌≡◌, ◌≤◌, length, IfErr, OnOk};
 ghost use Rattle.sqlite.specs.State.{HasCleanDisk};
-ghost use Rattle.sqlite.specs.Held.{state};
+ghost use Rattle.one_table.specs.Over.{Inside};
 ghost use Rattle.one_table.specs.InTransaction.{IsUnderWay, KeepsTransaction};
 ghost use Rattle.book_tables.specs.writing.Failing.{FailsToWriteAll};
 ghost use Rattle.book_tables.specs.reading.Reading.{HasAllTables};
@@ -25,8 +25,8 @@ use vend_core::{Meter, MeterNo, Sale, Shift, TariffName};
 /// had, a shift or a meter that is not there; want of memory, and the disk.
 pub fn add_sale<S: Alter>(tx: &mut Transaction<'_, S>, sale: &Sale) -> Result<(), TableError>
     ensures same_reference { tx.new.conn.ghost_name ≡ tx.old.conn.ghost_name }
-    ensures writes { WritesTables (AddsSale sale.now)
-        (state S.Store tx.old.conn.now) (state S.Store tx.new.conn.now) result }
+    ensures writes { Inside S.Store tx (λ old new. WritesTables (AddsSale sale.now) old new
+        result) }
 {
     put(tx, NEW_SALE, &sale_values(sale))
 }
@@ -37,8 +37,8 @@ pub fn add_sale<S: Alter>(tx: &mut Transaction<'_, S>, sale: &Sale) -> Result<()
 /// What the database refuses: a number that is taken; want of memory, and the disk.
 pub fn add_shift<S: Alter>(tx: &mut Transaction<'_, S>, shift: &Shift) -> Result<(), TableError>
     ensures same_reference { tx.new.conn.ghost_name ≡ tx.old.conn.ghost_name }
-    ensures writes { WritesTables (AddsShift shift.now)
-        (state S.Store tx.old.conn.now) (state S.Store tx.new.conn.now) result }
+    ensures writes { Inside S.Store tx (λ old new. WritesTables (AddsShift shift.now) old new
+        result) }
 {
     put(tx, NEW_SHIFT, &shift_values(shift))
 }
@@ -54,8 +54,8 @@ fn add_meter_row<S: Alter>(
     meter: &Meter,
 ) -> Result<(), TableError>
     ensures same_reference { tx.new.conn.ghost_name ≡ tx.old.conn.ghost_name }
-    ensures writes { WritesTables (AddsMeterRow number.now meter.now)
-        (state S.Store tx.old.conn.now) (state S.Store tx.new.conn.now) result }
+    ensures writes { Inside S.Store tx (λ old new. WritesTables (AddsMeterRow number.now
+        meter.now) old new result) }
 {
     let secret = key_text(meter.key);
     put(tx, NEW_METER, &meter_values(number, meter, &secret))
@@ -74,17 +74,11 @@ pub fn add_meter<S: Alter>(
     meter: &Meter,
 ) -> Result<(), TableError>
     ensures same_reference { tx.new.conn.ghost_name ≡ tx.old.conn.ghost_name }
-    ensures added { HasCleanDisk (state S.Store tx.new.conn.now)
-        → HasAllTables (state S.Store tx.old.conn.now)
-        → OnOk result (AddsMeter number.now meter.now
-        (state S.Store tx.old.conn.now) (state S.Store tx.new.conn.now)) }
-    ensures refused { HasCleanDisk (state S.Store tx.new.conn.now)
-        → IsUnderWay (state S.Store tx.old.conn.now)
-        → HasAllTables (state S.Store tx.old.conn.now)
-        → IfErr result (FailsToWriteAll
-        (state S.Store tx.old.conn.now) (state S.Store tx.new.conn.now)) }
-    ensures transaction { KeepsTransaction
-        (state S.Store tx.old.conn.now) (state S.Store tx.new.conn.now) result }
+    ensures added { Inside S.Store tx (λ old new. HasCleanDisk new → HasAllTables old
+        → OnOk result (AddsMeter number.now meter.now old new)) }
+    ensures refused { Inside S.Store tx (λ old new. HasCleanDisk new → IsUnderWay old
+        → HasAllTables old → IfErr result (FailsToWriteAll old new)) }
+    ensures transaction { Inside S.Store tx (λ old new. KeepsTransaction old new result) }
 {
     add_meter_row(tx, number, meter)?;
     add_base(tx, number, meter.base)
@@ -96,8 +90,8 @@ pub fn add_meter<S: Alter>(
 /// What the database refuses: a name that is taken; want of memory, and the disk.
 pub fn add_name<S: Alter>(tx: &mut Transaction<'_, S>, name: &TariffName) -> Result<(), TableError>
     ensures same_reference { tx.new.conn.ghost_name ≡ tx.old.conn.ghost_name }
-    ensures writes { WritesTables (AddsName name.now)
-        (state S.Store tx.old.conn.now) (state S.Store tx.new.conn.now) result }
+    ensures writes { Inside S.Store tx (λ old new. WritesTables (AddsName name.now) old new
+        result) }
 {
     put(tx, NEW_TARIFF, &tariff_values(name))
 }
@@ -114,9 +108,12 @@ pub fn add_step<S: Alter>(
     step: Step,
 ) -> Result<(), TableError>
     ensures same_reference { tx.new.conn.ghost_name ≡ tx.old.conn.ghost_name }
-    ensures writes { WritesTables
-        (AddsStep (record { tariff = name.now; place = place; step = step }))
-        (state S.Store tx.old.conn.now) (state S.Store tx.new.conn.now) result }
+    ensures writes { Inside S.Store tx (λ old new. WritesTables (AddsStep (record {
+      tariff =
+          name.now;
+      place = place;
+      step = step;
+    })) old new result) }
 {
     put(tx, NEW_STEP, &step_values(name, place, step))
 }
@@ -134,17 +131,11 @@ pub fn add_tariff<S: Alter>(
 ) -> Result<(), TableError>
     requires { length steps.now ≤ 8 }
     ensures same_reference { tx.new.conn.ghost_name ≡ tx.old.conn.ghost_name }
-    ensures added { HasCleanDisk (state S.Store tx.new.conn.now)
-        → HasAllTables (state S.Store tx.old.conn.now)
-        → OnOk result (AddsTariff name.now steps.now
-        (state S.Store tx.old.conn.now) (state S.Store tx.new.conn.now)) }
-    ensures refused { HasCleanDisk (state S.Store tx.new.conn.now)
-        → IsUnderWay (state S.Store tx.old.conn.now)
-        → HasAllTables (state S.Store tx.old.conn.now)
-        → IfErr result (FailsToWriteAll
-        (state S.Store tx.old.conn.now) (state S.Store tx.new.conn.now)) }
-    ensures transaction { KeepsTransaction
-        (state S.Store tx.old.conn.now) (state S.Store tx.new.conn.now) result }
+    ensures added { Inside S.Store tx (λ old new. HasCleanDisk new → HasAllTables old
+        → OnOk result (AddsTariff name.now steps.now old new)) }
+    ensures refused { Inside S.Store tx (λ old new. HasCleanDisk new → IsUnderWay old
+        → HasAllTables old → IfErr result (FailsToWriteAll old new)) }
+    ensures transaction { Inside S.Store tx (λ old new. KeepsTransaction old new result) }
 {
     add_name(tx, name)?;
     let mut place = 0;

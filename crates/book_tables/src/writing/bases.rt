@@ -2,7 +2,7 @@
 
 ghost use Rattle.std.specs.Prelude.{◌≡◌, IfErr, OnOk};
 ghost use Rattle.sqlite.specs.State.{HasCleanDisk};
-ghost use Rattle.sqlite.specs.Held.{state};
+ghost use Rattle.one_table.specs.Over.{Inside};
 ghost use Rattle.one_table.specs.InTransaction.{IsUnderWay, KeepsTransaction};
 ghost use Rattle.book_tables.specs.writing.Failing.{FailsToWriteAll};
 ghost use Rattle.book_tables.specs.reading.Reading.{HasAllTables};
@@ -27,8 +27,8 @@ pub fn add_base<S: Alter>(
     base: Base,
 ) -> Result<(), TableError>
     ensures same_reference { tx.new.conn.ghost_name ≡ tx.old.conn.ghost_name }
-    ensures writes { WritesTables (AddsBase number.now base)
-        (state S.Store tx.old.conn.now) (state S.Store tx.new.conn.now) result }
+    ensures writes { Inside S.Store tx (λ old new. WritesTables (AddsBase number.now base) old new
+        result) }
 {
     put(tx, NEW_BASE, &base_values(number, base))
 }
@@ -43,8 +43,8 @@ pub fn set_base<S: Alter>(
     base: Base,
 ) -> Result<(), TableError>
     ensures same_reference { tx.new.conn.ghost_name ≡ tx.old.conn.ghost_name }
-    ensures writes { WritesTables (SetsBase number.now base)
-        (state S.Store tx.old.conn.now) (state S.Store tx.new.conn.now) result }
+    ensures writes { Inside S.Store tx (λ old new. WritesTables (SetsBase number.now base) old new
+        result) }
 {
     set(tx, BASE_SET, &base_values(number, base))
 }
@@ -61,17 +61,11 @@ pub fn move_base<S: Alter>(
     base: Base,
 ) -> Result<(), TableError>
     ensures same_reference { tx.new.conn.ghost_name ≡ tx.old.conn.ghost_name }
-    ensures moved { HasCleanDisk (state S.Store tx.new.conn.now)
-        → HasAllTables (state S.Store tx.old.conn.now)
-        → OnOk result (MovesBase number.now base
-        (state S.Store tx.old.conn.now) (state S.Store tx.new.conn.now)) }
-    ensures refused { HasCleanDisk (state S.Store tx.new.conn.now)
-        → IsUnderWay (state S.Store tx.old.conn.now)
-        → HasAllTables (state S.Store tx.old.conn.now)
-        → IfErr result (FailsToWriteAll
-        (state S.Store tx.old.conn.now) (state S.Store tx.new.conn.now)) }
-    ensures transaction { KeepsTransaction
-        (state S.Store tx.old.conn.now) (state S.Store tx.new.conn.now) result }
+    ensures moved { Inside S.Store tx (λ old new. HasCleanDisk new → HasAllTables old
+        → OnOk result (MovesBase number.now base old new)) }
+    ensures refused { Inside S.Store tx (λ old new. HasCleanDisk new → IsUnderWay old
+        → HasAllTables old → IfErr result (FailsToWriteAll old new)) }
+    ensures transaction { Inside S.Store tx (λ old new. KeepsTransaction old new result) }
 {
     set_base(tx, number, base)?;
     add_base(tx, number, base)

@@ -1,7 +1,7 @@
 //! The statements that change rows of the tables.
 
 ghost use Rattle.std.specs.Prelude.{◌≡◌};
-ghost use Rattle.sqlite.specs.Held.{state};
+ghost use Rattle.one_table.specs.Over.{Inside};
 ghost use Rattle.book_tables.specs.writing.Writing.{ClosesShift, SetsTariff, WritesTables};
 
 use crate::error::TableError;
@@ -23,8 +23,8 @@ pub fn close_shift<S: Alter>(
     moment: Moment,
 ) -> Result<(), TableError>
     ensures same_reference { tx.new.conn.ghost_name ≡ tx.old.conn.ghost_name }
-    ensures writes { WritesTables (ClosesShift number moment)
-        (state S.Store tx.old.conn.now) (state S.Store tx.new.conn.now) result }
+    ensures writes { Inside S.Store tx (λ old new. WritesTables (ClosesShift number moment) old
+        new result) }
 {
     set(tx, SHIFT_CLOSED, &[whole(number), seconds(moment)])
 }
@@ -39,8 +39,8 @@ pub fn set_tariff<S: Alter>(
     name: &TariffName,
 ) -> Result<(), TableError>
     ensures same_reference { tx.new.conn.ghost_name ≡ tx.old.conn.ghost_name }
-    ensures writes { WritesTables (SetsTariff number.now name.now)
-        (state S.Store tx.old.conn.now) (state S.Store tx.new.conn.now) result }
+    ensures writes { Inside S.Store tx (λ old new. WritesTables (SetsTariff number.now name.now)
+        old new result) }
 {
     let values = [
         ValueRef::Text(number.as_bytes()),

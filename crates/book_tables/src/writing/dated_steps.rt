@@ -1,6 +1,6 @@
 ghost use Rattle.std.specs.Prelude.{◌≡◌, ◌≤◌, length, IfErr, OnOk};
 ghost use Rattle.sqlite.specs.State.{HasCleanDisk};
-ghost use Rattle.sqlite.specs.Held.{state};
+ghost use Rattle.one_table.specs.Over.{Inside};
 ghost use Rattle.one_table.specs.InTransaction.{IsUnderWay, KeepsTransaction};
 ghost use Rattle.book_tables.specs.writing.Failing.{FailsToWriteAll};
 ghost use Rattle.book_tables.specs.reading.Reading.{HasAllTables};
@@ -28,13 +28,13 @@ pub fn add_dated_step<S: Alter>(
     step: Step,
 ) -> Result<(), TableError>
     ensures same_reference { tx.new.conn.ghost_name ≡ tx.old.conn.ghost_name }
-    ensures writes { WritesTables (AddsDatedStep (record {
-      tariff = name.now;
+    ensures writes { Inside S.Store tx (λ old new. WritesTables (AddsDatedStep (record {
+      tariff =
+          name.now;
       day = day;
       place = place;
       step = step;
-    }))
-        (state S.Store tx.old.conn.now) (state S.Store tx.new.conn.now) result }
+    })) old new result) }
 {
     put(
         tx,
@@ -60,17 +60,11 @@ pub fn add_steps<S: Alter>(
 ) -> Result<(), TableError>
     requires { length steps.now ≤ 8 }
     ensures same_reference { tx.new.conn.ghost_name ≡ tx.old.conn.ghost_name }
-    ensures added { HasCleanDisk (state S.Store tx.new.conn.now)
-        → HasAllTables (state S.Store tx.old.conn.now)
-        → OnOk result (AddsSteps name.now day steps.now
-        (state S.Store tx.old.conn.now) (state S.Store tx.new.conn.now)) }
-    ensures refused { HasCleanDisk (state S.Store tx.new.conn.now)
-        → IsUnderWay (state S.Store tx.old.conn.now)
-        → HasAllTables (state S.Store tx.old.conn.now)
-        → 1 ≤ length steps.now → IfErr result (FailsToWriteAll
-        (state S.Store tx.old.conn.now) (state S.Store tx.new.conn.now)) }
-    ensures transaction { KeepsTransaction
-        (state S.Store tx.old.conn.now) (state S.Store tx.new.conn.now) result }
+    ensures added { Inside S.Store tx (λ old new. HasCleanDisk new → HasAllTables old
+        → OnOk result (AddsSteps name.now day steps.now old new)) }
+    ensures refused { Inside S.Store tx (λ old new. HasCleanDisk new → IsUnderWay old
+        → HasAllTables old → 1 ≤ length steps.now → IfErr result (FailsToWriteAll old new)) }
+    ensures transaction { Inside S.Store tx (λ old new. KeepsTransaction old new result) }
 {
     let Some((first, others)) = steps.split_first() else {
         return Err(TableError::Database(Error::SqliteFailure(ErrorCode::TransactionState)));

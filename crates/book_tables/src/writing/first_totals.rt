@@ -1,7 +1,7 @@
 //! The statements that put a row of the running totals in, where none of its key is.
 
 ghost use Rattle.std.specs.Prelude.{◌≡◌, ◌≢◌, codes, IfErr, OnOk};
-ghost use Rattle.sqlite.specs.Held.{state};
+ghost use Rattle.one_table.specs.Over.{Inside};
 ghost use Rattle.sqlite.specs.State.{HasCleanDisk};
 ghost use Rattle.one_table.specs.InTransaction.{KeepsTransaction};
 ghost use Rattle.book_tables.specs.reading.Reading.{HasAllTables};
@@ -27,12 +27,12 @@ pub(crate) fn put_last_id<S: Alter>(
     tid: u32,
 ) -> Result<(), TableError>
     ensures same_reference { tx.new.conn.ghost_name ≡ tx.old.conn.ghost_name }
-    ensures puts { HasCleanDisk (state S.Store tx.new.conn.now)
-        → HasAllTables (state S.Store tx.old.conn.now)
-        → OnOk result (PutsNext (codes "last_ids") with_last_ids AreAnyIds ((meter.now, base), tid)
-        (state S.Store tx.old.conn.now) (state S.Store tx.new.conn.now)) }
-    ensures transaction { KeepsTransaction
-        (state S.Store tx.old.conn.now) (state S.Store tx.new.conn.now) result }
+    ensures puts { Inside S.Store tx (λ old new. HasCleanDisk new → HasAllTables old
+        → OnOk result (PutsNext (codes "last_ids") with_last_ids AreAnyIds (
+          (meter.now, base),
+          tid,
+        ) old new)) }
+    ensures transaction { Inside S.Store tx (λ old new. KeepsTransaction old new result) }
     ensures database { IfErr result (λ e. e ≢ TableError.RowOfNoOffice) }
 {
     put(tx, NEW_LAST_ID, &last_id_values(meter, base, tid))
@@ -49,13 +49,15 @@ pub(crate) fn put_month_tenths<S: Alter>(
     tenths: u64,
 ) -> Result<(), TableError>
     ensures same_reference { tx.new.conn.ghost_name ≡ tx.old.conn.ghost_name }
-    ensures puts { HasCleanDisk (state S.Store tx.new.conn.now)
-        → HasAllTables (state S.Store tx.old.conn.now)
-        → OnOk result (PutsNext (codes "month_tenths") with_month_tenths FitMonths
-        ((meter.now, month), tenths)
-        (state S.Store tx.old.conn.now) (state S.Store tx.new.conn.now)) }
-    ensures transaction { KeepsTransaction
-        (state S.Store tx.old.conn.now) (state S.Store tx.new.conn.now) result }
+    ensures puts { Inside S.Store tx (λ old new. HasCleanDisk new → HasAllTables old
+        → OnOk result (PutsNext (codes "month_tenths") with_month_tenths FitMonths (
+          (
+            meter.now,
+            month,
+          ),
+          tenths,
+        ) old new)) }
+    ensures transaction { Inside S.Store tx (λ old new. KeepsTransaction old new result) }
     ensures database { IfErr result (λ e. e ≢ TableError.RowOfNoOffice) }
 {
     put(
@@ -75,13 +77,12 @@ pub(crate) fn put_shift_totals<S: Alter>(
     totals: &Totals,
 ) -> Result<(), TableError>
     ensures same_reference { tx.new.conn.ghost_name ≡ tx.old.conn.ghost_name }
-    ensures puts { HasCleanDisk (state S.Store tx.new.conn.now)
-        → HasAllTables (state S.Store tx.old.conn.now)
-        → OnOk result (PutsNext (codes "shift_totals") with_shift_totals FitShifts
-        (shift, totals.now)
-        (state S.Store tx.old.conn.now) (state S.Store tx.new.conn.now)) }
-    ensures transaction { KeepsTransaction
-        (state S.Store tx.old.conn.now) (state S.Store tx.new.conn.now) result }
+    ensures puts { Inside S.Store tx (λ old new. HasCleanDisk new → HasAllTables old
+        → OnOk result (PutsNext (codes "shift_totals") with_shift_totals FitShifts (
+          shift,
+          totals.now,
+        ) old new)) }
+    ensures transaction { Inside S.Store tx (λ old new. KeepsTransaction old new result) }
     ensures database { IfErr result (λ e. e ≢ TableError.RowOfNoOffice) }
 {
     put(tx, NEW_SHIFT_TOTALS, &shift_total_values(shift, totals))

@@ -1,7 +1,7 @@
 //! What writes a row, or sets columns of rows, and how it fails.
 
 ghost use Rattle.std.specs.Prelude.{◌≡◌, ◌≢◌, ℕ, List, true, length, IsTrue, IfErr, OnOk};
-ghost use Rattle.sqlite.specs.Held.{state};
+ghost use Rattle.one_table.specs.Over.{Inside};
 ghost use Rattle.sqlite.specs.Query.{Query};
 ghost use Rattle.sqlite.specs.State.{HasCleanDisk};
 ghost use Rattle.sqlite.specs.Table.{Table};
@@ -27,23 +27,17 @@ pub(crate) fn put<S: Alter>(
     params: &[ValueRef<'_>],
 ) -> Result<(), TableError>
     ensures same_reference { tx.new.conn.ghost_name ≡ tx.old.conn.ghost_name }
-    ensures added { HasCleanDisk (state S.Store tx.new.conn.now)
+    ensures added { Inside S.Store tx (λ old new. HasCleanDisk new
         → (t : Table) (at : ℕ) (terms : List Term) → IsInsert t terms sql.now
-        → (IsTrue (state S.Store tx.old.conn.now).is_open
-        → Has (state S.Store tx.old.conn.now).now.schema at t)
-        → OnOk result (PutsRow t (new_row t terms (bound params.now)
-        ((state S.Store tx.old.conn.now).now.trees t.tree))
-        (state S.Store tx.old.conn.now) (state S.Store tx.new.conn.now)) }
+        → (IsTrue old.is_open → Has old.now.schema at t)
+        → OnOk result (PutsRow t (new_row t terms (bound params.now) (old.now.trees t.tree)) old
+        new)) }
     ensures database { IfErr result (λ e. e ≢ TableError.RowOfNoOffice) }
-    ensures transaction { KeepsTransaction
-        (state S.Store tx.old.conn.now) (state S.Store tx.new.conn.now) result }
-    ensures refused { HasCleanDisk (state S.Store tx.new.conn.now)
+    ensures transaction { Inside S.Store tx (λ old new. KeepsTransaction old new result) }
+    ensures refused { Inside S.Store tx (λ old new. HasCleanDisk new
         → (t : Table) (at : ℕ) (terms : List Term) → IsInsert t terms sql.now
-        → is_whole sql.now (length (bound params.now)) ≡ true
-        → (IsTrue (state S.Store tx.old.conn.now).is_open
-        → Has (state S.Store tx.old.conn.now).now.schema at t)
-        → IfErr result (FailsToStore
-        (state S.Store tx.old.conn.now) (state S.Store tx.new.conn.now)) }
+        → is_whole sql.now (length (bound params.now)) ≡ true → (IsTrue old.is_open
+        → Has old.now.schema at t) → IfErr result (FailsToStore old new)) }
 {
     insert(tx, sql, params)?;
     Ok(())
@@ -56,23 +50,16 @@ pub(crate) fn set<S: Alter>(
     params: &[ValueRef<'_>],
 ) -> Result<(), TableError>
     ensures same_reference { tx.new.conn.ghost_name ≡ tx.old.conn.ghost_name }
-    ensures changed { HasCleanDisk (state S.Store tx.new.conn.now)
-        → (t : Table) (at : ℕ) (q : Query) → IsUpdate t q sql.now
-        → (IsTrue (state S.Store tx.old.conn.now).is_open
-        → Has (state S.Store tx.old.conn.now).now.schema at t
-        × (is_left_alone (state S.Store tx.old.conn.now).now.schema t.tree ≡ true))
-        → OnOk result (SetsRows t q (bound params.now)
-        (state S.Store tx.old.conn.now) (state S.Store tx.new.conn.now)) }
+    ensures changed { Inside S.Store tx (λ old new. HasCleanDisk new
+        → (t : Table) (at : ℕ) (q : Query) → IsUpdate t q sql.now → (IsTrue old.is_open
+        → Has old.now.schema at t × (is_left_alone old.now.schema t.tree ≡ true))
+        → OnOk result (SetsRows t q (bound params.now) old new)) }
     ensures database { IfErr result (λ e. e ≢ TableError.RowOfNoOffice) }
-    ensures transaction { KeepsTransaction
-        (state S.Store tx.old.conn.now) (state S.Store tx.new.conn.now) result }
-    ensures refused { HasCleanDisk (state S.Store tx.new.conn.now)
+    ensures transaction { Inside S.Store tx (λ old new. KeepsTransaction old new result) }
+    ensures refused { Inside S.Store tx (λ old new. HasCleanDisk new
         → (t : Table) (at : ℕ) (q : Query) → IsUpdate t q sql.now
-        → is_whole sql.now (length (bound params.now)) ≡ true
-        → (IsTrue (state S.Store tx.old.conn.now).is_open
-        → Has (state S.Store tx.old.conn.now).now.schema at t)
-        → IfErr result (FailsToStore
-        (state S.Store tx.old.conn.now) (state S.Store tx.new.conn.now)) }
+        → is_whole sql.now (length (bound params.now)) ≡ true → (IsTrue old.is_open
+        → Has old.now.schema at t) → IfErr result (FailsToStore old new)) }
 {
     update(tx, sql, params)?;
     Ok(())

@@ -2,7 +2,7 @@
 //! the one that is there.
 
 ghost use Rattle.std.specs.Prelude.{◌≡◌, IfErr, IfOk};
-ghost use Rattle.sqlite.specs.Held.{state};
+ghost use Rattle.one_table.specs.Over.{Inside};
 ghost use Rattle.sqlite.specs.State.{HasCleanDisk};
 ghost use Rattle.one_table.specs.InTransaction.{IsUnderWay, KeepsTransaction};
 ghost use Rattle.book_tables.specs.writing.Failing.{FailsToMergeAll};
@@ -32,10 +32,12 @@ pub fn set_last_id<S: Alter>(
     tid: u32,
 ) -> Result<(), TableError>
     ensures same_reference { tx.new.conn.ghost_name ≡ tx.old.conn.ghost_name }
-    ensures merges { MergesTables (λ done. SetsLastId (meter.now, base) tid)
-        (state S.Store tx.old.conn.now) (state S.Store tx.new.conn.now) result }
-    ensures no_false_row { FindsNoFalseRow (MaySetLastId tid)
-        (state S.Store tx.old.conn.now) (state S.Store tx.new.conn.now) result }
+    ensures merges { Inside S.Store tx (λ old new. MergesTables (λ done. SetsLastId (
+      meter.now,
+      base,
+    ) tid) old new result) }
+    ensures no_false_row { Inside S.Store tx (λ old new. FindsNoFalseRow (MaySetLastId tid) old
+        new result) }
 {
     let last: Tid = merge(tx, LAST_ID_SET, &last_id_values(meter, base, tid))?;
     if last.number != tid {
@@ -55,10 +57,12 @@ pub fn add_tenths<S: Alter>(
     tenths: u32,
 ) -> Result<u64, TableError>
     ensures same_reference { tx.new.conn.ghost_name ≡ tx.old.conn.ghost_name }
-    ensures merges { MergesTables (AddsTenths (meter.now, month) tenths)
-        (state S.Store tx.old.conn.now) (state S.Store tx.new.conn.now) result }
-    ensures no_false_row { FindsNoFalseRow (MayAddTenths (meter.now, month) tenths)
-        (state S.Store tx.old.conn.now) (state S.Store tx.new.conn.now) result }
+    ensures merges { Inside S.Store tx (λ old new. MergesTables (AddsTenths (meter.now, month)
+        tenths) old new result) }
+    ensures no_false_row { Inside S.Store tx (λ old new. FindsNoFalseRow (MayAddTenths (
+      meter.now,
+      month,
+    ) tenths) old new result) }
 {
     let all: Tenths = merge(tx, TENTHS_ADDED, &tenths_values(meter, month, tenths))?;
     Ok(all.sum)
@@ -75,10 +79,10 @@ pub fn add_to_shift<S: Alter>(
     price: u32,
 ) -> Result<Totals, TableError>
     ensures same_reference { tx.new.conn.ghost_name ≡ tx.old.conn.ghost_name }
-    ensures merges { MergesTables (AddsToShift shift tenths price)
-        (state S.Store tx.old.conn.now) (state S.Store tx.new.conn.now) result }
-    ensures no_false_row { FindsNoFalseRow (MayAddToShift shift tenths price)
-        (state S.Store tx.old.conn.now) (state S.Store tx.new.conn.now) result }
+    ensures merges { Inside S.Store tx (λ old new. MergesTables (AddsToShift shift tenths price)
+        old new result) }
+    ensures no_false_row { Inside S.Store tx (λ old new. FindsNoFalseRow (MayAddToShift shift
+        tenths price) old new result) }
 {
     let all: Totals = merge(tx, SALE_COUNTED, &sale_total_values(shift, tenths, price))?;
     Ok(all)
@@ -97,20 +101,13 @@ pub fn add_totals<S: Alter>(
     last: u32,
 ) -> Result<SaleTotals, TableError>
     ensures same_reference { tx.new.conn.ghost_name ≡ tx.old.conn.ghost_name }
-    ensures adds { HasCleanDisk (state S.Store tx.new.conn.now)
-        → IsUnderWay (state S.Store tx.old.conn.now)
-        → HasAllTables (state S.Store tx.old.conn.now)
-        → IfOk result (λ shown. TellsTotals sale.now last shown
-        (state S.Store tx.old.conn.now) (state S.Store tx.new.conn.now)) }
-    ensures refused { HasCleanDisk (state S.Store tx.new.conn.now)
-        → IsUnderWay (state S.Store tx.old.conn.now)
-        → HasAllTables (state S.Store tx.old.conn.now)
-        → IfErr result (FailsToMergeAll
-        (state S.Store tx.old.conn.now) (state S.Store tx.new.conn.now)) }
-    ensures transaction { KeepsTransaction
-        (state S.Store tx.old.conn.now) (state S.Store tx.new.conn.now) result }
-    ensures no_false_row { FindsNoFalseRow (MayAddTotals sale.now last)
-        (state S.Store tx.old.conn.now) (state S.Store tx.new.conn.now) result }
+    ensures adds { Inside S.Store tx (λ old new. HasCleanDisk new → IsUnderWay old
+        → HasAllTables old → IfOk result (λ shown. TellsTotals sale.now last shown old new)) }
+    ensures refused { Inside S.Store tx (λ old new. HasCleanDisk new → IsUnderWay old
+        → HasAllTables old → IfErr result (FailsToMergeAll old new)) }
+    ensures transaction { Inside S.Store tx (λ old new. KeepsTransaction old new result) }
+    ensures no_false_row { Inside S.Store tx (λ old new. FindsNoFalseRow (MayAddTotals sale.now
+        last) old new result) }
 {
     let month = month_of_sale(sale);
     let tenths = sale.tenths.tenths();
@@ -134,20 +131,13 @@ pub fn add_sold<S: Alter>(
     sale: &Sale,
 ) -> Result<SaleTotals, TableError>
     ensures same_reference { tx.new.conn.ghost_name ≡ tx.old.conn.ghost_name }
-    ensures adds { HasCleanDisk (state S.Store tx.new.conn.now)
-        → IsUnderWay (state S.Store tx.old.conn.now)
-        → HasAllTables (state S.Store tx.old.conn.now)
-        → IfOk result (λ shown. TellsSold sale.now shown
-        (state S.Store tx.old.conn.now) (state S.Store tx.new.conn.now)) }
-    ensures refused { HasCleanDisk (state S.Store tx.new.conn.now)
-        → IsUnderWay (state S.Store tx.old.conn.now)
-        → HasAllTables (state S.Store tx.old.conn.now)
-        → IfErr result (FailsToMergeAll
-        (state S.Store tx.old.conn.now) (state S.Store tx.new.conn.now)) }
-    ensures transaction { KeepsTransaction
-        (state S.Store tx.old.conn.now) (state S.Store tx.new.conn.now) result }
-    ensures no_false_row { FindsNoFalseRow (MayAddSold sale.now)
-        (state S.Store tx.old.conn.now) (state S.Store tx.new.conn.now) result }
+    ensures adds { Inside S.Store tx (λ old new. HasCleanDisk new → IsUnderWay old
+        → HasAllTables old → IfOk result (λ shown. TellsSold sale.now shown old new)) }
+    ensures refused { Inside S.Store tx (λ old new. HasCleanDisk new → IsUnderWay old
+        → HasAllTables old → IfErr result (FailsToMergeAll old new)) }
+    ensures transaction { Inside S.Store tx (λ old new. KeepsTransaction old new result) }
+    ensures no_false_row { Inside S.Store tx (λ old new. FindsNoFalseRow (MayAddSold sale.now) old
+        new result) }
 {
     amount_law();
     add_sale(tx, sale)?;
