@@ -7,16 +7,15 @@ import shutil
 import subprocess
 
 from many_sales import meter_of
-from program import METER, OLDER, VEND, change, expect, vend
-from shared import FORMAT
+from program import METER, OTHER_METER, VEND, change, expect, vend
+from shared import FORMAT, back_to
 
 AT = 1388534430
 DAY = 86400
-OTHER = "10000000009"
 TARIFFS = "name,steps,from\nflat,:100,\nblock,5:90;50:100;:120,\nflat,:110,2030-01-01\n" \
     "block,10:95;:130,2031-06-01\n"
 METERS = f"meter,base,tariff,key\n{METER},2014,flat,0000000000000000\n" \
-    f"{OTHER},1993,block,0123456789abcdef\n"
+    f"{OTHER_METER},1993,block,0123456789abcdef\n"
 METERS_DRAWN = [meter_of(f"{30 + number:010}") for number in range(12)]
 COUNTS = "tariffs 2 meters 2 shifts 3 sales 4"
 NEW_SALE = ("INSERT INTO sales VALUES (5, 1391990460, 253, 1, 'ann', 'A-3', '12345678903', 2014, 57601, 5,"
@@ -56,7 +55,7 @@ SPOILT = [
     (f"UPDATE meters SET secret = '0123456789ABCDEF' WHERE meter = '{METER}';",
      f"meters {METER} value"),
     (f"UPDATE meters SET base = 2035 WHERE meter = '{METER}';", f"meters {METER} base"),
-    (f"UPDATE meters SET base = 1993 WHERE meter = '{OTHER}';", f"meter_bases {OTHER} base"),
+    (f"UPDATE meters SET base = 1993 WHERE meter = '{OTHER_METER}';", f"meter_bases {OTHER_METER} base"),
     ("INSERT INTO meters VALUES ('20000000008', 2014, 'flat', '0000000000000000');",
      "meters 20000000008 base"),
     # Shifts.
@@ -98,15 +97,15 @@ SPOILT = [
     (f"UPDATE last_ids SET tid = 57599 WHERE meter = '{METER}';", f"last_ids {METER} total"),
     (f"INSERT INTO last_ids VALUES ('{METER}', 1993, 2);", f"last_ids {METER} surplus"),
     (f"DELETE FROM last_ids WHERE meter = '{METER}';", f"last_ids {METER} missing"),
-    (f"UPDATE month_tenths SET meter = '12345678904' WHERE meter = '{OTHER}';",
+    (f"UPDATE month_tenths SET meter = '12345678904' WHERE meter = '{OTHER_METER}';",
      "month_tenths 12345678904 value"),
-    (f"UPDATE month_tenths SET month = -1 WHERE meter = '{OTHER}';", f"month_tenths {OTHER} value"),
-    (f"UPDATE month_tenths SET month = 254 WHERE meter = '{OTHER}';",
-     f"month_tenths {OTHER} surplus"),
-    (f"UPDATE month_tenths SET tenths = -1 WHERE meter = '{OTHER}';", f"month_tenths {OTHER} value"),
-    (f"UPDATE month_tenths SET tenths = 59 WHERE meter = '{OTHER}';", f"month_tenths {OTHER} total"),
-    (f"INSERT INTO month_tenths VALUES ('{OTHER}', 253, 1);", f"month_tenths {OTHER} surplus"),
-    (f"DELETE FROM month_tenths WHERE meter = '{OTHER}';", f"month_tenths {OTHER} missing"),
+    (f"UPDATE month_tenths SET month = -1 WHERE meter = '{OTHER_METER}';", f"month_tenths {OTHER_METER} value"),
+    (f"UPDATE month_tenths SET month = 254 WHERE meter = '{OTHER_METER}';",
+     f"month_tenths {OTHER_METER} surplus"),
+    (f"UPDATE month_tenths SET tenths = -1 WHERE meter = '{OTHER_METER}';", f"month_tenths {OTHER_METER} value"),
+    (f"UPDATE month_tenths SET tenths = 59 WHERE meter = '{OTHER_METER}';", f"month_tenths {OTHER_METER} total"),
+    (f"INSERT INTO month_tenths VALUES ('{OTHER_METER}', 253, 1);", f"month_tenths {OTHER_METER} surplus"),
+    (f"DELETE FROM month_tenths WHERE meter = '{OTHER_METER}';", f"month_tenths {OTHER_METER} missing"),
     ("UPDATE shift_totals SET shift = 3 WHERE shift = 2;", "shift_totals 3 surplus"),
     ("UPDATE shift_totals SET shift = 0 WHERE shift = 2;", "shift_totals 0 value"),
     ("UPDATE shift_totals SET sales = 3 WHERE shift = 2;", "shift_totals 2 total"),
@@ -120,7 +119,7 @@ SPOILT = [
     (f"UPDATE meter_bases SET base = 1993 WHERE meter = '{METER}';", f"meters {METER} base"),
     (f"INSERT INTO meter_bases VALUES ('{METER}', 2035);", f"meter_bases {METER} base"),
     (f"DELETE FROM meter_bases WHERE meter = '{METER}';", f"meters {METER} base"),
-    (f"DELETE FROM meter_bases WHERE meter = '{OTHER}' AND base = 1993;", "sales 2 base"),
+    (f"DELETE FROM meter_bases WHERE meter = '{OTHER_METER}' AND base = 1993;", "sales 2 base"),
     # Steps of later days.
     ("UPDATE dated_steps SET day = -1 WHERE tariff = 'flat';", "dated_steps flat value"),
     ("UPDATE dated_steps SET day = 39081 WHERE tariff = 'flat';", "dated_steps flat value"),
@@ -165,13 +164,13 @@ def full_office(file, folder):
         (folder / f"{name}.csv").write_text(text)
         done(file, "import", "--at", str(AT), name, str(folder / f"{name}.csv"))
     later = AT + 40 * DAY
-    sold = [("ann", "A-1", METER, 10, AT), ("bob", "A-1", OTHER, 100, AT + 60),
-            ("bob", "B-2", OTHER, 500, AT + 180), ("ann", "A-2", METER, 20, later)]
+    sold = [("ann", "A-1", METER, 10, AT), ("bob", "A-1", OTHER_METER, 100, AT + 60),
+            ("bob", "B-2", OTHER_METER, 500, AT + 180), ("ann", "A-2", METER, 20, later)]
     for operator in ("ann", "bob"):
         done(file, "shift", "--operator", operator, "--at", str(AT), "open")
     for operator, ref, meter, tender, at in sold:
         if ref == "B-2":
-            done(file, "base", "--meter", OTHER, "--base", "2014", "--at", str(AT + 120))
+            done(file, "base", "--meter", OTHER_METER, "--base", "2014", "--at", str(AT + 120))
         done(file, "sell", "--operator", operator, "--ref", ref, "--meter", meter, "--tender",
              str(tender), "--at", str(at))
     done(file, "shift", "--operator", "ann", "--at", str(later + 60), "close")
@@ -195,13 +194,13 @@ def check_formats(whole, folder):
     for number in range(1, FORMAT + 1):
         file = folder / f"format-{number}.db"
         shutil.copy(whole, file)
-        text = OLDER[number - 1] if number < FORMAT else ""
+        text = back_to(number)
         if number < 3:
             # A meter has one base in them.
-            text += f"UPDATE sales SET base = 2014 WHERE meter = '{OTHER}';"
+            text += f"UPDATE sales SET base = 2014 WHERE meter = '{OTHER_METER}';"
         if number == 2:
             text += f"DELETE FROM last_ids WHERE base = 1993; UPDATE last_ids SET tid = 11044802" \
-                f" WHERE meter = '{OTHER}';"
+                f" WHERE meter = '{OTHER_METER}';"
         change(file, text + "PRAGMA wal_checkpoint(TRUNCATE);")
         is_sound_office(file, number, COUNTS)
 

@@ -5,7 +5,9 @@ import shutil
 import subprocess
 from pathlib import Path
 
-from servers import METER, NAME, OTHER_SITE, WAIT, same, wrong
+from program import METER
+from servers import NAME, OTHER_SITE, WAIT
+from shared import same, wrong
 
 # What `when` and others may use of a page.
 WORDS = """

@@ -3,7 +3,8 @@ of its own."""
 import threading
 
 from browser import Browser
-from servers import Desk, OtherSite, Proxy, Relay, same, wrong
+from servers import OfficeDesk, OtherSite, Proxy, Relay
+from shared import same, wrong
 
 
 class Counter:
@@ -11,7 +12,7 @@ class Counter:
 
     def __init__(self, folder, pictures):
         self.folder = folder
-        self.desk = Desk(folder / "office.db")
+        self.desk = OfficeDesk(folder / "office.db")
         self.relay = Relay(self.desk)
         self.proxy = Proxy(folder, self.relay.port)
         self.site = OtherSite()

@@ -8,18 +8,19 @@ import subprocess
 from collections import namedtuple
 from pathlib import Path
 
-from program import AT, METER, OLDER, RECEIPT, VEND, WAIT, change, prepare, query, sell_words
-from shared import FORMAT
+from program import (AT, FAR_BASE, KEY, METER, RECEIPT, SPENT, VEND, WAIT, change, prepare, query,
+                     sell_words)
+from shared import FORMAT, back_to, same, wrong
 
 # No file grows beyond so many bytes here. An output that is to take some bytes begins that far below.
 LIMIT = 1 << 30
 # An output is cut after each of its bytes, or at so many places where it is longer.
 PLACES = 120
 # The words of a trial, up to its amounts.
-TRIAL = ["trial", "--base", "2014", "--key", "0" * 16, "--at", AT]
+TRIAL = ["trial", "--base", "2014", "--key", KEY, "--at", AT]
 TOKEN = "00072057602627981690"
 # Words that need no office: what they print is cut, and what they tell on the error output.
-PRINTED = [[*TRIAL, "1", "1"], [*TRIAL, "1", "16385"], ["meter", "--key", "0" * 16, TOKEN, TOKEN, "x"],
+PRINTED = [[*TRIAL, "1", "1"], [*TRIAL, "1", "16385"], ["meter", "--key", KEY, TOKEN, TOKEN, "x"],
            ["quote", ":1", "0", "100000000"], ["quote", "--help"], ["help", "base"], ["selfcheck"]]
 TOLD = [[*TRIAL, "1", "16385"], ["quote", ":100", "0", "9"], ["quote", ":100", "0", "0"],
         ["quote", ":100"]]
@@ -59,11 +60,6 @@ def run(folder, words, room=LIMIT, errors_room=LIMIT):
             os.close(file)
 
 
-def same(words, ran, expected):
-    if ran != expected:
-        raise SystemExit(f"wrong: {words}: {ran}\nexpected {expected}")
-
-
 def places_of(text):
     """How many bytes of a text are taken: each number of them, or some where it is long."""
     return range(0, len(text), 1 + len(text) // (PLACES + 1))
@@ -73,10 +69,10 @@ def cut_output(folder, words):
     """The output is cut after each of its bytes: a beginning comes, all errors, and the status 1."""
     whole = run(folder, words)
     if not whole.output:
-        raise SystemExit(f"wrong: {words} print nothing")
+        wrong(f"{words} print nothing")
     places = places_of(whole.output)
     for room in places:
-        same(words, run(folder, words, room), Ran(1, whole.output[:room], whole.errors))
+        same(run(folder, words, room), Ran(1, whole.output[:room], whole.errors), words)
     return len(places)
 
 
@@ -84,9 +80,9 @@ def cut_errors(folder, words, errors=None):
     """The error output is cut after each of its bytes: the rest is as before."""
     whole = run(folder, words)
     if not whole.errors or errors not in (None, whole.errors):
-        raise SystemExit(f"wrong: {words}: {whole}\nexpected the errors {errors}")
+        wrong(f"{words}: {whole}\nexpected the errors {errors}")
     for room in (places := places_of(whole.errors)):
-        same(words, run(folder, words, errors_room=room), whole._replace(errors=whole.errors[:room]))
+        same(run(folder, words, errors_room=room), whole._replace(errors=whole.errors[:room]), words)
     return len(places)
 
 
@@ -94,7 +90,7 @@ def cut_reports(folder):
     """The receipt and the reports of an office with a sale, and what is told of words that are refused."""
     file = folder / "papers.db"
     prepare(file)
-    same("the sale", run(folder, sell_words(file, "A-1")), Ran(0, RECEIPT, b""))
+    same(run(folder, sell_words(file, "A-1")), Ran(0, RECEIPT, b""), "the sale")
     at = ["--at", AT, "--file", str(file)]
     report = ["report", "--file", str(file), "--kind"]
     count = sum(cut_output(folder, [*report, kind]) for kind in ("receipt", "shift", "sales", "totals"))
@@ -111,13 +107,13 @@ def cut_reports(folder):
         (["base", *at, "--meter", "1", "--base", "2014"], b"bad word\n"),
     ]
     count += sum(cut_errors(folder, words, errors) for words, errors in refused)
-    same("the sale after all", run(folder, sell_words(file, "A-1")), Ran(0, RECEIPT, b""))
+    same(run(folder, sell_words(file, "A-1")), Ran(0, RECEIPT, b""), "the sale after all")
     return count
 
 
 def cut_once(folder, words, printed, room):
     """What stands by then is done, whether its answer is taken or not."""
-    same(words, run(folder, words, room), Ran(1, printed[:room], b""))
+    same(run(folder, words, room), Ran(1, printed[:room], b""), words)
 
 
 def cut_sales(folder):
@@ -130,12 +126,11 @@ def cut_sales(folder):
         whole = run(folder, words)
         head = f"SALE {room + 1}\nMETER {METER}\nTIME 2014-01-01T00:00:30Z\nKWH 0.1\n".encode()
         if whole.status or whole.errors or not whole.output.startswith(head):
-            raise SystemExit(f"wrong: {words}: {whole}")
-        same(words, cut, Ran(1, whole.output[:room], b""))
+            wrong(f"{words}: {whole}")
+        same(cut, Ran(1, whole.output[:room], b""), words)
     count = len(RECEIPT)
     totals = f"shift 1 sales {count} tenths {count} cash {10 * count}\n".encode()
-    same("the totals", run(folder, ["report", "--file", str(file), "--kind", "totals"]),
-         Ran(0, totals, b""))
+    same(run(folder, ["report", "--file", str(file), "--kind", "totals"]), Ran(0, totals, b""), "the totals")
     return count
 
 
@@ -148,20 +143,20 @@ def cut_answers(folder):
     for room in range(8):
         printed = f"shift {room + 2}\n".encode()
         cut_once(folder, [*shift, "open"], printed, room)
-        same("open", run(folder, [*shift, "open"]), Ran(1, b"", b"refused 3 ShiftOpen\n"))
+        same(run(folder, [*shift, "open"]), Ran(1, b"", b"refused 3 ShiftOpen\n"), "open")
         cut_once(folder, [*shift, "close"], printed, room)
-        same("close", run(folder, [*shift, "close"]), Ran(1, b"", b"refused 2 NoShift\n"))
+        same(run(folder, [*shift, "close"]), Ran(1, b"", b"refused 2 NoShift\n"), "close")
         (folder / "next.csv").write_text(f"name,steps\nt{room},:100\n")
         cut_once(folder, ["import", *at, "tariffs", "next.csv"], b"added 1\n", room)
-        same("import", run(folder, ["import", *at, "tariffs", "next.csv"]), Ran(0, b"added 0\n", b""))
-    meters = ["00000000000", "20000000008", "30000000007", "79927398713", "10000000017"]
-    rows = "".join(f"{meter},1993,flat,{'0' * 16}\n" for meter in meters)
+        same(run(folder, ["import", *at, "tariffs", "next.csv"]), Ran(0, b"added 0\n", b""), "import")
+    meters = ["00000000000", FAR_BASE, SPENT, "79927398713", "10000000017"]
+    rows = "".join(f"{meter},1993,flat,{KEY}\n" for meter in meters)
     (folder / "old.csv").write_text(f"meter,base,tariff,key\n{rows}")
-    same("meters", run(folder, ["import", *at, "meters", "old.csv"]), Ran(0, b"added 5\n", b""))
+    same(run(folder, ["import", *at, "meters", "old.csv"]), Ran(0, b"added 5\n", b""), "meters")
     for room, meter in enumerate(meters):
         move = ["base", *at, "--meter", meter, "--base"]
         cut_once(folder, [*move, "2014"], b"done\n", room)
-        same(move, run(folder, [*move, "1993"]), Ran(1, b"", b"refused 18 NotLater\n"))
+        same(run(folder, [*move, "1993"]), Ran(1, b"", b"refused 18 NotLater\n"), move)
     return 8 * 3 + len(meters)
 
 
@@ -172,11 +167,11 @@ def cut_listening(folder):
     words = ["serve", "--file", str(file), "--listen", "127.0.0.1:0", "--connections", "1"]
     told = b"listening 127.0.0.1:"
     for room in range(len(told) + 1):
-        change(file, OLDER[-1])
-        same(words, run(folder, words, errors_room=room), Ran(1, b"", told[:room]))
+        change(file, back_to(FORMAT - 1))
+        same(run(folder, words, errors_room=room), Ran(1, b"", told[:room]), words)
         # The file alone is the office, which was brought to the format of today.
         Path(f"{file}-wal").unlink(missing_ok=True)
-        same("the format", query(file, "SELECT format FROM about;"), [str(FORMAT)])
+        same(query(file, "SELECT format FROM about;"), [str(FORMAT)], "the format")
     return len(told) + 1
 
 

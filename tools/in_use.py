@@ -1,9 +1,8 @@
 """Commands whose file another program has: a part of tools/check_program. It is no script of its own."""
-import re
-import socket
 import subprocess
 import time
 
+from desk_client import Desk
 from program import VEND, WAIT, expect, is_sound, prepare, query, sell_words, vend
 from shared import FORMAT
 
@@ -19,31 +18,6 @@ def begun(words):
 def ended(process):
     out, err = process.communicate(timeout=WAIT)
     return subprocess.CompletedProcess(process.args, process.returncode, out, err)
-
-
-class Desk:
-    """`serve` for one connection, which has the file until it ends."""
-
-    def __init__(self, file):
-        words = ["serve", "--file", str(file), "--listen", "127.0.0.1:0", "--connections", "1"]
-        self.process = begun(words)
-        line = self.process.stderr.readline()
-        told = re.fullmatch(rb"listening 127\.0\.0\.1:([0-9]+)\n", line)
-        if not told:
-            self.process.kill()
-            raise SystemExit(f"wrong: serve began with {line}")
-        self.port = int(told[1])
-
-    def __enter__(self):
-        return self
-
-    def __exit__(self, *_):
-        self.process.kill()
-        self.process.communicate()
-
-    def finish(self):
-        socket.create_connection(("127.0.0.1", self.port), timeout=WAIT).close()
-        expect(ended(self.process), 0, b"", b"")
 
 
 def check_together(folder):
@@ -89,7 +63,7 @@ def check_held(folder):
     prepare(file)
     report = ["report", "--file", str(file), "--kind", "totals"]
     for number, is_killed in enumerate((False, True), start=1):
-        with Desk(file) as desk:
+        with Desk(file, 1) as desk:
             for words in (sell_words(file, f"H-{number}"), report, ["audit", "--file", str(file)]):
                 expect(vend(*words, "--wait", "0"), 1, b"", b"open 3 Store\n")
             sale = begun([*sell_words(file, f"H-{number}"), "--wait", "600"])
@@ -110,7 +84,7 @@ def check_given_up(folder):
     """A command gives up after as many seconds as it was told, and has changed nothing."""
     file = folder / "given_up.db"
     prepare(file)
-    with Desk(file) as desk:
+    with Desk(file, 1) as desk:
         before = file.read_bytes()
         for wait in (1, 3):
             start = time.monotonic()

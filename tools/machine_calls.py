@@ -3,17 +3,14 @@ and which salt it gives the log of a file: a part of tools/check_program. It is 
 watches; cc builds it."""
 import fcntl
 import http.client
-import json
 import os
-import re
-import resource
-import signal
 import subprocess
 import time
 from pathlib import Path
 
+from desk_client import Desk, order
 from file_names import program
-from program import AT, METER, TOP, WAIT, expect, prepare, sell_words
+from program import AT, KEY, METER, TOP, WAIT, expect, no_growth, prepare, sell_words
 
 DRAWN = bytes(range(16))
 # The toolchain draws a key of its own first, when it opens a file.
@@ -24,7 +21,6 @@ SALTS = 8
 IN_64_BITS = 2**64 - 1
 HAS = ["socket", "bind", "listen"]
 SELFCHECK = HAS + ["socket", "connect", "accept"]
-KEY = "0" * 16
 TOKEN = "00072057602627981690"
 # More than the pieces after which the desk pauses for a client that sends little at a time.
 MANY = 600
@@ -181,7 +177,7 @@ def check_pauses(folder, watcher):
     file = folder / "pauses.db"
     prepare(file)
     with Served(watcher, file, 1) as served:
-        client = served.connect()
+        client = served.client()
         for _ in range(MANY):
             asked(client, "GET", "/sales/1")
         client.close()
@@ -190,7 +186,7 @@ def check_pauses(folder, watcher):
     if found != HAS + ["accept"]:
         raise SystemExit(f"wrong: for whole messages serve asked of the system {found}")
     with Served(watcher, file, 1) as served:
-        client = served.connect()
+        client = served.client()
         client.connect()
         for byte in f"GET /sales/1 HTTP/1.1\r\nHost: d\r\nX: {'x' * MANY}\r\n\r\n".encode():
             client.sock.send(bytes([byte]))
@@ -233,42 +229,23 @@ def check_waits(folder, watcher):
             raise SystemExit(f"wrong: for a file that is not there a report asked {watcher.calls()}")
 
 
-class Served:
+class Served(Desk):
     """`serve` for so many connections, watched."""
 
     def __init__(self, watcher, file, connections, **options):
-        words = ["serve", "--file", str(file), "--listen", "127.0.0.1:0",
-                 "--connections", str(connections)]
-        self.process = subprocess.Popen([program(), *words], stderr=subprocess.PIPE,
-                                        stdout=subprocess.PIPE, **watcher.options(), **options)
-        line = self.process.stderr.readline()
-        told = re.fullmatch(rb"listening 127\.0\.0\.1:([0-9]+)\n", line)
-        if not told:
-            self.process.kill()
-            raise SystemExit(f"wrong: serve began with {line}")
-        self.port = int(told[1])
+        super().__init__(file, connections, program=program(), **watcher.options(), **options)
 
-    def __enter__(self):
-        return self
-
-    def __exit__(self, *_):
-        self.process.kill()
-        self.process.communicate()
-
-    def connect(self):
+    def client(self):
+        """A connection of http.client."""
+        self.used += 1
         return http.client.HTTPConnection("127.0.0.1", self.port, timeout=WAIT)
 
     def ask(self, method, target, body=None):
         """The status and the text of the reply, on a connection of its own."""
-        client = self.connect()
+        client = self.client()
         found = asked(client, method, target, body)
         client.close()
         return found
-
-    def finish(self, said=b""):
-        out, err = self.process.communicate(timeout=WAIT)
-        if (self.process.returncode, out, err) != (0, b"", said):
-            raise SystemExit(f"wrong: serve ended with {self.process.returncode}, {out}, {err}")
 
 
 def asked(client, method, target, body=None):
@@ -277,24 +254,14 @@ def asked(client, method, target, body=None):
     return reply.status, reply.read()
 
 
-def order(number):
-    return json.dumps({"meter": METER, "operator": "ann", "ref": f"S-{number}", "tender": 10})
-
-
 def check_opened_again(folder, watcher):
     """A file that cannot grow is opened again for the next connection, with a salt that is drawn anew."""
     file = folder / "again.db"
     prepare(file)
-    size = max(Path(f"{file}{end}").stat().st_size for end in ("", "-wal"))
-
-    def no_growth():
-        signal.signal(signal.SIGXFSZ, signal.SIG_IGN)
-        resource.setrlimit(resource.RLIMIT_FSIZE, (size + 400000, size + 400000))
-
-    with Served(watcher, file, 2, preexec_fn=no_growth) as served:
-        client = served.connect()
+    with Served(watcher, file, 2, preexec_fn=no_growth(file, 400000)) as served:
+        client = served.client()
         for number in range(1000):
-            status, text = asked(client, "POST", "/sales", order(number))
+            status, text = asked(client, "POST", "/sales", order(f"S-{number}"))
             if status != 200:
                 break
         if status != 503 or b'"refusal":16' not in text:

@@ -3,14 +3,14 @@ tools/check_program. It is no script of its own."""
 from importlib.machinery import SourceFileLoader
 from importlib.util import module_from_spec, spec_from_loader
 
-from cut_outputs import Ran, limited, run, same
+from cut_outputs import Ran, limited, run
 from long_work import check_told
-from shared import FORMAT
-from program import (AT, METER, OLDER, RECEIPT, TOP, change, expect, is_sound, prepare, query,
-                     sell_words, vend)
+from program import (AT, METER, OTHER_METER, RECEIPT, TOP, change, expect, is_sound, prepare, query, sell_words,
+                     vend)
+from shared import FORMAT, back_to, same
 
 SALES, SHIFTS = 2001, 300
-METERS = ("10000000009", METER)
+METERS = (OTHER_METER, METER)
 
 
 def oracle():
@@ -126,11 +126,11 @@ def check_many(folder):
     check_told([*of, "sales"], whole, SALES)
     with limited():
         for room in (40_000, 100_000, len(whole) - 1):
-            same(room, run(folder, [*of, "sales"], room), Ran(1, whole[:room], b""))
+            same(run(folder, [*of, "sales"], room), Ran(1, whole[:room], b""), room)
     audit = ["audit", "--file", str(file)]
     expect(vend(*audit), 0, sound(FORMAT, 2, SHIFTS + 1, SALES), b"")
-    for number, older in enumerate(OLDER, start=1):
-        change(file, older)
+    for number in range(1, FORMAT):
+        change(file, back_to(number))
         expect(vend(*audit), 0, sound(number, 2, SHIFTS + 1, SALES), b"")
         expect(vend(*of, "sales"), 0, whole, b"")
         expect(vend(*of, "totals"), 0, totals, b"")

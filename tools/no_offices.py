@@ -3,8 +3,8 @@ its own."""
 import shutil
 import subprocess
 
-from program import OLDER, RECEIPT, change, expect, prepare, query, sell_words, vend
-from shared import FORMAT
+from program import RECEIPT, change, expect, prepare, query, sell_words, vend
+from shared import FORMAT, back_to, wrong
 
 NO_OFFICE = (1, b"", b"open 1 NotAnOffice\n")
 AUDIT = "CREATE TABLE audit (sale INTEGER REFERENCES sales (number));"
@@ -88,9 +88,9 @@ def is_refused(file, text):
                   sell_words(file, "A-2")):
         ran = vend(*words)
         if (ran.returncode, ran.stdout, ran.stderr) != NO_OFFICE:
-            raise SystemExit(f"wrong: {text} {ran}\nexpected {NO_OFFICE}")
+            wrong(f"{text} {ran}\nexpected {NO_OFFICE}")
     if rows_of(file) != before:
-        raise SystemExit(f"wrong: {text} has changed when it was opened")
+        wrong(f"{text} has changed when it was opened")
 
 
 def office_of(folder, number):
@@ -98,7 +98,7 @@ def office_of(folder, number):
     file = folder / f"format-{number}.db"
     prepare(file)
     expect(vend(*sell_words(file, "A-1")), 0, RECEIPT, b"")
-    change(file, OLDER[number - 1] if number < FORMAT else "")
+    change(file, back_to(number))
     change(file, "PRAGMA wal_checkpoint(TRUNCATE);")
     return file
 
@@ -112,7 +112,7 @@ def check_beside(folder):
     expect(vend(*sell_words(file, "A-1")), 0, RECEIPT, b"")
     found = [query(file, f"SELECT * FROM {name};") for name in ("before", "after", "seen", "counted")]
     if found != [["7|a"], ["8"], ["1"], []]:
-        raise SystemExit(f"wrong: beside an office are {found}")
+        wrong(f"beside an office are {found}")
 
 
 def check_no_offices(folder):

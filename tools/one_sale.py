@@ -5,7 +5,9 @@ import signal
 import time
 
 from browser import WORDS
-from servers import METER, Plan, said, same, until
+from program import METER
+from servers import Plan, said, until
+from shared import same
 
 
 def check_under_way(counter):

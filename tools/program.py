@@ -1,15 +1,24 @@
-"""Runs of the built program, and the office that is made with it: what the parts of tools/check_program
-share. It is no script of its own."""
+"""Runs of the built program, the office that is made with it, and what its file holds: what the scripts
+that try the program share. It is no script of its own."""
+import contextlib
 import os
+import re
+import resource
 import shutil
+import signal
+import sqlite3
 import subprocess
 import tempfile
 from pathlib import Path
 
+from shared import wrong
+
 TOP = Path(__file__).resolve().parent.parent
 VEND = os.path.abspath(os.environ.get("VEND") or TOP / "vend")
 AT = "1388534430"
-METER = "12345678903"
+METER, OTHER_METER = "12345678903", "10000000009"  # of examples/meters.csv
+FAR_BASE, SPENT, NO_METER = "20000000008", "30000000007", "50000000005"
+KEY = "0" * 16
 RECEIPT = (
     b"SALE 1\nMETER 12345678903\nTIME 2014-01-01T00:00:30Z\nKWH 0.1\nPRICE 10\nTENDER 10\n"
     b"CHANGE 0\nTOKEN 0007 2057 6026 2798 1690\n"
@@ -18,13 +27,6 @@ WAIT = 30  # seconds for one run
 # A disk that is memory, where there is one: it takes hundreds of sales in a second. Programs may not run
 # from it.
 QUICK_DISK = "/dev/shm" if os.access("/dev/shm", os.W_OK) else None
-# By format, from 1 on, what takes the tables back to it.
-OLDER = (
-    "DROP TABLE dated_steps; DROP TABLE meter_bases; DROP TABLE shift_totals;"
-    " DROP TABLE month_tenths; DROP TABLE last_ids; UPDATE about SET format = 1;",
-    "DROP TABLE dated_steps; DROP TABLE meter_bases; UPDATE about SET format = 2;",
-    "DROP TABLE dated_steps; UPDATE about SET format = 3;",
-)
 
 
 def vend(*words, **options):
@@ -34,11 +36,24 @@ def vend(*words, **options):
 
 def expect(ran, status, out=None, err=None):
     """Compares how a run ended, where an output is given that too."""
-    wrong = ran.returncode != status
-    wrong = wrong or (out is not None and ran.stdout != out)
-    wrong = wrong or (err is not None and ran.stderr != err)
-    if wrong:
-        raise SystemExit(f"wrong: {ran}\nexpected status {status}, output {out}, errors {err}")
+    if ran.returncode != status or out not in (None, ran.stdout) or err not in (None, ran.stderr):
+        wrong(f"{ran}\nexpected status {status}, output {out}, errors {err}")
+
+
+def begin_desk(file, connections, listen="127.0.0.1:0", more=(), program=VEND, **options):
+    """A desk over the office in a file, for so many connections: its process, and its port."""
+    words = [program, "serve", "--file", file, "--listen", listen, "--connections", str(connections), *more]
+    # Unbuffered, so that what was not read of its standard error is there to be waited for.
+    process = subprocess.Popen(words, stdout=subprocess.PIPE, stderr=subprocess.PIPE, bufsize=0,
+                               **{"stdin": subprocess.DEVNULL, **options})
+    try:
+        line = process.stderr.readline()
+        told = re.fullmatch(rb"listening 127\.0\.0\.1:([0-9]+)\n", line)
+        return process, int(told[1]) if told else wrong(f"a desk began with {line}")
+    except BaseException:
+        process.kill()
+        process.communicate()
+        raise
 
 
 def sell_words(file, ref, tender="10"):
@@ -46,26 +61,50 @@ def sell_words(file, ref, tender="10"):
             "--tender", tender, "--at", AT]
 
 
-def prepare(file):
-    """An office with a tariff, two meters and an open shift."""
+def prepare(file, at=AT, with_shift=True):
+    """An office with a tariff, two meters and ann's open shift, of a moment or of now."""
+    given = ["--file", str(file), *(["--at", at] if at else [])]
     for kind, rows in (("tariffs", b"added 1\n"), ("meters", b"added 2\n")):
-        csv = str(TOP / "examples" / f"{kind}.csv")
-        expect(vend("import", "--file", str(file), "--at", AT, kind, csv), 0, rows, b"")
-    shift = vend("shift", "--file", str(file), "--operator", "ann", "--at", AT, "open")
-    expect(shift, 0, b"shift 1\n", b"")
+        expect(vend("import", *given, kind, str(TOP / "examples" / f"{kind}.csv")), 0, rows, b"")
+    if with_shift:
+        expect(vend("shift", *given, "--operator", "ann", "open"), 0, b"shift 1\n", b"")
 
 
-def query(file, text):
-    """The rows of a query, asked of a copy: the shell writes to a file that it opens."""
+@contextlib.contextmanager
+def copy_of(file):
+    """A copy of a file and its log, since SQLite may write to a file that it opens."""
     with tempfile.TemporaryDirectory() as folder:
         copy = Path(folder) / "copy.db"
         for end in ("", "-wal"):
             if Path(f"{file}{end}").exists():
                 shutil.copy(f"{file}{end}", f"{copy}{end}")
+        yield copy
+
+
+def query(file, text):
+    """The rows of a query as the shell writes them, asked of a copy."""
+    with copy_of(file) as copy:
         ran = subprocess.run(["sqlite3", copy, text], capture_output=True, text=True)
     if ran.returncode != 0 or ran.stderr:
         raise SystemExit(f"sqlite3 refuses {file}: {ran}")
     return ran.stdout.splitlines()
+
+
+def rows_in(file, text):
+    """The rows of a query as Python's SQLite gives them, asked of a copy."""
+    with copy_of(file) as copy, contextlib.closing(sqlite3.connect(copy)) as base:
+        return base.execute(text).fetchall()
+
+
+def no_growth(file, room):
+    """What keeps a program's files from growing beyond the size of an office's by more than so many bytes."""
+    most = room + max(Path(f"{file}{end}").stat().st_size for end in ("", "-wal")
+                      if Path(f"{file}{end}").exists())
+
+    def limit():
+        signal.signal(signal.SIGXFSZ, signal.SIG_IGN)
+        resource.setrlimit(resource.RLIMIT_FSIZE, (most, most))
+    return limit
 
 
 def is_sound(file):
@@ -77,4 +116,4 @@ def change(file, text):
     """Has the shell change the tables of a file."""
     ran = subprocess.run(["sqlite3", file], input=text, capture_output=True, text=True)
     if ran.returncode or ran.stderr:
-        raise SystemExit(f"wrong: sqlite3 at {file}: {ran}")
+        wrong(f"sqlite3 at {file}: {ran}")

@@ -9,7 +9,9 @@ import ssl
 import subprocess
 import sys
 
-from servers import CASHIER, MANAGER, METER, TOP, VEND, WAIT, same, until, wrong
+from program import METER, TOP, VEND
+from servers import CASHIER, MANAGER, WAIT, until
+from shared import same, wrong
 
 MOST_LINES = 1000  # of HTML, CSS and JavaScript together
 

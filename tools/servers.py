@@ -8,36 +8,22 @@ import http.server
 import json
 import os
 import re
-import shutil
 import signal
 import socket
-import sqlite3
 import ssl
 import subprocess
-import tempfile
 import threading
 import time
-from pathlib import Path
 
-TOP = Path(__file__).resolve().parent.parent
-VEND = os.path.abspath(os.environ.get("VEND") or TOP / "vend")
+from desk_client import all_of
+from program import TOP, begin_desk, rows_in
+from shared import same, wrong
+
 WAIT = 60  # seconds for one condition
 
 NAME = "till.example"
 OTHER_SITE = "other.example"
 CASHIER, MANAGER = ("ann", "cashier-word"), ("maya", "manager-word")
-METER, OTHER_METER = "12345678903", "10000000009"  # of examples/meters.csv
-NO_METER = "50000000005"
-KEY = "0" * 16
-
-
-def wrong(why):
-    raise SystemExit(f"wrong: {why}")
-
-
-def same(found, expected, where):
-    if found != expected:
-        wrong(f"{where}: found {found}\nexpected {expected}")
 
 
 def until(condition, what, seconds=WAIT):
@@ -50,7 +36,7 @@ def until(condition, what, seconds=WAIT):
     return wrong(f"{what() if callable(what) else what}: not within {seconds} seconds")
 
 
-class Desk:
+class OfficeDesk:
     """A desk over the office in a file, which is started and killed at will."""
 
     def __init__(self, file):
@@ -59,13 +45,7 @@ class Desk:
         self.port = 0
 
     def start(self):
-        words = [VEND, "serve", "--file", str(self.file), "--listen", "127.0.0.1:0",
-                 "--connections", "100000"]
-        self.process = subprocess.Popen(words, stdin=subprocess.DEVNULL, stdout=subprocess.DEVNULL,
-                                        stderr=subprocess.PIPE)
-        line = self.process.stderr.readline()
-        told = re.fullmatch(rb"listening 127\.0\.0\.1:([0-9]+)\n", line)
-        self.port = int(told[1]) if told else wrong(f"a desk began with {line}")
+        self.process, self.port = begin_desk(self.file, 100000)
 
     def kill(self):
         if self.process:
@@ -85,24 +65,8 @@ class Desk:
         return int(text.split()[1]), text.partition(b"\r\n\r\n")[2].decode()
 
     def sales(self):
-        """The operator, ref, meter and tender of each sale, by number: asked of a copy."""
-        with tempfile.TemporaryDirectory() as folder:
-            copy = Path(folder) / "copy.db"
-            for end in ("", "-wal"):
-                if Path(f"{self.file}{end}").exists():
-                    shutil.copy(f"{self.file}{end}", f"{copy}{end}")
-            with contextlib.closing(sqlite3.connect(copy)) as connection:
-                return connection.execute(
-                    "SELECT operator, ref, meter, tender FROM sales ORDER BY number;").fetchall()
-
-
-def all_of(client):
-    """All bytes until the other side ends."""
-    text = b""
-    with contextlib.suppress(OSError):
-        while piece := client.recv(65536):
-            text += piece
-    return text
+        """The operator, ref, meter and tender of each sale, by number."""
+        return rows_in(self.file, "SELECT operator, ref, meter, tender FROM sales ORDER BY number;")
 
 
 def message_from(client):

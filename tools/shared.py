@@ -1,10 +1,11 @@
-"""What the scripts beside this file share: the crates of the repository, copies of them in which the
-kit works, the tables of an office's file, and what a machine has to have installed. It is no script
-of its own."""
+"""What the scripts beside this file share: how they compare and end, the crates of the repository, copies
+of them in which the kit works, the tables of an office's file and of the pages, and what a machine has to
+have installed. It is no script of its own."""
 import importlib.util
 import os
 import re
 import shutil
+import signal
 import subprocess
 import sys
 
@@ -28,6 +29,53 @@ FORMAT = max(NEW_TABLES)
 def tables_of(number):
     """The tables that a file of a format has."""
     return [table for since, tables in NEW_TABLES.items() if since <= number for table in tables]
+
+
+def back_to(number):
+    """The statements that take the tables of a file back to a format."""
+    newer = tables_of(FORMAT)[len(tables_of(number)):]
+    return " ".join([*(f"DROP TABLE {table};" for table in reversed(newer)),
+                     f"UPDATE about SET format = {number};"])
+
+
+def wrong(why):
+    raise SystemExit(f"wrong: {why}")
+
+
+def same(found, expected, where):
+    if found != expected:
+        wrong(f"{where}: found {found}\nexpected {expected}")
+
+
+def end_by_signals(seconds=0):
+    """Has a signal end the script as an error does, so that what it began is ended too. Where it sets
+    itself an alarm, it says after how many seconds."""
+    def give_up(number, _):
+        late = f", after {seconds} seconds" if number == signal.SIGALRM else ""
+        wrong(f"ended by signal {number}{late}")
+
+    for number in (signal.SIGALRM, signal.SIGTERM, signal.SIGHUP):
+        signal.signal(number, give_up)
+
+
+def rows_of_page(page, *columns):
+    """The rows of the tables of a page that have these columns, each as its cells."""
+    found = []
+    with open(f"{TOP}/docs/{page}", encoding="utf-8") as file:
+        tables = re.findall(r"(?:^\|.*\n)+", file.read(), re.MULTILINE)
+    for table in tables:
+        lines = [[cell.strip() for cell in re.split(r"(?<!\\)\|", line)[1:-1]]
+                 for line in table.splitlines()]
+        found += lines[2:] if lines[0] == [*columns] else []
+    return found or wrong(f"docs/{page} has no table {columns}")
+
+
+def quoted(cell):
+    return re.findall(r"`([^`]*)`", cell)
+
+
+def numbers(text):
+    return [int(number) for number in re.findall(r"\d+", text)]
 
 
 def lacking(*names):

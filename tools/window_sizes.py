@@ -3,7 +3,9 @@ the page says is in it. It is no script of its own."""
 import json
 import time
 
-from servers import KEY, METER, NO_METER, OTHER_METER, Plan, said, same, until
+from program import KEY, METER, NO_METER, OTHER_METER
+from servers import Plan, said, until
+from shared import same
 
 # Phones, a tablet, and the screen of a desk: width and height in pixels.
 SIZES = ((320, 568), (360, 640), (412, 732), (800, 600), (1280, 800))
