@@ -168,49 +168,17 @@ def errors_of_page():
     return errors
 
 
-def check_routes_of_page(document):
-    """The routes of docs/DESK.md are those of the description: what is sent, and the good reply."""
-    open_ends = lambda target: re.sub(r"<\w>|\{\w+\}", "*", target)
-    paths = {open_ends(path): path for path in document["paths"]}
-    rows = rows_of_page("DESK.md", "Method and target", "Body", "Request", "Good reply")
-    same(sorted(open_ends(quoted(row[0])[0]) for row in rows), sorted(paths), "docs/DESK.md: routes")
-    for target, sent, _, good in rows:
-        path = paths[open_ends(quoted(target)[0])]
-        method, operation = operation_at(document, path)
-        same(target.split()[0], method, path)
-        asked = resolve(document, operation.get("requestBody", {"content": {}}))["content"]
-        schema = resolve(document, asked.get("application/json", {}).get("schema", {}))
-        same(sorted(quoted(sent)), sorted(schema.get("required", [])), f"docs/DESK.md: {path}")
-        (media, content), = resolve(document, operation["responses"]["200"])["content"].items()
-        same(media == "text/plain", "text/plain" in quoted(good), f"docs/DESK.md: {path}")
-        for text in quoted(good):
-            why = text != media and why_not(document, content["schema"], json.loads(text))
-            if why:
-                wrong(f"docs/DESK.md: {path}: {why}")
-
-
 def check_tables(document):
-    """What the tables of docs/DESK.md say of statuses, words, numbers, routes and replies is what the
-    desk replied in all parts before, and what docs/openapi.yaml describes."""
+    """What the tables of docs/DESK.md say of statuses, words and numbers is what the desk replied in
+    all parts before, and what docs/openapi.yaml describes."""
     errors = errors_of_page()
     came = {(status, error_of(body, fields["Content-Type"])) for *_, status, fields, body in SEEN}
     came = {it for it in came if it[1]}
     same(came, {it for it in errors if it[1][0] not in NOT_HERE}, "docs/DESK.md: what came")
     described = {(status, error) for _, status, error in errors_described(document) if error}
     same(described, errors, "docs/openapi.yaml, beside docs/DESK.md")
-    check_routes_of_page(document)
-    bodies = dict(rows_of_page("DESK.md", "Reply", "Body"))
-    sale = document["components"]["schemas"]["Sale"]
-    members, _, kinds = bodies.pop("a sale").partition(";")
-    same(quoted(members), sorted(sale["required"]), "docs/DESK.md: a sale")
-    texts = [name for name, schema in sale["properties"].items()
-             if resolve(document, schema)["type"] == "string"]
-    same(sorted(quoted(kinds)), sorted(texts), "docs/DESK.md: the texts of a sale")
-    for name, body in bodies.items():
-        if error_of(quoted(body)[0], "application/json") not in {error for _, error in errors}:
-            wrong(f"docs/DESK.md: {name}: {body}")
     causes = {re.sub(r"\d+", "k", json.loads(body)["cause"])
               for *_, body in SEEN if b'"cause"' in body}
     same(causes, {quoted(cause)[0] for cause, _ in rows_of_page("COMMANDS.md", "Cause", "Why")}, "causes of rows")
     print(f"docs/DESK.md: its tables have the {len(errors)} statuses and errors that came and that "
-          "docs/openapi.yaml has, and its routes")
+          "docs/openapi.yaml has")
