@@ -27,32 +27,25 @@ impl<S: Alter, T: BlockTransform> Books<S, T> {
     pub fn sales_after(&mut self, number: u32, limit: u32) -> Result<Vec<Sale>, Refusal>
         requires some { 1 ≤ limit }
         requires few { limit ≤ 1000 }
-        ensures given { HasCleanDisk (seen S.Store T.forwards self.new).state
-            → (life : Life) → Represents life (seen S.Store T.forwards self.old)
+        ensures given { HasCleanDisk (seen self.new).state → (life : Life)
+            → Represents life (seen self.old)
             → IfOk result (λ sales. sales.items ≡ sales_above (present life) number limit) }
-        ensures keeps { (life : Life) → Represents life (seen S.Store T.forwards self.old)
-            → Represents life (seen S.Store T.forwards self.new) }
-        ensures tables { BooksHaveTables (seen S.Store T.forwards self.old)
-            → BooksHaveTables (seen S.Store T.forwards self.new) }
-        ensures others { HasCleanDisk (seen S.Store T.forwards self.new).state
-            → BooksHaveTables (seen S.Store T.forwards self.old)
-            → LeavesOthers (seen S.Store T.forwards self.old).state
-            (seen S.Store T.forwards self.new).state }
-        ensures nothing { HasCleanDisk (seen S.Store T.forwards self.new).state
-            → BooksHaveTables (seen S.Store T.forwards self.old)
-            → ChangesNothing (seen S.Store T.forwards self.old).state
-            (seen S.Store T.forwards self.new).state }
-        ensures clean { HasCleanDisk (seen S.Store T.forwards self.new).state
-            → HasCleanDisk (seen S.Store T.forwards self.old).state }
+        ensures keeps { (life : Life) → Represents life (seen self.old)
+            → Represents life (seen self.new) }
+        ensures tables { BooksHaveTables (seen self.old) → BooksHaveTables (seen self.new) }
+        ensures others { HasCleanDisk (seen self.new).state → BooksHaveTables (seen self.old)
+            → LeavesOthers (seen self.old).state (seen self.new).state }
+        ensures nothing { HasCleanDisk (seen self.new).state → BooksHaveTables (seen self.old)
+            → ChangesNothing (seen self.old).state (seen self.new).state }
+        ensures clean { HasCleanDisk (seen self.new).state → HasCleanDisk (seen self.old).state }
         ensures stopped { (result ≡ Err Refusal.Stopped) ↔ (self.old.stopped ≡ true) }
         ensures stops { (self.new.stopped ≡ true)
             ↔ ((result ≡ Err Refusal.Store) ⊎ (result ≡ Err Refusal.Stopped)) }
         ensures refusals { IfErr result (λ refusal. (refusal ≡ Refusal.Memory)
             ⊎ ((refusal ≡ Refusal.Store) ⊎ (refusal ≡ Refusal.Stopped))) }
-        ensures failures { HasCleanDisk (seen S.Store T.forwards self.new).state
-            → BooksHaveTables (seen S.Store T.forwards self.old) → self.old.stopped ≡ false
-            → IfErr result (λ refusal. IsToldOfRead refusal
-            (seen S.Store T.forwards self.old).state (seen S.Store T.forwards self.new).state) }
+        ensures failures { HasCleanDisk (seen self.new).state → BooksHaveTables (seen self.old)
+            → self.old.stopped ≡ false → IfErr result
+            (λ refusal. IsToldOfRead refusal (seen self.old).state (seen self.new).state) }
         ensures idle { self.old.stopped ≡ true → self.new ≡ self.old }
     {
         if self.stopped {
@@ -67,11 +60,11 @@ impl<S: Alter, T: BlockTransform> Books<S, T> {
     ///
     /// After a failure of the store it may be too small by one.
     pub fn next_number(&self) -> u64
-        ensures exact { HasCleanDisk (seen S.Store T.forwards self.now).state
-            → (life : Life) → Represents life (seen S.Store T.forwards self.now)
+        ensures exact { HasCleanDisk (seen self.now).state → (life : Life)
+            → Represents life (seen self.now)
             → self.now.stopped ≡ false → result ≡ length (present life).sales + 1 }
-        ensures near { HasCleanDisk (seen S.Store T.forwards self.now).state
-            → (life : Life) → Represents life (seen S.Store T.forwards self.now)
+        ensures near { HasCleanDisk (seen self.now).state → (life : Life)
+            → Represents life (seen self.now)
             → (o : Office) → MayLeave life o → IsNextOrOneBefore o result }
     {
         self.next_number

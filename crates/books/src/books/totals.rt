@@ -27,36 +27,30 @@ impl<S: Alter, T: BlockTransform> Books<S, T> {
     /// `NoSuchShift`; `Memory`; `Stopped`; and `Store`, after which the books are stopped too. It
     /// puts nothing in doubt.
     pub fn shift_totals(&mut self, number: u32) -> Result<Totals, Refusal>
-        ensures given { HasCleanDisk (seen S.Store T.forwards self.new).state
-            → (life : Life) → Represents life (seen S.Store T.forwards self.old)
+        ensures given { HasCleanDisk (seen self.new).state → (life : Life)
+            → Represents life (seen self.old)
             → IfOk result (λ totals. shift_totals (present life) number ≡ Some totals) }
-        ensures none { HasCleanDisk (seen S.Store T.forwards self.new).state
-            → (life : Life) → Represents life (seen S.Store T.forwards self.old)
+        ensures none { HasCleanDisk (seen self.new).state → (life : Life)
+            → Represents life (seen self.old)
             → result ≡ Err Refusal.NoSuchShift → shift_totals (present life) number ≡ None }
-        ensures keeps { (life : Life) → Represents life (seen S.Store T.forwards self.old)
-            → Represents life (seen S.Store T.forwards self.new) }
-        ensures tables { BooksHaveTables (seen S.Store T.forwards self.old)
-            → BooksHaveTables (seen S.Store T.forwards self.new) }
-        ensures others { HasCleanDisk (seen S.Store T.forwards self.new).state
-            → BooksHaveTables (seen S.Store T.forwards self.old)
-            → LeavesOthers (seen S.Store T.forwards self.old).state
-            (seen S.Store T.forwards self.new).state }
-        ensures nothing { HasCleanDisk (seen S.Store T.forwards self.new).state
-            → BooksHaveTables (seen S.Store T.forwards self.old)
-            → ChangesNothing (seen S.Store T.forwards self.old).state
-            (seen S.Store T.forwards self.new).state }
-        ensures clean { HasCleanDisk (seen S.Store T.forwards self.new).state
-            → HasCleanDisk (seen S.Store T.forwards self.old).state }
+        ensures keeps { (life : Life) → Represents life (seen self.old)
+            → Represents life (seen self.new) }
+        ensures tables { BooksHaveTables (seen self.old) → BooksHaveTables (seen self.new) }
+        ensures others { HasCleanDisk (seen self.new).state → BooksHaveTables (seen self.old)
+            → LeavesOthers (seen self.old).state (seen self.new).state }
+        ensures nothing { HasCleanDisk (seen self.new).state → BooksHaveTables (seen self.old)
+            → ChangesNothing (seen self.old).state (seen self.new).state }
+        ensures clean { HasCleanDisk (seen self.new).state → HasCleanDisk (seen self.old).state }
         ensures stopped { (result ≡ Err Refusal.Stopped) ↔ (self.old.stopped ≡ true) }
         ensures stops { (self.new.stopped ≡ true)
             ↔ ((result ≡ Err Refusal.Store) ⊎ (result ≡ Err Refusal.Stopped)) }
         ensures refusals { IfErr result (λ refusal. (refusal ≡ Refusal.NoSuchShift)
             ⊎ ((refusal ≡ Refusal.Memory) ⊎ ((refusal ≡ Refusal.Store)
             ⊎ (refusal ≡ Refusal.Stopped)))) }
-        ensures failures { HasCleanDisk (seen S.Store T.forwards self.new).state
-            → BooksHaveTables (seen S.Store T.forwards self.old) → self.old.stopped ≡ false
-            → IfErr result (λ refusal. (refusal ≡ Refusal.NoSuchShift) ⊎ IsToldOfRead refusal
-            (seen S.Store T.forwards self.old).state (seen S.Store T.forwards self.new).state) }
+        ensures failures { HasCleanDisk (seen self.new).state → BooksHaveTables (seen self.old)
+            → self.old.stopped ≡ false
+            → IfErr result (λ refusal. (refusal ≡ Refusal.NoSuchShift)
+            ⊎ IsToldOfRead refusal (seen self.old).state (seen self.new).state) }
         ensures idle { self.old.stopped ≡ true → self.new ≡ self.old }
     {
         if self.stopped {

@@ -8,7 +8,7 @@ use Rattle.books.proofs.books.Books.shift_totals.Goals as goal
 
 pub returns-clause-keeps : goal.returns-clause-keeps
 returns-clause-keeps g c life keeps clean =
-    let old = seen g.S.Store g.T.BlockTransform.forwards c.args.self.now in
+    let old = seen c.args.self.now in
     let new = record old { state = state g.S.Store c.totals-totals.new.conn; stopped = c.has_failed-self.result } in
     let kept = keeps (c.totals-totals.ensures.clean clean) in
     let here = kept.running c.if-self.false in
