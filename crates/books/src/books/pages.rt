@@ -1,15 +1,12 @@
 //! The sales, a page at a time, and the number of the next one.
 
-ghost use Rattle.std.specs.Prelude.{◌≡◌, ◌≤◌, ◌+◌, ◌⊎◌, ◌↔◌, Err, IfErr, IfOk, false, length, true};
+ghost use Rattle.std.specs.Prelude.{◌≡◌, ◌≤◌, ◌+◌, IfOk, false, length, true};
 ghost use Rattle.sqlite.specs.State.{HasCleanDisk};
-ghost use Rattle.sqlite.specs.Held.{state};
 ghost use Rattle.vend_core.specs.Law.Life.{Life, MayLeave, present};
 ghost use Rattle.vend_core.specs.Office.{Office};
 ghost use Rattle.vend_core.specs.Law.Store.{sales_above};
-ghost use Rattle.book_states.specs.Failing.{IsToldOfRead};
-ghost use Rattle.books.specs.Keeps.{BooksHaveTables, IsNextOrOneBefore, Represents, seen};
-ghost use Rattle.book_states.specs.Others.{LeavesOthers};
-ghost use Rattle.book_states.specs.Same.{ChangesNothing};
+ghost use Rattle.books.specs.Keeps.{IsNextOrOneBefore, Represents, seen};
+ghost use Rattle.books.specs.Reads.{ReadsBooks};
 
 use super::Books;
 use book_facts::page;
@@ -30,22 +27,7 @@ impl<S: Alter, T: BlockTransform> Books<S, T> {
         ensures given { HasCleanDisk (seen self.new).state → (life : Life)
             → Represents life (seen self.old)
             → IfOk result (λ sales. sales.items ≡ sales_above (present life) number limit) }
-        ensures keeps { (life : Life) → Represents life (seen self.old)
-            → Represents life (seen self.new) }
-        ensures tables { BooksHaveTables (seen self.old) → BooksHaveTables (seen self.new) }
-        ensures others { HasCleanDisk (seen self.new).state → BooksHaveTables (seen self.old)
-            → LeavesOthers (seen self.old).state (seen self.new).state }
-        ensures nothing { HasCleanDisk (seen self.new).state → BooksHaveTables (seen self.old)
-            → ChangesNothing (seen self.old).state (seen self.new).state }
-        ensures clean { HasCleanDisk (seen self.new).state → HasCleanDisk (seen self.old).state }
-        ensures stopped { (result ≡ Err Refusal.Stopped) ↔ (self.old.stopped ≡ true) }
-        ensures stops { (self.new.stopped ≡ true)
-            ↔ ((result ≡ Err Refusal.Store) ⊎ (result ≡ Err Refusal.Stopped)) }
-        ensures refusals { IfErr result (λ refusal. (refusal ≡ Refusal.Memory)
-            ⊎ ((refusal ≡ Refusal.Store) ⊎ (refusal ≡ Refusal.Stopped))) }
-        ensures failures { HasCleanDisk (seen self.new).state → BooksHaveTables (seen self.old)
-            → self.old.stopped ≡ false → IfErr result
-            (λ refusal. IsToldOfRead refusal (seen self.old).state (seen self.new).state) }
+        ensures reads { ReadsBooks (λ why. ⊥) result (seen self.old) (seen self.new) }
         ensures idle { self.old.stopped ≡ true → self.new ≡ self.old }
     {
         if self.stopped {
