@@ -51,26 +51,24 @@ impl Desk {
         books: &mut Books<S, T>,
         clock: &mut C,
     ) -> End
-        ensures run { IsRun (answers_by (books_serve (seen S.Store T.forwards))) message_refusal_of
+        ensures run { IsRun (answers_by (books_serve seen)) message_refusal_of
             (books.old, C.answers clock.old) (books.new, C.answers clock.new)
             (R.remaining reader.old) (R.remaining reader.new)
             (W.contents writer.old) (W.contents writer.new) result }
         ensures paced { (uses : List Use)
-            × IsPaced (answers_by (books_serve (seen S.Store T.forwards)))
+            × IsPaced (answers_by (books_serve seen))
             (books.old, C.answers clock.old) (R.remaining reader.old) (R.remaining reader.new)
             (W.contents writer.old) (W.contents writer.new) uses
             × EndsBy result uses }
-        ensures clean { HasCleanDisk (seen S.Store T.forwards books.new).state
-            → HasCleanDisk (seen S.Store T.forwards books.old).state }
-        ensures lives { HasCleanDisk (seen S.Store T.forwards books.new).state → (life : Life)
-            → Represents life (seen S.Store T.forwards books.old)
+        ensures clean { HasCleanDisk (seen books.new).state → HasCleanDisk (seen books.old).state }
+        ensures lives { HasCleanDisk (seen books.new).state → (life : Life)
+            → Represents life (seen books.old)
             → (after : Life) × IsRun (answers_by life_serves) message_refusal_of
             (life, C.answers clock.old) (after, C.answers clock.new)
             (R.remaining reader.old) (R.remaining reader.new)
             (W.contents writer.old) (W.contents writer.new) result
-            × Represents after (seen S.Store T.forwards books.new)
-            × LeavesOthers (seen S.Store T.forwards books.old).state
-            (seen S.Store T.forwards books.new).state }
+            × Represents after (seen books.new)
+            × LeavesOthers (seen books.old).state (seen books.new).state }
     {
         run(self, alloc, &mut Untold, reader, writer, books, clock)
     }
@@ -87,26 +85,24 @@ impl Desk {
         books: &mut Books<S, T>,
         clock: &mut C,
     ) -> End
-        ensures run { IsRun (answers_by (books_serve (seen S.Store T.forwards))) message_refusal_of
+        ensures run { IsRun (answers_by (books_serve seen)) message_refusal_of
             (books.old, C.answers clock.old) (books.new, C.answers clock.new)
             (R.remaining reader.old) (R.remaining reader.new)
             (W.contents writer.old) (W.contents writer.new) result }
         ensures paced { (uses : List Use) × Grows (L.uses line.old) (L.uses line.new) uses
-            × IsPaced (answers_by (books_serve (seen S.Store T.forwards)))
+            × IsPaced (answers_by (books_serve seen))
             (books.old, C.answers clock.old) (R.remaining reader.old) (R.remaining reader.new)
             (W.contents writer.old) (W.contents writer.new) uses
             × EndsBy result uses }
-        ensures clean { HasCleanDisk (seen S.Store T.forwards books.new).state
-            → HasCleanDisk (seen S.Store T.forwards books.old).state }
-        ensures lives { HasCleanDisk (seen S.Store T.forwards books.new).state → (life : Life)
-            → Represents life (seen S.Store T.forwards books.old)
+        ensures clean { HasCleanDisk (seen books.new).state → HasCleanDisk (seen books.old).state }
+        ensures lives { HasCleanDisk (seen books.new).state → (life : Life)
+            → Represents life (seen books.old)
             → (after : Life) × IsRun (answers_by life_serves) message_refusal_of
             (life, C.answers clock.old) (after, C.answers clock.new)
             (R.remaining reader.old) (R.remaining reader.new)
             (W.contents writer.old) (W.contents writer.new) result
-            × Represents after (seen S.Store T.forwards books.new)
-            × LeavesOthers (seen S.Store T.forwards books.old).state
-            (seen S.Store T.forwards books.new).state }
+            × Represents after (seen books.new)
+            × LeavesOthers (seen books.old).state (seen books.new).state }
     {
         run(self, alloc, line, reader, writer, books, clock)
     }
@@ -127,7 +123,7 @@ impl<S: Alter, T: BlockTransform> Service<Books<S, T>> for Desk {
     ghost use Rattle.books.specs.Keeps.{seen};
     ghost use Rattle.desk.specs.Answering.{answers_by, books_serve, message_refusal_of};
 
-    ghost step = { answers_by (books_serve (seen S.Store T.forwards)) };
+    ghost step = { answers_by (books_serve seen) };
 
     ghost refusal = { message_refusal_of };
 
