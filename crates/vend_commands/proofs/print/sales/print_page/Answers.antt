@@ -11,9 +11,8 @@ use Rattle.vend_commands.proofs.print.sales.print_page.Goals.{then-is_full, else
 
 pub returns-in_default-clause-page : goal.returns-in_default-clause-page
 returns-in_default-clause-page g c =
-    let forwards = g.T.BlockTransform.forwards in
-    let old = seen g.S.Store forwards c.args.books.now in
-    let new = seen g.S.Store forwards c.sales_after.new.self in (
+    let old = seen c.args.books.now in
+    let new = seen c.sales_after.new.self in (
       takes_none (sink g.O.Write.contents c.args.out.now),
       inl refl,
       record {
@@ -24,9 +23,8 @@ returns-in_default-clause-page g c =
 
 pub returns-in-Err-clause-page : goal.returns-in-Err-clause-page
 returns-in-Err-clause-page g c =
-    let forwards = g.T.BlockTransform.forwards in
-    let old = seen g.S.Store forwards c.args.books.now in
-    let new = seen g.S.Store forwards c.sales_after.new.self in (
+    let old = seen c.args.books.now in
+    let new = seen c.sales_after.new.self in (
       takes_none (sink g.O.Write.contents c.args.out.now),
       c.in-Err.ensures.refusals,
       record {
@@ -59,5 +57,5 @@ returns-clause-page g c =
         | then-is_full w ↦ full_page _ _ _ _ count w.if-is_full.true (w.result-is ∙ ap not w.has_failed.ensures)
         | else-is_full w ↦ short_page _ _ _ _ count w.if-is_full.false w.result-is
       ],
-      stopped_as_before (seen g.S.Store g.T.BlockTransform.forwards c.args.books.now) (seen g.S.Store g.T.BlockTransform.forwards c.sales_after.new.self) c.in-Ok.sales (c.in-Ok.ensures.stopped, c.in-Ok.ensures.stops),
+      stopped_as_before (seen c.args.books.now) (seen c.sales_after.new.self) c.in-Ok.sales (c.in-Ok.ensures.stopped, c.in-Ok.ensures.stops),
     )
