@@ -237,8 +237,9 @@ def drawn(generator, refs):
 
 
 def check_drawn(folder, count):
-    """Requests that are drawn, asked of a desk in six lives, with an audit after each."""
-    file, generator, refs, sold = folder / "drawn.db", random.Random(7), [], 0
+    """Requests that are drawn, asked of a desk in six lives. After each an audit counts what the desk has answered."""
+    file, generator, refs = folder / "drawn.db", random.Random(7), []
+    made = {"tariffs": set(), "meters": set(), "shifts": set(), "sales": set()}
     for _ in range(6):
         words = [VEND, "serve", "--file", str(file), "--listen", "127.0.0.1:0", "--connections", "1"]
         with subprocess.Popen(words, stderr=subprocess.PIPE, text=True) as desk:
@@ -248,17 +249,18 @@ def check_drawn(folder, count):
                 path, body = drawn(generator, refs)
                 talk.request("POST", path, json.dumps(body))
                 reply = talk.getresponse()
-                reply.read()
-                sold += path == "/sales" and reply.status == 200
+                said = json.loads(reply.read())
+                if reply.status == 200 and path.strip("/") in made:
+                    made[path.strip("/")].add(said.get("number") or said.get("shift") or body.get("meter")
+                                              or body["name"])
             talk.close()
             if desk.wait(30):
                 raise SystemExit(f"wrong: a desk ended with {desk.returncode}")
-        ran = vend("audit", "--file", str(file))
-        if ran.returncode or not ran.stdout.startswith(f"sound format {FORMAT} ".encode()):
-            raise SystemExit(f"wrong: after drawn requests {ran}")
-    if sold < count // 10:
-        raise SystemExit(f"only {sold} of {count} drawn requests sold")
-    return sold
+        counts = " ".join(f"{kind} {len(them)}" for kind, them in made.items())
+        is_sound_office(file, FORMAT, counts)
+    if len(made["sales"]) < count // 10:
+        raise SystemExit(f"only {len(made['sales'])} of {count} drawn requests sold")
+    return len(made["sales"])
 
 
 def check_audits(folder):

@@ -65,7 +65,6 @@ module _ {k : Kept} {order : List (Term × Key)} {text : List ℕ} (l : ListsAll
     list_fails (fault.Database e) (inl why) = inl (λ runs. read.fails_plain l.asks k l.stands old new (has runs) e why)
     list_fails (fault.Database e) (inr none) = inr (cc, none.1)
     list_fails fault.Row (bad, same) = inr (refl, same)
-    list_fails fault.TooMuch never = absurd never
 
     pub answered : IsUnchanged old new → (rows : List Row) → Shown text [] old new rows → IsAnswer (list_query k order (tree_in old.now.schema k.table.name)) old.now.trees [] rows
     answered same rows shown = read.answer_is l.asks k l.stands old new (has same.0.was_open) rows shown

@@ -44,4 +44,3 @@ FailsToList old new e =
 abbrev pub cause_of : ReadFault → Error
 cause_of (fault.Database e) = e
 cause_of fault.Row = SqliteFailure OutOfMemory
-cause_of fault.TooMuch = SqliteFailure OutOfMemory

@@ -52,13 +52,13 @@ pub trait Listed: Record {
         → IsFalse Self.shown Self.keeps (kept_of name) db row → IsFalseRow name db row };
 }
 
-/// What is told of a reader's fault: more rows than can be counted find no memory either.
+/// What is told of a reader's fault.
 pub(crate) fn cause_of(fault: ReadFault) -> Error
     ensures { result ≡ cause_of fault }
 {
     match fault {
         ReadFault::Database(error) => error,
-        ReadFault::Row | ReadFault::TooMuch => Error::SqliteFailure(ErrorCode::OutOfMemory),
+        ReadFault::Row => Error::SqliteFailure(ErrorCode::OutOfMemory),
     }
 }
 

@@ -63,7 +63,6 @@ impl From<ReadFault> for TableError {
         match fault {
             ReadFault::Database(error) => TableError::Database(error),
             ReadFault::Row => TableError::RowOfNoOffice,
-            ReadFault::TooMuch => TableError::RowOfNoOffice,
         }
     }
 }

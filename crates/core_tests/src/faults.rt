@@ -1,5 +1,6 @@
 //! The number, the name and the sentence of each fault and of each refusal.
 
+use papers::{RowFault, TextFault};
 use std::alloc::Global;
 use std::fmt::Display;
 use std::test::Fail;
@@ -55,6 +56,10 @@ fn named() -> &'static str {
 0 - Differs
 0 - NoTariff
 0 - DayPast
+0 - row 2: Columns
+0 - out of memory
+0 - out of memory
+0 - the writer failed
 "
 }
 
@@ -183,6 +188,16 @@ fn numbers_names_and_sentences(rt: HostRuntime) -> Result<(), Fail> {
     for it in causes() {
         add(alloc, &mut text, 0, "-", it)?;
     }
+    add(
+        alloc,
+        &mut text,
+        0,
+        "-",
+        &RowFault::At(2, RowCause::Columns),
+    )?;
+    add(alloc, &mut text, 0, "-", &RowFault::Memory)?;
+    add(alloc, &mut text, 0, "-", &TextFault::Memory)?;
+    add(alloc, &mut text, 0, "-", &TextFault::Write)?;
     assert_eq!(rt; text.as_str(), named());
     Ok(())
 }

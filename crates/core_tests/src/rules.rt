@@ -154,7 +154,7 @@ fn bought(alloc: Global, text: &str) -> Result<String, Fail> {
     let (prior, cents) = split(text);
     let steps = Steps::of_text(alloc, steps.as_bytes())?;
     let tender = Tender::read(cents.parse()?).ok_or("no tender")?;
-    match buy(&steps, u64::from(number(prior)?), tender) {
+    match buy(&steps, prior.parse()?, tender) {
         Some(it) => {
             let tenths = it.tenths.tenths();
             Ok(format!(in alloc; "{tenths} {} {}", it.price, it.change)?)
@@ -171,10 +171,7 @@ fn priced(alloc: Global, text: &str) -> Result<String, Fail> {
     if tenths > Amount::MAX_TENTHS {
         return Err("too many tenths".into());
     }
-    shown(
-        alloc,
-        Some(price(&steps, u64::from(number(prior)?), tenths)),
-    )
+    shown(alloc, Some(price(&steps, prior.parse()?, tenths)))
 }
 
 fn steps(alloc: Global, text: &[u8]) -> Result<String, Fail> {
@@ -242,7 +239,7 @@ fn each_call(rt: HostRuntime) -> Result<(), Fail> {
         let found = told(rt.alloc(), word, text)?;
         assert_eq!(rt; found.as_str(), wanted, "{line}");
     }
-    assert_eq!(rt; rows::rows().lines().count(), 199);
+    assert_eq!(rt; rows::rows().lines().count(), 202);
     Ok(())
 }
 

@@ -1,9 +1,10 @@
 //! Tests of the desk, which have no code of their own.
 //!
-//! Messages as they are written, cut anywhere, and with each fault; bodies, routes and replies; and
-//! whole conversations, with an office in memory or in a file too, beside the office over plain
-//! lists. What is expected was worked out by hand, from `docs/DESK.md` and `docs/OFFICE.md`, or
-//! computed by `tools/oracle`. Messages at their limits are in `tools/check_desk`.
+//! Messages as they are written, cut anywhere, and with each fault; bodies, routes, replies and the
+//! sentences of faults; and whole conversations, with an office in memory or in a file too, beside
+//! the office over plain lists. What is expected was worked out by hand, from `docs/DESK.md` and
+//! `docs/OFFICE.md`, or computed by `tools/oracle`. Messages at their limits are in
+//! `tools/check_desk`.
 #![tactic(auto)]
 
 #[cfg(test)]
@@ -24,6 +25,8 @@ mod prepared;
 mod replies;
 #[cfg(test)]
 mod routes;
+#[cfg(test)]
+mod sentences;
 #[cfg(test)]
 mod streams;
 #[cfg(test)]

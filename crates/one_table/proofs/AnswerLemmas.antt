@@ -15,7 +15,7 @@ use Rattle.sqlite.specs.State.{State, HasCleanDisk, IsStatement, IsNoStatement, 
 use Rattle.sqlite.proofs.StateLemmas.{survives_then}
 use Rattle.sqlite.proofs.Callers.{unchanged_then, never_commits, shown_begins}
 use Rattle.one_table.specs.declared.read_fault.ReadFault.{ReadFault}
-use Rattle.one_table.specs.declared.read_fault.ReadFault.TheVariants.{Database as Failed, Row as Bad, TooMuch}
+use Rattle.one_table.specs.declared.read_fault.ReadFault.TheVariants.{Database as Failed, Row as Bad}
 use Rattle.one_table.specs.ReadFaults.{OnlyWhere}
 use Rattle.one_table.specs.Answer.{OnlyAsks, IsLeft, FailsToRead}
 
@@ -173,10 +173,8 @@ stops_on : (IsReadable : Row → Type 0) (sql : List ℕ) (params : Row) (old ne
     → (why : ReadFault) → OnlyWhere (Any (λ row. ¬ IsReadable row) rows) why → FailsToRead IsReadable sql params old new why
 stops_on IsReadable sql params old new rows begins same (Failed e) (inl none) = inr (none, same)
 stops_on IsReadable sql params old new rows begins same Bad (inl none) = cc
-stops_on IsReadable sql params old new rows begins same TooMuch (inl none) = cc
 stops_on IsReadable sql params old new rows begins same (Failed e) (inr bad) = absurd (let no = bad.0 in cc)
 stops_on IsReadable sql params old new rows begins same Bad (inr bad) = (record { rows = rows; begins = begins; bad = bad.1 }, same)
-stops_on IsReadable sql params old new rows begins same TooMuch (inr bad) = absurd (let no = bad.0 in cc)
 
 pub stops_at : (IsReadable : Row → Type 0) (sql : List ℕ) (params : Row) (old new : State) (rows : List Row) (i : ℕ) (row : Row) → i < length rows → row ≡ get_or rows i row
     → Begins sql params new rows → IsUnchanged old new → (why : ReadFault) → OnlyWhere (¬ IsReadable row) why → FailsToRead IsReadable sql params old new why
@@ -186,11 +184,3 @@ stops_at IsReadable sql params old new rows i row low is begins same why refused
 pub stops_in : (IsReadable : Row → Type 0) (sql : List ℕ) (params : Row) (old new : State) → OnlyAsks sql old → (rows : List Row) → Shown sql params old new rows → IsUnchanged old new
     → (why : ReadFault) → OnlyWhere (Any (λ row. ¬ IsReadable row) rows) why → FailsToRead IsReadable sql params old new why
 stops_in IsReadable sql params old new asks rows shown same = stops_on IsReadable sql params old new rows (shown_begins sql params old new rows (asks same.0.was_open) shown) same
-
--- a query that failed right after its text was compiled
-pub fails_asked : (sql text : List ℕ) (params : Row) (old mid new : State) (e : Error) → OnlyAsks sql old → (text ≡ sql) × IsUnchanged old mid → Survives old mid (λ _. ⊥) → FailsToQuery text params mid new e
-    → IsLeft old new × FailsToQuery sql params old new e
-fails_asked sql text params old mid new e asks made kept h =
-    let plain = asks made.1.0.was_open in
-    let fails = fails_before sql params old mid new made.1 plain e kept.counts kept.limit (rw made.0 at h) in
-    (fails_left sql params old new e fails, fails)

@@ -17,9 +17,3 @@ cast_int n = either _ (Int n)
 pub cast_no_int : cast Integer Null ≡ Null
 unfolding unary
 cast_no_int = either _ Null
-
-pub cast_text : (text : List ℕ) → cast Text (Words text) ≡ Words text
-cast_text text = refl
-
-pub cast_no_text : cast Text Null ≡ Null
-cast_no_text = refl

@@ -56,8 +56,3 @@ module _ {X : Type 0} {db : Trees} {tree : ℕ} {tests shown : List Term} {param
       let keyed_both = ascending_from_map (λ a b. key a <ℤ key b) value found.0 (subst (IsKeyedBy key) found.2 keyed) in
       rising_rows beside at (λ x. key x.1) (λ x. keeps_key x.0 x.1) limit rows found.0 found.1 keyed_both answer
       ∙ ap (limited (as_count (eval limit (params ∷ [])))) (sym (map-map show value found.0) ∙ ap (map show) (sym found.2))
-
-  -- whatever the order and the limit: each row is that of a value that passes
-  pub each_hidden_shown : (order : List (Term × Key)) (limit : Term) (rows : List Row) → IsAnswer (query_on tree tests shown order limit) db params rows
-      → (P : Row → Type 0) → ((x : X) → p x ≡ true → P (show x)) → AllByRecursion P rows
-  each_hidden_shown order limit rows answer P each = each_shown beside order limit rows answer P (λ x. each x.1)

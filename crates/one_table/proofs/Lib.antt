@@ -1,7 +1,6 @@
 pub mod AnswerLemmas
 pub mod NoTextLemmas
 pub mod ReadsOnlyLemmas
-pub mod TakenLemmas
 pub mod ExprLemmas
 pub mod AlikeLemmas
 pub mod BodyLemmas
@@ -28,10 +27,8 @@ mod UpsertExample
 pub mod AppendLemmas
 pub mod UpdateLemmas
 pub mod ListedLemmas
-pub mod ReadLemmas
 pub mod LookUpLemmas
 pub mod TestsLemmas
-pub mod UniqueLemmas
 pub mod FaultLemmas
 pub mod RefusalLemmas
 pub mod HiddenLemmas
@@ -45,4 +42,3 @@ pub mod TurnLemmas
 pub mod KeyLemmas
 pub mod StandingLemmas
 pub mod RecogniseLemmas
-pub mod SameTablesLemmas

@@ -150,10 +150,6 @@ module _ {X : Type 0} {db : Trees} {tree : ℕ} {tests shown : List Term} {param
   pub all_rows : (rows : List Row) → IsAnswer (query_on tree tests shown [] no_limit) db params rows → IsPermutation (map show (filter p xs)) rows
   all_rows rows answer = subst (IsPermutation (map show (filter p xs))) (sym answer.shown) (in_some_order [] no_limit rows answer)
 
-  -- the same as a list, whose order is not known
-  pub all_listed : (rows : List Row) → IsAnswer (query_on tree tests shown [] no_limit) db params rows → (ys : List X) × IsPermutation (filter p xs) ys × (rows ≡ map show ys)
-  all_listed rows answer = pull_back show (map show (filter p xs)) rows (all_rows rows answer) (filter p xs) refl
-
   -- where at most one row passes
   pub one_row : (rows : List Row) → IsAnswer (query_on tree tests shown [] no_limit) db params rows → length (filter p xs) ≤ 1 → rows ≡ map show (filter p xs)
   one_row rows answer few = few_permuted (map show (filter p xs)) rows (subst (λ n. n ≤ 1) (sym (length-map (filter p xs) show)) few) (all_rows rows answer)

@@ -17,14 +17,8 @@ number_is a b = at_ints false Eq (pos a) (pos b) ∙ grind (arith, ints)
 pub number_above : (a b : ℕ) → is_true (binary (Compare Gt Binary) (Int (pos a)) (Int (pos b))) ≡ nat_lt b a
 number_above a b = at_ints false Gt (pos a) (pos b)
 
-pub number_below : (a b : ℕ) → is_true (binary (Compare Lt Binary) (Int (pos a)) (Int (pos b))) ≡ nat_lt a b
-number_below a b = at_ints false Lt (pos a) (pos b)
-
 pub number_up_to : (a b : ℕ) → is_true (binary (Compare Le Binary) (Int (pos a)) (Int (pos b))) ≡ nat_le a b
 number_up_to a b = at_ints false Le (pos a) (pos b)
-
-pub number_from : (a b : ℕ) → is_true (binary (Compare Ge Binary) (Int (pos a)) (Int (pos b))) ≡ nat_le b a
-number_from a b = at_ints false Ge (pos a) (pos b)
 
 pub text_is : (a b : List ℕ) → is_true (binary (Compare Eq Binary) (Text a) (Text b)) ≡ bytes_eq a b
 text_is a b = at_texts false Eq a b ∙ is_eq-slice_cmp a b

@@ -21,7 +21,7 @@ use Rattle.one_table.specs.ReadFaults.{OnlyWhere}
 use Rattle.one_table.specs.Reading.{is_whole}
 use Rattle.one_table.specs.Upserting.{IsUpsert, Merging, returning_as, set_query, upsert_as}
 use Rattle.one_table.specs.declared.read_fault.ReadFault.{ReadFault}
-use Rattle.one_table.specs.declared.read_fault.ReadFault.TheVariants.{Database as Failed, Row as Bad, TooMuch}
+use Rattle.one_table.specs.declared.read_fault.ReadFault.TheVariants.{Database as Failed, Row as Bad}
 use Rattle.one_table.proofs.AnswerLemmas.{shown_open}
 use Rattle.one_table.proofs.ChangeLemmas.{HasWritten, has_changed, has_written, same_value, task_on, went}
 use Rattle.one_table.proofs.InsertLemmas.{no_works}
@@ -93,10 +93,8 @@ module _ (sql : List ℕ) (params : Row) (old new : State) (t : Table) (at : ℕ
     pub touched_unread : {P : Type 0} (why : ReadFault) → HasTouched → OnlyWhere P why → FailsToTouch t m params old new at why
     touched_unread (Failed e) done (inl none) = inr (none, done)
     touched_unread Bad done (inl none) = cc
-    touched_unread TooMuch done (inl none) = cc
     touched_unread (Failed e) done (inr bad) = absurd (let no = bad.0 in cc)
     touched_unread Bad done (inr bad) = done
-    touched_unread TooMuch done (inr bad) = absurd (let no = bad.0 in cc)
 
     -- why it fails, from why the text does
     pub fails_to_touch : is_whole sql (length params) ≡ true → (e : Error) → FailsToShow sql params old new e → FailsToTouch t m params old new at (Failed e)

@@ -45,7 +45,7 @@ use Rattle.sqlite.proofs.Callers.{one_step}
 use Rattle.sqlite_keyed.proofs.KeyedLemmas.{same_int}
 use Rattle.sqlite.specs.declared.error.Error.{Error}
 use Rattle.one_table.specs.declared.read_fault.ReadFault.{ReadFault}
-use Rattle.one_table.specs.declared.read_fault.ReadFault.TheVariants.{Database as Failed, Row as Bad, TooMuch}
+use Rattle.one_table.specs.declared.read_fault.ReadFault.TheVariants.{Database as Failed, Row as Bad}
 use Rattle.one_table.specs.InTransaction.{FailsToShow, HasChanged, IsUnderWay, PutsRow}
 use Rattle.one_table.specs.ReadFaults.{OnlyWhere}
 use Rattle.one_table.specs.Inserting.{source_of_row}
@@ -309,10 +309,8 @@ module _ (sql : List ℕ) (params : Row) (old new : State) (t : Table) (at : ℕ
     pub fails_unread : (IsReadable : Row → Type 0) (rows : List Row) (x : Row) → Upserted rows → x ≡ get_or rows 0 x → (why : ReadFault) → OnlyWhere (¬ IsReadable x) why → FailsToUpsert t m params old new at IsReadable why
     fails_unread IsReadable rows x done item (Failed e) (inl none) = inr (none, done.0, done.2)
     fails_unread IsReadable rows x done item Bad (inl none) = cc
-    fails_unread IsReadable rows x done item TooMuch (inl none) = cc
     fails_unread IsReadable rows x done item (Failed e) (inr bad) = absurd (let no = bad.0 in cc)
     fails_unread IsReadable rows x done item Bad (inr bad) = (done.0, subst (λ r. ¬ IsReadable r) (item ∙ ap (λ l. get_or l 0 x) done.1) bad.1, done.2)
-    fails_unread IsReadable rows x done item TooMuch (inr bad) = absurd (let no = bad.0 in cc)
 
     -- why it fails, from why the text does
     pub fails_to_upsert : (IsReadable : Row → Type 0) → is_whole sql (length params) ≡ true → (e : Error) → FailsToShow sql params old new e → FailsToUpsert t m params old new at IsReadable (Failed e)

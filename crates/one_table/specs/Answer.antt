@@ -48,34 +48,3 @@ module _ (IsReadable : Row → Type 0) (sql : List ℕ) (params : Row) (old new 
   FailsToRead (fault.Database e) =
       FailsToQuery sql params old new e ⊎ ((fault.Database e ≡ no_memory) × IsUnchanged old new)
   FailsToRead fault.Row = HasBadRow × IsUnchanged old new
-  FailsToRead fault.TooMuch = ⊥
-
-module _ {X A : Type 0} (IsReadAs : Row → X → Type 0) (gathered : A → X → A) (start : A)
-    (sql : List ℕ) (params : Row) (old new : State) where
-  -- it is gathered from what the rows of an answer stand for, each once and none left out
-  pub record GivesGathered (all : A) : Type 0 where
-    pub values : List X
-    pub given : GivesAll IsReadAs sql params old new values
-    pub all_of_them : all ≡ fold gathered start values
-
-  module _ (HasRoom : A → X → Type 0) where
-    -- the last of the values does not fit, or there are more rows than can be counted
-    abbrev pub IsOver : List X → Type 0
-    IsOver values = ((front : List X) × (last : X) × (values ≡ front ++ last ∷ [])
-        × (¬ HasRoom (fold gathered start front) last)) ⊎ (2 ^ 64 ≤ length values + 1)
-
-    -- what the first rows of an answer stand for is too much
-    pub record RunsOver : Type 0 where
-      pub rows : List Row
-      pub begins : Begins sql params new rows
-      pub values : List X
-      pub read : AllZip IsReadAs rows values
-      pub over : IsOver values
-
-    module _ (IsReadable : Row → Type 0) where
-      -- why a reader that gathers stops
-      abbrev pub FailsToGather : ReadFault → Type 0
-      FailsToGather (fault.Database e) =
-          FailsToRead IsReadable sql params old new (fault.Database e)
-      FailsToGather fault.Row = FailsToRead IsReadable sql params old new fault.Row
-      FailsToGather fault.TooMuch = RunsOver × IsUnchanged old new

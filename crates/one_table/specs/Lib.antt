@@ -3,7 +3,6 @@ pub mod Place
 pub mod ReadFaults
 pub mod Answer
 pub mod ReadsOnly
-pub mod Taking
 pub mod Simple
 pub mod Reading
 pub mod Changing

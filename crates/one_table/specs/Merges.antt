@@ -91,7 +91,6 @@ module _ (t : Table) (m : Merging) (params : Row) where
         ⊎ ((fault.Database e ≡ no_memory) × (row : Row) × Upserts row)
     FailsToUpsert at IsReadable fault.Row =
         (row : Row) × (¬ IsReadable (shown_row row)) × Upserts row
-    FailsToUpsert at IsReadable fault.TooMuch = ⊥
 
     -- whatever the order of the rows: only those of the table have changed
     abbrev pub Touches : Type 0
@@ -103,4 +102,3 @@ module _ (t : Table) (m : Merging) (params : Row) where
         FailsToWriteAs (Some (returning_as m)) (upsert_as at t m) params old new e
         ⊎ ((fault.Database e ≡ no_memory) × Touches)
     FailsToTouch at fault.Row = Touches
-    FailsToTouch at fault.TooMuch = ⊥

@@ -6,9 +6,7 @@
 #![tactic(auto)]
 
 pub use committing::{Change, CommitFault, change_once};
-pub use folding::fold_rows;
 pub use from_row::FromRow;
-pub use gathering::Gather;
 pub use inserting::insert;
 pub use probing::test_open;
 pub use read_fault::ReadFault;
@@ -18,9 +16,7 @@ pub use upserting::upsert;
 
 mod committing;
 mod compare;
-mod folding;
 mod from_row;
-mod gathering;
 mod inserting;
 pub mod inspect;
 pub mod make;

@@ -11,9 +11,6 @@ pub enum ReadFault {
     /// A row of the answer has values that stand for nothing.
     #[error("a row stands for nothing")]
     Row,
-    /// What is gathered from the rows does not fit.
-    #[error("what is gathered from the rows does not fit")]
-    TooMuch,
 }
 
 impl From<Error> for ReadFault {

@@ -7,4 +7,5 @@ mod lists;
 mod made;
 mod openings;
 mod rows;
+mod sentences;
 mod totals;

@@ -52,9 +52,13 @@ fn account_at<S: Alter>(
     meter: Meter,
     steps: Steps,
 ) -> Result<MeterAccount, TableError>
-    ensures facts { Over S.Store conn (λ old new. SaysOfOffice (λ o b. b ≡ record { meter = meter;
-        steps = steps; last = greatest_of (used o number.now meter.base); prior = prior o
-        number.now (month_at moment); }) old new result) }
+    ensures facts { Over S.Store conn (λ old new. SaysOfOffice (λ o b. b ≡ record {
+      meter = meter;
+      steps = steps;
+      last = greatest_of (used o number.now meter.base);
+      prior = prior o
+          number.now (month_at moment);
+    }) old new result) }
     ensures reads { Over S.Store conn (λ old new. OnlyReads IsUnchanged old new result) }
 {
     store_law();

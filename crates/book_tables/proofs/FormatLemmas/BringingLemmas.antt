@@ -116,10 +116,6 @@ sales_others = ((last_ids_in, refl), ((month_tenths_in, refl), ((shift_totals_in
 meters_others : AllByRecursion (IsAnotherThan meters_kept) totals_kept
 meters_others = ((last_ids_in, refl), ((month_tenths_in, refl), ((shift_totals_in, refl), tt)))
 
--- the rows of sales and of meters are as they were after a write of the totals
-pub sales_left : (old new : State) → HasOffice old.now.schema → WritesOnly totals_names old new → rows_in new.now (codes "sales") ≡ rows_in old.now (codes "sales")
-sales_left old new has only = rows_left sales_kept sales_in old new has totals_kept sales_others only
-
 pub meters_left : (old new : State) → HasOffice old.now.schema → WritesOnly totals_names old new → rows_in new.now (codes "meters") ≡ rows_in old.now (codes "meters")
 meters_left old new has only = rows_left meters_kept meters_in old new has totals_kept meters_others only
 

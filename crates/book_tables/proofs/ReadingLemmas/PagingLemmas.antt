@@ -67,22 +67,6 @@ listed_kept : {M : Type 0} (keeps : M → Type 0) (o : Option M) → IfSome o ke
 listed_kept keeps None kept = All-nil keeps
 listed_kept keeps (Some x) kept = All-cons keeps x [] kept (All-nil keeps)
 
-pub listed_one : {M : Type 0} {k : Kept} {sql : List ℕ} {params : Row} {shown : M → Row} {keeps : M → Type 0} {found : Rows → Option M} → Finds k sql params shown keeps found → Lists k sql params shown keeps (λ rows xs. xs ≡ option_to_list (found rows))
-listed_one {keeps = keeps} {found = found} f = record {
-  table = f.table;
-  query = f.query;
-  names = f.names;
-  asks = f.asks;
-  stands = f.stands;
-  one = f.one;
-  kept = λ rows of_office xs are. All-same keeps xs (option_to_list (found rows)) are (listed_kept keeps (found rows) (f.kept rows of_office));
-  answers = λ db rows held of_office answer is. (option_to_list (found rows), refl, f.answers db rows held of_office answer is);
-}
-
-pub first_listed : {M : Type 0} (o : Option M) → slice_get (option_to_list o) 0 ≡ o
-first_listed None = refl
-first_listed (Some x) = refl
-
 -- ---- all meters
 
 abbrev pub shown_row : MeterRow → Row

@@ -100,7 +100,6 @@ module _ {table : ℕ → Table} {query : ℕ → Query} {names : List Name} {sq
     λ rows held of_office. none_bad IsReadable old.now new same.0.now_is held.0 (all rows held of_office) bad.rows bad.begins bad.bad,
     same,
   )
-  said IsReadable old new has all fault.TooMuch never = absurd never
 
   -- why it fails, where the rows of an office can all be read
   pub fails : {A : Type 0} (IsReadable : Row → Type 0) (old new : State) → HasTable k old

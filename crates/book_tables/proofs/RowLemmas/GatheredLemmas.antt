@@ -55,14 +55,6 @@ module _ {Q K V : Type 0} (cmp : Q → Q → Ordering) (total : IsTotalOrder cmp
     own = holds.own;
   }
 
-  -- where there are none
-  pub holds_none : (m : BTreeMap Q (K × V)) → m.entries ≡ [] → IsOrdered cmp m → HoldsAt cmp place m (λ k. None)
-  holds_none m none ordered = record {
-    ordered = ordered;
-    found = λ k. rw none refl;
-    own = λ q v at. let none_at : get cmp m q ≡ None = rw none refl in let wrong : None ≡ Some v = sym none_at ∙ at in cc;
-  }
-
   module _ (m : BTreeMap Q (K × V)) (has : K → Option V) (holds : HoldsAt cmp place m has) where
     value_is : (k : K) (v : K × V) (o : Option V) → option_map (with_key k) o ≡ Some v → o ≡ Some v.1
     value_is k v None none = cc
@@ -206,11 +198,3 @@ module _ (sales : List Sale) (s : Sale) (g h : Gathered) (held : IsGathered sale
     shift_totals = holds_same nat_cmp nat_cmp_total exact_unsigned (own_place {K = ℕ}) h.shift_totals _ (λ shift. totals_of (sales_in_shift (sales ++ s ∷ []) shift)) (shift_more sales s) shifts;
     small = All-push IsOfWords sales s held.small small;
   }
-
-pub gathered_none : (g : Gathered) → g.last_ids.entries ≡ [] → IsOrdered key_cmp g.last_ids → g.month_tenths.entries ≡ [] → IsOrdered key_cmp g.month_tenths → g.shift_totals.entries ≡ [] → IsOrdered nat_cmp g.shift_totals → IsGathered [] g
-gathered_none g ids ids_up months months_up shifts shifts_up = record {
-  last_ids = holds_none key_cmp key_total key_exact base_place g.last_ids ids ids_up;
-  month_tenths = holds_none key_cmp key_total key_exact (own_place {K = List ℕ × ℕ}) g.month_tenths months months_up;
-  shift_totals = holds_none nat_cmp nat_cmp_total exact_unsigned (own_place {K = ℕ}) g.shift_totals shifts shifts_up;
-  small = All-nil IsOfWords;
-}

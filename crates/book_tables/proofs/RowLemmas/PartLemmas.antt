@@ -78,11 +78,5 @@ read_whole r read count part = subst (λ (row : Row). ReadsBack shown_sale AreSa
 
 -- ---- with the month
 
-pub sale_booked : (r : Row) (s : Sale) → shown_booked s ≡ r → shown_sale s ≡ sale_part r
-sale_booked r s e = ap sale_part e
-
-pub month_booked : (r : Row) (s : Sale) → shown_booked s ≡ r → number (month_at s.moment) ≡ column r 13
-month_booked r s e = ap (λ (row : Row). column row 13) e
-
 pub books : (r : Row) (s : Sale) (month : ℕ) → length r ≡ 14 → shown_sale s ≡ sale_part r → number month ≡ column r 13 → month ≡ month_at s.moment → shown_booked s ≡ r
 books r s month count sale is of_moment = ap₂ (λ (front : Row) (v : Value). front ++ v ∷ []) sale (ap number (sym of_moment) ∙ is) ∙ whole_booking r count

@@ -53,9 +53,6 @@ module _ (name : List ℕ) (day : ℕ) where
       let further : at + 1 + length xs ≡ at + length (x ∷ xs) = omega arith in
       ap (λ (l : List DatedStepRow). dated_at name day at x ∷ l) (rows_more (at + 1) xs s ∙ ap (λ (n : ℕ). dated_from name day (at + 1) xs ++ dated_at name day n s ∷ []) further)
 
-  pub adds_first : (s : Step) (old new : State) → AddsDatedStep (dated_at name day 0 s) old new → AddsSteps name day (s ∷ []) old new
-  adds_first s old new adds = record { only = adds.only; rows = adds.rows }
-
   adds_at_end : (xs : List Step) (s : Step) (old mid new : State) → AddsSteps name day xs old mid → AddsDatedStep (dated_at name day (length xs) s) mid new → AddsSteps name day (xs ++ s ∷ []) old new
   adds_at_end xs s old mid new first second = record {
     only = only_both (codes "dated_steps" ∷ []) old mid new first.only second.only;

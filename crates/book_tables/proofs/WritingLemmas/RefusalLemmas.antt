@@ -33,7 +33,6 @@ pub fails_to_merge : {A : Type 0} (old new : State) (t : Table) (m : Merging) (p
 fails_to_merge old new t m params at why (Ok x) is fails = tt
 fails_to_merge old new t m params at (fault.Database e) (Err x) is fails = subst (FailsToMerge old new) (sym is) (t, m, params, at, fails)
 fails_to_merge old new t m params at fault.Row (Err x) is fails = subst (FailsToMerge old new) (sym is) (t, m, params, at, fails)
-fails_to_merge old new t m params at fault.TooMuch (Err x) is fails = absurd fails
 
 -- it is told that a row is no office's only where what is shown of the row that was written is none
 pub false_row : {A : Type 0} {old new : State} (t : Table) (m : Merging) (params : Row) (at : ℕ) (IsReadable : Row → Type 0) (why : ReadFault) (r : Result A TableError) → IsErrAnd r (λ x. x ≡ told why) → FailsToUpsert t m params old new at IsReadable why
@@ -41,7 +40,6 @@ pub false_row : {A : Type 0} {old new : State} (t : Table) (m : Merging) (params
 false_row t m params at IsReadable why (Ok x) is fails known = absurd is
 false_row t m params at IsReadable (fault.Database e) (Err x) is fails known = absurd (let wrong : Database e ≡ RowOfNoOffice = sym is ∙ same_error x RowOfNoOffice known in cc)
 false_row t m params at IsReadable fault.Row (Err x) is fails known = fails
-false_row t m params at IsReadable fault.TooMuch (Err x) is fails known = absurd fails
 
 -- what is left of the tables where a write that answers something fails, and why it does
 pub merge_off : {T : Type 0} {Makes : T → State → State → Type 0} {old new : State} (e : TableError) (r : Result T TableError) → IsErrAnd r (λ x. x ≡ e) → (HasCleanDisk new → IsUnderWay old → KeepsCommit old new) → Survives old new (λ _. ⊥)

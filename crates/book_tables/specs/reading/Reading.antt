@@ -122,11 +122,10 @@ FailsToMerge old new fails.RowOfNoOffice =
     (t : Table) × (m : Merging) × (params : Row) × (at : ℕ)
     × FailsToTouch t m params old new at fault.Row
 
--- what is told of a reader's fault: rows that add up to too much are no office's either
+-- what is told of a reader's fault
 abbrev pub told : ReadFault → TableError
 told (fault.Database e) = fails.Database e
 told fault.Row = fails.RowOfNoOffice
-told fault.TooMuch = fails.RowOfNoOffice
 
 module _ {T : Type 0} (shown : T → Row) (keeps : T → Type 0) where
   -- the row has the columns of the record, whose values keep their rules

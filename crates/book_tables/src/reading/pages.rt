@@ -1,21 +1,19 @@
 //! Reads inside a transaction, as one makes that brings a file of an older format up to the present
 //! one.
 
-ghost use Rattle.std.specs.Prelude.{◌≡◌, IsPermutation, codes, filter, map, nat_lt, option_map, slice_get, take, IfOk, OnOk};
+ghost use Rattle.std.specs.Prelude.{◌≡◌, IsPermutation, codes, filter, map, nat_lt, take, IfOk, OnOk};
 ghost use Rattle.sqlite.specs.State.{HasCleanDisk};
 ghost use Rattle.one_table.specs.Over.{Inside};
 ghost use Rattle.sqlite.specs.Values.{bound};
-ghost use Rattle.vend_core.specs.Office.Lookup.{greatest_of};
 ghost use Rattle.vend_core.specs.Name.{IsMeterNo};
 ghost use Rattle.one_table.specs.Answer.{GivesAll, OnlyAsks};
 ghost use Rattle.one_table.specs.InTransaction.{KeepsTransaction};
 ghost use Rattle.one_table.specs.ReadsOnly.{ReadsInside};
-ghost use Rattle.book_tables.specs.Kept.{last_ids_kept, meters_kept, sales_kept};
+ghost use Rattle.book_tables.specs.Kept.{meters_kept, sales_kept};
 ghost use Rattle.book_tables.specs.Holds.{rows_in};
 ghost use Rattle.book_tables.specs.format.Looking.{ShowMeters, ShowsPage, StartsFrom1};
 ghost use Rattle.book_tables.specs.reading.Reading.{FailsToShowRow, HasTable, IsShown, ReadsTableInside, SaysOfTable, ShowsRecord, meter_row};
 ghost use Rattle.book_tables.specs.row.Rows.{meter_columns};
-ghost use Rattle.book_tables.specs.Stands.{sales_under};
 ghost use Rattle.book_tables.specs.row.Values.{AreMeterValues};
 
 use crate::error::TableError;
@@ -23,14 +21,12 @@ use crate::reading::lists::records_of;
 use crate::row::cells;
 use crate::row::office_records::Booked;
 use crate::row::record::{Record, Shown};
-use crate::row::total_records::Tid;
-use crate::row::values::{base_values, page_values};
-use crate::texts::{ALL_METERS, BOOKED_SALES_AFTER, FIRST_SALE_NUMBER, LAST_ID};
+use crate::row::values::page_values;
+use crate::texts::{ALL_METERS, BOOKED_SALES_AFTER, FIRST_SALE_NUMBER};
 use one_table::read_rows_inside;
 use sqlite::types::ValueRef;
 use sqlite::{Alter, Row, Transaction};
 use std::alloc::{AllocError, Global};
-use sts_fields::Base;
 use vend_core::{Meter, MeterNo, Sale};
 
 /// A meter under its number.
@@ -152,34 +148,4 @@ pub fn meters_inside<S: Alter>(
     ensures transaction { Inside S.Store tx (λ old new. KeepsTransaction old new result) }
 {
     records_inside(alloc, tx, ALL_METERS, &[])
-}
-
-/// The greatest identifier that is kept of a meter under a base.
-///
-/// # Errors
-/// What the database refuses, and a row that is no office's.
-pub fn greatest_inside<S: Alter>(
-    alloc: Global,
-    tx: &mut Transaction<'_, S>,
-    meter: &MeterNo,
-    base: Base,
-) -> Result<Option<u32>, TableError>
-    ensures same_reference { tx.new.conn.ghost_name ≡ tx.old.conn.ghost_name }
-    ensures given { Inside S.Store tx (λ old new. SaysOfTable last_ids_kept (λ rows greatest.
-        greatest ≡ greatest_of (map (λ s. s.tid) (sales_under rows.sales (meter.now, base)))) old
-        new result) }
-    ensures reads { Inside S.Store tx (λ old new. ReadsTableInside last_ids_kept old new result) }
-    ensures transaction { Inside S.Store tx (λ old new. KeepsTransaction old new result) }
-{
-    let found: Vec<Tid> = records_inside(alloc, tx, LAST_ID, &base_values(meter, base))?;
-    Ok(first_of(&found))
-}
-
-fn first_of(found: &[Tid]) -> Option<u32>
-    ensures { result ≡ option_map (λ tid. tid.number) (slice_get found.now 0) }
-{
-    match found.first() {
-        Some(tid) => Some(tid.number),
-        None => None,
-    }
 }

@@ -81,9 +81,13 @@ fn sum_of(found: Option<Tenths>) -> u64
 /// What the database refuses, and a row that is no office's.
 pub fn totals_of_shift<S: Alter>(conn: &mut Connection<S>, shift: u32) -> Result<Totals, TableError>
     ensures given { Over S.Store conn (λ old new. SaysOfTable shift_totals_kept (λ rows totals.
-        totals ≡ record { sales = length (sales_in_shift rows.sales shift); tenths = sum_by (λ s.
-        s.tenths) (sales_in_shift rows.sales shift); cash = cash_of (sales_in_shift rows.sales
-        shift); }) old new result) }
+        totals ≡ record {
+          sales = length (sales_in_shift rows.sales shift);
+          tenths = sum_by (λ s.
+              s.tenths) (sales_in_shift rows.sales shift);
+          cash = cash_of (sales_in_shift rows.sales
+              shift);
+        }) old new result) }
     ensures reads { Over S.Store conn (λ old new. ReadsTable shift_totals_kept old new result) }
 {
     amount_law();

@@ -108,8 +108,12 @@ pub fn add_step<S: Alter>(
     step: Step,
 ) -> Result<(), TableError>
     ensures same_reference { tx.new.conn.ghost_name ≡ tx.old.conn.ghost_name }
-    ensures writes { Inside S.Store tx (λ old new. WritesTables (AddsStep (record { tariff =
-        name.now; place = place; step = step })) old new result) }
+    ensures writes { Inside S.Store tx (λ old new. WritesTables (AddsStep (record {
+      tariff =
+          name.now;
+      place = place;
+      step = step;
+    })) old new result) }
 {
     put(tx, NEW_STEP, &step_values(name, place, step))
 }

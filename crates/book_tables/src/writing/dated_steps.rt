@@ -28,8 +28,13 @@ pub fn add_dated_step<S: Alter>(
     step: Step,
 ) -> Result<(), TableError>
     ensures same_reference { tx.new.conn.ghost_name ≡ tx.old.conn.ghost_name }
-    ensures writes { Inside S.Store tx (λ old new. WritesTables (AddsDatedStep (record { tariff =
-        name.now; day = day; place = place; step = step; })) old new result) }
+    ensures writes { Inside S.Store tx (λ old new. WritesTables (AddsDatedStep (record {
+      tariff =
+          name.now;
+      day = day;
+      place = place;
+      step = step;
+    })) old new result) }
 {
     put(
         tx,

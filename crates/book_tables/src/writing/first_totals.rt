@@ -28,8 +28,10 @@ pub(crate) fn put_last_id<S: Alter>(
 ) -> Result<(), TableError>
     ensures same_reference { tx.new.conn.ghost_name ≡ tx.old.conn.ghost_name }
     ensures puts { Inside S.Store tx (λ old new. HasCleanDisk new → HasAllTables old
-        → OnOk result (PutsNext (codes "last_ids") with_last_ids AreAnyIds ((meter.now, base),
-        tid) old new)) }
+        → OnOk result (PutsNext (codes "last_ids") with_last_ids AreAnyIds (
+          (meter.now, base),
+          tid,
+        ) old new)) }
     ensures transaction { Inside S.Store tx (λ old new. KeepsTransaction old new result) }
     ensures database { IfErr result (λ e. e ≢ TableError.RowOfNoOffice) }
 {
@@ -48,8 +50,13 @@ pub(crate) fn put_month_tenths<S: Alter>(
 ) -> Result<(), TableError>
     ensures same_reference { tx.new.conn.ghost_name ≡ tx.old.conn.ghost_name }
     ensures puts { Inside S.Store tx (λ old new. HasCleanDisk new → HasAllTables old
-        → OnOk result (PutsNext (codes "month_tenths") with_month_tenths FitMonths ((meter.now,
-        month), tenths) old new)) }
+        → OnOk result (PutsNext (codes "month_tenths") with_month_tenths FitMonths (
+          (
+            meter.now,
+            month,
+          ),
+          tenths,
+        ) old new)) }
     ensures transaction { Inside S.Store tx (λ old new. KeepsTransaction old new result) }
     ensures database { IfErr result (λ e. e ≢ TableError.RowOfNoOffice) }
 {
@@ -71,8 +78,10 @@ pub(crate) fn put_shift_totals<S: Alter>(
 ) -> Result<(), TableError>
     ensures same_reference { tx.new.conn.ghost_name ≡ tx.old.conn.ghost_name }
     ensures puts { Inside S.Store tx (λ old new. HasCleanDisk new → HasAllTables old
-        → OnOk result (PutsNext (codes "shift_totals") with_shift_totals FitShifts (shift,
-        totals.now) old new)) }
+        → OnOk result (PutsNext (codes "shift_totals") with_shift_totals FitShifts (
+          shift,
+          totals.now,
+        ) old new)) }
     ensures transaction { Inside S.Store tx (λ old new. KeepsTransaction old new result) }
     ensures database { IfErr result (λ e. e ≢ TableError.RowOfNoOffice) }
 {

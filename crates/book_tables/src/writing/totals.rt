@@ -32,8 +32,10 @@ pub fn set_last_id<S: Alter>(
     tid: u32,
 ) -> Result<(), TableError>
     ensures same_reference { tx.new.conn.ghost_name ≡ tx.old.conn.ghost_name }
-    ensures merges { Inside S.Store tx (λ old new. MergesTables (λ done. SetsLastId (meter.now,
-        base) tid) old new result) }
+    ensures merges { Inside S.Store tx (λ old new. MergesTables (λ done. SetsLastId (
+      meter.now,
+      base,
+    ) tid) old new result) }
     ensures no_false_row { Inside S.Store tx (λ old new. FindsNoFalseRow (MaySetLastId tid) old
         new result) }
 {
@@ -57,8 +59,10 @@ pub fn add_tenths<S: Alter>(
     ensures same_reference { tx.new.conn.ghost_name ≡ tx.old.conn.ghost_name }
     ensures merges { Inside S.Store tx (λ old new. MergesTables (AddsTenths (meter.now, month)
         tenths) old new result) }
-    ensures no_false_row { Inside S.Store tx (λ old new. FindsNoFalseRow (MayAddTenths (meter.now,
-        month) tenths) old new result) }
+    ensures no_false_row { Inside S.Store tx (λ old new. FindsNoFalseRow (MayAddTenths (
+      meter.now,
+      month,
+    ) tenths) old new result) }
 {
     let all: Tenths = merge(tx, TENTHS_ADDED, &tenths_values(meter, month, tenths))?;
     Ok(all.sum)
