@@ -8,5 +8,6 @@ mod OpenedLemmas
 pub mod OthersLemmas
 mod PageLemmas
 mod PathLemmas
+mod ReadLemmas
 mod ReopenLemmas
 mod ServeLemmas

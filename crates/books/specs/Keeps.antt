@@ -5,6 +5,7 @@ use Rattle.sqlite.specs.State.{HasCleanDisk, State}
 use Rattle.sqlite_trees.specs.Tree.{Trees}
 use Rattle.sqlite_trees.specs.declared.store.Store.{Ghosts}
 use Rattle.sts_token.specs.Token.{BlockFunction}
+use Rattle.sts_token.specs.declared.transform.BlockTransform as block
 use Rattle.vend_core.specs.Law.Life.{IsLife, Life, MayLeave}
 use Rattle.vend_core.specs.Law.LifeLaws.{IsRunning}
 use Rattle.vend_core.specs.Office.{IsOffice, Office}
@@ -22,11 +23,11 @@ pub record Seen : Type 1 where
   -- what is said of a connection is true of some connection over the same store, at some time
   pub been : (State → Type 0) → Type 0
 
-abbrev pub seen : {S : Type 0} → {T : Type 0} → (g : Ghosts S) → (T → BlockFunction) → Books S T g
-    → Seen
-seen g forwards books = record {
+abbrev pub seen : {S : Type 0} → {T : Type 0} → {g : Ghosts S} → {h : block.Ghosts T}
+    → Books S T g h → Seen
+seen {g = g} {h = h} books = record {
   state = state g books.conn;
-  forward = forwards books.transform;
+  forward = h.forwards books.transform;
   stopped = books.stopped;
   next_number = books.next_number;
   been = HasBeen g;

@@ -3,6 +3,7 @@ pub mod Found
 pub mod Headline
 pub mod Keeps
 pub mod Path
+pub mod Reads
 pub mod Serving
 pub mod Stopping
 pub use Rattle.book_opening.specs.Fault

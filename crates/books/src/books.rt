@@ -2,6 +2,7 @@ ghost use Rattle.std.specs.Prelude.{◌≡◌, false};
 
 use sqlite::{Alter, Connection};
 use std::alloc::Global;
+use sts_token::BlockTransform;
 
 mod ask;
 mod attempt;
@@ -21,7 +22,7 @@ mod totals;
 /// It holds nothing of the office itself but the number of the next sale. After a failure of the
 /// store it is stopped: it answers every request so until the office is opened again.
 #[derive(Drop)]
-pub struct Books<S: Alter, T> {
+pub struct Books<S: Alter, T: BlockTransform> {
     alloc: Global,
     conn: Connection<S>,
     transform: T,

@@ -7,7 +7,7 @@ ghost use Rattle.sts_token.specs.Fields.{TokenFields};
 ghost use Rattle.sts_token.specs.Meter.{Accepts, Entry, credit_of, entered};
 ghost use Rattle.vend_core.specs.Law.Cash.{AskForReports, cash_of, cash_of_reports};
 ghost use Rattle.vend_core.specs.Law.Imports.{AsksNoMeterChange, ImportsNothing};
-ghost use Rattle.vend_core.specs.Law.Life.{Answered, AreLives, Exchange, IsHanded, Life, present};
+ghost use Rattle.vend_core.specs.Law.Life.{Answered, AreLives, Exchange, IsHanded, Life};
 ghost use Rattle.vend_core.specs.Law.NewSale.{fields_of};
 ghost use Rattle.vend_core.specs.Office.{Office};
 ghost use Rattle.vend_core.specs.Law.SoldTokens.{AreSalesTo, SimMeter, accepted_of, later_sales_come, reads_by, tokens_of};
@@ -16,10 +16,8 @@ ghost use Rattle.vend_core.specs.declared.decision.request.Request.{Request};
 ghost use Rattle.vend_core.specs.declared.decision.request.Stamped.{Stamped};
 ghost use Rattle.vend_core.specs.declared.office.row.Row.{Row};
 ghost use Rattle.vend_core.specs.declared.office.sale.Sale.{Sale};
-ghost use Rattle.books.specs.Headline.{RepresentTheLast, with_last};
+ghost use Rattle.books.specs.Headline.{OverLives};
 ghost use Rattle.book_states.specs.Stores.{RecoversTo, StoreStandsFor};
-ghost use Rattle.books.specs.Keeps.{seen};
-ghost use Rattle.books.specs.declared.books.Books.{Books};
 
 use crate::reopening::opening_law;
 use sqlite::Alter;
@@ -35,62 +33,44 @@ use vend_core::{history_law, life_law};
 /// these is a clause.
 ///
 /// `Books::open_from` begins a life for the office that the file stands for, `Books::serve` adds to
-/// it, and each keeps the relation `Represents` that is the premise here.
+/// it, and each keeps the relation `Represents` that is the premise here (`OverLives`).
 pub fn headline_law<S: Alter, T: BlockTransform>()
     // The lives of which books keep the last one are lives of one office.
-    ensures lives { (lives : List Life) (life : Life) (books : Books S T S.Store)
-        → RepresentTheLast lives life (seen S.Store T.forwards books)
-        → AreLives (with_last lives life) (present life) }
+    ensures lives { OverLives S.Store T.BlockTransform (λ lives office _. AreLives lives office) }
 
     // All that a stop may leave stands for an office that these lives may leave: it is that of the
     // acknowledged requests, or of these and the one in doubt.
-    ensures left { (lives : List Life) (life : Life) (books : Books S T S.Store) (trees : Trees)
-        → RepresentTheLast lives life (seen S.Store T.forwards books)
-        → (state S.Store books.conn).may_leave trees
-        → (o : Office) × RecoversTo trees o × AreLives (with_last lives life) o }
+    ensures left { OverLives S.Store T.BlockTransform (λ lives _ books. (trees : Trees)
+        → books.state.may_leave trees → (o : Office) × RecoversTo trees o × AreLives lives o) }
 
     // A connection that is opened on it stands for that office, which is the one that the next life
     // begins with; and what is left stands for no other.
-    ensures opens_again { (lives : List Life) (life : Life) (books : Books S T S.Store)
-        (again : Held S)
-        → RepresentTheLast lives life (seen S.Store T.forwards books)
-        → (state S.Store books.conn).may_leave (state S.Store again).committed.trees
+    ensures opens_again { OverLives S.Store T.BlockTransform (λ lives _ books. (again : Held S)
+        → books.state.may_leave (state S.Store again).committed.trees
         → Opens (state S.Store again) → IsLive (state S.Store again)
-        → (o : Office) × StoreStandsFor (state S.Store again) o
-        × AreLives (with_last lives life) o }
+        → (o : Office) × StoreStandsFor (state S.Store again) o × AreLives lives o) }
     ensures one_office { (trees : Trees) (o p : Office)
         → RecoversTo trees o → RecoversTo trees p → o ≡ p }
 
     // Each sale that was handed out in any of the lives stands there, unchanged.
-    ensures stands { (lives : List Life) (life : Life) (books : Books S T S.Store) (trees : Trees)
-        (s : Sale)
-        → RepresentTheLast lives life (seen S.Store T.forwards books)
-        → (state S.Store books.conn).may_leave trees
-        → IsHanded (with_last lives life) s
-        → (o : Office) × RecoversTo trees o × Contains o.sales s }
+    ensures stands { OverLives S.Store T.BlockTransform (λ lives _ books. (trees : Trees) (s : Sale)
+        → books.state.may_leave trees → IsHanded lives s
+        → (o : Office) × RecoversTo trees o × Contains o.sales s) }
 
     // No two of them share an identifier of a meter under a base, a number, or an operator's ref.
-    ensures one_identifier { (lives : List Life) (life : Life) (books : Books S T S.Store)
-        (a b : Sale)
-        → RepresentTheLast lives life (seen S.Store T.forwards books)
-        → IsHanded (with_last lives life) a → IsHanded (with_last lives life) b
-        → a.meter ≡ b.meter → a.base ≡ b.base → a.tid ≡ b.tid → a ≡ b }
-    ensures one_number { (lives : List Life) (life : Life) (books : Books S T S.Store) (a b : Sale)
-        → RepresentTheLast lives life (seen S.Store T.forwards books)
-        → IsHanded (with_last lives life) a → IsHanded (with_last lives life) b
-        → a.number ≡ b.number → a ≡ b }
-    ensures one_ref { (lives : List Life) (life : Life) (books : Books S T S.Store) (a b : Sale)
-        → RepresentTheLast lives life (seen S.Store T.forwards books)
-        → IsHanded (with_last lives life) a → IsHanded (with_last lives life) b
-        → a.operator ≡ b.operator → a.order_ref ≡ b.order_ref → a ≡ b }
+    ensures one_identifier { OverLives S.Store T.BlockTransform (λ lives _ _. (a b : Sale)
+        → IsHanded lives a → IsHanded lives b
+        → a.meter ≡ b.meter → a.base ≡ b.base → a.tid ≡ b.tid → a ≡ b) }
+    ensures one_number { OverLives S.Store T.BlockTransform (λ lives _ _. (a b : Sale)
+        → IsHanded lives a → IsHanded lives b → a.number ≡ b.number → a ≡ b) }
+    ensures one_ref { OverLives S.Store T.BlockTransform (λ lives _ _. (a b : Sale)
+        → IsHanded lives a → IsHanded lives b
+        → a.operator ≡ b.operator → a.order_ref ≡ b.order_ref → a ≡ b) }
 
     // A reprint is the first token, whatever transforms the lives have.
-    ensures reprint { (lives : List Life) (life : Life) (books : Books S T S.Store)
-        (first again : Sale)
-        → RepresentTheLast lives life (seen S.Store T.forwards books)
-        → Answered (with_last lives life) (Answer.Sold first)
-        → Answered (with_last lives life) (Answer.Reprinted again)
-        → again.number ≡ first.number → again.digits ≡ first.digits }
+    ensures reprint { OverLives S.Store T.BlockTransform (λ lives _ _. (first again : Sale)
+        → Answered lives (Answer.Sold first) → Answered lives (Answer.Reprinted again)
+        → again.number ≡ first.number → again.digits ≡ first.digits) }
 
     // Until it is cleared, the simulated meter credits each token at most once, whatever came
     // before it and whatever texts are entered between.
@@ -103,60 +83,38 @@ pub fn headline_law<S: Alter, T: BlockTransform>()
     // with repeats: each is accepted at its first entry exactly if those of fewer than fifty later
     // sales came before it, so in the order of sale all are. The credit is the sum of the distinct
     // ones accepted, at most what was sold, and that is below the greatest credit of a meter.
-    ensures first_entry { (lives : List Life) (life : Life) (books : Books S T S.Store)
-        (m : SimMeter)
-        (sales came : List Sale) (s : Sale)
-        → RepresentTheLast lives life (seen S.Store T.forwards books)
-        → AreSalesTo (with_last lives life) m sales
+    ensures first_entry { OverLives S.Store T.BlockTransform (λ lives _ _. (m : SimMeter)
+        (sales came : List Sale) (s : Sale) → AreSalesTo lives m sales
         → All (Contains sales) came → Contains sales s → ¬ Contains came s
         → (Accepts (reads_by m) (tokens_of came) s.digits (fields_of s)
-        ↔ (later_sales_come sales came s < 50)) }
-    ensures in_order { (lives : List Life) (life : Life) (books : Books S T S.Store) (m : SimMeter)
-        (earlier later : List Sale) (s : Sale)
-        → RepresentTheLast lives life (seen S.Store T.forwards books)
-        → AreSalesTo (with_last lives life) m (earlier ++ s ∷ later)
-        → Accepts (reads_by m) (tokens_of earlier) s.digits (fields_of s) }
-    ensures credit { (lives : List Life) (life : Life) (books : Books S T S.Store) (m : SimMeter)
-        (sales came : List Sale)
-        → RepresentTheLast lives life (seen S.Store T.forwards books)
-        → AreSalesTo (with_last lives life) m sales
-        → All (Contains sales) came
+        ↔ (later_sales_come sales came s < 50))) }
+    ensures in_order { OverLives S.Store T.BlockTransform (λ lives _ _. (m : SimMeter)
+        (earlier later : List Sale) (s : Sale) → AreSalesTo lives m (earlier ++ s ∷ later)
+        → Accepts (reads_by m) (tokens_of earlier) s.digits (fields_of s)) }
+    ensures credit { OverLives S.Store T.BlockTransform (λ lives _ _. (m : SimMeter)
+        (sales came : List Sale) → AreSalesTo lives m sales → All (Contains sales) came
         → credit_of (reads_by m) (tokens_of came)
-        ≡ sum_by (λ s. s.tenths) (accepted_of (reads_by m) (tokens_of came) sales) }
-    ensures at_most_sold { (lives : List Life) (life : Life) (books : Books S T S.Store)
-        (m : SimMeter)
-        (sales came : List Sale)
-        → RepresentTheLast lives life (seen S.Store T.forwards books)
-        → AreSalesTo (with_last lives life) m sales
-        → All (Contains sales) came
-        → credit_of (reads_by m) (tokens_of came) ≤ sum_by (λ s. s.tenths) sales }
-
-    ensures below_bound { (lives : List Life) (life : Life) (books : Books S T S.Store)
-        (m : SimMeter) (sales : List Sale)
-        → RepresentTheLast lives life (seen S.Store T.forwards books)
-        → AreSalesTo (with_last lives life) m sales
-        → sum_by (λ s. s.tenths) sales < 2 ^ 64 - 1 }
+        ≡ sum_by (λ s. s.tenths) (accepted_of (reads_by m) (tokens_of came) sales)) }
+    ensures at_most_sold { OverLives S.Store T.BlockTransform (λ lives _ _. (m : SimMeter)
+        (sales came : List Sale) → AreSalesTo lives m sales → All (Contains sales) came
+        → credit_of (reads_by m) (tokens_of came) ≤ sum_by (λ s. s.tenths) sales) }
+    ensures below_bound { OverLives S.Store T.BlockTransform (λ lives _ _. (m : SimMeter)
+        (sales : List Sale) → AreSalesTo lives m sales
+        → sum_by (λ s. s.tenths) sales < 2 ^ 64 - 1) }
 
     // The reports of all shifts hold the money of all sales.
-    ensures cash { (lives : List Life) (life : Life) (books : Books S T S.Store)
-        (ats : ℕ → Stamped)
-        → RepresentTheLast lives life (seen S.Store T.forwards books)
-        → AskForReports ats
-        → cash_of_reports (T.forwards books.transform) (present life) ats
-        ≡ cash_of (present life).sales }
+    ensures cash { OverLives S.Store T.BlockTransform (λ _ office books. (ats : ℕ → Stamped)
+        → AskForReports ats → cash_of_reports books.forward office ats ≡ cash_of office.sales) }
 
     // An import that was granted in one of the lives, and comes again with no SetTariff and no
     // MoveBase in between, changes nothing.
-    ensures imported_again { (lives earlier later : List Life) (life last : Life)
-        (books : Books S T S.Store) (before between : List Exchange) (e : Exchange)
+    ensures imported_again { OverLives S.Store T.BlockTransform (λ lives office books.
+        (earlier later : List Life) (life : Life) (before between : List Exchange) (e : Exchange)
         (rows : List Row) (new : ℕ) (again : Stamped)
-        → RepresentTheLast lives last (seen S.Store T.forwards books)
-        → (earlier ++ life ∷ later) ≡ with_last lives last
-        → life.exchanges ≡ before ++ e ∷ between
+        → (earlier ++ life ∷ later) ≡ lives → life.exchanges ≡ before ++ e ∷ between
         → e.request.request ≡ Request.Import rows → e.reply ≡ Ok (Answer.Imported new)
         → All AsksNoMeterChange between → All (λ l. All AsksNoMeterChange l.exchanges) later
-        → again.request ≡ Request.Import rows
-        → ImportsNothing (T.forwards books.transform) (present last) again }
+        → again.request ≡ Request.Import rows → ImportsNothing books.forward office again) }
 {
     life_law();
     history_law();

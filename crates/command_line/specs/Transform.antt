@@ -3,6 +3,7 @@ use Rattle.std.specs.Prelude.{◌≡◌, ◌<◌, ◌^◌, ℕ, refl}
 use Rattle.sts_token.specs.Demo.{demo_forward, demo_inverse}
 use Rattle.sts_token.specs.DemoLaws.{demo_forward_range, demo_forward_undoes, demo_inverse_range, demo_inverse_undoes}
 use Rattle.sts_token.specs.Token.{BlockFunction}
+use Rattle.sts_token.specs.declared.transform.BlockTransform.{Ghosts}
 use Rattle.command_line.specs.declared.transform.Shipped.{Shipped}
 use Rattle.command_line.specs.declared.transform.Shipped.TheVariants.{Plain, Demo}
 
@@ -13,6 +14,10 @@ forward_of Demo = demo_forward
 abbrev pub inverse_of : Shipped → BlockFunction
 inverse_of Plain = λ key block. block
 inverse_of Demo = demo_inverse
+
+-- what a transform that ships does, as a transform
+abbrev pub shipped : Ghosts Shipped
+shipped = record { forwards = forward_of; inverses = inverse_of }
 
 -- each gives a block, and undoes the other
 pub forward_range : (t : Shipped) (key block : ℕ) → key < 2 ^ 64 → block < 2 ^ 64

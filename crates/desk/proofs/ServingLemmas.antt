@@ -16,10 +16,12 @@ use Rattle.books.proofs.OthersLemmas.{kept_tables, others_same, others_then}
 use Rattle.conversation.specs.Exchanges.{MessageExchange, GaveUp, ReadsClock, Timed, timed}
 use Rattle.conversation.specs.message.Messages.{Message}
 use Rattle.conversation.specs.Run.{IsRun}
+use Rattle.conversation.specs.Uses.{EndsBy, IsPaced, Use}
 use Rattle.conversation.specs.declared.end.End.{End}
 use Rattle.conversation.specs.declared.message.message_fault.MessageFault.{MessageFault}
 use Rattle.conversation.proofs.FollowLemmas.{Follows, run_along, run_well}
-use Rattle.desk.specs.Answering.{Comes, Serving, answers_by, books_serve, life_serves}
+use Rattle.desk.specs.Answering.{Comes, Serving, answers_by, books_serve, life_serves, message_refusal_of}
+use Rattle.desk.specs.Converses.{Converses}
 use Rattle.desk.specs.Meaning.{IsIdle, IsMeaning}
 use Rattle.desk.specs.reply.Text.{reply_bytes_of}
 use Rattle.desk.specs.declared.reply.form.Form.{Form}
@@ -115,7 +117,7 @@ books_follow {B} see start = record { back = back; next = next }
 module _ {B : Type 0} (see : B → Seen) (refusal : MessageFault → List ℕ) (old new : Timed B) (unread left held holds : Option (List ℕ)) (end : End)
     (is_run : IsRun (answers_by (books_serve see)) refusal old new unread left held holds end) (clean : HasCleanDisk (see new.0).state) where
   -- a life that books kept went on along a run of them, which left other tables alone
-  pub run_kept : (life : Life) → Represents life (see old.0)
+  run_kept : (life : Life) → Represents life (see old.0)
       → (after : Life) × IsRun (answers_by life_serves) refusal (life, old.1) (after, new.1) unread left held holds end × KeepsFrom (see old.0).state after (see new.0)
   run_kept life keeps =
       let start = (see old.0).state in
@@ -123,8 +125,22 @@ module _ {B : Type 0} (see : B → Seen) (refusal : MessageFault → List ℕ) (
       refusal life old new unread left held holds end (keeps, others_same start) is_run clean
 
   -- the disk was clean before it
-  pub run_clean : HasCleanDisk (see old.0).state
+  run_clean : HasCleanDisk (see old.0).state
   run_clean =
       let start = (see old.0).state in
       run_well (answers_by (books_serve see)) (answers_by life_serves) (λ l books. KeepsFrom start l (see books)) (λ books. HasCleanDisk (see books).state) (books_follow see start)
       refusal old new unread left held holds end is_run clean
+
+-- a run over books is a conversation of them, and of the lives that they keep
+pub converses : {B : Type 0} (see : B → Seen) (old new : Timed B) (unread left held holds : Option (List ℕ)) (uses : List Use) (end : End)
+    → IsRun (answers_by (books_serve see)) message_refusal_of old new unread left held holds end
+    → IsPaced (answers_by (books_serve see)) old unread left held holds uses → EndsBy end uses → Converses see old new unread left held holds uses end
+converses see old new unread left held holds uses end ran paced ends = record {
+  run = ran;
+  paced = paced;
+  ends = ends;
+  clean = λ clean. run_clean see message_refusal_of old new unread left held holds end ran clean;
+  lives = λ clean life keeps.
+      let kept = run_kept see message_refusal_of old new unread left held holds end ran clean life keeps in
+      (kept.0, kept.1, kept.2.0, kept.2.1);
+}

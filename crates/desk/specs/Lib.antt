@@ -1,6 +1,7 @@
 pub mod Along
 pub mod Answering
 pub mod Asking
+pub mod Converses
 pub mod DeskFault
 pub mod Meaning
 pub mod OneConversation

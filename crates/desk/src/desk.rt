@@ -1,13 +1,9 @@
-ghost use Rattle.std.specs.Prelude.{◌≡◌, ℤ, List, Option};
-ghost use Rattle.sqlite.specs.State.{HasCleanDisk};
-ghost use Rattle.vend_core.specs.Law.Life.{Life};
-ghost use Rattle.books.specs.Keeps.{Represents, seen};
-ghost use Rattle.books.specs.Others.{LeavesOthers};
+ghost use Rattle.std.specs.Prelude.{ℤ, List, Option};
+ghost use Rattle.books.specs.Keeps.{seen};
 ghost use Rattle.conversation.specs.Exchanges.{ReadsClock};
 ghost use Rattle.conversation.specs.message.Next.{message_of};
-ghost use Rattle.conversation.specs.Run.{IsRun};
-ghost use Rattle.conversation.specs.Uses.{EndsBy, Grows, IsPaced, Use};
-ghost use Rattle.desk.specs.Answering.{answers_by, books_serve, life_serves, message_refusal_of};
+ghost use Rattle.conversation.specs.Uses.{Grows, Use};
+ghost use Rattle.desk.specs.Converses.{Converses};
 ghost use Rattle.desk.specs.Meaning.{IsMeaning};
 
 use crate::meaning::{Meaning, meaning_at};
@@ -40,9 +36,10 @@ impl Desk {
     /// Holds the conversation of a reader and a writer over these books: each message that is read
     /// is answered in order, and its request served once, before more is asked for. A request comes
     /// at the moment that the clock gives for it. See `End` for what was written and served by the
-    /// end; `specs/Answering.antt` says how books and their lives answer. No more is read than
-    /// `specs/Uses.antt` of `conversation` allows (`paced`): while a head is awaited 8192 bytes of
-    /// it in all, while a body is awaited what it lacks, and nothing after an end.
+    /// end; `specs/Converses.antt` says what holds of it, and `specs/Answering.antt` how books and
+    /// their lives answer. No more is read than `specs/Uses.antt` of `conversation` allows
+    /// (`paced`): while a head is awaited 8192 bytes of it in all, while a body is awaited what it
+    /// lacks, and nothing after an end.
     pub fn run<S: Alter, T: BlockTransform, R: Read, W: Write, C: Clock>(
         &self,
         alloc: Global,
@@ -51,26 +48,10 @@ impl Desk {
         books: &mut Books<S, T>,
         clock: &mut C,
     ) -> End
-        ensures run { IsRun (answers_by (books_serve (seen S.Store T.forwards))) message_refusal_of
+        ensures { (uses : List Use) × Converses seen
             (books.old, C.answers clock.old) (books.new, C.answers clock.new)
             (R.remaining reader.old) (R.remaining reader.new)
-            (W.contents writer.old) (W.contents writer.new) result }
-        ensures paced { (uses : List Use)
-            × IsPaced (answers_by (books_serve (seen S.Store T.forwards)))
-            (books.old, C.answers clock.old) (R.remaining reader.old) (R.remaining reader.new)
-            (W.contents writer.old) (W.contents writer.new) uses
-            × EndsBy result uses }
-        ensures clean { HasCleanDisk (seen S.Store T.forwards books.new).state
-            → HasCleanDisk (seen S.Store T.forwards books.old).state }
-        ensures lives { HasCleanDisk (seen S.Store T.forwards books.new).state → (life : Life)
-            → Represents life (seen S.Store T.forwards books.old)
-            → (after : Life) × IsRun (answers_by life_serves) message_refusal_of
-            (life, C.answers clock.old) (after, C.answers clock.new)
-            (R.remaining reader.old) (R.remaining reader.new)
-            (W.contents writer.old) (W.contents writer.new) result
-            × Represents after (seen S.Store T.forwards books.new)
-            × LeavesOthers (seen S.Store T.forwards books.old).state
-            (seen S.Store T.forwards books.new).state }
+            (W.contents writer.old) (W.contents writer.new) uses result }
     {
         run(self, alloc, &mut Untold, reader, writer, books, clock)
     }
@@ -87,26 +68,10 @@ impl Desk {
         books: &mut Books<S, T>,
         clock: &mut C,
     ) -> End
-        ensures run { IsRun (answers_by (books_serve (seen S.Store T.forwards))) message_refusal_of
-            (books.old, C.answers clock.old) (books.new, C.answers clock.new)
+        ensures { (uses : List Use) × Grows (L.uses line.old) (L.uses line.new) uses
+            × Converses seen (books.old, C.answers clock.old) (books.new, C.answers clock.new)
             (R.remaining reader.old) (R.remaining reader.new)
-            (W.contents writer.old) (W.contents writer.new) result }
-        ensures paced { (uses : List Use) × Grows (L.uses line.old) (L.uses line.new) uses
-            × IsPaced (answers_by (books_serve (seen S.Store T.forwards)))
-            (books.old, C.answers clock.old) (R.remaining reader.old) (R.remaining reader.new)
-            (W.contents writer.old) (W.contents writer.new) uses
-            × EndsBy result uses }
-        ensures clean { HasCleanDisk (seen S.Store T.forwards books.new).state
-            → HasCleanDisk (seen S.Store T.forwards books.old).state }
-        ensures lives { HasCleanDisk (seen S.Store T.forwards books.new).state → (life : Life)
-            → Represents life (seen S.Store T.forwards books.old)
-            → (after : Life) × IsRun (answers_by life_serves) message_refusal_of
-            (life, C.answers clock.old) (after, C.answers clock.new)
-            (R.remaining reader.old) (R.remaining reader.new)
-            (W.contents writer.old) (W.contents writer.new) result
-            × Represents after (seen S.Store T.forwards books.new)
-            × LeavesOthers (seen S.Store T.forwards books.old).state
-            (seen S.Store T.forwards books.new).state }
+            (W.contents writer.old) (W.contents writer.new) uses result }
     {
         run(self, alloc, line, reader, writer, books, clock)
     }
@@ -127,7 +92,7 @@ impl<S: Alter, T: BlockTransform> Service<Books<S, T>> for Desk {
     ghost use Rattle.books.specs.Keeps.{seen};
     ghost use Rattle.desk.specs.Answering.{answers_by, books_serve, message_refusal_of};
 
-    ghost step = { answers_by (books_serve (seen S.Store T.forwards)) };
+    ghost step = { answers_by (books_serve seen) };
 
     ghost refusal = { message_refusal_of };
 

@@ -13,7 +13,7 @@ use tariff::Steps;
 use vend_core::{Answer, Lists, Refusal, Reply, Request, Sale, Stamped};
 
 #[derive(Drop)]
-pub struct Both<S: Alter, T> {
+pub struct Both<S: Alter, T: BlockTransform> {
     pub books: Books<S, T>,
     pub lists: Lists<T>,
 }
@@ -68,7 +68,7 @@ pub fn opened_again<T: BlockTransform + Drop>(
 }
 
 /// Ends a life as a program that stops: the books are not closed. The lists stay.
-pub fn stop<S: Alter + Drop, T: Drop>(both: Both<S, T>) -> Lists<T> {
+pub fn stop<S: Alter + Drop, T: BlockTransform + Drop>(both: Both<S, T>) -> Lists<T> {
     let Both { books, lists } = both;
     drop(books);
     lists

@@ -103,7 +103,7 @@ fn older_after(older: &[&'static str], lives: usize) -> &'static str {
 
 /// A life that is replayed, with the office in memory.
 #[derive(Drop)]
-struct LifeReplay<'a, 'b, T> {
+struct LifeReplay<'a, 'b, T: BlockTransform> {
     alloc: Global,
     memory: Books<MemStore, T>,
     life: ListedLife<'b>,

@@ -16,7 +16,7 @@ use Rattle.vend_core.specs.declared.decision.request.Stamped.{Stamped}
 use Rattle.vend_core.specs.declared.office.sale.Sale.{Sale}
 use Rattle.vend_commands.specs.print.Told.{IsTold, Outputs, Takes}
 use Rattle.vend_commands.specs.office.Visited.{seen_in}
-use Rattle.command_line.specs.Transform.{forward_of}
+use Rattle.command_line.specs.Transform.{forward_of, shipped}
 use Rattle.command_line.specs.declared.transform.Shipped.{Shipped}
 use Rattle.vend_commands.specs.declared.command_end.CommandEnd.{CommandEnd}
 use Rattle.vend_commands.specs.declared.command_end.CommandEnd.TheVariants.{Done}
@@ -53,6 +53,6 @@ abbrev pub EndsSold : {S : Type 0} → Ghosts S → (Closes : Seen → Type 0) �
     → (moment : ℕ)
     → Office → Outputs → Type 0
 EndsSold {S} store Closes transform order moment office o =
-    (books : Books S Shipped store) × Closes (seen_in books)
+    (books : Books S Shipped store shipped) × Closes (seen_in books)
     × (HasCleanDisk (seen_in books).state
     → HasSold (forward_of transform) office order moment o (seen_in books))

@@ -6,6 +6,7 @@ ghost use Rattle.books.specs.Headline.{RepresentTheLast};
 ghost use Rattle.books.specs.Path.{StandsIn};
 ghost use Rattle.books.specs.declared.books.Books.{Books};
 ghost use Rattle.sqlite_store.specs.declared.store.FileStore.{FileStore as Files};
+ghost use Rattle.command_line.specs.Transform.{shipped};
 ghost use Rattle.command_line.specs.declared.transform.Shipped.{Shipped};
 ghost use Rattle.vend_commands.specs.Sound.{EndsSound};
 ghost use Rattle.vend_commands.specs.commands.Asked.{IsAskedAt};
@@ -70,7 +71,7 @@ pub fn sound_law<H: OfficeFile>()
 pub fn serve_law<H: OfficeFile, D: Door>()
     ensures { (forward : BlockFunction) (count : ℕ)
         (old new : Service D (Books (Files H.Medium H.Medium.Disk) Shipped
-        ⟦<FileStore<H::Medium> as Store>⟧)) (printed : Text) (start : Course)
+        ⟦<FileStore<H::Medium> as Store>⟧ shipped)) (printed : Text) (start : Course)
         → AreHeld (way D.Door D.Reader.remaining D.Writer.contents)
         forward seen_in count old new printed
         → HasCleanDisk (seen_in new.books).state

@@ -44,7 +44,7 @@ pub(crate) fn selfcheck<L: Loopback, T: BlockTransform + Copy + Drop>(
     ensures agrees { OnOk result (AgreesOver L.Loopback L.Stream.remaining L.Stream.contents
         loopback (T.forwards transform)) }
     ensures disagrees { IfErr result (Disagrees L.Loopback L.Stream.remaining L.Stream.contents
-        loopback (T.forwards transform) (seen over_memory T.forwards)) }
+        loopback (T.forwards transform) (seen {g = over_memory} {h = T.BlockTransform})) }
 {
     let replies = match replies_over_memory(alloc, transform) {
         Ok(replies) => replies,
@@ -70,7 +70,7 @@ pub fn replies_over_memory<T: BlockTransform + Drop>(
     transform: T,
 ) -> Result<Vec<u8>, SelfcheckFault>
     ensures replies { IfOk result (λ replies. AreReplies (T.forwards transform) replies.items) }
-    ensures none { IfErr result (HasNoReplies (seen over_memory T.forwards)
+    ensures none { IfErr result (HasNoReplies (seen {g = over_memory} {h = T.BlockTransform})
         (T.forwards transform)) }
 {
     let mut books = match prepare(alloc, transform) {
@@ -97,7 +97,7 @@ fn replies_over_net<L: Loopback, T: BlockTransform + Drop>(
     ensures answered { IfOk result (λ near. ConversesOver L.Loopback L.Stream.remaining
         L.Stream.contents loopback (T.forwards transform) near Closed) }
     ensures disagrees { IfErr result (Disagrees L.Loopback L.Stream.remaining L.Stream.contents
-        loopback (T.forwards transform) (seen over_memory T.forwards)) }
+        loopback (T.forwards transform) (seen {g = over_memory} {h = T.BlockTransform})) }
 {
     let mut books = match prepare(alloc, transform) {
         Ok(books) => books,
@@ -125,7 +125,7 @@ fn answer<T: BlockTransform, R: Read, W: Write>(
     books: &mut Books<MemStore, T>,
 ) -> Result<End, AllocError>
     ensures { IfOk result (λ end. (life : Life)
-        → Represents life (seen over_memory T.forwards books.old)
+        → Represents life (seen books.old)
         → Converses life (R.remaining reader.old)
         (W.contents writer.old) (W.contents writer.new) end) }
 {

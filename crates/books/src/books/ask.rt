@@ -13,8 +13,7 @@ impl<S: Alter, T: BlockTransform> Books<S, T> {
     /// Serves a request at a moment, with the nibble of the next sale's number: that number modulo
     /// 16.
     pub fn ask(&mut self, moment: Moment, request: Request) -> Reply
-        ensures replies { ReplyAt moment request result
-            (seen S.Store T.forwards self.old) (seen S.Store T.forwards self.new) }
+        ensures replies { ReplyAt moment request result (seen self.old) (seen self.new) }
         ensures idle { self.old.stopped ≡ true → self.new ≡ self.old }
     {
         let at = self.stamp(moment, request);
@@ -23,7 +22,7 @@ impl<S: Alter, T: BlockTransform> Books<S, T> {
 
     // The request with its moment and its nibble.
     fn stamp(&self, moment: Moment, request: Request) -> Stamped
-        ensures { IsAsked moment request (seen S.Store T.forwards self.now) result }
+        ensures { IsAsked moment request (seen self.now) result }
     {
         Stamped {
             moment,

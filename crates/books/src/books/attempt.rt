@@ -24,24 +24,16 @@ impl<S: Alter, T: BlockTransform> Books<S, T> {
     // Serves a request at books that are not stopped.
     pub(super) fn attempt(&mut self, at: &Stamped) -> Reply
         requires stamped { IsStamped at.now }
-        ensures attempts { HasCleanDisk (seen S.Store T.forwards self.new).state
-            → (o : Office) → HoldsOffice o (seen S.Store T.forwards self.old)
-            → ServingEnds (T.forwards self.old.transform) o at.now result
-            (seen S.Store T.forwards self.new) }
-        ensures others { HasCleanDisk (seen S.Store T.forwards self.new).state
-            → HasAllTables (seen S.Store T.forwards self.old).state
-            → LeavesOthers (seen S.Store T.forwards self.old).state
-            (seen S.Store T.forwards self.new).state }
-        ensures failures { HasCleanDisk (seen S.Store T.forwards self.new).state
-            → HasAllTables (seen S.Store T.forwards self.old).state
-            → IfErr result (FailsToServe at.now (seen S.Store T.forwards self.old)
-            (seen S.Store T.forwards self.new)) }
-        ensures granted { HasCleanDisk (seen S.Store T.forwards self.new).state
-            → HasAllTables (seen S.Store T.forwards self.old).state
-            → OnOk result (ServesGranted at.now (seen S.Store T.forwards self.old)
-            (seen S.Store T.forwards self.new)) }
-        ensures clean { HasCleanDisk (seen S.Store T.forwards self.new).state
-            → HasCleanDisk (seen S.Store T.forwards self.old).state }
+        ensures attempts { HasCleanDisk (seen self.new).state
+            → (o : Office) → HoldsOffice o (seen self.old)
+            → ServingEnds (T.forwards self.old.transform) o at.now result (seen self.new) }
+        ensures others { HasCleanDisk (seen self.new).state → HasAllTables (seen self.old).state
+            → LeavesOthers (seen self.old).state (seen self.new).state }
+        ensures failures { HasCleanDisk (seen self.new).state → HasAllTables (seen self.old).state
+            → IfErr result (FailsToServe at.now (seen self.old) (seen self.new)) }
+        ensures granted { HasCleanDisk (seen self.new).state → HasAllTables (seen self.old).state
+            → OnOk result (ServesGranted at.now (seen self.old) (seen self.new)) }
+        ensures clean { HasCleanDisk (seen self.new).state → HasCleanDisk (seen self.old).state }
         ensures never_stopped { result ≢ Err Refusal.Stopped }
         ensures transform { self.new.transform ≡ self.old.transform }
         ensures stopped { self.new.stopped ≡ self.old.stopped }

@@ -21,11 +21,11 @@ impl<S: Alter, T: BlockTransform + Drop> Books<S, T> {
     pub fn into_connection(self) -> Connection<S>
         ensures same { result ≡ self.conn }
         ensures rests { result.in_transaction ≡ false }
-        ensures left { (life : Life) → Represents life (seen S.Store T.forwards self)
+        ensures left { (life : Life) → Represents life (seen self)
             → HasCleanDisk (state S.Store result)
             → (trees : Trees) → (state S.Store result).may_leave trees
             → (o : Office) × MayLeave life o × RecoversTo trees o }
-        ensures holds { (life : Life) → Represents life (seen S.Store T.forwards self)
+        ensures holds { (life : Life) → Represents life (seen self)
             → HasCleanDisk (state S.Store result) → self.stopped ≡ false
             → StoreStandsFor (state S.Store result) (present life) }
     {

@@ -1,7 +1,7 @@
 //! An office in two files that are at hand.
 
 ghost use Rattle.std.specs.Prelude.{◌≡◌, false, IfErr, IfOk, IsTrue};
-ghost use Rattle.sqlite.specs.Files.{image_of, over_files};
+ghost use Rattle.sqlite.specs.Files.{image_of};
 ghost use Rattle.vend_core.specs.Law.LifeLaws.{opened};
 ghost use Rattle.vend_core.specs.Office.{Office};
 ghost use Rattle.books.specs.Keeps.{BooksHaveTables, Represents, seen};
@@ -32,9 +32,8 @@ impl<D: Disk + Drop, T: BlockTransform + Drop> Books<FileStore<D>, T> {
         requires log { IsTrue (D.Disk.is_usable files.log) }
         requires db { IsTrue (D.Disk.is_usable files.db) }
         ensures opens { (o : Office) → StandsIn (image_of D.Disk files) o
-            → IfOk result (λ books. Represents
-            (opened (T.forwards transform) o) (seen over_files T.forwards books)) }
-        ensures tables { IfOk result (λ books. BooksHaveTables (seen over_files T.forwards books)) }
+            → IfOk result (λ books. Represents (opened (T.forwards transform) o) (seen books)) }
+        ensures tables { IfOk result (λ books. BooksHaveTables (seen books)) }
         ensures finds { IfOk result (λ books. OpensFiles (image_of D.Disk files) books.conn) }
         ensures running { IfOk result (λ books. books.stopped ≡ false) }
         ensures refused { IfErr result (λ e. RefusesFiles files e.0 e.1) }

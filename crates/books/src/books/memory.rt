@@ -1,7 +1,6 @@
 //! An office in memory.
 
 ghost use Rattle.std.specs.Prelude.{◌≡◌, ◌⊎◌, false, None, IfOk, IfErr};
-ghost use Rattle.sqlite.specs.Steps.{over_memory};
 ghost use Rattle.vend_core.specs.Law.LifeLaws.{opened};
 ghost use Rattle.vend_core.specs.Office.{empty_office};
 ghost use Rattle.books.specs.Keeps.{BooksHaveTables, Represents, seen};
@@ -20,12 +19,10 @@ impl<T: BlockTransform + Drop> Books<MemStore, T> {
     /// `Store` and `Memory`.
     pub fn in_memory(alloc: Global, transform: T) -> Result<Books<MemStore, T>, OpenFault>
         ensures opens { IfOk result (λ books. Represents
-            (opened (T.forwards transform) empty_office) (seen over_memory T.forwards books)) }
-        ensures tables { IfOk result (λ books.
-            BooksHaveTables (seen over_memory T.forwards books)) }
+            (opened (T.forwards transform) empty_office) (seen books)) }
+        ensures tables { IfOk result (λ books. BooksHaveTables (seen books)) }
         ensures running { IfOk result (λ books. books.stopped ≡ false) }
-        ensures unlimited { IfOk result (λ books.
-            (seen over_memory T.forwards books).state.step_limit ≡ None) }
+        ensures unlimited { IfOk result (λ books. (seen books).state.step_limit ≡ None) }
         ensures faults { IfErr result
             (λ fault. (fault ≡ OpenFault.Store) ⊎ (fault ≡ OpenFault.Memory)) }
     {

@@ -33,9 +33,8 @@ impl<S: Alter, T: BlockTransform + Drop> Books<S, T> {
     ) -> Result<Books<S, T>, (OpenFault, Connection<S>)>
         requires outside { conn.in_transaction ≡ false }
         ensures opens { (o : Office) → StoreStandsFor (state S.Store conn) o
-            → IfOk result (λ books. Represents
-            (opened (T.forwards transform) o) (seen S.Store T.forwards books)) }
-        ensures tables { IfOk result (λ books. BooksHaveTables (seen S.Store T.forwards books)) }
+            → IfOk result (λ books. Represents (opened (T.forwards transform) o) (seen books)) }
+        ensures tables { IfOk result (λ books. BooksHaveTables (seen books)) }
         ensures finds { IfOk result (λ books. HasCleanDisk (state S.Store books.conn)
             → OpensAs (state S.Store conn) (state S.Store books.conn)) }
         ensures running { IfOk result (λ books. books.stopped ≡ false) }

@@ -1,15 +1,12 @@
 //! The sales, a page at a time, and the number of the next one.
 
-ghost use Rattle.std.specs.Prelude.{◌≡◌, ◌≤◌, ◌+◌, ◌⊎◌, ◌↔◌, Err, IfErr, IfOk, false, length, true};
+ghost use Rattle.std.specs.Prelude.{◌≡◌, ◌≤◌, ◌+◌, IfOk, false, length, true};
 ghost use Rattle.sqlite.specs.State.{HasCleanDisk};
-ghost use Rattle.sqlite.specs.Held.{state};
 ghost use Rattle.vend_core.specs.Law.Life.{Life, MayLeave, present};
 ghost use Rattle.vend_core.specs.Office.{Office};
 ghost use Rattle.vend_core.specs.Law.Store.{sales_above};
-ghost use Rattle.book_states.specs.Failing.{IsToldOfRead};
-ghost use Rattle.books.specs.Keeps.{BooksHaveTables, IsNextOrOneBefore, Represents, seen};
-ghost use Rattle.book_states.specs.Others.{LeavesOthers};
-ghost use Rattle.book_states.specs.Same.{ChangesNothing};
+ghost use Rattle.books.specs.Keeps.{IsNextOrOneBefore, Represents, seen};
+ghost use Rattle.books.specs.Reads.{ReadsBooks};
 
 use super::Books;
 use book_facts::page;
@@ -27,32 +24,10 @@ impl<S: Alter, T: BlockTransform> Books<S, T> {
     pub fn sales_after(&mut self, number: u32, limit: u32) -> Result<Vec<Sale>, Refusal>
         requires some { 1 ≤ limit }
         requires few { limit ≤ 1000 }
-        ensures given { HasCleanDisk (seen S.Store T.forwards self.new).state
-            → (life : Life) → Represents life (seen S.Store T.forwards self.old)
+        ensures given { HasCleanDisk (seen self.new).state → (life : Life)
+            → Represents life (seen self.old)
             → IfOk result (λ sales. sales.items ≡ sales_above (present life) number limit) }
-        ensures keeps { (life : Life) → Represents life (seen S.Store T.forwards self.old)
-            → Represents life (seen S.Store T.forwards self.new) }
-        ensures tables { BooksHaveTables (seen S.Store T.forwards self.old)
-            → BooksHaveTables (seen S.Store T.forwards self.new) }
-        ensures others { HasCleanDisk (seen S.Store T.forwards self.new).state
-            → BooksHaveTables (seen S.Store T.forwards self.old)
-            → LeavesOthers (seen S.Store T.forwards self.old).state
-            (seen S.Store T.forwards self.new).state }
-        ensures nothing { HasCleanDisk (seen S.Store T.forwards self.new).state
-            → BooksHaveTables (seen S.Store T.forwards self.old)
-            → ChangesNothing (seen S.Store T.forwards self.old).state
-            (seen S.Store T.forwards self.new).state }
-        ensures clean { HasCleanDisk (seen S.Store T.forwards self.new).state
-            → HasCleanDisk (seen S.Store T.forwards self.old).state }
-        ensures stopped { (result ≡ Err Refusal.Stopped) ↔ (self.old.stopped ≡ true) }
-        ensures stops { (self.new.stopped ≡ true)
-            ↔ ((result ≡ Err Refusal.Store) ⊎ (result ≡ Err Refusal.Stopped)) }
-        ensures refusals { IfErr result (λ refusal. (refusal ≡ Refusal.Memory)
-            ⊎ ((refusal ≡ Refusal.Store) ⊎ (refusal ≡ Refusal.Stopped))) }
-        ensures failures { HasCleanDisk (seen S.Store T.forwards self.new).state
-            → BooksHaveTables (seen S.Store T.forwards self.old) → self.old.stopped ≡ false
-            → IfErr result (λ refusal. IsToldOfRead refusal
-            (seen S.Store T.forwards self.old).state (seen S.Store T.forwards self.new).state) }
+        ensures reads { ReadsBooks (λ why. ⊥) result (seen self.old) (seen self.new) }
         ensures idle { self.old.stopped ≡ true → self.new ≡ self.old }
     {
         if self.stopped {
@@ -67,11 +42,11 @@ impl<S: Alter, T: BlockTransform> Books<S, T> {
     ///
     /// After a failure of the store it may be too small by one.
     pub fn next_number(&self) -> u64
-        ensures exact { HasCleanDisk (seen S.Store T.forwards self.now).state
-            → (life : Life) → Represents life (seen S.Store T.forwards self.now)
+        ensures exact { HasCleanDisk (seen self.now).state → (life : Life)
+            → Represents life (seen self.now)
             → self.now.stopped ≡ false → result ≡ length (present life).sales + 1 }
-        ensures near { HasCleanDisk (seen S.Store T.forwards self.now).state
-            → (life : Life) → Represents life (seen S.Store T.forwards self.now)
+        ensures near { HasCleanDisk (seen self.now).state → (life : Life)
+            → Represents life (seen self.now)
             → (o : Office) → MayLeave life o → IsNextOrOneBefore o result }
     {
         self.next_number

@@ -2,7 +2,6 @@
 
 ghost use Rattle.std.specs.Prelude.{◌≡◌, ◌≢◌, codes, false, Err, IfOk, IfErr, IsErrAnd};
 ghost use Rattle.sqlite_wal.specs.Files.{image_at};
-ghost use Rattle.sqlite.specs.Files.{over_files};
 ghost use Rattle.vend_core.specs.Law.LifeLaws.{opened};
 ghost use Rattle.vend_core.specs.Office.{Office};
 ghost use Rattle.books.specs.Keeps.{BooksHaveTables, Represents, seen};
@@ -31,9 +30,8 @@ impl<B: Start, T: BlockTransform + Drop> Books<FileStore<FileFrom<B>>, T> {
         transform: T,
     ) -> Result<Books<FileStore<FileFrom<B>>, T>, OpenFault>
         ensures opens { (o : Office) → StandsIn (image_at B.Start) o
-            → IfOk result (λ books. Represents
-            (opened (T.forwards transform) o) (seen over_files T.forwards books)) }
-        ensures tables { IfOk result (λ books. BooksHaveTables (seen over_files T.forwards books)) }
+            → IfOk result (λ books. Represents (opened (T.forwards transform) o) (seen books)) }
+        ensures tables { IfOk result (λ books. BooksHaveTables (seen books)) }
         ensures finds { IfOk result (λ books. OpensFiles (image_at B.Start) books.conn) }
         ensures running { IfOk result (λ books. books.stopped ≡ false) }
         ensures refused { IfErr result (RefusedAt ⟦<FileFrom<B> as Disk>⟧ (image_at B.Start)) }
@@ -59,9 +57,8 @@ impl<B: Start, T: BlockTransform + Drop> Books<FileStore<FileFrom<B>>, T> {
         (OpenFault, Option<Connection<FileStore<FileFrom<B>>>>),
     >
         ensures opens { (o : Office) → StandsIn (image_at B.Start) o
-            → IfOk result (λ books. Represents
-            (opened (T.forwards transform) o) (seen over_files T.forwards books)) }
-        ensures tables { IfOk result (λ books. BooksHaveTables (seen over_files T.forwards books)) }
+            → IfOk result (λ books. Represents (opened (T.forwards transform) o) (seen books)) }
+        ensures tables { IfOk result (λ books. BooksHaveTables (seen books)) }
         ensures finds { IfOk result (λ books. OpensFiles (image_at B.Start) books.conn) }
         ensures running { IfOk result (λ books. books.stopped ≡ false) }
         ensures refused { IfErr result (λ e. RefusesPath (image_at B.Start) e.0 e.1) }

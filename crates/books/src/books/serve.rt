@@ -17,8 +17,7 @@ impl<S: Alter, T: BlockTransform> Books<S, T> {
     /// office as it was. After `Store` the request is in doubt, and every request is answered
     /// `Stopped` until the office is opened again.
     pub fn serve(&mut self, at: &Stamped) -> Reply
-        ensures replies { Replies at.now result
-            (seen S.Store T.forwards self.old) (seen S.Store T.forwards self.new) }
+        ensures replies { Replies at.now result (seen self.old) (seen self.new) }
         ensures idle { self.old.stopped ≡ true → self.new ≡ self.old }
     {
         life_law();

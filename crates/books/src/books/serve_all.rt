@@ -21,20 +21,14 @@ impl<S: Alter, T: BlockTransform> Books<S, T> {
     /// `Memory`, where there is no room for all replies. Nothing was done then.
     pub fn serve_all(&mut self, ats: &[Stamped]) -> Result<Vec<Reply>, Refusal>
         ensures count { IfOk result (λ replies. length replies.items ≡ length ats.now) }
-        ensures served { IfOk result (λ replies. AreServedInTurn (seen S.Store T.forwards)
-            self.old ats.now replies.items self.new) }
-        ensures keeps { IfOk result (λ replies. (life : Life)
-            → Represents life (seen S.Store T.forwards self.old)
-            → Represents (extended_along life ats.now replies.items)
-            (seen S.Store T.forwards self.new)) }
-        ensures tables { BooksHaveTables (seen S.Store T.forwards self.old)
-            → BooksHaveTables (seen S.Store T.forwards self.new) }
-        ensures others { HasCleanDisk (seen S.Store T.forwards self.new).state
-            → BooksHaveTables (seen S.Store T.forwards self.old)
-            → LeavesOthers (seen S.Store T.forwards self.old).state
-            (seen S.Store T.forwards self.new).state }
-        ensures clean { HasCleanDisk (seen S.Store T.forwards self.new).state
-            → HasCleanDisk (seen S.Store T.forwards self.old).state }
+        ensures served { IfOk result (λ replies.
+            AreServedInTurn seen self.old ats.now replies.items self.new) }
+        ensures keeps { IfOk result (λ replies. (life : Life) → Represents life (seen self.old)
+            → Represents (extended_along life ats.now replies.items) (seen self.new)) }
+        ensures tables { BooksHaveTables (seen self.old) → BooksHaveTables (seen self.new) }
+        ensures others { HasCleanDisk (seen self.new).state → BooksHaveTables (seen self.old)
+            → LeavesOthers (seen self.old).state (seen self.new).state }
+        ensures clean { HasCleanDisk (seen self.new).state → HasCleanDisk (seen self.old).state }
         ensures stops { IfOk result (λ replies.
             StopAtFailure self.old.stopped replies.items self.new.stopped) }
         ensures idle { self.old.stopped ≡ true → self.new ≡ self.old }

@@ -13,7 +13,7 @@ impl<S: Alter, T: BlockTransform> Books<S, T> {
     ///
     /// It takes no memory.
     pub fn is_stopped(&self) -> bool
-        ensures { result ≡ (seen S.Store T.forwards self.now).stopped }
+        ensures { result ≡ (seen self.now).stopped }
     {
         self.stopped
     }

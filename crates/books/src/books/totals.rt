@@ -1,13 +1,10 @@
 //! The running totals of a shift.
 
-ghost use Rattle.std.specs.Prelude.{◌≡◌, ◌↔◌, ◌⊎◌, false, true, Err, None, Some, IfErr, IfOk};
-ghost use Rattle.sqlite.specs.Held.{state};
+ghost use Rattle.std.specs.Prelude.{◌≡◌, true, Err, None, Some, IfOk};
 ghost use Rattle.sqlite.specs.State.{HasCleanDisk};
 ghost use Rattle.vend_core.specs.Law.Life.{Life, present};
-ghost use Rattle.book_states.specs.Failing.{IsToldOfRead};
-ghost use Rattle.books.specs.Keeps.{BooksHaveTables, Represents, seen};
-ghost use Rattle.book_states.specs.Others.{LeavesOthers};
-ghost use Rattle.book_states.specs.Same.{ChangesNothing};
+ghost use Rattle.books.specs.Keeps.{Represents, seen};
+ghost use Rattle.books.specs.Reads.{ReadsBooks};
 ghost use Rattle.book_facts.specs.Totals.{shift_totals};
 
 use super::Books;
@@ -27,36 +24,14 @@ impl<S: Alter, T: BlockTransform> Books<S, T> {
     /// `NoSuchShift`; `Memory`; `Stopped`; and `Store`, after which the books are stopped too. It
     /// puts nothing in doubt.
     pub fn shift_totals(&mut self, number: u32) -> Result<Totals, Refusal>
-        ensures given { HasCleanDisk (seen S.Store T.forwards self.new).state
-            → (life : Life) → Represents life (seen S.Store T.forwards self.old)
+        ensures given { HasCleanDisk (seen self.new).state → (life : Life)
+            → Represents life (seen self.old)
             → IfOk result (λ totals. shift_totals (present life) number ≡ Some totals) }
-        ensures none { HasCleanDisk (seen S.Store T.forwards self.new).state
-            → (life : Life) → Represents life (seen S.Store T.forwards self.old)
+        ensures none { HasCleanDisk (seen self.new).state → (life : Life)
+            → Represents life (seen self.old)
             → result ≡ Err Refusal.NoSuchShift → shift_totals (present life) number ≡ None }
-        ensures keeps { (life : Life) → Represents life (seen S.Store T.forwards self.old)
-            → Represents life (seen S.Store T.forwards self.new) }
-        ensures tables { BooksHaveTables (seen S.Store T.forwards self.old)
-            → BooksHaveTables (seen S.Store T.forwards self.new) }
-        ensures others { HasCleanDisk (seen S.Store T.forwards self.new).state
-            → BooksHaveTables (seen S.Store T.forwards self.old)
-            → LeavesOthers (seen S.Store T.forwards self.old).state
-            (seen S.Store T.forwards self.new).state }
-        ensures nothing { HasCleanDisk (seen S.Store T.forwards self.new).state
-            → BooksHaveTables (seen S.Store T.forwards self.old)
-            → ChangesNothing (seen S.Store T.forwards self.old).state
-            (seen S.Store T.forwards self.new).state }
-        ensures clean { HasCleanDisk (seen S.Store T.forwards self.new).state
-            → HasCleanDisk (seen S.Store T.forwards self.old).state }
-        ensures stopped { (result ≡ Err Refusal.Stopped) ↔ (self.old.stopped ≡ true) }
-        ensures stops { (self.new.stopped ≡ true)
-            ↔ ((result ≡ Err Refusal.Store) ⊎ (result ≡ Err Refusal.Stopped)) }
-        ensures refusals { IfErr result (λ refusal. (refusal ≡ Refusal.NoSuchShift)
-            ⊎ ((refusal ≡ Refusal.Memory) ⊎ ((refusal ≡ Refusal.Store)
-            ⊎ (refusal ≡ Refusal.Stopped)))) }
-        ensures failures { HasCleanDisk (seen S.Store T.forwards self.new).state
-            → BooksHaveTables (seen S.Store T.forwards self.old) → self.old.stopped ≡ false
-            → IfErr result (λ refusal. (refusal ≡ Refusal.NoSuchShift) ⊎ IsToldOfRead refusal
-            (seen S.Store T.forwards self.old).state (seen S.Store T.forwards self.new).state) }
+        ensures reads { ReadsBooks (λ why. why ≡ Refusal.NoSuchShift) result
+            (seen self.old) (seen self.new) }
         ensures idle { self.old.stopped ≡ true → self.new ≡ self.old }
     {
         if self.stopped {

@@ -6,7 +6,7 @@ use Rattle.books.specs.Keeps.{BooksHaveTables, Represents, Seen, seen}
 use Rattle.books.specs.Path.{StandsIn}
 use Rattle.books.specs.declared.books.Books.{Books}
 use Rattle.book_opening.specs.declared.fault.OpenFault.{OpenFault}
-use Rattle.command_line.specs.Transform.{forward_of}
+use Rattle.command_line.specs.Transform.{forward_of, shipped}
 use Rattle.command_line.specs.declared.transform.Shipped.{Shipped}
 use Rattle.vend_core.specs.Law.LifeLaws.{opened}
 use Rattle.vend_core.specs.Office.{Office}
@@ -17,13 +17,13 @@ use Rattle.vend_commands.specs.declared.command_end.CommandEnd.{CommandEnd}
 use Rattle.vend_commands.specs.declared.command_end.CommandEnd.TheVariants.{Refused}
 
 -- what is seen of books whose transform is one that ships
-abbrev pub seen_in : {S : Type 0} → {store : Ghosts S} → Books S Shipped store → Seen
-seen_in {S} {store} books = seen store forward_of books
+abbrev pub seen_in : {S : Type 0} → {store : Ghosts S} → Books S Shipped store shipped → Seen
+seen_in books = seen books
 
 -- Books that were just opened in these files: they keep the life that opens there, of each office
 -- that the files stand for, and have its tables; and so they were opened.
 pub record IsOpened {S : Type 0} {store : Ghosts S} (image : Image) (Opens : Seen → Type 0)
-    (transform : Shipped) (books : Books S Shipped store) : Type 0 where
+    (transform : Shipped) (books : Books S Shipped store shipped) : Type 0 where
   pub opens : (office : Office) → StandsIn image office
       → Represents (opened (forward_of transform) office) (seen_in books)
   pub running : books.stopped ≡ false
@@ -31,8 +31,8 @@ pub record IsOpened {S : Type 0} {store : Ghosts S} (image : Image) (Opens : See
   pub finds : Opens (seen_in books)
 
 -- the same, in the file at a place
-abbrev pub IsOpenedAt : {S : Type 0} → {store : Ghosts S} → Place → Shipped → Books S Shipped store
-    → Type 0
+abbrev pub IsOpenedAt : {S : Type 0} → {store : Ghosts S} → Place → Shipped
+    → Books S Shipped store shipped → Type 0
 IsOpenedAt place transform books = IsOpened place.image place.opens transform books
 
 -- The file is not opened, and that is told, before anything is printed; or books are opened in it,
@@ -41,6 +41,6 @@ pub data IsVisited {S : Type 0} (store : Ghosts S) (place : Place) (transform : 
     (Does : (old new : Seen) → Type 0) (o : Outputs) (end : CommandEnd) : Type 0 where
   unopened : (fault : OpenFault) → place.fails fault
       → IsTold o [] (opening_line fault) Refused end → IsVisited store place transform Does o end
-  visited : (old new : Books S Shipped store) → IsOpenedAt place transform old
+  visited : (old new : Books S Shipped store shipped) → IsOpenedAt place transform old
       → place.finds → Does (seen_in old) (seen_in new)
       → place.closes (seen_in new) → IsVisited store place transform Does o end

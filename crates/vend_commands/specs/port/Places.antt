@@ -12,7 +12,7 @@ use Rattle.book_opening.specs.declared.fault.OpenFault.{OpenFault}
 use Rattle.book_opening.specs.declared.fault.OpenFault.TheVariants.{Store}
 use Rattle.books.specs.declared.refused_files.RefusedFiles.{RefusedFiles}
 use Rattle.sts_fields.specs.Text.{Text}
-use Rattle.command_line.specs.Transform.{forward_of}
+use Rattle.command_line.specs.Transform.{forward_of, shipped}
 use Rattle.command_line.specs.declared.address.Address.{Address}
 use Rattle.command_line.specs.declared.transform.Shipped.{Shipped}
 use Rattle.vend_commands.specs.office.Audits.{AuditsIn}
@@ -114,7 +114,7 @@ loop_of of remaining contents net = record {
   leaves = of.leaves net;
   agrees = λ transform. AgreesOver of remaining contents net (forward_of transform);
   disagrees = λ transform fault. Disagrees of remaining contents net (forward_of transform)
-      (seen over_memory forward_of) fault;
+      (seen {g = over_memory} {h = shipped}) fault;
 }
 
 -- the files that keep offices and that none of them was found, the files that are read, the answers

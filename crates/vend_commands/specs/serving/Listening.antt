@@ -11,7 +11,7 @@ use Rattle.vend_commands.specs.port.Port.{IsPortFor}
 use Rattle.vend_commands.specs.print.Printed.{listening_line, net_line, opening_line, refusal_line}
 use Rattle.vend_commands.specs.print.Told.{Outputs, Sink, Takes}
 use Rattle.vend_commands.specs.office.Visited.{IsOpenedAt, seen_in}
-use Rattle.command_line.specs.Transform.{forward_of}
+use Rattle.command_line.specs.Transform.{forward_of, shipped}
 use Rattle.command_line.specs.declared.address.Address.{Address}
 use Rattle.command_line.specs.declared.commands.serve.ServeWords.{ServeWords}
 use Rattle.command_line.specs.declared.transform.Shipped.{Shipped}
@@ -67,15 +67,15 @@ IsClosedAfter Closes (Err fault) = ⊤
 -- error is given what is printed of books that stop and are open again, and how it ends.
 pub record WereOpen {S D R W : Type 0} (store : Ghosts S) (way : Way D R W) (place : Place)
     (words : ServeWords)
-    (old : Books S Shipped store) (door : D) (answers : Option (List ℤ)) (err_old err_new : Sink)
-    (end : CommandEnd)
+    (old : Books S Shipped store shipped) (door : D) (answers : Option (List ℤ))
+    (err_old err_new : Sink) (end : CommandEnd)
     : Type 0 where
   pub listening : D
   pub mid : Sink
   pub listens : Listens way words.listen door listening err_old mid
   pub last : D
   pub left : Option (List ℤ)
-  pub served : Result (Books S Shipped store × Bool) OpenFault
+  pub served : Result (Books S Shipped store shipped × Bool) OpenFault
   pub printed : Text
   pub are_served : AreServed way (forward_of words.transform) seen_in place.loses words.connections
       (service listening old answers) last left served printed
@@ -94,11 +94,13 @@ pub data IsServing {S D R W : Type 0} (store : Ghosts S) (way : Way D R W) (at :
   unopened : (fault : OpenFault) → (at words.file.now words.wait).fails fault → way.leaves door
       → Takes err_old err_new (opening_line fault) → end ≡ Refused
       → IsServing store way at door answers words err_old err_new end
-  unheard : (old : Books S Shipped store) → IsOpenedAt (at words.file.now words.wait) words.transform old
+  unheard : (old : Books S Shipped store shipped)
+      → IsOpenedAt (at words.file.now words.wait) words.transform old
       → (at words.file.now words.wait).finds → (last : D) → IsDeaf way words.listen door last err_old err_new
       → way.leaves last → (at words.file.now words.wait).closes (seen_in old) → end ≡ Refused
       → IsServing store way at door answers words err_old err_new end
-  was_open : (old : Books S Shipped store) → IsOpenedAt (at words.file.now words.wait) words.transform old
+  was_open : (old : Books S Shipped store shipped)
+      → IsOpenedAt (at words.file.now words.wait) words.transform old
       → (at words.file.now words.wait).finds
       → WereOpen store way (at words.file.now words.wait) words old door answers err_old err_new end
       → IsServing store way at door answers words err_old err_new end

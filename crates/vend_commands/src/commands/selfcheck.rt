@@ -1,6 +1,6 @@
 ghost use Rattle.sqlite.specs.Steps.{over_memory};
 ghost use Rattle.books.specs.Keeps.{seen};
-ghost use Rattle.command_line.specs.Transform.{forward_of};
+ghost use Rattle.command_line.specs.Transform.{forward_of, shipped};
 ghost use Rattle.vend_commands.specs.commands.Selfchecked.{AgreesOver, Disagrees, IsSelfchecked};
 ghost use Rattle.vend_commands.specs.commands.Selfchecked.{selfcheck_fault_line};
 ghost use Rattle.vend_commands.specs.print.Told.{Takes, outputs, sink};
@@ -26,7 +26,7 @@ pub fn run_selfcheck<L: Loopback, O: Write, E: Write>(
     ensures { IsSelfchecked (AgreesOver L.Loopback L.Stream.remaining L.Stream.contents loopback
         (forward_of words.now.transform))
         (Disagrees L.Loopback L.Stream.remaining L.Stream.contents loopback
-        (forward_of words.now.transform) (seen over_memory forward_of))
+        (forward_of words.now.transform) (seen {g = over_memory} {h = shipped}))
         (outputs (sink O.contents out.old) (sink O.contents out.new)
         (sink E.contents err.old) (sink E.contents err.new)) result }
 {

@@ -28,8 +28,7 @@ pub(crate) fn ask<S: Alter, T: BlockTransform, O: Write, E: Write>(
     out: &mut Watched<'_, O>,
     err: &mut Watched<'_, E>,
 ) -> CommandEnd
-    ensures { IsServedAndTold moment request (seen S.Store T.forwards books.old)
-        (seen S.Store T.forwards books.new)
+    ensures { IsServedAndTold moment request (seen books.old) (seen books.new)
         (outputs (sink O.contents out.old) (sink O.contents out.new)
         (sink E.contents err.old) (sink E.contents err.new)) result }
 {

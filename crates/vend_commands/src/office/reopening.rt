@@ -1,7 +1,7 @@
 //! An office in files, opened again where its books have stopped.
 
 ghost use Rattle.std.specs.Prelude.{◌≡◌, false, IfErr, IfOk};
-ghost use Rattle.sqlite.specs.Files.{file_state, over_files};
+ghost use Rattle.sqlite.specs.Files.{file_state};
 ghost use Rattle.sqlite.specs.State.{HasCleanDisk};
 ghost use Rattle.books.specs.Keeps.{seen};
 ghost use Rattle.command_line.specs.Transform.{forward_of};
@@ -51,9 +51,8 @@ pub fn reopen<D: Disk + Drop, T: BlockTransform + Drop>(
     transform: T,
 ) -> Result<Books<FileStore<D>, T>, OpenFault>
     ensures running { IfOk result (λ next. next.stopped ≡ false) }
-    ensures left { IfOk result (λ next. HasCleanDisk (seen over_files T.forwards next).state
-        → IsNextLife (T.forwards transform)
-        (seen over_files T.forwards books) (seen over_files T.forwards next)) }
+    ensures left { IfOk result (λ next. HasCleanDisk (seen next).state
+        → IsNextLife (T.forwards transform) (seen books) (seen next)) }
 {
     opening_law::<FileStore<D>>();
     let conn = match reconnect(alloc, options, books.into_connection()) {

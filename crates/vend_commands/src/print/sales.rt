@@ -34,7 +34,7 @@ pub(crate) fn print_sales<S: Alter, T: BlockTransform, P: Progress, O: Write, E:
     out: &mut Watched<'_, O>,
     err: &mut Watched<'_, E>,
 ) -> CommandEnd
-    ensures { IsExported (seen S.Store T.forwards books.old) (seen S.Store T.forwards books.new)
+    ensures { IsExported (seen books.old) (seen books.new)
         (outputs (sink O.contents out.old) (sink O.contents out.new)
         (sink E.contents err.old) (sink E.contents err.new)) result }
 {
@@ -63,12 +63,11 @@ fn print_page<S: Alter, T: BlockTransform, O: Write>(
     out: &mut Watched<'_, O>,
 ) -> Result<bool, Refusal>
     requires { page ≤ 1000000 }
-    ensures page { IsPage (seen S.Store T.forwards books.old) (seen S.Store T.forwards books.new)
+    ensures page { IsPage (seen books.old) (seen books.new)
         page (sink O.contents out.old) (sink O.contents out.new) result }
-    ensures keeps { (life : Life) → Represents life (seen S.Store T.forwards books.old)
-        → Represents life (seen S.Store T.forwards books.new) }
-    ensures clean { HasCleanDisk (seen S.Store T.forwards books.new).state
-        → HasCleanDisk (seen S.Store T.forwards books.old).state }
+    ensures keeps { (life : Life) → Represents life (seen books.old)
+        → Represents life (seen books.new) }
+    ensures clean { HasCleanDisk (seen books.new).state → HasCleanDisk (seen books.old).state }
 {
     life_law();
     store_law();

@@ -20,8 +20,7 @@ pub(crate) fn print_totals<S: Alter, T: BlockTransform, O: Write, E: Write>(
     out: &mut Watched<'_, O>,
     err: &mut Watched<'_, E>,
 ) -> CommandEnd
-    ensures { IsTotalled number (seen S.Store T.forwards books.old)
-        (seen S.Store T.forwards books.new)
+    ensures { IsTotalled number (seen books.old) (seen books.new)
         (outputs (sink O.contents out.old) (sink O.contents out.new)
         (sink E.contents err.old) (sink E.contents err.new)) result }
 {

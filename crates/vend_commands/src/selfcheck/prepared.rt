@@ -29,8 +29,9 @@ pub(crate) fn prepare<T: BlockTransform + Drop>(
     transform: T,
 ) -> Result<Books<MemStore, T>, SelfcheckFault>
     ensures prepared { IfOk result (λ books. (life : Life) × IsPrepared (T.forwards transform) life
-        × Represents life (seen over_memory T.forwards books)) }
-    ensures unprepared { IfErr result (IsUnprepared (seen over_memory T.forwards)) }
+        × Represents life (seen books)) }
+    ensures unprepared { IfErr result
+        (IsUnprepared (seen {g = over_memory} {h = T.BlockTransform})) }
 {
     let mut books = match Books::in_memory(alloc, transform) {
         Ok(books) => books,
@@ -45,11 +46,11 @@ pub(crate) fn prepare<T: BlockTransform + Drop>(
 // Has all granted that an office needs to sell to the meter, where there is room for the tariff.
 fn ready<T: BlockTransform>(alloc: Global, books: &mut Books<MemStore, T>) -> Result<(), Refusal>
     ensures granted { OnOk result ((life : Life)
-        → Represents life (seen over_memory T.forwards books.old)
+        → Represents life (seen books.old)
         → (after : Life) × AreGranted preparing life after
-        × Represents after (seen over_memory T.forwards books.new)) }
+        × Represents after (seen books.new)) }
     ensures refused { IfErr result
-        (λ why. (why ≡ Memory) ⊎ IsUngranted (seen over_memory T.forwards) why) }
+        (λ why. (why ≡ Memory) ⊎ IsUngranted (seen {g = over_memory} {h = T.BlockTransform}) why) }
 {
     let Some(tariff) = add_flat(alloc) else {
         return Err(Refusal::Memory);
@@ -65,11 +66,11 @@ fn grant<S: Alter, T: BlockTransform>(
     request: Request,
 ) -> Result<(), Refusal>
     ensures granted { OnOk result ((life : Life)
-        → Represents life (seen S.Store T.forwards books.old)
+        → Represents life (seen books.old)
         → (after : Life) × IsGranted request life after
-        × Represents after (seen S.Store T.forwards books.new)) }
+        × Represents after (seen books.new)) }
     ensures refused { IfErr result (λ why. ReplyAt clock_moment request (Err why)
-        (seen S.Store T.forwards books.old) (seen S.Store T.forwards books.new)) }
+        (seen books.old) (seen books.new)) }
 {
     match books.ask(clock_moment(), request) {
         Ok(_) => Ok(()),

@@ -13,5 +13,5 @@ returns-in-None-clause-replies g c =
 pub returns-clause-none : goal.returns-clause-none
 returns-clause-none g c =
     let ready = c.in-Ok.ensures.prepared in
-    cut_so (seen over_memory g.T.BlockTransform.forwards) (g.T.BlockTransform.forwards c.args.transform) ready.0 c.new-replies.result.items (Some c.answer.new.writer.items) c.in-Ok-answer.end c.fault_in_memory.result c.in-Some.fault ready.1
+    cut_so (seen {g = over_memory} {h = g.T.BlockTransform}) (g.T.BlockTransform.forwards c.args.transform) ready.0 c.new-replies.result.items (Some c.answer.new.writer.items) c.in-Ok-answer.end c.fault_in_memory.result c.in-Some.fault ready.1
     c.new-replies.ensures.items (c.in-Ok-answer.ensures ready.0 ready.2) c.fault_in_memory.ensures c.in-Some.is

@@ -15,7 +15,7 @@ pub returns-in_err-decided-clause-attempts : goal.returns-in_err-decided-clause-
 returns-in_err-decided-clause-attempts g c clean o held =
     let now = c.args.self.now in
     let forward = g.T.BlockTransform.forwards now.transform in
-    let old = seen g.S.Store g.T.BlockTransform.forwards now in
+    let old = seen now in
     let new = record old { state = state g.S.Store c.decision_of.new.conn } in
     let nothing = c.decision_of.ensures.nothing clean (has_tables o old.state held.at) in
     let same = handed_on c.from_residual.result c.in_err-decided.field-0.0 c.from_residual.ensures.1 in
@@ -36,7 +36,7 @@ returns-in_err-commit-clause-attempts g c clean o held =
     let early = c.commit.ensures.clean clean in
     let decided = c.in_ok-decided.ensures.decides early o held.at held.next in
     let is = is_decision forward o at change decided in
-    let old = seen g.S.Store g.T.BlockTransform.forwards now in
+    let old = seen now in
     let new = record old { state = state g.S.Store c.commit.new.conn } in
     let tables = has_tables o old.state held.at in
     let here = still_held o old.state mid early held.at (c.decision_of.ensures.nothing early tables) in
@@ -63,7 +63,7 @@ returns-clause-attempts g c clean o held =
     let at = c.args.at.now in
     let change = c.in_ok-decided.decided.change in
     let mid = state g.S.Store c.decision_of.new.conn in
-    let old = seen g.S.Store g.T.BlockTransform.forwards now in
+    let old = seen now in
     let tables = has_tables o old.state held.at in
     elim c.match-decided.branch [
       | in-Some+in_ok-commit w ↦
@@ -118,7 +118,7 @@ returns-in_err-commit-clause-failures g c clean tables =
     let early = c.commit.ensures.clean clean in
     let nothing = c.decision_of.ensures.nothing early tables in
     let commits = c.in_err-commit.ensures.commits clean (tables_stay old mid (nothing_others old mid early nothing) tables) in
-    let decided : IsDecidedFor c.args.at.now (seen g.S.Store g.T.BlockTransform.forwards c.args.self.now) c.in-Some.edit = λ o held. (
+    let decided : IsDecidedFor c.args.at.now (seen c.args.self.now) c.in-Some.edit = λ o held. (
       c.in_ok-decided.decided.change,
       is_decision (g.T.BlockTransform.forwards c.args.self.now.transform) o c.args.at.now c.in_ok-decided.decided.change (c.in_ok-decided.ensures.decides early o held.at held.next),
       c.in-Some.is,
@@ -130,7 +130,7 @@ pub returns-clause-granted : goal.returns-clause-granted
 returns-clause-granted g c clean tables =
     let old = state g.S.Store c.args.self.now.conn in
     let mid = state g.S.Store c.decision_of.new.conn in
-    let books = seen g.S.Store g.T.BlockTransform.forwards c.args.self.now in
+    let books = seen c.args.self.now in
     let change = c.in_ok-decided.decided.change in
     elim c.match-decided.branch [
       | in-Some+in_ok-commit w ↦

@@ -7,7 +7,7 @@ use Rattle.books.proofs.books.Books.serve.Goals as goal
 
 pub returns-then-self-clause-replies : goal.returns-then-self-clause-replies
 returns-then-self-clause-replies g c =
-    let old = seen g.S.Store g.T.BlockTransform.forwards c.args.self.now in
+    let old = seen c.args.self.now in
     let at = c.args.at.now in
     record {
       keeps = λ life keeps clean.
@@ -27,8 +27,8 @@ returns-clause-replies g c =
     let now = c.args.self.now in
     let at = c.args.at.now in
     let law = c.life_law.ensures in
-    let old = seen g.S.Store g.T.BlockTransform.forwards now in
-    let mid = seen g.S.Store g.T.BlockTransform.forwards c.attempt-reply.new.self in
+    let old = seen now in
+    let mid = seen c.attempt-reply.new.self in
     let answer = c.attempt-reply.result in
     let tried = c.attempt-reply.ensures in
     record {

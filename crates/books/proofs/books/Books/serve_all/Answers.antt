@@ -6,8 +6,8 @@ use Rattle.books.proofs.books.Books.serve_all.Goals as goal
 
 pub loop-at-init : goal.loop-at-init
 loop-at-init g c = record {
-  served = subst (HaveServed (seen g.S.Store g.T.BlockTransform.forwards c.args.self.now) (seen g.S.Store g.T.BlockTransform.forwards c.args.self.now) []) (sym c.in_ok-replies.ensures.items)
-      (served_none (seen g.S.Store g.T.BlockTransform.forwards c.args.self.now) c.life_law.ensures.along_none);
+  served = subst (HaveServed (seen c.args.self.now) (seen c.args.self.now) []) (sym c.in_ok-replies.ensures.items)
+      (served_none (seen c.args.self.now) c.life_law.ensures.along_none);
   each = rw c.in_ok-replies.ensures.items refl;
   room = c.in_ok-replies.ensures.capacity;
   filled = c.in_ok-replies.ensures.len;
@@ -16,9 +16,9 @@ loop-at-init g c = record {
 
 pub loop-at-preserved : goal.loop-at-preserved
 loop-at-preserved g c =
-    let old = seen g.S.Store g.T.BlockTransform.forwards c.args.self.now in
-    let mid = seen g.S.Store g.T.BlockTransform.forwards c.loop-at.self in
-    let new = seen g.S.Store g.T.BlockTransform.forwards c.serve-reply.new.self in
+    let old = seen c.args.self.now in
+    let mid = seen c.loop-at.self in
+    let new = seen c.serve-reply.new.self in
     let so_far = c.loop-at.invariant in
     let ats = take c.loop-at.at-index c.args.ats.now in
     let replies = c.loop-at.replies.items in
@@ -28,7 +28,7 @@ loop-at-preserved g c =
           (served_more old mid new ats replies at c.serve-reply.result so_far.served (λ life. c.life_law.ensures.along_one life ats replies at c.serve-reply.result) c.serve-reply.ensures.replies.keeps c.serve-reply.ensures.replies.tables c.serve-reply.ensures.replies.others
           c.serve-reply.ensures.replies.clean c.serve-reply.ensures.replies.stopped c.serve-reply.ensures.replies.stops);
       each = rw (more, c.push_reserved.ensures.items)
-          (served_on (seen g.S.Store g.T.BlockTransform.forwards) c.args.self.now c.loop-at.self c.serve-reply.new.self ats replies at c.serve-reply.result so_far.each
+          (served_on seen c.args.self.now c.loop-at.self c.serve-reply.new.self ats replies at c.serve-reply.result so_far.each
           c.serve-reply.ensures.replies);
       room = omega (arith, so_far.room, c.push_reserved.ensures.capacity);
       filled = omega (arith, so_far.filled, c.push_reserved.ensures.len);

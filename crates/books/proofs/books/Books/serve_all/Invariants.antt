@@ -6,8 +6,8 @@ use Rattle.books.proofs.books.Books.serve_all.Given as goal
 
 abbrev pub invariant-loop-at : goal.invariant-loop-at
 invariant-loop-at g l = record {
-  served : HaveServed (seen g.S.Store g.T.BlockTransform.forwards l.fn.self) (seen g.S.Store g.T.BlockTransform.forwards l.self) (take l.at-index l.ats) l.replies.items;
-  each : AreServedInTurn (seen g.S.Store g.T.BlockTransform.forwards) l.fn.self (take l.at-index l.ats) l.replies.items l.self;
+  served : HaveServed (seen l.fn.self) (seen l.self) (take l.at-index l.ats) l.replies.items;
+  each : AreServedInTurn seen l.fn.self (take l.at-index l.ats) l.replies.items l.self;
   room : length l.ats ≤ vec_capacity l.replies;
   filled : vec_len l.replies ≡ l.at-index;
   idle : l.fn.self.stopped ≡ true → l.self ≡ l.fn.self;

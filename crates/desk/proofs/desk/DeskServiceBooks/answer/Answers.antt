@@ -7,7 +7,7 @@ use Rattle.desk.proofs.desk.DeskServiceBooks.answer.Goals as goal
 
 pub returns-clause-ok : goal.returns-clause-ok
 returns-clause-ok g c =
-    let serves = books_serve (seen g.S.Store g.T.BlockTransform.forwards) in
+    let serves = books_serve (seen {g = g.S.Store} {h = g.T.BlockTransform}) in
     let m = message_of c.args.message.now in
     let now = c.meaning_of.ensures.0 in
     let means = c.meaning_of.ensures.2 in
@@ -22,7 +22,7 @@ returns-clause-ok g c =
 
 pub returns-clause-err : goal.returns-clause-err
 returns-clause-err g c =
-    let serves = books_serve (seen g.S.Store g.T.BlockTransform.forwards) in
+    let serves = books_serve (seen {g = g.S.Store} {h = g.T.BlockTransform}) in
     let m = message_of c.args.message.now in
     let now = c.meaning_of.ensures.0 in
     let means = c.meaning_of.ensures.2 in

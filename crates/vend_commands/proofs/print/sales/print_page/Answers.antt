@@ -1,4 +1,4 @@
-use Rattle.std.proofs.Common.{◌≡◌, ◌≢◌, ◌∙◌, ◌*◌, ◌==◌, ◌&&◌, ℕ, Bool, true, not, ap, eq-eqb, inl, inr, length, refl, subst, sym}
+use Rattle.std.proofs.Common.{◌≡◌, ◌≢◌, ◌⊎◌, ◌∙◌, ◌*◌, ◌==◌, ◌&&◌, ℕ, Bool, true, not, ap, eq-eqb, inl, inr, length, refl, subst, sym}
 use Rattle.std.proofs.lemmas.Bool.{ne_eqb}
 use Rattle.papers.specs.Export.{export_of}
 use Rattle.vend_core.specs.Law.Life.{present}
@@ -9,29 +9,32 @@ use Rattle.vend_commands.proofs.TakeLemmas.{takes_none}
 use Rattle.vend_commands.proofs.print.sales.print_page.Goals as goal
 use Rattle.vend_commands.proofs.print.sales.print_page.Goals.{then-is_full, else-is_full}
 
+-- a page has no refusal of its own
+not_own : {P : Type 0} → ⊥ ⊎ P → P
+not_own (inl none) = absurd none
+not_own (inr told) = told
+
 pub returns-in_default-clause-page : goal.returns-in_default-clause-page
 returns-in_default-clause-page g c =
-    let forwards = g.T.BlockTransform.forwards in
-    let old = seen g.S.Store forwards c.args.books.now in
-    let new = seen g.S.Store forwards c.sales_after.new.self in (
+    let old = seen c.args.books.now in
+    let new = seen c.sales_after.new.self in (
       takes_none (sink g.O.Write.contents c.args.out.now),
       inl refl,
       record {
-        tells = tells_no_memory old new c.in-Ok.sales (c.in-Ok.ensures.stopped, c.in-Ok.ensures.stops);
+        tells = tells_no_memory old new c.in-Ok.sales (c.in-Ok.ensures.reads.stopped, c.in-Ok.ensures.reads.stops);
         failures = λ clean tables running. inl refl;
       },
     )
 
 pub returns-in-Err-clause-page : goal.returns-in-Err-clause-page
 returns-in-Err-clause-page g c =
-    let forwards = g.T.BlockTransform.forwards in
-    let old = seen g.S.Store forwards c.args.books.now in
-    let new = seen g.S.Store forwards c.sales_after.new.self in (
+    let old = seen c.args.books.now in
+    let new = seen c.sales_after.new.self in (
       takes_none (sink g.O.Write.contents c.args.out.now),
-      c.in-Err.ensures.refusals,
+      not_own c.in-Err.ensures.reads.refusals,
       record {
-        tells = tells_refusal old new c.in-Err.refusal (c.in-Err.ensures.stopped, c.in-Err.ensures.stops);
-        failures = λ clean tables running. inr (c.in-Err.ensures.failures clean tables running);
+        tells = tells_refusal old new c.in-Err.refusal (c.in-Err.ensures.reads.stopped, c.in-Err.ensures.reads.stops);
+        failures = λ clean tables running. inr (not_own (c.in-Err.ensures.reads.failures clean tables running));
       },
     )
 
@@ -51,7 +54,7 @@ returns-clause-page g c =
     let count : length c.in-Ok.sales.items ≡ c.len.result = sym (ap length c.deref.ensures.value) ∙ c.deref.ensures.len ∙ sym c.len.ensures in (
       c.in-Ok.sales.items,
       λ clean life kept.
-          let here = kept (c.in-Ok.ensures.clean clean) in
+          let here = kept (c.in-Ok.ensures.reads.clean clean) in
           let office = (c.life_law.ensures.left life (present life) here.is_life here.opening (inl refl)).0 in
           c.in-Ok.ensures.given clean life kept ∙ c.store_law.ensures.sales_above (present life) (c.args.page * 1000) 1000 office,
       subst (Takes before after) text c.put.ensures,
@@ -59,5 +62,5 @@ returns-clause-page g c =
         | then-is_full w ↦ full_page _ _ _ _ count w.if-is_full.true (w.result-is ∙ ap not w.has_failed.ensures)
         | else-is_full w ↦ short_page _ _ _ _ count w.if-is_full.false w.result-is
       ],
-      stopped_as_before (seen g.S.Store g.T.BlockTransform.forwards c.args.books.now) (seen g.S.Store g.T.BlockTransform.forwards c.sales_after.new.self) c.in-Ok.sales (c.in-Ok.ensures.stopped, c.in-Ok.ensures.stops),
+      stopped_as_before (seen c.args.books.now) (seen c.sales_after.new.self) c.in-Ok.sales (c.in-Ok.ensures.reads.stopped, c.in-Ok.ensures.reads.stops),
     )

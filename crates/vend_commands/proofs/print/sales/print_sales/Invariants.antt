@@ -7,6 +7,5 @@ use Rattle.vend_commands.proofs.print.sales.print_sales.Given as goal
 -- the pages before this one were printed, and nothing on the error output
 abbrev pub invariant-loop-page : goal.invariant-loop-page
 invariant-loop-page g l =
-    let forwards = g.T.BlockTransform.forwards in
-    (front : List ℕ) × SoFar (seen g.S.Store forwards l.fn.books) (seen g.S.Store forwards l.books) (sink g.O.Write.contents l.fn.out) (sink g.O.Write.contents l.out) l.page front
+    (front : List ℕ) × SoFar (seen l.fn.books) (seen l.books) (sink g.O.Write.contents l.fn.out) (sink g.O.Write.contents l.out) l.page front
     × (sink g.E.Write.contents l.err ≡ sink g.E.Write.contents l.fn.err)

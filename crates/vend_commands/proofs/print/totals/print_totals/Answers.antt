@@ -11,10 +11,10 @@ returns-in-Err g c = record {
   are_totals = record {
     none = λ clean life kept is. c.in-Err.ensures.none clean life kept (ap Err is);
     refused = record {
-      tells = tells_refusal (seen g.S.Store g.T.BlockTransform.forwards c.args.books.now) (seen g.S.Store g.T.BlockTransform.forwards c.shift_totals.new.self) c.in-Err.refusal (c.in-Err.ensures.stopped, c.in-Err.ensures.stops);
-      failures = c.in-Err.ensures.failures;
+      tells = tells_refusal (seen c.args.books.now) (seen c.shift_totals.new.self) c.in-Err.refusal (c.in-Err.ensures.reads.stopped, c.in-Err.ensures.reads.stops);
+      failures = c.in-Err.ensures.reads.failures;
     };
   };
   told = (takes_none (sink g.O.Write.contents c.args.out.now), c.put_refusal.ensures, refl);
-  keeps = c.in-Err.ensures.keeps;
+  keeps = c.in-Err.ensures.reads.keeps;
 }

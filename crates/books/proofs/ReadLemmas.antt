@@ -1,0 +1,71 @@
+-- What a call that only reads makes of books.
+use Rattle.std.proofs.Common.{◌≡◌, ◌≢◌, ◌⊎◌, ◌↔◌, false, true, IsTrue, Result, Ok, Err, refl, sym, subst, ◌∙◌, inl, inr}
+use Rattle.std.proofs.lemmas.Bool.{false≢true}
+use Rattle.std.specs.Prelude.{IfErr}
+use Rattle.sqlite.specs.State.{HasCleanDisk}
+use Rattle.vend_core.specs.declared.decision.refusal.Refusal.{Refusal}
+use Rattle.vend_core.specs.declared.decision.refusal.Refusal.TheVariants.{Memory, Store, Stopped}
+use Rattle.book_tables.specs.reading.Reading.{HasAllTables}
+use Rattle.book_states.specs.Failing.{IsToldOfRead}
+use Rattle.book_states.specs.Same.{ChangesNothing}
+use Rattle.book_states.proofs.OthersLemmas.{nothing_others, others_same, tables_stay}
+use Rattle.book_states.proofs.StayLemmas.{has_tables, nothing_same, still_held}
+use Rattle.books.specs.Keeps.{Seen}
+use Rattle.books.specs.Reads.{ReadsBooks}
+use Rattle.books.proofs.PageLemmas.{kept_read}
+use Rattle.books.proofs.ServeLemmas.{stops_on}
+
+-- books that were stopped are not read
+pub read_stopped : {A : Type 0} (Own : Refusal → Type 0) (books : Seen) → books.stopped ≡ true → ReadsBooks {A = A} Own (Err Stopped) books books
+read_stopped Own books was = record {
+  keeps = λ life keeps. keeps;
+  tables = λ has. has;
+  others = λ clean has. others_same books.state;
+  nothing = λ clean has. nothing_same books.state;
+  clean = λ clean. clean;
+  stopped = (λ _. was, λ _. refl);
+  stops = (λ _. inr refl, λ _. was);
+  refusals = inr (inr (inr refl));
+  failures = λ clean has runs. absurd (false≢true (sym runs ∙ was));
+}
+
+-- the read has no refusal of its own
+pub none_own : {A : Type 0} (given : Result A Refusal) (Tells : Refusal → Type 0) → IfErr given Tells → IfErr given (λ why. ⊥ ⊎ Tells why)
+none_own (Ok value) Tells told = tt
+none_own (Err why) Tells told = inr told
+
+-- books answer as stopped also where they are not read
+or_stopped : {A : Type 0} (Own : Refusal → Type 0) (given : Result A Refusal) → IfErr given (λ why. Own why ⊎ ((why ≡ Memory) ⊎ (why ≡ Store)))
+    → IfErr given (λ why. Own why ⊎ ((why ≡ Memory) ⊎ ((why ≡ Store) ⊎ (why ≡ Stopped))))
+or_stopped Own (Ok value) told = tt
+or_stopped Own (Err why) (inl own) = inl own
+or_stopped Own (Err why) (inr (inl memory)) = inr (inl memory)
+or_stopped Own (Err why) (inr (inr store)) = inr (inr (inl store))
+
+never_stopped : {A : Type 0} (Own : Refusal → Type 0) (given : Result A Refusal) → ¬ Own Stopped → IfErr given (λ why. Own why ⊎ ((why ≡ Memory) ⊎ (why ≡ Store))) → given ≢ Err Stopped
+never_stopped {A} Own given never told is =
+    let stopped : Own Stopped ⊎ ((Stopped ≡ Memory) ⊎ (Stopped ≡ Store)) = subst (λ (r : Result A Refusal). IfErr r (λ why. Own why ⊎ ((why ≡ Memory) ⊎ (why ≡ Store)))) is told in
+    elim stopped [ inl own ↦ never own | inr (inl memory) ↦ absurd cc | inr (inr store) ↦ absurd cc ]
+
+-- books that were not stopped were read, by what the read makes of their tables
+pub was_read : {A : Type 0} (Own : Refusal → Type 0) (given : Result A Refusal) (old new : Seen) → old.stopped ≡ false → new.forward ≡ old.forward → new.next_number ≡ old.next_number
+    → (HasCleanDisk new.state → HasAllTables old.state → ChangesNothing old.state new.state) → (HasCleanDisk new.state → HasCleanDisk old.state)
+    → (HasCleanDisk new.state → HasAllTables old.state → IfErr given (λ why. Own why ⊎ IsToldOfRead why old.state new.state))
+    → IfErr given (λ why. Own why ⊎ ((why ≡ Memory) ⊎ (why ≡ Store))) → ¬ Own Stopped → (IsTrue new.stopped ↔ (given ≡ Err Store)) → ReadsBooks Own given old new
+was_read Own given old new runs forward next nothing back failures refusals own failed =
+    let never = never_stopped Own given own refusals in record {
+      keeps = λ life keeps clean.
+          let kept = keeps (back clean) in
+          let here = kept.running runs in
+          kept_read life old new kept here forward next (still_held here.present old.state new.state clean here.at (nothing clean (has_tables here.present old.state here.at)));
+      tables = λ has clean running.
+          let before = has (back clean) runs in
+          tables_stay old.state new.state (nothing_others old.state new.state clean (nothing clean before)) before;
+      others = λ clean has. nothing_others old.state new.state clean (nothing clean (has (back clean) runs));
+      nothing = λ clean has. nothing clean (has (back clean) runs);
+      clean = back;
+      stopped = (λ is. absurd (never is), λ was. absurd (false≢true (sym runs ∙ was)));
+      stops = stops_on new.stopped given failed never;
+      refusals = or_stopped Own given refusals;
+      failures = λ clean has running. failures clean (has (back clean) running);
+    }

@@ -1,0 +1,18 @@
+use Rattle.vend_commands.proofs.serving.hold.Goals as goal
+
+pub returns : goal.returns
+returns g c =
+    let converses = c.run.ensures.1 in
+    record {
+      reader = c.in-Some.reader;
+      writer = c.in-Some.writer;
+      read = c.run.new.reader;
+      written = c.run.new.writer;
+      end = c.run.result;
+      accepted = c.in-Some.ensures.accepts;
+      run = converses.run;
+      paced = (c.run.ensures.0, converses.paced);
+      clean = converses.clean;
+      lives = converses.lives;
+      ended = c.end.ensures;
+    }
