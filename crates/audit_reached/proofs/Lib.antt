@@ -1,0 +1,9 @@
+pub mod BaseLemmas
+pub mod ClassLemmas
+pub mod OwnLemmas
+pub mod PlausibleLemmas
+pub mod ShiftLemmas
+pub mod TextLemmas
+pub mod TidLemmas
+pub mod WalkLemmas
+pub mod WalkedLemmas

@@ -1,0 +1,98 @@
+//! The rules of a sale.
+
+ghost use Rattle.std.specs.Prelude.{◌≡◌, ◌↔◌, ◌<◌, ◌≤◌, ℕ, List, IfSome, IsTrue, Ok, false, length, true};
+ghost use Rattle.sts_token.specs.Reading.{IsOfClassZero};
+ghost use Rattle.std.specs.Option.{ForSome};
+ghost use Rattle.sts_fields.specs.Tid.{fresh_after, last_tid};
+ghost use Rattle.vend_core.specs.Law.Reached.{IsInOpenShift, IsInOwnShift};
+ghost use Rattle.vend_core.specs.Office.{IsOffice, Office};
+ghost use Rattle.vend_core.specs.declared.office.sale.Sale.{Sale};
+ghost use Rattle.audit_reached.specs.Walk.{IsLatest, NoneBetween, SomeBetween};
+
+use crate::operators::is_same;
+use sts_fields::{LAST_TID, next_tid};
+use sts_token::{Plain, TokenFault, read};
+use vend_core::{Sale, Shift};
+
+// Whether a sale's operator is that of its shift.
+pub(crate) fn is_in_own_shift(shifts: &[Shift], sale: &Sale) -> bool
+    ensures { (o : Office) → IsOffice o → o.shifts ≡ shifts.now
+        → (IsTrue result ↔ IsInOwnShift o sale.now) }
+{
+    if sale.shift == 0 {
+        return false;
+    }
+    match shifts.get(sale.shift as usize - 1) {
+        Some(shift) => {
+            if shift.number != sale.shift {
+                return false;
+            }
+            is_same(&shift.operator, &sale.operator)
+        }
+        None => false,
+    }
+}
+
+// Whether no shift of a sale's operator was opened after its own and up to the latest one.
+pub(crate) fn is_in_open_shift(shifts: &[Shift], latest: u32, sale: &Sale) -> bool
+    ensures { (o : Office) (earlier : List Sale) → IsOffice o → o.shifts ≡ shifts.now
+        → IsLatest earlier latest → (IsTrue result ↔ IsInOpenShift o earlier sale.now) }
+{
+    let end = shifts.len().min(latest as usize);
+    !has_operator(shifts, sale.shift as usize, end, sale)
+}
+
+// Whether a shift from one place up to another is of the sale's operator.
+fn has_operator(shifts: &[Shift], from: usize, end: usize, sale: &Sale) -> bool
+    requires { end ≤ length shifts.now }
+    ensures yes { result ≡ true → SomeBetween shifts.now from end sale.now.operator }
+    ensures no { result ≡ false → NoneBetween shifts.now from end sale.now.operator }
+{
+    'shifts: for at in from..end {
+        if is_same(&shifts[at].operator, &sale.operator) {
+            return true;
+        }
+    }
+    false
+}
+
+// Whether some digits are those of a token of class 0.
+pub(crate) fn is_of_class_zero(digits: &[u8]) -> bool
+    ensures { IsTrue result ↔ IsOfClassZero digits.now }
+{
+    match read(&Plain, 0, digits) {
+        Ok(_) => true,
+        Err(fault) => match fault {
+            TokenFault::NotTwentyDigits => false,
+            TokenFault::TooLarge => false,
+            TokenFault::WrongClass => false,
+            TokenFault::BadCheck => true,
+            TokenFault::WrongSubclass => true,
+        }
+    }
+}
+
+// Whether an identifier is the next one in a minute, after the last one.
+pub(crate) fn is_next(minute: u32, last: Option<u32>, tid: u32) -> bool
+    requires { minute ≤ last_tid }
+    ensures { IfSome last (λ before. before ≤ last_tid)
+        → (IsTrue result ↔ (fresh_after minute last ≡ Ok tid)) }
+{
+    if is_past_end(last) {
+        return false;
+    }
+    match next_tid(minute, last) {
+        Ok(next) => next == tid,
+        Err(_) => false,
+    }
+}
+
+fn is_past_end(last: Option<u32>) -> bool
+    ensures yes { result ≡ true → ¬ IfSome last (λ before. before ≤ last_tid) }
+    ensures no { result ≡ false → ForSome last (λ before. before ≤ last_tid) }
+{
+    match last {
+        Some(before) => before > LAST_TID,
+        None => false,
+    }
+}
