@@ -3,6 +3,7 @@ pub mod ConnectionLemmas
 pub mod CourseLemmas
 pub mod ExportLemmas
 pub mod MeteringLemmas
+pub mod ReceiptLemmas
 pub mod RefusedLemmas
 pub mod RunLemmas
 pub mod SameLemmas

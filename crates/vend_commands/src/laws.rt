@@ -1,4 +1,4 @@
-ghost use Rattle.std.specs.Prelude.{ℕ, Ok};
+ghost use Rattle.std.specs.Prelude.{◌≡◌, ℕ, Ok, Contains};
 ghost use Rattle.sqlite.specs.State.{HasCleanDisk};
 ghost use Rattle.sts_fields.specs.Text.{Text};
 ghost use Rattle.sts_token.specs.Token.{BlockFunction};
@@ -8,13 +8,16 @@ ghost use Rattle.books.specs.declared.books.Books.{Books};
 ghost use Rattle.sqlite_store.specs.declared.store.FileStore.{FileStore as Files};
 ghost use Rattle.command_line.specs.Transform.{shipped};
 ghost use Rattle.command_line.specs.declared.transform.Shipped.{Shipped};
+ghost use Rattle.papers.specs.Receipt.{receipt_of};
+ghost use Rattle.desk.specs.reply.Body.{sale_members};
+ghost use Rattle.desk.specs.reply.Members.{json_text};
 ghost use Rattle.vend_commands.specs.Sound.{EndsSound};
 ghost use Rattle.vend_commands.specs.commands.Asked.{IsAskedAt};
 ghost use Rattle.vend_commands.specs.commands.Audited.{IsAudited};
 ghost use Rattle.vend_commands.specs.office.Closed.{IsClosed};
 ghost use Rattle.vend_commands.specs.serving.Connections.{AreHeld, Service, service};
 ghost use Rattle.vend_commands.specs.serving.Courses.{Course, LiveOn};
-ghost use Rattle.vend_core.specs.Office.{Office};
+ghost use Rattle.vend_core.specs.Office.{IsOffice, Office};
 ghost use Rattle.vend_core.specs.declared.decision.answer.Answer.TheVariants.{Sold};
 ghost use Rattle.vend_core.specs.declared.decision.request.Order.{Order};
 ghost use Rattle.vend_core.specs.declared.decision.request.Request.TheVariants.{Sell};
@@ -29,6 +32,8 @@ ghost use Rattle.vend_commands.specs.declared.command_end.CommandEnd.TheVariants
 
 use crate::port::door::Door;
 use crate::port::ports::OfficeFile;
+use desk::reply_law;
+use papers::export_fields_law;
 use sqlite::FileStore;
 use sqlite_trees::store::Store;
 use vend_core::{history_law, office_law};
@@ -80,4 +85,16 @@ pub fn serve_law<H: OfficeFile, D: Door>()
         forward seen_in count (service old.door start old.answers) new ∥₁ }
 {
     history_law();
+}
+
+/// What is told of a sale names it: two sales of an office with one receipt are one sale, and so
+/// are two with one text in JSON. So the bytes that a customer holds acknowledge one sale.
+pub fn receipt_once()
+    ensures receipt { (o : Office) (s t : Sale) → IsOffice o → Contains o.sales s
+        → Contains o.sales t → receipt_of s ≡ receipt_of t → s ≡ t }
+    ensures json { (o : Office) (s t : Sale) → IsOffice o → Contains o.sales s
+        → Contains o.sales t → json_text (sale_members s) ≡ json_text (sale_members t) → s ≡ t }
+{
+    export_fields_law();
+    reply_law();
 }
