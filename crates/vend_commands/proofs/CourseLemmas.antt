@@ -53,12 +53,12 @@ run_opening old new unread left held holds Memory (input, all, text, appends, gi
 
 module _ {D R W B : Type 0} (way : Way D R W) (forward : BlockFunction) (see : B → Seen)
     (goes_on : (lives : List Life) (life : Life) (o p : Office) → AreLives lives o → IsLife life → life.opening ≡ o → MayLeave life p → AreLives (lives ++ life ∷ []) p) where
-  ready_clean : (old new : B) → AreReady see forward old new → HasCleanDisk (see new).state → HasCleanDisk (see old).state
+  pub ready_clean : (old new : B) → AreReady see forward old new → HasCleanDisk (see new).state → HasCleanDisk (see old).state
   ready_clean old new (inl (runs, same)) clean = subst (λ b. HasCleanDisk (see b).state) same clean
   ready_clean old new (inr (stopped, reopened)) clean = (reopened.next clean).clean
 
   -- books that are made ready keep the same life, or the next one
-  next_course : (old new : B) → AreReady see forward old new → HasCleanDisk (see new).state → (c : Course) → RepresentTheLast c.over c.life (see old)
+  pub next_course : (old new : B) → AreReady see forward old new → HasCleanDisk (see new).state → (c : Course) → RepresentTheLast c.over c.life (see old)
       → ∥ ((next : Course) × IsNext forward c next × RepresentTheLast next.over next.life (see new)) ∥₁
   next_course old new (inl (runs, same)) clean c last = ∣ (c, inl refl, subst (λ b. RepresentTheLast c.over c.life (see b)) (sym same) last) ∣₁
   next_course old new (inr (stopped, reopened)) clean c last =

@@ -1,3 +1,4 @@
+pub mod AgainLemmas
 pub mod AuditLemmas
 pub mod ConnectionLemmas
 pub mod CourseLemmas
@@ -6,6 +7,7 @@ pub mod MeteringLemmas
 pub mod ReceiptLemmas
 pub mod RefusedLemmas
 pub mod RunLemmas
+pub mod RunsLemmas
 pub mod SameLemmas
 pub mod SelfcheckLemmas
 pub mod SellLemmas

@@ -7,3 +7,4 @@ pub mod print
 pub mod office
 pub mod commands
 pub mod serving
+pub mod runs

@@ -22,7 +22,9 @@ ghost use Rattle.vend_core.specs.declared.decision.answer.Answer.TheVariants.{So
 ghost use Rattle.vend_core.specs.declared.decision.request.Order.{Order};
 ghost use Rattle.vend_core.specs.declared.decision.request.Request.TheVariants.{Sell};
 ghost use Rattle.vend_core.specs.declared.office.sale.Sale.{Sale};
-ghost use Rattle.vend_commands.specs.port.Places.{places_of, way};
+ghost use Rattle.vend_commands.specs.port.Places.{loop_of, places_of, way};
+ghost use Rattle.vend_commands.specs.runs.Follow.{here_of};
+ghost use Rattle.vend_commands.specs.runs.OneOffice.{KeepsPromise};
 ghost use Rattle.vend_commands.specs.Selling.{EndsSold, TellsSale};
 ghost use Rattle.vend_commands.specs.office.Served.{TellsReply};
 ghost use Rattle.vend_commands.specs.print.Told.{Outputs};
@@ -31,12 +33,14 @@ ghost use Rattle.vend_commands.specs.declared.command_end.CommandEnd.{CommandEnd
 ghost use Rattle.vend_commands.specs.declared.command_end.CommandEnd.TheVariants.{Done};
 
 use crate::port::door::Door;
-use crate::port::ports::OfficeFile;
-use desk::reply_law;
+use crate::port::loopback::Loopback;
+use crate::port::ports::{OfficeFile, TextFiles};
+use books::{found_law, opening_law};
+use desk::{Clock, reply_law};
 use papers::export_fields_law;
 use sqlite::FileStore;
 use sqlite_trees::store::Store;
-use vend_core::{history_law, office_law};
+use vend_core::{history_law, office_law, store_law};
 
 /// What `sell` has done where it ends as done: where the files stood for an office, it printed the
 /// receipt of the sale that the office's rules give for the order, and the sale stands in all that
@@ -85,6 +89,23 @@ pub fn serve_law<H: OfficeFile, D: Door>()
         forward seen_in count (service old.door start old.answers) new ∥₁ }
 {
     history_law();
+}
+
+/// What holds of runs of the program on one file, one after another, each opened on what a stop of
+/// the one before may leave: stopped between two calls or within one, or not at all.
+///
+/// While the disk returns what was written and nobody else writes the file, what these runs lived
+/// are lives of one office; so what `headline_law` of `books` says of lives holds of them.
+pub fn program_law<H: OfficeFile, F: TextFiles, C: Clock, D: Door, L: Loopback>()
+    ensures { KeepsPromise (here_of H.Medium.Disk H.Salts.SaltSource H.OfficeFile F.TextFiles
+        C.answers (way D.Door D.Reader.remaining D.Writer.contents)
+        (loop_of L.Loopback L.Stream.remaining L.Stream.contents)) }
+{
+    history_law();
+    office_law();
+    store_law();
+    opening_law::<FileStore<H::Medium>>();
+    found_law::<FileStore<H::Medium>>();
 }
 
 /// What is told of a sale names it: two sales of an office with one receipt are one sale, and so

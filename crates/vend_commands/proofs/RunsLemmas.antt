@@ -1,0 +1,345 @@
+-- Several runs of the program on one file: the lives of one office.
+use Rattle.std.proofs.Common.{◌≡◌, ◌⊎◌, ◌∙◌, ⊤, ℕ, ℤ, ◌+◌, ◌%◌, zero, suc, Bool, true, false, List, [], ◌∷◌, ◌++◌, length, Option, Some, None, Result, Ok, Err, inl, inr, refl, sym, ap, subst, append_assoc, append-nil, arith}
+use Rattle.std.proofs.Math.Logic.{∥∥₁_elim, ∥∥₁_map}
+use Rattle.sqlite.specs.Files.{HoldsDatabase, IsNothing, file_state, image_of, over_files}
+use Rattle.sqlite.specs.Held.{Held}
+use Rattle.sqlite.specs.State.{HasCleanDisk, IsLive, Opens, State}
+use Rattle.sqlite_disk.specs.declared.Disk as disk
+use Rattle.sqlite_store.specs.declared.store.FileStore.{FileStore}
+use Rattle.sqlite_trees.specs.Tree.{Trees}
+use Rattle.sqlite_trees.specs.declared.store.Store.{Ghosts}
+use Rattle.sqlite_wal.specs.Recovery.{Image}
+use Rattle.sts_fields.specs.Moment.{first_moment}
+use Rattle.sts_fields.specs.Text.{Text}
+use Rattle.sts_token.specs.Token.{BlockFunction}
+use Rattle.vend_core.specs.Law.Life.{AreLives, IsLife, Life, MayLeave, present}
+use Rattle.vend_core.specs.Law.LifeLaws.{extended_by, opened}
+use Rattle.vend_core.specs.Office.{Office, empty_office}
+use Rattle.vend_core.specs.declared.decision.request.Request.{Request}
+use Rattle.vend_core.specs.declared.decision.request.Request.TheVariants as requests
+use Rattle.vend_core.specs.declared.office.row.Row.{Row}
+use Rattle.papers.specs.declared.row_fault.RowFault.{RowFault}
+use Rattle.book_opening.specs.declared.fault.OpenFault.{OpenFault}
+use Rattle.book_states.specs.Stores.{RecoversTo, StoreStandsFor}
+use Rattle.books.specs.Found.{FindsOffice}
+use Rattle.books.specs.Headline.{RepresentTheLast, with_last}
+use Rattle.books.specs.Keeps.{IsRepresented, Represents, Seen}
+use Rattle.books.specs.Path.{StandsIn}
+use Rattle.books.specs.declared.books.Books.{Books}
+use Rattle.books.specs.declared.refused_files.RefusedFiles.TheVariants.{Connected, Unconnected}
+use Rattle.command_line.specs.Transform.{forward_of}
+use Rattle.command_line.specs.declared.asked.Asked.{Asked}
+use Rattle.command_line.specs.declared.asked.Asked.TheVariants as asks
+use Rattle.command_line.specs.declared.commands.audit.AuditWords.{AuditWords}
+use Rattle.command_line.specs.declared.commands.import.ImportWords.{ImportWords}
+use Rattle.command_line.specs.declared.commands.report.Paper.{Paper}
+use Rattle.command_line.specs.declared.commands.report.Paper.TheVariants.{Receipt, Sales, Shift, Totals}
+use Rattle.command_line.specs.declared.commands.report.ReportWords.{ReportWords}
+use Rattle.command_line.specs.declared.commands.serve.ServeWords.{ServeWords}
+use Rattle.command_line.specs.declared.transform.Shipped.{Shipped}
+use Rattle.command_line.specs.declared.transform.Shipped.TheVariants.{Plain}
+use Rattle.vend_commands.specs.Run.{IsCarriedOut, IsProgramRun}
+use Rattle.vend_commands.specs.Run.IsProgramRun.{answered, bad_word, explained, no_room}
+use Rattle.vend_commands.specs.commands.Asked.{IsAskedAt}
+use Rattle.vend_commands.specs.commands.Audited.{IsAudited}
+use Rattle.vend_commands.specs.commands.Audited.IsAudited.{absent as audit_absent, looked as audit_looked, unopened as audit_unopened}
+use Rattle.vend_commands.specs.commands.Imported.{AreAdded, IsFileImported}
+use Rattle.vend_commands.specs.commands.Reported.{IsReported, PrintsPaper}
+use Rattle.vend_commands.specs.commands.Reported.IsReported.{absent as report_absent, present as report_present}
+use Rattle.vend_commands.specs.commands.Timed.{IsDoneAt}
+use Rattle.vend_commands.specs.office.Served.{IsServedAndTold}
+use Rattle.vend_commands.specs.office.Visited.{IsOpened, IsOpenedAt, IsVisited, seen_in}
+use Rattle.vend_commands.specs.office.Visited.IsVisited.{unopened as visit_unopened, visited as visit_opened}
+use Rattle.vend_commands.specs.port.Places.{IsUnopened, Machine, Place, Places, Way, where_present}
+use Rattle.vend_commands.specs.port.Places.IsUnopened.{unfound, unopened as found_unopened}
+use Rattle.vend_commands.specs.port.Places.IsUnopenedIn.{refused, unsalted}
+use Rattle.vend_commands.specs.print.Told.{Outputs, Sink}
+use Rattle.vend_commands.specs.runs.Follow.{AreRuns, Finds, Follow, Here, IsClean, LeftAfter, MayHold, ProgramRun, use_of}
+use Rattle.vend_commands.specs.runs.OneOffice.{AreLivedBy, AreOneOffice, LivesIn}
+use Rattle.vend_commands.specs.runs.Uses.{Living, AreCoursed, LivesSo, Question, Use, connected, idle_life, many_lives, unseen, lives_asking, lives_printing, use_added, use_asked, use_audited, use_carried, use_imported, use_refused, use_reported, use_run, use_served, use_serving, use_timed, use_visited, with_file}
+use Rattle.vend_commands.specs.serving.Connections.{AreHeld, AreReady, AreServed, Service, service}
+use Rattle.vend_commands.specs.serving.Courses.{AreLived, Course, IsNext, course}
+use Rattle.vend_commands.specs.serving.Listening.{IsServing}
+use Rattle.vend_commands.specs.serving.Listening.IsServing.{unheard as serve_unheard, unopened as serve_unopened, was_open as serve_open}
+use Rattle.vend_commands.specs.declared.command_end.CommandEnd.{CommandEnd}
+use Rattle.vend_commands.specs.declared.port.ports.OfficeFile as file
+use Rattle.vend_commands.specs.declared.port.ports.SaltSource as source
+use Rattle.vend_commands.proofs.CourseLemmas.{live_on, next_course, ready_clean}
+use Rattle.vend_commands.proofs.SellLemmas.{now_is}
+
+-- these lives lead on, and whatever the file may hold stands for an office that they may leave
+pub record Kept (Before : Image → Type 0) (lives : List Life) : Type 0 where
+  pub lead : (o : Office) × AreLives lives o
+  pub left : (image : Image) → Before image → (o : Office) × StandsIn image o × AreLives lives o
+
+-- what a run makes of them
+abbrev pub GoesOn : Use → (Before : Image → Type 0) → List Life → Type 0
+GoesOn made Before lives = (own : List Life) × LivesIn made lives own × Kept (MayHold made Before) (lives ++ own)
+
+-- the law of lives, and that what is left is found
+pub record Laws : Type 0 where
+  pub goes_on : (lives : List Life) (life : Life) (o p : Office) → AreLives lives o → IsLife life → life.opening ≡ o → MayLeave life p → AreLives (lives ++ life ∷ []) p
+  pub held : (image : Image) (trees : Trees) (o : Office) → HoldsDatabase image trees → RecoversTo trees o → StandsIn image o
+
+stays : (Before : Image → Type 0) (lives : List Life) → Kept Before lives → Kept Before (lives ++ [])
+stays Before lives kept = subst (λ l. Kept Before l) (sym (append-nil lives)) kept
+
+module _ (laws : Laws) (Before : Image → Type 0) where
+  -- one life more, of books that were let go
+  one_more : (lives : List Life) (image : Image) (living : Living) (books : Seen) (o : Office) → AreLives lives o → (life : Life) → life.opening ≡ o → IsRepresented life books → Kept (MayHold (connected image living books.state) Before) (lives ++ life ∷ [])
+  one_more lives image living books o led life opening kept = record {
+    lead = (present life, laws.goes_on lives life o (present life) led kept.is_life opening (inl refl));
+    left = λ after may.
+        let some = kept.left may.0 may.1 in
+        (some.0, laws.held after may.0 some.0 may.2 some.2, laws.goes_on lives life o some.0 led kept.is_life opening some.1);
+  }
+
+  -- none more: what is left stands for the office that was found
+  none_more : (lives : List Life) (image : Image) (living : Living) (s : State) (o : Office) → AreLives lives o → ((trees : Trees) → s.may_leave trees → RecoversTo trees o) → Kept (MayHold (connected image living s) Before) (lives ++ [])
+  none_more lives image living s o led recovers = stays _ lives (record {
+    lead = (o, led);
+    left = λ after may. (o, laws.held after may.0 o may.2 (recovers may.0 may.1), led);
+  })
+
+-- ---- along connections
+
+-- the lives that are over are those from before, and then some
+lived_over : {D R W : Type 0} (way : Way D R W) (forward : BlockFunction) (count : ℕ) (old new : Service D Course) → AreLived way forward count old new → (more : List Life) × (new.books.over ≡ old.books.over ++ more)
+lived_over way forward zero old new same = ([], ap (λ s. s.books.over) same ∙ sym (append-nil old.books.over))
+lived_over way forward (suc count) old new (mid, lived, (next, inl same, goes)) =
+    let so_far = lived_over way forward count old mid lived in
+    (so_far.0, goes.over ∙ (ap (λ (c : Course). c.over) same ∙ so_far.1))
+lived_over way forward (suc count) old new (mid, lived, (next, inr (o, left, is), goes)) =
+    let so_far = lived_over way forward count old mid lived in
+    let last = mid.books.life ∷ [] in
+    (so_far.0 ++ last, goes.over ∙ (ap (λ (c : Course). c.over) is ∙ (ap (λ l. l ++ last) so_far.1 ∙ append_assoc old.books.over so_far.0 last)))
+
+-- so are all of them, with the one that goes on
+next_own : (before more : List Life) (forward : BlockFunction) (last next : Course) → last.over ≡ before ++ more → IsNext forward last next → (own : List Life) × (before ++ own ≡ with_last next.over next.life)
+next_own before more forward last next over (inl same) =
+    let one = next.life ∷ [] in
+    (more ++ one, sym (ap (λ l. l ++ one) (ap (λ (c : Course). c.over) same ∙ over) ∙ append_assoc before more one))
+next_own before more forward last next over (inr (o, left, is)) =
+    let one = next.life ∷ [] in
+    let then = last.life ∷ [] in
+    let all : next.over ≡ before ++ (more ++ then) = ap (λ (c : Course). c.over) is ∙ (ap (λ l. l ++ then) over ∙ append_assoc before more then) in
+    ((more ++ then) ++ one, sym (ap (λ l. l ++ one) all ∙ append_assoc before (more ++ then) one))
+
+module _ {D R W B : Type 0} (way : Way D R W) (forward : BlockFunction) (see : B → Seen) (laws : Laws) where
+  held_clean : (count : ℕ) (old new : Service D B) (printed : Text) → AreHeld way forward see count old new printed → HasCleanDisk (see new.books).state → HasCleanDisk (see old.books).state
+  held_clean zero old new printed (same, none) clean = subst (λ (s : Service D B). HasCleanDisk (see s.books).state) same clean
+  held_clean (suc count) old new printed (mid, before, held, (ready, are, one), all) clean =
+      held_clean count old mid before held (ready_clean way forward see laws.goes_on mid.books ready are (one.clean clean))
+
+  -- The books of a course, or others that follow it, keep the last of the lives.
+  coursed_on : (Before : Image → Type 0) (lives : List Life) (count : ℕ) (old last : Service D B) (printed : Text) (books : B) (image : Image)
+      → AreHeld way forward see count old last printed → HasCleanDisk (see last.books).state
+      → ((c : Course) → RepresentTheLast c.over c.life (see last.books) → ∥ ((next : Course) × IsNext forward c next × RepresentTheLast next.over next.life (see books)) ∥₁)
+      → (office : Office) → AreLives lives office → Represents (opened forward office) (see old.books)
+      → ∥ ((own : List Life) × AreCoursed way forward count old.door old.answers last.door last.answers lives own × Kept (MayHold (connected image (many_lives (AreCoursed way forward count old.door old.answers last.door last.answers)) (see books).state) Before) (lives ++ own)) ∥₁
+  coursed_on Before lives count old last printed books image held clean follows office led begins =
+      let start : Course = course lives (opened forward office) in
+      ∥∥₁_elim (live_on way forward see laws.goes_on count old last printed held clean start (record { led = led; kept = begins; clean = held_clean count old last printed held clean })) squash₁ (λ lived.
+      ∥∥₁_map (follows lived.0 lived.2) (λ next.
+      let over = lived_over way forward count (service old.door start old.answers) (service last.door lived.0 last.answers) lived.1 in
+      let own = next_own lives over.0 forward lived.0 next.0 over.1 next.1 in
+      let here = next.2 in
+      let life = next.0.life in
+      (
+        own.0,
+        (office, lived.0, next.0, lived.1, next.1, own.1),
+        subst (λ l. Kept (MayHold (connected image (many_lives (AreCoursed way forward count old.door old.answers last.door last.answers)) (see books).state) Before) l) (sym own.1) (one_more laws Before next.0.over image _ (see books) life.opening here.led life refl (here.kept here.clean)),
+      )))
+
+  served_on : (Before : Image → Type 0) (lives : List Life) (loses : OpenFault → Type 0) (wanted : ℕ) (old : Service D B) (door : D) (answers : Option (List ℤ)) (printed : Text) (image : Image) (served : Result (B × Bool) OpenFault) (are : AreServed way forward see loses wanted old door answers served printed)
+      → IsClean (use_served way forward see loses wanted old door answers printed image served are)
+      → (office : Office) → AreLives lives office → Represents (opened forward office) (see old.books)
+      → ∥ GoesOn (use_served way forward see loses wanted old door answers printed image served are) Before lives ∥₁
+  served_on Before lives loses wanted old door answers printed image (Ok (books, true)) held clean office led begins =
+      coursed_on Before lives wanted old (service door books answers) printed books image held clean (λ c last. ∣ (c, inl refl, last) ∣₁) office led begins
+  served_on Before lives loses wanted old door answers printed image (Ok (books, false)) none clean office led begins =
+      let are = subst (λ (b : B). AreReady see forward none.last.books b) (sym none.unheld.books) none.are_ready in
+      coursed_on Before lives none.count old none.last none.before books image none.held (ready_clean way forward see laws.goes_on none.last.books books are clean) (next_course way forward see laws.goes_on none.last.books books are clean) office led begins
+  served_on Before lives loses wanted old door answers printed image (Err fault) lost clean office led begins =
+      coursed_on Before lives lost.count old lost.last printed lost.last.books image lost.held clean (λ c last. ∣ (c, inl refl, last) ∣₁) office led begins
+
+module _ (laws : Laws) (Before : Image → Type 0) (lives : List Life) where
+  -- a file of which nothing was seen
+  unseen_on : Kept Before lives → GoesOn unseen Before lives
+  unseen_on kept = ([], refl, stays Before lives kept)
+
+  -- no office was opened
+  refused_on : {D S : Type 0} {disk : disk.Ghosts D} {salts : source.Ghosts S} {finds lets_go : D → D → Type 0} {fails : OpenFault → Type 0} (fault : OpenFault) (why : IsUnopened disk salts finds lets_go fails fault)
+      → Finds (use_refused fault why) Before → IsClean (use_refused fault why) → Kept Before lives → GoesOn (use_refused fault why) Before lives
+  refused_on fault (unfound none) found clean kept = unseen_on kept
+  refused_on fault (found_unopened files finds (unsalted it lacks is)) found clean kept = unseen_on kept
+  refused_on {disk = disk} fault (found_unopened files finds (refused left (Connected last) why taken gone)) found clean kept =
+      let here = kept.left (image_of disk files) found in
+      let stands = why.kept clean here.0 here.1 in
+      ([], refl, none_more laws Before lives (image_of disk files) _ (file_state last) here.0 here.2 (λ trees may. stands.left trees may))
+  refused_on fault (found_unopened files finds (refused left (Unconnected rest) why taken gone)) found clean kept = unseen_on kept
+
+  module _ {S : Type 0} {store : Ghosts S} {place : Place} {transform : Shipped} where
+    -- a request was served
+    asked_on : (moment : ℕ) (request : Request) (o : Outputs) (end : CommandEnd) (old new : Books S Shipped store) (begins : IsOpenedAt place transform old) (done : IsServedAndTold moment request (seen_in old) (seen_in new) o end)
+        → HasCleanDisk (seen_in new).state → (office : Office) → StandsIn place.image office → AreLives lives office
+        → GoesOn (connected place.image (lives_asking transform moment request o end (seen_in old) (seen_in new) done) (seen_in new).state) Before lives
+    asked_on moment request o end old new begins done clean office stands led =
+        let forward = forward_of transform in
+        let at = done.replied.0 in
+        let asked = done.replied.1 in
+        let replies = done.replied.2 in
+        let life : Life = extended_by (opened forward office) at done.reply in
+        let running = (begins.opens office stands (replies.clean clean)).running begins.running in
+        (
+          life ∷ [],
+          (
+            life,
+            record {
+              at = at;
+              at_moment = asked.at_moment;
+              for_request = asked.for_request;
+              by_number = asked.by_number ∙ ap (λ n. n % 16) (running.next ∙ ap (λ (p : Office). length p.sales + 1) (sym (now_is forward office running.present running.running)));
+              life_is = refl;
+              running = λ stopped. let was = replies.stopped.0 stopped in let runs = begins.running in cc;
+            },
+            refl,
+          ),
+          one_more laws Before lives place.image _ (seen_in new) office led life refl (replies.keeps (opened forward office) (begins.opens office stands) clean),
+        )
+
+    -- nothing was asked, and the books keep what they kept
+    idle_on : (old new : Books S Shipped store) → IsOpenedAt place transform old → ((life : Life) → Represents life (seen_in old) → Represents life (seen_in new)) → HasCleanDisk (seen_in new).state → (office : Office) → StandsIn place.image office → AreLives lives office
+        → GoesOn (connected place.image (idle_life transform) (seen_in new).state) Before lives
+    idle_on old new begins keeps clean office stands led =
+        let life : Life = opened (forward_of transform) office in
+        (life ∷ [], (office, refl), one_more laws Before lives place.image _ (seen_in new) office led life refl (keeps life (begins.opens office stands) clean))
+
+    -- a visit, where it is known what is done there
+    visited_on : (Does : (old new : Seen) → Type 0) (o : Outputs) (end : CommandEnd) (if_refused : (fault : OpenFault) → place.fails fault → Use) (living : (old new : Seen) → Does old new → Living)
+        → ((fault : OpenFault) (why : place.fails fault) → Finds (if_refused fault why) Before → IsClean (if_refused fault why) → Kept Before lives → GoesOn (if_refused fault why) Before lives)
+        → ((old new : Books S Shipped store) (begins : IsOpenedAt place transform old) (does : Does (seen_in old) (seen_in new)) → HasCleanDisk (seen_in new).state → (office : Office) → StandsIn place.image office → AreLives lives office
+        → GoesOn (connected place.image (living (seen_in old) (seen_in new) does) (seen_in new).state) Before lives)
+        → (visit : IsVisited store place transform Does o end) → Finds (use_visited if_refused living visit) Before → IsClean (use_visited if_refused living visit) → Kept Before lives → GoesOn (use_visited if_refused living visit) Before lives
+    visited_on Does o end if_refused living refused_goes done_goes (visit_unopened fault fails told) found clean kept = refused_goes fault fails found clean kept
+    visited_on Does o end if_refused living refused_goes done_goes (visit_opened old new begins finds does closes) found clean kept =
+        let here = kept.left place.image found in
+        done_goes old new begins does clean here.0 here.1 here.2
+
+  module _ {S : Type 0} {store : Ghosts S} {place : Place} where
+    -- a paper was printed
+    printed_on : (paper : Paper) (o : Outputs) (end : CommandEnd) (old new : Books S Shipped store) (begins : IsOpenedAt place Plain old) (done : PrintsPaper paper (seen_in old) (seen_in new) o end)
+        → HasCleanDisk (seen_in new).state → (office : Office) → StandsIn place.image office → AreLives lives office
+        → GoesOn (connected place.image (lives_printing paper o end (seen_in old) (seen_in new) done) (seen_in new).state) Before lives
+    printed_on (Shift number) o end old new begins done clean office stands led = asked_on first_moment (requests.ShiftReport number) o end old new begins done clean office stands led
+    printed_on (Receipt number) o end old new begins done clean office stands led = asked_on first_moment (requests.Reprint number) o end old new begins done clean office stands led
+    printed_on (Totals number) o end old new begins done clean office stands led = idle_on old new begins done.keeps clean office stands led
+    printed_on Sales o end old new begins done clean office stands led = idle_on old new begins done.keeps clean office stands led
+
+  module _ {M S H D R W : Type 0} (disk : disk.Ghosts M) (salts : source.Ghosts S) (of : file.Ghosts H M S) (office : H) (m : Machine D R W) where
+    abbrev here : Machine D R W
+    here = with_file disk salts of office m
+
+    asking_on : (transform : Shipped) (path : Text) (wait moment : ℕ) (request : Request) (o : Outputs) (end : CommandEnd) (asks : IsAskedAt (over_files {g = disk}) here.at transform path wait moment request o end)
+        → Finds (use_asked disk salts of office m transform path wait moment request o end asks) Before → IsClean (use_asked disk salts of office m transform path wait moment request o end asks) → Kept Before lives
+        → GoesOn (use_asked disk salts of office m transform path wait moment request o end asks) Before lives
+    asking_on transform path wait moment request o end asks =
+        visited_on {place = here.at path wait} _ o end use_refused (lives_asking transform moment request o end) refused_on (asked_on moment request o end) asks
+
+    adding_on : (words : ImportWords) (moment : ℕ) (rows : Result (List Row) RowFault) (o : Outputs) (end : CommandEnd) (added : AreAdded (over_files {g = disk}) here.at m.untouched words moment rows o end)
+        → Finds (use_added disk salts of office m words moment rows o end added) Before → IsClean (use_added disk salts of office m words moment rows o end added) → Kept Before lives
+        → GoesOn (use_added disk salts of office m words moment rows o end added) Before lives
+    adding_on words moment (Ok rows) o end added = asking_on words.transform words.file.now words.wait moment (requests.Import rows) o end added
+    adding_on words moment (Err fault) o end told found clean kept = unseen_on kept
+
+    importing_on : (words : ImportWords) (moment : ℕ) (o : Outputs) (end : CommandEnd) (imported : IsFileImported (over_files {g = disk}) here.at m.untouched m.reads m.lacks words moment o end)
+        → Finds (use_imported disk salts of office m words moment o end imported) Before → IsClean (use_imported disk salts of office m words moment o end imported) → Kept Before lives
+        → GoesOn (use_imported disk salts of office m words moment o end imported) Before lives
+    importing_on words moment o end (inl (bytes, reads, (records, rows, are, reading, added))) = adding_on words moment rows o end added
+    importing_on words moment o end (inr unread) found clean kept = unseen_on kept
+
+    reporting_on : (words : ReportWords) (o : Outputs) (end : CommandEnd) (reported : IsReported (over_files {g = disk}) here.at words o end)
+        → Finds (use_reported disk salts of office m words o end reported) Before → IsClean (use_reported disk salts of office m words o end reported) → Kept Before lives
+        → GoesOn (use_reported disk salts of office m words o end reported) Before lives
+    reporting_on words o end (report_absent misses told) found clean kept = unseen_on kept
+    reporting_on words o end (report_present visit) =
+        visited_on {place = where_present (here.at words.file.now words.wait)} _ o end use_refused (lives_printing words.paper o end) refused_on (printed_on words.paper o end) visit
+
+    timed_on : (Idle : Type 0) (At : ℕ → Type 0) (o : Outputs) (end : CommandEnd) (made : (moment : ℕ) → At moment → Use)
+        → ((moment : ℕ) (it : At moment) → Finds (made moment it) Before → IsClean (made moment it) → Kept Before lives → GoesOn (made moment it) Before lives)
+        → (moment : Option ℕ) (done : IsDoneAt Idle At o end moment) → Finds (use_timed Idle At o end made moment done) Before → IsClean (use_timed Idle At o end made moment done) → Kept Before lives → GoesOn (use_timed Idle At o end made moment done) Before lives
+    timed_on Idle At o end made each (Some moment) done = each moment done
+    timed_on Idle At o end made each None idle found clean kept = unseen_on kept
+
+    module _ (finds : (c : Held (FileStore M disk)) (o : Office) → Opens (file_state c) → IsLive (file_state c) → FindsOffice (file_state c).committed.trees o → StoreStandsFor (file_state c) o) where
+      audited_on : (words : AuditWords) (o : Outputs) (end : CommandEnd) (audited : IsAudited (here.at words.file.now words.wait) o end)
+          → Finds (use_audited disk salts of office m words o end audited) Before → IsClean (use_audited disk salts of office m words o end audited) → Kept Before lives
+          → GoesOn (use_audited disk salts of office m words o end audited) Before lives
+      audited_on words o end (audit_absent misses told) found clean kept = unseen_on kept
+      audited_on words o end (audit_unopened fault why told) found clean kept = refused_on fault why found clean kept
+      audited_on words o end (audit_looked answer meets audit told) found clean kept =
+          let before : HasCleanDisk (file_state audit.first) = omega (arith, audit.audited.survives.clean, clean) in
+          let at = audit.connected before in
+          let image = of.image office words.file.now in
+          let was = kept.left image found in
+          let stands = finds audit.first was.0 at.opens at.live (was.1 (file_state audit.first).committed.trees at.found) in
+          ([], refl, none_more laws Before lives image _ (file_state audit.last) was.0 was.2 (λ trees may. elim (audit.audited.survives.crash clean trees may) [
+            | inl then ↦ stands.left trees then
+            | inr none ↦ absurd none
+          ]))
+
+      serving_on : (words : ServeWords) (err_old err_new : Sink) (end : CommandEnd) (serving : IsServing (over_files {g = disk}) m.way here.at m.door m.answers words err_old err_new end)
+          → Finds (use_serving disk salts of office m words err_old err_new end serving) Before → IsClean (use_serving disk salts of office m words err_old err_new end serving) → Kept Before lives
+          → ∥ GoesOn (use_serving disk salts of office m words err_old err_new end serving) Before lives ∥₁
+      serving_on words err_old err_new end (serve_unopened fault fails leaves told ends) found clean kept = ∣ refused_on fault fails found clean kept ∣₁
+      serving_on words err_old err_new end (serve_unheard old begins finds last deaf leaves closes ends) found clean kept =
+          let was = kept.left (of.image office words.file.now) found in
+          ∣ idle_on {place = here.at words.file.now words.wait} old old begins (λ life it. it) clean was.0 was.1 was.2 ∣₁
+      serving_on words err_old err_new end (serve_open old begins finds were) found clean kept =
+          let was = kept.left (of.image office words.file.now) found in
+          served_on m.way (forward_of words.transform) seen_in laws Before lives (here.at words.file.now words.wait).loses words.connections (service were.listening old m.answers) were.last were.left were.printed (of.image office words.file.now) were.served were.are_served clean was.0 was.2 (begins.opens was.0 was.1)
+
+      carried_on : (asked : Asked) (o : Outputs) (end : CommandEnd) (done : IsCarriedOut (over_files {g = disk}) here asked o end)
+          → Finds (use_carried disk salts of office m asked o end done) Before → IsClean (use_carried disk salts of office m asked o end done) → Kept Before lives
+          → ∥ GoesOn (use_carried disk salts of office m asked o end done) Before lives ∥₁
+      carried_on (asks.Trial words) o end done found clean kept = ∣ unseen_on kept ∣₁
+      carried_on (asks.Import words) o end (shut, (moment, taken, done)) found clean kept =
+          ∣ timed_on m.untouched _ o end (λ at it. use_imported disk salts of office m words at o end it) (λ at it. importing_on words at o end it) moment done found clean kept ∣₁
+      carried_on (asks.Request words) o end (shut, (moment, taken, done)) found clean kept =
+          ∣ timed_on m.untouched _ o end (λ at it. use_asked disk salts of office m words.transform words.file.now words.wait at words.request o end it) (λ at it. asking_on words.transform words.file.now words.wait at words.request o end it) moment done found clean kept ∣₁
+      carried_on (asks.Report words) o end (shut, done) found clean kept = ∣ reporting_on words o end done found clean kept ∣₁
+      carried_on (asks.Meter words) o end done found clean kept = ∣ unseen_on kept ∣₁
+      carried_on (asks.Quote words) o end done found clean kept = ∣ unseen_on kept ∣₁
+      carried_on (asks.Serve words) o end (left, (silent, done)) found clean kept = serving_on words o.err_old o.err_new end done found clean kept
+      carried_on (asks.Selfcheck words) o end done found clean kept = ∣ unseen_on kept ∣₁
+      carried_on (asks.Audit words) o end (shut, done) found clean kept = ∣ audited_on words o end done found clean kept ∣₁
+
+      run_on : (words : List Text) (o : Outputs) (end : CommandEnd) (it : IsProgramRun (over_files {g = disk}) here words o end)
+          → Finds (use_run disk salts of office m words o end it) Before → IsClean (use_run disk salts of office m words o end it) → Kept Before lives
+          → ∥ GoesOn (use_run disk salts of office m words o end it) Before lives ∥₁
+      run_on words o end (answered asked for done) found clean kept = carried_on asked o end done found clean kept
+      run_on words o end (bad_word idle none no told) found clean kept = ∣ unseen_on kept ∣₁
+      run_on words o end (explained idle kind text among some says) found clean kept = ∣ unseen_on kept ∣₁
+      run_on words o end (no_room idle told) found clean kept = ∣ unseen_on kept ∣₁
+
+-- ---- one run after another
+
+module _ {P D R W : Type 0} (here : Here P D R W) (laws : Laws)
+    (finds : (c : Held (FileStore here.M here.disk)) (o : Office) → Opens (file_state c) → IsLive (file_state c) → FindsOffice (file_state c).committed.trees o → StoreStandsFor (file_state c) o) where
+  follow_on : (runs : List (ProgramRun here)) (Before : Image → Type 0) (lives : List Life) → Kept Before lives → Follow here Before runs
+      → ∥ ((more : List Life) × AreLivedBy here runs lives more × Kept (LeftAfter here Before runs) (lives ++ more)) ∥₁
+  follow_on [] Before lives kept none = ∣ ([], refl, stays Before lives kept) ∣₁
+  follow_on (run ∷ later) Before lives kept (found, clean, others) =
+      ∥∥₁_elim (run_on laws Before lives here.disk here.salts here.of (here.office run.ports) (here.rest run.ports) finds run.words run.o run.end run.ran found clean kept) squash₁ (λ one.
+      ∥∥₁_map (follow_on later (MayHold (use_of here run) Before) (lives ++ one.0) one.2 others) (λ next.
+      (
+        one.0 ++ next.0,
+        (one.0, next.0, one.1, next.1, refl),
+        subst (λ l. Kept (LeftAfter here (MayHold (use_of here run) Before) later) l) (append_assoc lives one.0 next.0) next.2,
+      )))
+
+  -- from a file in which nothing was made
+  pub one_office : ((image : Image) → IsNothing image → StandsIn image empty_office) → (runs : List (ProgramRun here)) → AreRuns here runs → ∥ ((lives : List Life) × AreOneOffice here runs lives) ∥₁
+  one_office new runs follow =
+      ∥∥₁_map (follow_on runs IsNothing [] (record { lead = (empty_office, refl); left = λ image nothing. (empty_office, new image nothing, refl) }) follow) (λ all.
+      (all.0, record { lived = all.1; lead = all.2.lead; left = all.2.left }))

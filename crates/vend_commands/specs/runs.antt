@@ -1,0 +1,4 @@
+-- Several runs of the program on one file, one after another.
+pub mod Uses
+pub mod Follow
+pub mod OneOffice
