@@ -1,5 +1,5 @@
 -- Several runs of the program on one file: the lives of one office.
-use Rattle.std.proofs.Common.{◌≡◌, ◌⊎◌, ◌∙◌, ⊤, ℕ, ℤ, ◌+◌, ◌%◌, zero, suc, Bool, true, false, List, [], ◌∷◌, ◌++◌, length, Option, Some, None, Result, Ok, Err, inl, inr, refl, sym, ap, subst, append_assoc, append-nil, arith}
+use Rattle.std.proofs.Common.{◌≡◌, ◌⊎◌, ◌∙◌, ℕ, ℤ, ◌+◌, ◌%◌, zero, suc, Bool, true, false, List, [], ◌∷◌, ◌++◌, length, Option, Some, None, Result, Ok, Err, inl, inr, refl, sym, ap, subst, append_assoc, append-nil, arith}
 use Rattle.std.proofs.Math.Logic.{∥∥₁_elim, ∥∥₁_map}
 use Rattle.sqlite.specs.Files.{HoldsDatabase, IsNothing, file_state, image_of, over_files}
 use Rattle.sqlite.specs.Held.{Held}
@@ -20,10 +20,9 @@ use Rattle.vend_core.specs.declared.decision.request.Request.TheVariants as requ
 use Rattle.vend_core.specs.declared.office.row.Row.{Row}
 use Rattle.papers.specs.declared.row_fault.RowFault.{RowFault}
 use Rattle.book_opening.specs.declared.fault.OpenFault.{OpenFault}
-use Rattle.book_states.specs.Stores.{RecoversTo, StoreStandsFor}
 use Rattle.books.specs.Found.{FindsOffice}
 use Rattle.books.specs.Headline.{RepresentTheLast, with_last}
-use Rattle.books.specs.Keeps.{IsRepresented, Represents, Seen}
+use Rattle.books.specs.Keeps.{IsRepresented, RecoversTo, Represents, Seen, StoreStandsFor}
 use Rattle.books.specs.Path.{StandsIn}
 use Rattle.books.specs.declared.books.Books.{Books}
 use Rattle.books.specs.declared.refused_files.RefusedFiles.TheVariants.{Connected, Unconnected}
@@ -67,6 +66,10 @@ use Rattle.vend_commands.specs.declared.port.ports.SaltSource as source
 use Rattle.vend_commands.proofs.CourseLemmas.{live_on, next_course, ready_clean}
 use Rattle.vend_commands.proofs.SellLemmas.{now_is}
 
+-- what the file may hold of which a connection was let go in this state
+abbrev LeftBy : State → Image → Type 0
+LeftBy s image = (trees : Trees) × s.may_leave trees × HoldsDatabase image trees
+
 -- these lives lead on, and whatever the file may hold stands for an office that they may leave
 pub record Kept (Before : Image → Type 0) (lives : List Life) : Type 0 where
   pub lead : (o : Office) × AreLives lives o
@@ -84,10 +87,10 @@ pub record Laws : Type 0 where
 stays : (Before : Image → Type 0) (lives : List Life) → Kept Before lives → Kept Before (lives ++ [])
 stays Before lives kept = subst (λ l. Kept Before l) (sym (append-nil lives)) kept
 
-module _ (laws : Laws) (Before : Image → Type 0) where
+module _ (laws : Laws) where
   -- one life more, of books that were let go
-  one_more : (lives : List Life) (image : Image) (living : Living) (books : Seen) (o : Office) → AreLives lives o → (life : Life) → life.opening ≡ o → IsRepresented life books → Kept (MayHold (connected image living books.state) Before) (lives ++ life ∷ [])
-  one_more lives image living books o led life opening kept = record {
+  one_more : (lives : List Life) (books : Seen) (o : Office) → AreLives lives o → (life : Life) → life.opening ≡ o → IsRepresented life books → Kept (LeftBy books.state) (lives ++ life ∷ [])
+  one_more lives books o led life opening kept = record {
     lead = (present life, laws.goes_on lives life o (present life) led kept.is_life opening (inl refl));
     left = λ after may.
         let some = kept.left may.0 may.1 in
@@ -95,8 +98,8 @@ module _ (laws : Laws) (Before : Image → Type 0) where
   }
 
   -- none more: what is left stands for the office that was found
-  none_more : (lives : List Life) (image : Image) (living : Living) (s : State) (o : Office) → AreLives lives o → ((trees : Trees) → s.may_leave trees → RecoversTo trees o) → Kept (MayHold (connected image living s) Before) (lives ++ [])
-  none_more lives image living s o led recovers = stays _ lives (record {
+  none_more : (lives : List Life) (s : State) (o : Office) → AreLives lives o → ((trees : Trees) → s.may_leave trees → RecoversTo trees o) → Kept (LeftBy s) (lives ++ [])
+  none_more lives s o led recovers = stays (LeftBy s) lives (record {
     lead = (o, led);
     left = λ after may. (o, laws.held after may.0 o may.2 (recovers may.0 may.1), led);
   })
@@ -148,8 +151,14 @@ module _ {D R W B : Type 0} (way : Way D R W) (forward : BlockFunction) (see : B
       (
         own.0,
         (office, lived.0, next.0, lived.1, next.1, own.1),
-        subst (λ l. Kept (MayHold (connected image (many_lives (AreCoursed way forward count old.door old.answers last.door last.answers)) (see books).state) Before) l) (sym own.1) (one_more laws Before next.0.over image _ (see books) life.opening here.led life refl (here.kept here.clean)),
+        subst (λ l. Kept (LeftBy (see books).state) l) (sym own.1) (one_more laws next.0.over (see books) life.opening here.led life refl (here.kept here.clean)),
       )))
+
+  found_served : (Before : Image → Type 0) (loses : OpenFault → Type 0) (wanted : ℕ) (old : Service D B) (door : D) (answers : Option (List ℤ)) (printed : Text) (image : Image) (served : Result (B × Bool) OpenFault) (are : AreServed way forward see loses wanted old door answers served printed)
+      → Finds (use_served way forward see loses wanted old door answers printed image served are) Before → Before image
+  found_served Before loses wanted old door answers printed image (Ok (books, true)) held found = found
+  found_served Before loses wanted old door answers printed image (Ok (books, false)) none found = found
+  found_served Before loses wanted old door answers printed image (Err fault) lost found = found
 
   served_on : (Before : Image → Type 0) (lives : List Life) (loses : OpenFault → Type 0) (wanted : ℕ) (old : Service D B) (door : D) (answers : Option (List ℤ)) (printed : Text) (image : Image) (served : Result (B × Bool) OpenFault) (are : AreServed way forward see loses wanted old door answers served printed)
       → IsClean (use_served way forward see loses wanted old door answers printed image served are)
@@ -176,10 +185,10 @@ module _ (laws : Laws) (Before : Image → Type 0) (lives : List Life) where
   refused_on {disk = disk} fault (found_unopened files finds (refused left (Connected last) why taken gone)) found clean kept =
       let here = kept.left (image_of disk files) found in
       let stands = why.kept clean here.0 here.1 in
-      ([], refl, none_more laws Before lives (image_of disk files) _ (file_state last) here.0 here.2 (λ trees may. stands.left trees may))
+      ([], refl, none_more laws lives (file_state last) here.0 here.2 (λ trees may. stands.left trees may))
   refused_on fault (found_unopened files finds (refused left (Unconnected rest) why taken gone)) found clean kept = unseen_on kept
 
-  module _ {S : Type 0} {store : Ghosts S} {place : Place} {transform : Shipped} where
+  module _ {S : Type 0} {store : Ghosts S} (place : Place) {transform : Shipped} where
     -- a request was served
     asked_on : (moment : ℕ) (request : Request) (o : Outputs) (end : CommandEnd) (old new : Books S Shipped store) (begins : IsOpenedAt place transform old) (done : IsServedAndTold moment request (seen_in old) (seen_in new) o end)
         → HasCleanDisk (seen_in new).state → (office : Office) → StandsIn place.image office → AreLives lives office
@@ -205,7 +214,7 @@ module _ (laws : Laws) (Before : Image → Type 0) (lives : List Life) where
             },
             refl,
           ),
-          one_more laws Before lives place.image _ (seen_in new) office led life refl (replies.keeps (opened forward office) (begins.opens office stands) clean),
+          one_more laws lives (seen_in new) office led life refl (replies.keeps (opened forward office) (begins.opens office stands) clean),
         )
 
     -- nothing was asked, and the books keep what they kept
@@ -213,7 +222,7 @@ module _ (laws : Laws) (Before : Image → Type 0) (lives : List Life) where
         → GoesOn (connected place.image (idle_life transform) (seen_in new).state) Before lives
     idle_on old new begins keeps clean office stands led =
         let life : Life = opened (forward_of transform) office in
-        (life ∷ [], (office, refl), one_more laws Before lives place.image _ (seen_in new) office led life refl (keeps life (begins.opens office stands) clean))
+        (life ∷ [], (office, refl), one_more laws lives (seen_in new) office led life refl (keeps life (begins.opens office stands) clean))
 
     -- a visit, where it is known what is done there
     visited_on : (Does : (old new : Seen) → Type 0) (o : Outputs) (end : CommandEnd) (if_refused : (fault : OpenFault) → place.fails fault → Use) (living : (old new : Seen) → Does old new → Living)
@@ -226,15 +235,15 @@ module _ (laws : Laws) (Before : Image → Type 0) (lives : List Life) where
         let here = kept.left place.image found in
         done_goes old new begins does clean here.0 here.1 here.2
 
-  module _ {S : Type 0} {store : Ghosts S} {place : Place} where
+  module _ {S : Type 0} {store : Ghosts S} (place : Place) where
     -- a paper was printed
     printed_on : (paper : Paper) (o : Outputs) (end : CommandEnd) (old new : Books S Shipped store) (begins : IsOpenedAt place Plain old) (done : PrintsPaper paper (seen_in old) (seen_in new) o end)
         → HasCleanDisk (seen_in new).state → (office : Office) → StandsIn place.image office → AreLives lives office
         → GoesOn (connected place.image (lives_printing paper o end (seen_in old) (seen_in new) done) (seen_in new).state) Before lives
-    printed_on (Shift number) o end old new begins done clean office stands led = asked_on first_moment (requests.ShiftReport number) o end old new begins done clean office stands led
-    printed_on (Receipt number) o end old new begins done clean office stands led = asked_on first_moment (requests.Reprint number) o end old new begins done clean office stands led
-    printed_on (Totals number) o end old new begins done clean office stands led = idle_on old new begins done.keeps clean office stands led
-    printed_on Sales o end old new begins done clean office stands led = idle_on old new begins done.keeps clean office stands led
+    printed_on (Shift number) o end old new begins done clean office stands led = asked_on place first_moment (requests.ShiftReport number) o end old new begins done clean office stands led
+    printed_on (Receipt number) o end old new begins done clean office stands led = asked_on place first_moment (requests.Reprint number) o end old new begins done clean office stands led
+    printed_on (Totals number) o end old new begins done clean office stands led = idle_on place old new begins done.keeps clean office stands led
+    printed_on Sales o end old new begins done clean office stands led = idle_on place old new begins done.keeps clean office stands led
 
   module _ {M S H D R W : Type 0} (disk : disk.Ghosts M) (salts : source.Ghosts S) (of : file.Ghosts H M S) (office : H) (m : Machine D R W) where
     abbrev here : Machine D R W
@@ -243,32 +252,32 @@ module _ (laws : Laws) (Before : Image → Type 0) (lives : List Life) where
     asking_on : (transform : Shipped) (path : Text) (wait moment : ℕ) (request : Request) (o : Outputs) (end : CommandEnd) (asks : IsAskedAt (over_files {g = disk}) here.at transform path wait moment request o end)
         → Finds (use_asked disk salts of office m transform path wait moment request o end asks) Before → IsClean (use_asked disk salts of office m transform path wait moment request o end asks) → Kept Before lives
         → GoesOn (use_asked disk salts of office m transform path wait moment request o end asks) Before lives
-    asking_on transform path wait moment request o end asks =
-        visited_on {place = here.at path wait} _ o end use_refused (lives_asking transform moment request o end) refused_on (asked_on moment request o end) asks
+    asking_on transform path wait moment request o end asks found clean kept =
+        visited_on (here.at path wait) _ o end use_refused (lives_asking transform moment request o end) refused_on (asked_on (here.at path wait) moment request o end) asks found clean kept
 
     adding_on : (words : ImportWords) (moment : ℕ) (rows : Result (List Row) RowFault) (o : Outputs) (end : CommandEnd) (added : AreAdded (over_files {g = disk}) here.at m.untouched words moment rows o end)
         → Finds (use_added disk salts of office m words moment rows o end added) Before → IsClean (use_added disk salts of office m words moment rows o end added) → Kept Before lives
         → GoesOn (use_added disk salts of office m words moment rows o end added) Before lives
-    adding_on words moment (Ok rows) o end added = asking_on words.transform words.file.now words.wait moment (requests.Import rows) o end added
+    adding_on words moment (Ok rows) o end added found clean kept = asking_on words.transform words.file.now words.wait moment (requests.Import rows) o end added found clean kept
     adding_on words moment (Err fault) o end told found clean kept = unseen_on kept
 
     importing_on : (words : ImportWords) (moment : ℕ) (o : Outputs) (end : CommandEnd) (imported : IsFileImported (over_files {g = disk}) here.at m.untouched m.reads m.lacks words moment o end)
         → Finds (use_imported disk salts of office m words moment o end imported) Before → IsClean (use_imported disk salts of office m words moment o end imported) → Kept Before lives
         → GoesOn (use_imported disk salts of office m words moment o end imported) Before lives
-    importing_on words moment o end (inl (bytes, reads, (records, rows, are, reading, added))) = adding_on words moment rows o end added
+    importing_on words moment o end (inl (bytes, reads, (records, rows, are, reading, added))) found clean kept = adding_on words moment rows o end added found clean kept
     importing_on words moment o end (inr unread) found clean kept = unseen_on kept
 
     reporting_on : (words : ReportWords) (o : Outputs) (end : CommandEnd) (reported : IsReported (over_files {g = disk}) here.at words o end)
         → Finds (use_reported disk salts of office m words o end reported) Before → IsClean (use_reported disk salts of office m words o end reported) → Kept Before lives
         → GoesOn (use_reported disk salts of office m words o end reported) Before lives
     reporting_on words o end (report_absent misses told) found clean kept = unseen_on kept
-    reporting_on words o end (report_present visit) =
-        visited_on {place = where_present (here.at words.file.now words.wait)} _ o end use_refused (lives_printing words.paper o end) refused_on (printed_on words.paper o end) visit
+    reporting_on words o end (report_present visit) found clean kept =
+        visited_on (where_present (here.at words.file.now words.wait)) _ o end use_refused (lives_printing words.paper o end) refused_on (printed_on (where_present (here.at words.file.now words.wait)) words.paper o end) visit found clean kept
 
     timed_on : (Idle : Type 0) (At : ℕ → Type 0) (o : Outputs) (end : CommandEnd) (made : (moment : ℕ) → At moment → Use)
         → ((moment : ℕ) (it : At moment) → Finds (made moment it) Before → IsClean (made moment it) → Kept Before lives → GoesOn (made moment it) Before lives)
         → (moment : Option ℕ) (done : IsDoneAt Idle At o end moment) → Finds (use_timed Idle At o end made moment done) Before → IsClean (use_timed Idle At o end made moment done) → Kept Before lives → GoesOn (use_timed Idle At o end made moment done) Before lives
-    timed_on Idle At o end made each (Some moment) done = each moment done
+    timed_on Idle At o end made each (Some moment) done found clean kept = each moment done found clean kept
     timed_on Idle At o end made each None idle found clean kept = unseen_on kept
 
     module _ (finds : (c : Held (FileStore M disk)) (o : Office) → Opens (file_state c) → IsLive (file_state c) → FindsOffice (file_state c).committed.trees o → StoreStandsFor (file_state c) o) where
@@ -283,7 +292,7 @@ module _ (laws : Laws) (Before : Image → Type 0) (lives : List Life) where
           let image = of.image office words.file.now in
           let was = kept.left image found in
           let stands = finds audit.first was.0 at.opens at.live (was.1 (file_state audit.first).committed.trees at.found) in
-          ([], refl, none_more laws Before lives image _ (file_state audit.last) was.0 was.2 (λ trees may. elim (audit.audited.survives.crash clean trees may) [
+          ([], refl, none_more laws lives (file_state audit.last) was.0 was.2 (λ trees may. elim (audit.audited.survives.crash clean trees may) [
             | inl then ↦ stands.left trees then
             | inr none ↦ absurd none
           ]))
@@ -294,9 +303,10 @@ module _ (laws : Laws) (Before : Image → Type 0) (lives : List Life) where
       serving_on words err_old err_new end (serve_unopened fault fails leaves told ends) found clean kept = ∣ refused_on fault fails found clean kept ∣₁
       serving_on words err_old err_new end (serve_unheard old begins finds last deaf leaves closes ends) found clean kept =
           let was = kept.left (of.image office words.file.now) found in
-          ∣ idle_on {place = here.at words.file.now words.wait} old old begins (λ life it. it) clean was.0 was.1 was.2 ∣₁
+          ∣ idle_on (here.at words.file.now words.wait) old old begins (λ life it. it) clean was.0 was.1 was.2 ∣₁
       serving_on words err_old err_new end (serve_open old begins finds were) found clean kept =
-          let was = kept.left (of.image office words.file.now) found in
+          let image = of.image office words.file.now in
+          let was = kept.left image (found_served m.way (forward_of words.transform) seen_in laws Before (here.at words.file.now words.wait).loses words.connections (service were.listening old m.answers) were.last were.left were.printed image were.served were.are_served found) in
           served_on m.way (forward_of words.transform) seen_in laws Before lives (here.at words.file.now words.wait).loses words.connections (service were.listening old m.answers) were.last were.left were.printed (of.image office words.file.now) were.served were.are_served clean was.0 was.2 (begins.opens was.0 was.1)
 
       carried_on : (asked : Asked) (o : Outputs) (end : CommandEnd) (done : IsCarriedOut (over_files {g = disk}) here asked o end)
@@ -318,7 +328,7 @@ module _ (laws : Laws) (Before : Image → Type 0) (lives : List Life) where
           → Finds (use_run disk salts of office m words o end it) Before → IsClean (use_run disk salts of office m words o end it) → Kept Before lives
           → ∥ GoesOn (use_run disk salts of office m words o end it) Before lives ∥₁
       run_on words o end (answered asked for done) found clean kept = carried_on asked o end done found clean kept
-      run_on words o end (bad_word idle none no told) found clean kept = ∣ unseen_on kept ∣₁
+      run_on words o end (bad_word idle none asks_none told) found clean kept = ∣ unseen_on kept ∣₁
       run_on words o end (explained idle kind text among some says) found clean kept = ∣ unseen_on kept ∣₁
       run_on words o end (no_room idle told) found clean kept = ∣ unseen_on kept ∣₁
 

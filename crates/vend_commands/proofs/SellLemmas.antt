@@ -72,7 +72,7 @@ sell_gives forward office at order answer is granted =
 
 -- ---- a life of one request
 
-now_is : (forward : BlockFunction) (office present : Office) → IsRunning (opened forward office) present → office ≡ present
+pub now_is : (forward : BlockFunction) (office present : Office) → IsRunning (opened forward office) present → office ≡ present
 unfolding after
 now_is forward office present running = running.present
 

@@ -255,6 +255,6 @@ module _ {M S H D R W : Type 0} (disk : disk.Ghosts M) (salts : source.Ghosts S)
   abbrev pub use_run : (words : List Text) → (o : Outputs) → (end : CommandEnd)
       → IsProgramRun (over_files {g = disk}) with_file words o end → Use
   use_run words o end (answered asked for done) = use_carried asked o end done
-  use_run words o end (bad_word idle none no told) = unseen
+  use_run words o end (bad_word idle none asks_none told) = unseen
   use_run words o end (explained idle kind text among some says) = unseen
   use_run words o end (no_room idle told) = unseen
