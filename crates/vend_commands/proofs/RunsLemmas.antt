@@ -147,8 +147,7 @@ module _ {D R W B : Type 0} (way : Way D R W) (forward : BlockFunction) (see : B
       let over = lived_over way forward count (service old.door start old.answers) (service last.door lived.0 last.answers) lived.1 in
       let own = next_own lives over.0 forward lived.0 next.0 over.1 next.1 in
       let here = next.2 in
-      let life = next.0.life in
-      (
+      let life = next.0.life in (
         own.0,
         (office, lived.0, next.0, lived.1, next.1, own.1),
         subst (λ l. Kept (LeftBy (see books).state) l) (sym own.1) (one_more laws next.0.over (see books) life.opening here.led life refl (here.kept here.clean)),
@@ -199,8 +198,7 @@ module _ (laws : Laws) (Before : Image → Type 0) (lives : List Life) where
         let asked = done.replied.1 in
         let replies = done.replied.2 in
         let life : Life = extended_by (opened forward office) at done.reply in
-        let running = (begins.opens office stands (replies.clean clean)).running begins.running in
-        (
+        let running = (begins.opens office stands (replies.clean clean)).running begins.running in (
           life ∷ [],
           (
             life,
@@ -291,11 +289,14 @@ module _ (laws : Laws) (Before : Image → Type 0) (lives : List Life) where
           let at = audit.connected before in
           let image = of.image office words.file.now in
           let was = kept.left image found in
-          let stands = finds audit.first was.0 at.opens at.live (was.1 (file_state audit.first).committed.trees at.found) in
-          ([], refl, none_more laws lives (file_state audit.last) was.0 was.2 (λ trees may. elim (audit.audited.survives.crash clean trees may) [
-            | inl then ↦ stands.left trees then
-            | inr none ↦ absurd none
-          ]))
+          let stands = finds audit.first was.0 at.opens at.live (was.1 (file_state audit.first).committed.trees at.found) in (
+            [],
+            refl,
+            none_more laws lives (file_state audit.last) was.0 was.2 (λ trees may. elim (audit.audited.survives.crash clean trees may) [
+              | inl then ↦ stands.left trees then
+              | inr none ↦ absurd none
+            ]),
+          )
 
       serving_on : (words : ServeWords) (err_old err_new : Sink) (end : CommandEnd) (serving : IsServing (over_files {g = disk}) m.way here.at m.door m.answers words err_old err_new end)
           → Finds (use_serving disk salts of office m words err_old err_new end serving) Before → IsClean (use_serving disk salts of office m words err_old err_new end serving) → Kept Before lives
@@ -341,8 +342,7 @@ module _ {P D R W : Type 0} (here : Here P D R W) (laws : Laws)
   follow_on [] Before lives kept none = ∣ ([], refl, stays Before lives kept) ∣₁
   follow_on (run ∷ later) Before lives kept (found, clean, others) =
       ∥∥₁_elim (run_on laws Before lives here.disk here.salts here.of (here.office run.ports) (here.rest run.ports) finds run.words run.o run.end run.ran found clean kept) squash₁ (λ one.
-      ∥∥₁_map (follow_on later (MayHold (use_of here run) Before) (lives ++ one.0) one.2 others) (λ next.
-      (
+      ∥∥₁_map (follow_on later (MayHold (use_of here run) Before) (lives ++ one.0) one.2 others) (λ next. (
         one.0 ++ next.0,
         (one.0, next.0, one.1, next.1, refl),
         subst (λ l. Kept (LeftAfter here (MayHold (use_of here run) Before) later) l) (append_assoc lives one.0 next.0) next.2,
