@@ -56,6 +56,8 @@ def end_by_signals(seconds=0):
 
     for number in (signal.SIGALRM, signal.SIGTERM, signal.SIGHUP):
         signal.signal(number, give_up)
+    # A job in the background has it ignored, and so would all that it begins.
+    signal.signal(signal.SIGINT, signal.default_int_handler)
 
 
 def rows_of_page(page, *columns):
