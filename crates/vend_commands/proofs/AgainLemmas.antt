@@ -1,14 +1,13 @@
 -- A sale that is asked for again.
-use Rattle.std.proofs.Common.{◌≡◌, ◌≢◌, ◌⊎◌, ◌∙◌, ℕ, ◌+◌, ◌%◌, Bool, true, false, List, [], ◌∷◌, ◌++◌, length, Option, Some, None, Result, Ok, Err, inl, inr, refl, sym, ap, subst, append_assoc, arith}
-use Rattle.std.specs.Prelude.{◌&&◌, ◌==◌, ◌↔◌, All, Contains, bytes_eq, if◌then◌else◌, map}
+use Rattle.std.proofs.Common.{◌≡◌, ◌⊎◌, ◌∙◌, ℕ, Bool, true, false, List, [], ◌∷◌, ◌++◌, length, Option, Some, None, Result, Ok, Err, inl, inr, refl, sym, subst, arith}
+use Rattle.std.specs.Prelude.{◌&&◌, ◌==◌, ◌↔◌, Contains, bytes_eq, if◌then◌else◌}
 use Rattle.std.proofs.lemmas.Bool.{and_parts}
 use Rattle.std.proofs.lemmas.Bool.Decides.{nat_tests}
 use Rattle.std.proofs.lemmas.Slice.Eq.{bytes_eq-Decides}
 use Rattle.sts_token.specs.Token.{BlockFunction, KeepsRange}
-use Rattle.vend_core.specs.Decision.{account_of, decision_of, sell_again, sell_once, unchanged}
-use Rattle.vend_core.specs.Decision.Fold.{after, replies_to, reply, reply_of, step}
-use Rattle.vend_core.specs.Law.Handed.{sales_of}
-use Rattle.vend_core.specs.Law.Life.{AreLives, HandsOut, IsHanded, IsLife, LeadTo, Life, MayLeave, acknowledges}
+use Rattle.vend_core.specs.Decision.{account_of, decision_of, sell_once, unchanged}
+use Rattle.vend_core.specs.Decision.Fold.{replies_to, reply, reply_of, step}
+use Rattle.vend_core.specs.Law.Life.{IsLife, LeadTo, Life}
 use Rattle.vend_core.specs.Law.LifeLaws.{extended_by, opened}
 use Rattle.vend_core.specs.Law.NewSale.{IsNewSale}
 use Rattle.vend_core.specs.Law.OfficeLaws.{IsSameOrder, WasSold}
@@ -17,7 +16,6 @@ use Rattle.vend_core.specs.Office.Lookup.{open_shift, sale_of_ref}
 use Rattle.vend_core.specs.Office.{IsOffice, Office}
 use Rattle.vend_core.specs.declared.decision.answer.Answer.{Answer}
 use Rattle.vend_core.specs.declared.decision.answer.Answer.TheVariants.{Reprinted, Sold}
-use Rattle.vend_core.specs.declared.decision.change.Change.{Change}
 use Rattle.vend_core.specs.declared.decision.refusal.Refusal.{Refusal}
 use Rattle.vend_core.specs.declared.decision.refusal.Refusal.TheVariants as refusals
 use Rattle.vend_core.specs.declared.decision.request.Order.{Order}
@@ -66,7 +64,7 @@ module _ (laws : OrderLaws) (forward : BlockFunction) (o : Office) (at : Stamped
 -- ---- a life of one request
 
 -- its reply is that of the rules, or it failed
-replied : (forward : BlockFunction) (o : Office) (at : Stamped) (r : Result Answer Refusal) → IsLife (extended_by (opened forward o) at r)
+pub replied : (forward : BlockFunction) (o : Office) (at : Stamped) (r : Result Answer Refusal) → IsLife (extended_by (opened forward o) at r)
     → (r ≡ reply forward o at) ⊎ ((r ≡ Err refusals.Memory) ⊎ ((r ≡ Err refusals.Store) ⊎ (r ≡ Err refusals.Stopped)))
 unfolding replies_to
 replied forward o at (Ok answer) is = let same : (Ok answer ∷ []) ≡ (reply forward o at ∷ []) = is.replies in inl (cc)
@@ -75,9 +73,18 @@ replied forward o at (Err refusals.Store) is = inr (inr (inl refl))
 replied forward o at (Err refusals.Stopped) is = inr (inr (inr refl))
 replied forward o at (Err refusal) is = let same : (Err refusal ∷ []) ≡ (reply forward o at ∷ []) = is.replies in inl (cc)
 
--- of lives the last one opened what the others lead to
-last_opens : (start : Office) (lives : List Life) (life : Life) (o : Office) → LeadTo start (lives ++ life ∷ []) o → LeadTo start lives life.opening × IsLife life
-last_opens start [] life o (is, opening, left) = (opening, is)
-last_opens start (first ∷ lives) life o (is, opening, (left, may, on)) =
-    let rest = last_opens left lives life o on in
+-- each of some lives opened what the ones before it lead to
+pub life_opens : (start : Office) (lives : List Life) (life : Life) (later : List Life) (o : Office) → LeadTo start (lives ++ life ∷ later) o → LeadTo start lives life.opening × IsLife life
+life_opens start [] life later o (is, opening, left) = (opening, is)
+life_opens start (first ∷ lives) life later o (is, opening, (left, may, on)) =
+    let rest = life_opens left lives life later o on in
     ((is, opening, (left, may, rest.0)), rest.1)
+
+-- the reply that gave a sale is that of the rules
+pub sold_by : (forward : BlockFunction) (o : Office) (at : Stamped) (r : Result Answer Refusal) (s : Sale) → IsLife (extended_by (opened forward o) at r) → r ≡ Ok (Sold s) → reply forward o at ≡ Ok (Sold s)
+sold_by forward o at r s is sold = elim (replied forward o at r is) [
+  | inl by_rules ↦ sym by_rules ∙ sold
+  | inr (inl memory) ↦ absurd (cc)
+  | inr (inr (inl store)) ↦ absurd (cc)
+  | inr (inr (inr stopped)) ↦ absurd (cc)
+]

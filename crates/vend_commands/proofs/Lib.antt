@@ -13,6 +13,7 @@ pub mod SelfcheckLemmas
 pub mod SellLemmas
 pub mod TakeLemmas
 pub mod TimedLemmas
+pub mod ToldLemmas
 pub mod TrialLemmas
 pub mod UntoldLemmas
 pub mod UnwatchedLemmas

@@ -1,5 +1,5 @@
 -- What is told of a sale names it.
-use Rattle.std.proofs.Common.{◌≡◌, ◌≢◌, ◌∙◌, ℕ, ◌+◌, List, [], ◌∷◌, ◌++◌, true, false, length, slice_get, Option, None, Some, refl, sym, ap, append_assoc, arith}
+use Rattle.std.proofs.Common.{◌≡◌, ◌≢◌, ◌∙◌, ℕ, ◌+◌, List, [], ◌∷◌, ◌++◌, true, false, slice_get, Option, None, Some, refl, sym, ap, append_assoc, arith}
 use Rattle.std.specs.Prelude.{All, Contains, IsSome, codes, decimal}
 use Rattle.std.specs.List.{AllByRecursion}
 use Rattle.std.proofs.lemmas.Fmt.{decimal_injective}
@@ -12,7 +12,6 @@ use Rattle.desk.specs.reply.SaleText.{IsTellableSale, sale_text}
 use Rattle.papers.specs.Export.{IsPlainField, export_fields}
 use Rattle.papers.specs.Receipt.{receipt_of}
 use Rattle.papers.specs.Text.{change_of, grouped, kwh_text, line, time_text}
-use Rattle.sts_fields.specs.Base.{year_of}
 use Rattle.vend_core.specs.Name.{is_name_byte}
 use Rattle.vend_core.specs.Office.{IsOffice, IsSaleRow, Office}
 use Rattle.vend_core.specs.declared.office.meter.Meter.{Meter}

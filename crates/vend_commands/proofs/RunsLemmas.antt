@@ -1,5 +1,5 @@
 -- Several runs of the program on one file: the lives of one office.
-use Rattle.std.proofs.Common.{◌≡◌, ◌⊎◌, ◌∙◌, ℕ, ℤ, ◌+◌, ◌%◌, zero, suc, Bool, true, false, List, [], ◌∷◌, ◌++◌, length, Option, Some, None, Result, Ok, Err, inl, inr, refl, sym, ap, subst, append_assoc, append-nil, arith}
+use Rattle.std.proofs.Common.{◌≡◌, ◌∙◌, ℕ, ℤ, ◌+◌, ◌%◌, zero, suc, Bool, true, false, List, [], ◌∷◌, ◌++◌, length, Option, Some, None, Result, Ok, Err, inl, inr, refl, sym, ap, subst, append_assoc, append-nil, arith}
 use Rattle.std.proofs.Math.Logic.{∥∥₁_elim, ∥∥₁_map}
 use Rattle.sqlite.specs.Files.{HoldsDatabase, IsNothing, file_state, image_of, over_files}
 use Rattle.sqlite.specs.Held.{Held}
@@ -26,7 +26,7 @@ use Rattle.books.specs.Keeps.{IsRepresented, RecoversTo, Represents, Seen, Store
 use Rattle.books.specs.Path.{StandsIn}
 use Rattle.books.specs.declared.books.Books.{Books}
 use Rattle.books.specs.declared.refused_files.RefusedFiles.TheVariants.{Connected, Unconnected}
-use Rattle.command_line.specs.Transform.{forward_of}
+use Rattle.command_line.specs.Transform.{forward_of, shipped}
 use Rattle.command_line.specs.declared.asked.Asked.{Asked}
 use Rattle.command_line.specs.declared.asked.Asked.TheVariants as asks
 use Rattle.command_line.specs.declared.commands.audit.AuditWords.{AuditWords}
@@ -47,15 +47,15 @@ use Rattle.vend_commands.specs.commands.Reported.{IsReported, PrintsPaper}
 use Rattle.vend_commands.specs.commands.Reported.IsReported.{absent as report_absent, present as report_present}
 use Rattle.vend_commands.specs.commands.Timed.{IsDoneAt}
 use Rattle.vend_commands.specs.office.Served.{IsServedAndTold}
-use Rattle.vend_commands.specs.office.Visited.{IsOpened, IsOpenedAt, IsVisited, seen_in}
+use Rattle.vend_commands.specs.office.Visited.{IsOpenedAt, IsVisited, seen_in}
 use Rattle.vend_commands.specs.office.Visited.IsVisited.{unopened as visit_unopened, visited as visit_opened}
-use Rattle.vend_commands.specs.port.Places.{IsUnopened, Machine, Place, Places, Way, where_present}
+use Rattle.vend_commands.specs.port.Places.{IsUnopened, Machine, Place, Way, where_present}
 use Rattle.vend_commands.specs.port.Places.IsUnopened.{unfound, unopened as found_unopened}
 use Rattle.vend_commands.specs.port.Places.IsUnopenedIn.{refused, unsalted}
 use Rattle.vend_commands.specs.print.Told.{Outputs, Sink}
 use Rattle.vend_commands.specs.runs.Follow.{AreRuns, Finds, Follow, Here, IsClean, LeftAfter, MayHold, ProgramRun, use_of}
 use Rattle.vend_commands.specs.runs.OneOffice.{AreLivedBy, AreOneOffice, LivesIn}
-use Rattle.vend_commands.specs.runs.Uses.{Living, AreCoursed, LivesSo, Question, Use, connected, idle_life, many_lives, unseen, lives_asking, lives_printing, use_added, use_asked, use_audited, use_carried, use_imported, use_refused, use_reported, use_run, use_served, use_serving, use_timed, use_visited, with_file}
+use Rattle.vend_commands.specs.runs.Uses.{Living, AreCoursed, Use, connected, idle_life, many_lives, unseen, lives_asking, lives_printing, use_added, use_asked, use_audited, use_carried, use_imported, use_refused, use_reported, use_run, use_served, use_serving, use_timed, use_visited, with_file}
 use Rattle.vend_commands.specs.serving.Connections.{AreHeld, AreReady, AreServed, Service, service}
 use Rattle.vend_commands.specs.serving.Courses.{AreLived, Course, IsNext, course}
 use Rattle.vend_commands.specs.serving.Listening.{IsServing}
@@ -189,7 +189,7 @@ module _ (laws : Laws) (Before : Image → Type 0) (lives : List Life) where
 
   module _ {S : Type 0} {store : Ghosts S} (place : Place) {transform : Shipped} where
     -- a request was served
-    asked_on : (moment : ℕ) (request : Request) (o : Outputs) (end : CommandEnd) (old new : Books S Shipped store) (begins : IsOpenedAt place transform old) (done : IsServedAndTold moment request (seen_in old) (seen_in new) o end)
+    asked_on : (moment : ℕ) (request : Request) (o : Outputs) (end : CommandEnd) (old new : Books S Shipped store shipped) (begins : IsOpenedAt place transform old) (done : IsServedAndTold moment request (seen_in old) (seen_in new) o end)
         → HasCleanDisk (seen_in new).state → (office : Office) → StandsIn place.image office → AreLives lives office
         → GoesOn (connected place.image (lives_asking transform moment request o end (seen_in old) (seen_in new) done) (seen_in new).state) Before lives
     asked_on moment request o end old new begins done clean office stands led =
@@ -216,7 +216,7 @@ module _ (laws : Laws) (Before : Image → Type 0) (lives : List Life) where
         )
 
     -- nothing was asked, and the books keep what they kept
-    idle_on : (old new : Books S Shipped store) → IsOpenedAt place transform old → ((life : Life) → Represents life (seen_in old) → Represents life (seen_in new)) → HasCleanDisk (seen_in new).state → (office : Office) → StandsIn place.image office → AreLives lives office
+    idle_on : (old new : Books S Shipped store shipped) → IsOpenedAt place transform old → ((life : Life) → Represents life (seen_in old) → Represents life (seen_in new)) → HasCleanDisk (seen_in new).state → (office : Office) → StandsIn place.image office → AreLives lives office
         → GoesOn (connected place.image (idle_life transform) (seen_in new).state) Before lives
     idle_on old new begins keeps clean office stands led =
         let life : Life = opened (forward_of transform) office in
@@ -225,7 +225,7 @@ module _ (laws : Laws) (Before : Image → Type 0) (lives : List Life) where
     -- a visit, where it is known what is done there
     visited_on : (Does : (old new : Seen) → Type 0) (o : Outputs) (end : CommandEnd) (if_refused : (fault : OpenFault) → place.fails fault → Use) (living : (old new : Seen) → Does old new → Living)
         → ((fault : OpenFault) (why : place.fails fault) → Finds (if_refused fault why) Before → IsClean (if_refused fault why) → Kept Before lives → GoesOn (if_refused fault why) Before lives)
-        → ((old new : Books S Shipped store) (begins : IsOpenedAt place transform old) (does : Does (seen_in old) (seen_in new)) → HasCleanDisk (seen_in new).state → (office : Office) → StandsIn place.image office → AreLives lives office
+        → ((old new : Books S Shipped store shipped) (begins : IsOpenedAt place transform old) (does : Does (seen_in old) (seen_in new)) → HasCleanDisk (seen_in new).state → (office : Office) → StandsIn place.image office → AreLives lives office
         → GoesOn (connected place.image (living (seen_in old) (seen_in new) does) (seen_in new).state) Before lives)
         → (visit : IsVisited store place transform Does o end) → Finds (use_visited if_refused living visit) Before → IsClean (use_visited if_refused living visit) → Kept Before lives → GoesOn (use_visited if_refused living visit) Before lives
     visited_on Does o end if_refused living refused_goes done_goes (visit_unopened fault fails told) found clean kept = refused_goes fault fails found clean kept
@@ -235,7 +235,7 @@ module _ (laws : Laws) (Before : Image → Type 0) (lives : List Life) where
 
   module _ {S : Type 0} {store : Ghosts S} (place : Place) where
     -- a paper was printed
-    printed_on : (paper : Paper) (o : Outputs) (end : CommandEnd) (old new : Books S Shipped store) (begins : IsOpenedAt place Plain old) (done : PrintsPaper paper (seen_in old) (seen_in new) o end)
+    printed_on : (paper : Paper) (o : Outputs) (end : CommandEnd) (old new : Books S Shipped store shipped) (begins : IsOpenedAt place Plain old) (done : PrintsPaper paper (seen_in old) (seen_in new) o end)
         → HasCleanDisk (seen_in new).state → (office : Office) → StandsIn place.image office → AreLives lives office
         → GoesOn (connected place.image (lives_printing paper o end (seen_in old) (seen_in new) done) (seen_in new).state) Before lives
     printed_on (Shift number) o end old new begins done clean office stands led = asked_on place first_moment (requests.ShiftReport number) o end old new begins done clean office stands led

@@ -62,8 +62,46 @@ module _ {P D R W : Type 0} (here : Here P D R W) where
   Gets run sale = (q : Question) × Asks run q
       × ((q.reply ≡ Ok (Sold sale)) ⊎ (q.reply ≡ Ok (Reprinted sale)))
 
+-- it is that answer, or there was no memory, or the store failed
+abbrev pub IsUnlessFailed : Result Answer Refusal → Answer → Type 0
+IsUnlessFailed reply answer =
+    (reply ≡ Ok answer) ⊎ ((reply ≡ Err Memory) ⊎ (reply ≡ Err Store))
+
 -- What holds of all runs on one file.
 pub record KeepsPromise {P D R W : Type 0} (here : Here P D R W) : Type 0 where
   -- what they lived are lives of one office
   pub lives : (runs : List (ProgramRun here)) → AreRuns here runs
       → ∥ ((lives : List Life) × AreOneOffice here runs lives) ∥₁
+  -- a run tells the reply that it got, and nothing else
+  pub told : (run : ProgramRun here) (q : Question) → Asks here run q
+      → TellsReply q.reply run.o run.end
+  -- a sale that one of them got to tell stands, unchanged, in whatever the file may hold after the
+  -- last of them
+  pub stands : (runs : List (ProgramRun here)) (lives : List Life) (run : ProgramRun here)
+      (s : Sale) (image : Image)
+      → AreOneOffice here runs lives → IsAmong here runs run → Gets here run s
+      → MayBeLeft here runs image
+      → (o : Office) × StandsIn image o × Contains o.sales s
+  -- no two of them got different sales to a meter under one base date with one identifier, nor with
+  -- one number
+  pub one_identifier : (runs : List (ProgramRun here)) (lives : List Life)
+      (first second : ProgramRun here) (a b : Sale)
+      → AreOneOffice here runs lives → IsAmong here runs first → IsAmong here runs second
+      → Gets here first a → Gets here second b
+      → a.meter ≡ b.meter → a.base ≡ b.base → a.tid ≡ b.tid → a ≡ b
+  pub one_number : (runs : List (ProgramRun here)) (lives : List Life)
+      (first second : ProgramRun here) (a b : Sale)
+      → AreOneOffice here runs lives → IsAmong here runs first → IsAmong here runs second
+      → Gets here first a → Gets here second b → a.number ≡ b.number → a ≡ b
+  -- the same `sell` again, at whatever moment and with whatever transform, gets the same sale; and
+  -- so does a report of its receipt
+  pub sold_again : (earlier : List (ProgramRun here)) (lives : List Life)
+      (first again : ProgramRun here) (order : Order) (s : Sale) (p q : Question)
+      → AreOneOffice here (earlier ++ again ∷ []) lives → IsAmong here earlier first
+      → Asks here first p → p.request ≡ Sell order → p.reply ≡ Ok (Sold s)
+      → Asks here again q → q.request ≡ Sell order → IsUnlessFailed q.reply (Sold s)
+  pub printed_again : (earlier : List (ProgramRun here)) (lives : List Life)
+      (first again : ProgramRun here) (s : Sale) (q : Question)
+      → AreOneOffice here (earlier ++ again ∷ []) lives → IsAmong here earlier first
+      → Gets here first s → Asks here again q → q.request ≡ Reprint s.number
+      → IsUnlessFailed q.reply (Reprinted s)

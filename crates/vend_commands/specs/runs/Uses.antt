@@ -47,7 +47,7 @@ use Rattle.vend_commands.specs.commands.Timed.{IsDoneAt}
 use Rattle.vend_commands.specs.office.Served.{IsServedAndTold}
 use Rattle.vend_commands.specs.office.Visited.{IsVisited, seen_in}
 use Rattle.vend_commands.specs.office.Visited.IsVisited.{unopened as visit_unopened, visited as visit_opened}
-use Rattle.vend_commands.specs.port.Places.{IsUnopened, Machine, Place, Places, Way, places_of, where_present}
+use Rattle.vend_commands.specs.port.Places.{IsUnopened, Machine, Place, Way, places_of, where_present}
 use Rattle.vend_commands.specs.port.Places.IsUnopened.{unfound, unopened as found_unopened}
 use Rattle.vend_commands.specs.port.Places.IsUnopenedIn.{refused, unsalted}
 use Rattle.vend_commands.specs.print.Told.{Outputs, Sink}
