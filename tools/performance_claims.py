@@ -46,9 +46,14 @@ def claims():
     audits = [(int(row["Sales in the file"].replace(",", "")), number(row["audit, ms"]))
               for row in all_tables[audit]]
     most = all_tables[older][-1]
+    instructions = [number(row["Instructions"]) for row in all_tables["Instructions of a sale at the desk"]]
+    syncs = [number(row["Syncs"]) for row in all_tables["Syncs"]]
     page = "docs/PERFORMANCE.md"
     yield page, r"one message at a time \| (\S+) to (\S+) \| (\S+) to (\S+) \|", \
         [min(sold), max(sold), min(beside_c), max(beside_c)]
+    yield page, r"Of a sale's (\d+),000 instructions at the desk (\d+),000 are", \
+        [count / 1000 for count in instructions]
+    yield page, r"A command syncs (\d+) to (\d+) times", [min(syncs[2:]), max(syncs[2:])]
     yield page, r"reprints at the desk \| (\S+) to (\S+) \|", [min(reprinted), max(reprinted)]
     for count, written in (("100", "100 sales in the file"), ("1000", "1,000 sales"),
                            ("10000", "10,000 sales")):
