@@ -1,13 +1,16 @@
 //! Worked values of the rules: a line for each call, with what it has to give (`sts_fields`,
 //! `sts_token`, `tariff`, and the meter numbers of `vend_core`).
 
+ghost use Rattle.std.specs.Prelude.{◌≤◌, IfOk};
+ghost use Rattle.tariff.specs.Cost.{greatest_prior};
+
 use office_lines::values::moment;
 use std::alloc::Global;
 use std::fmt::Display;
 use std::test::Fail;
 use sts_fields::{Amount, Base, Day, LAST_TID, Moment, civil, day_of, minute, month_of, next_tid};
 use sts_token::{BlockTransform, Demo, Fields, Plain, check16, key_text, read, read_key, write};
-use tariff::{Steps, Tender, buy, price};
+use tariff::{MAX_PRIOR, Steps, Tender, buy, price};
 use vend_core::MeterNo;
 
 mod days;
@@ -148,13 +151,24 @@ fn day(alloc: Global, text: &[u8]) -> Result<String, Fail> {
     shown(alloc, Some(day.days()))
 }
 
+// The tenths of a month before, at most those that the rules take.
+fn prior_of(text: &str) -> Result<u64, Fail>
+    ensures { IfOk result (λ prior. prior ≤ greatest_prior) }
+{
+    let prior = text.parse::<u64>()?;
+    if prior > MAX_PRIOR {
+        return Err("too many tenths before".into());
+    }
+    Ok(prior)
+}
+
 // What a tender buys by the steps of a text: tenths, price and change.
 fn bought(alloc: Global, text: &str) -> Result<String, Fail> {
     let (steps, text) = split(text);
     let (prior, cents) = split(text);
     let steps = Steps::of_text(alloc, steps.as_bytes())?;
     let tender = Tender::read(cents.parse()?).ok_or("no tender")?;
-    match buy(&steps, prior.parse()?, tender) {
+    match buy(&steps, prior_of(prior)?, tender) {
         Some(it) => {
             let tenths = it.tenths.tenths();
             Ok(format!(in alloc; "{tenths} {} {}", it.price, it.change)?)
@@ -171,7 +185,7 @@ fn priced(alloc: Global, text: &str) -> Result<String, Fail> {
     if tenths > Amount::MAX_TENTHS {
         return Err("too many tenths".into());
     }
-    shown(alloc, Some(price(&steps, prior.parse()?, tenths)))
+    shown(alloc, Some(price(&steps, prior_of(prior)?, tenths)))
 }
 
 fn steps(alloc: Global, text: &[u8]) -> Result<String, Fail> {
