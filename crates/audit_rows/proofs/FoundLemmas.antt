@@ -17,13 +17,3 @@ module _ (Known : Database → Type 0) {T : Type 0} (x : T) (old new : State) (t
     faults = λ clean known. let same = this.same clean known in (breaks clean known same.0.was_open, same);
     survives = λ known. this.survives known;
   }
-
-  -- where nothing is found
-  pub made_reads : {U : Type 0} (y : U) → ReadsOnly (IsKnown Known) IsUnchanged FailsToAudit old new (Ok y)
-  made_reads y = record {
-    same = λ clean known. this.same clean known;
-    kept = λ _ _. tt;
-    mode = this.mode;
-    faults = λ _ _. tt;
-    survives = λ known. this.survives known;
-  }

@@ -13,13 +13,10 @@ use Rattle.one_table.specs.Reading.{FailsPlainly}
 use Rattle.one_table.specs.ReadsOnly.{ReadsOnly}
 use Rattle.one_table.proofs.AnswerLemmas.{left_then}
 use Rattle.book_tables.specs.Kept.{Kept}
-use Rattle.book_tables.specs.reading.Reading.{HasTable}
 use Rattle.audit_rows.specs.Breaks.{Breaks}
 use Rattle.audit_rows.specs.Fails.{FailsToAudit, HasNoFormat, IsKnown}
-use Rattle.audit_rows.specs.Listing.{FailsToList}
 use Rattle.audit_rows.specs.declared.finding.AuditFault.{AuditFault}
 use Rattle.audit_rows.specs.declared.finding.AuditFault.TheVariants.{Failed, Found, NoOffice}
-use Rattle.audit_rows.specs.declared.finding.Finding.{Finding}
 
 module _ (old mid new : State) (same : IsUnchanged old mid) (survives : Survives old mid (λ _. ⊥)) where
   caused_after : (cause : StoreError) → HasCause mid new ⊥ cause → HasCause old new ⊥ cause
@@ -86,19 +83,6 @@ read_after Known {T} {U} {x} {r = Err e} {old} {mid} {new} first shut this = rec
 -- ---- what an audit makes of a read of a table
 
 module _ (k : Kept) {old new : State} where
-  -- a read that fails
-  pub as_failed : {T U : Type 0} (e : Error) → ReadsOnly {T = T} (HasTable k) IsUnchanged FailsToList old new (Err e) → ReadsOnly {T = U} (HasTable k) IsUnchanged FailsToAudit old new (Err (Failed e))
-  as_failed e this = record { same = λ _ _. tt; kept = this.kept; mode = this.mode; faults = this.faults; survives = this.survives }
-
-  -- one that succeeds, where what is read breaks a rule
-  pub as_found : {T U E : Type 0} {A : State → State → E → Type 0} {x : T} (f : Finding) → ReadsOnly (HasTable k) IsUnchanged A old new (Ok x) → (HasCleanDisk new → HasTable k old → Breaks f old.now) → ReadsOnly {T = U} (HasTable k) IsUnchanged FailsToAudit old new (Err (Found f))
-  as_found f this breaks = record {
-    same = λ _ _. tt;
-    kept = λ clean has. inl (this.same clean has);
-    mode = this.mode;
-    faults = λ clean has. (breaks clean has, this.same clean has);
-    survives = this.survives;
-  }
 
 -- ---- two reads
 

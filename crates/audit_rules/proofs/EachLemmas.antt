@@ -1,8 +1,8 @@
 -- What is said of each row, as rows are gone through in turn.
-use Rattle.std.proofs.Common.{◌≡◌, ◌<◌, ◌≤◌, ◌+◌, ℕ, zero, suc, List, [], ◌∷◌, ◌++◌, get_or, Some, slice_get, inl, inr, refl, sym, ap, subst, ◌∙◌, arith}
+use Rattle.std.proofs.Common.{◌≡◌, ◌<◌, ◌+◌, ℕ, zero, suc, List, [], ◌∷◌, ◌++◌, get_or, Some, slice_get, inl, inr, refl, sym, ap, subst, ◌∙◌, arith}
 use Rattle.std.specs.Prelude.{◌⊎◌, length}
 use Rattle.std.proofs.lemmas.Bool.{cases_lt}
-use Rattle.std.proofs.lemmas.Option.{none-some, same_Some, slice_get_read, slice_get_within}
+use Rattle.std.proofs.lemmas.Option.{none-some, same_Some, slice_get_read}
 
 -- what is said of each of the first rows and its place
 abbrev pub EachBelow : {T : Type 0} → (ℕ → T → Type 0) → List T → ℕ → Type 0
@@ -16,11 +16,6 @@ each_more said rows at row there here before i r low there_r = elim (cases_lt i 
       let r_is : row ≡ r = same_Some row r (sym there ∙ ap (slice_get rows) (sym last) ∙ there_r) in
       subst (λ n. said n r) (sym last) (subst (said at) r_is here)
 ]
-
-pub each_all : {T : Type 0} (said : ℕ → T → Type 0) (rows : List T) (n : ℕ) → length rows ≤ n → EachBelow said rows n → (i : ℕ) (row : T) → slice_get rows i ≡ Some row → said i row
-each_all said rows n long each i row there =
-    let low = slice_get_within rows i row there in
-    each i row (omega (arith, low, long)) there
 
 pub row_at : {T : Type 0} (rows : List T) (at : ℕ) (row : T) → at < length rows → row ≡ get_or rows at row → slice_get rows at ≡ Some row
 row_at rows at row low is = slice_get_read rows (length rows) at row refl low is

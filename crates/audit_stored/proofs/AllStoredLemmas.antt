@@ -31,9 +31,6 @@ pub all_upto : (P : Kept → Type 0) (n : ℕ) (ks : List Kept) → ((k : Kept) 
 all_upto P n [] each = tt
 all_upto P n (j ∷ ks) each = each_first P n j ks (nat_le j.since n) refl each (all_upto P n ks (λ k there come. each k (inr there) come))
 
-pub at_about : Member kept about_kept
-at_about = inl refl
-
 pub at_tariffs : Member kept tariffs_kept
 at_tariffs = inr (inl refl)
 

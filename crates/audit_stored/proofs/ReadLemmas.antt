@@ -1,5 +1,5 @@
 -- The records that were read of each table, as rows of an office.
-use Rattle.std.proofs.Common.{◌≡◌, ◌≤◌, ◌<◌, ◌∙◌, ℕ, List, [], ◌∷◌, map, IsPermutation, IsSorted, Ok, Err, inl, inr, refl, sym, ap, ap₂, subst, arith}
+use Rattle.std.proofs.Common.{◌≡◌, ◌∙◌, ℕ, List, [], ◌∷◌, map, IsPermutation, IsSorted, Ok, Err, inl, inr, refl, sym, ap, ap₂, subst, arith}
 use Rattle.std.specs.Prelude.{All}
 use Rattle.std.proofs.lemmas.List.Elements.{All-head, All-map, All-tail, All-weaker}
 use Rattle.sqlite.specs.Effect.{Database}
@@ -65,10 +65,6 @@ in_months (r ∷ rs) all =
     let read : SaleRow = record { sale = r.sale; month = r.month } in
     let same : own ≡ read = ap (λ (m : ℕ). let s : SaleRow = record { sale = r.sale; month = m } in s) (sym month) in
     ap₂ ◌∷◌ (ap shown_sale_row same) (in_months rs (All-tail IsInItsMonth r rs all))
-
-unmapped : {X : Type 0} (xs : List X) → map (λ x. x) xs ≡ xs
-unmapped [] = refl
-unmapped (x ∷ xs) = ap (λ l. x ∷ l) (unmapped xs)
 
 -- ---- the tables of the first format
 

@@ -3,33 +3,20 @@ use Rattle.std.proofs.Common.{◌≡◌, ◌≢◌, inl, inr, Bool, true, false,
 use Rattle.std.specs.Prelude.{Contains}
 use Rattle.std.specs.BTreeSet.{BTreeSet, Updates, contains}
 use Rattle.std.specs.Cmp.{IsTotalOrder}
-use Rattle.std.specs.List.{list_any}
 use Rattle.std.specs.Ordering.{is_eq}
 use Rattle.std.proofs.lemmas.List.Elements.{Contains-append_left, Contains-push, Contains-push_cases}
 use Rattle.std.proofs.lemmas.Map.Lookups.{CmpEqualImpliesEq}
 use Rattle.audit_totals.specs.Broken.{IsMissing}
 use Rattle.audit_totals.specs.Seen.{AreSeen}
 use Rattle.book_tables.specs.Stands.{AreRowsOf}
-use Rattle.book_tables.proofs.ListLemmas.{contains_none, no_pairs, pairs_push}
+use Rattle.book_tables.proofs.ListLemmas.{pairs_push}
 
 tied : (o : Ordering) → is_eq o ≡ true → o ≡ Equal
 tied Less is = cc
 tied Equal is = refl
 tied Greater is = cc
 
-none_found : {X : Type 0} (p : X → Bool) (xs : List X) → xs ≡ [] → list_any p xs ≡ true → ⊥
-none_found p [] none is = true≢false (sym is)
-none_found p (x ∷ xs) none is = cc
-
 module _ {Q K V : Type 0} (order : Q → Q → Ordering) (total : IsTotalOrder order) (exact : CmpEqualImpliesEq order) (place : K → Q) (apart : (a b : K) → place a ≡ place b → a ≡ b) (has : K → Option V) where
-  -- before the first row
-  pub seen_none : (keys : BTreeSet Q) → keys.keys ≡ [] → AreSeen order place has [] keys
-  seen_none keys none = record {
-    told = λ r there. absurd (contains_none r there);
-    once = no_pairs (λ a b. a.0 ≢ b.0);
-    seen = λ key. (λ is. absurd (none_found (λ q. is_eq (order (place key) q)) keys.keys none is), λ row. absurd (contains_none (key, row.0) row.1));
-  }
-
   module _ (rows : List (K × V)) (keys : BTreeSet Q) (are : AreSeen order place has rows keys) where
     -- a row of the key was there
     pub seen_before : (key : K) → contains order keys (place key) ≡ true → (value : V) × Contains rows (key, value)

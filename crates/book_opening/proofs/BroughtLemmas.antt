@@ -1,5 +1,5 @@
 -- An office that was brought to the present format is the one that the store stood for.
-use Rattle.std.proofs.Common.{◌≡◌, ◌≤◌, ◌<◌, ◌⊎◌, ℕ, zero, suc, ◌+◌, length, IsTrue, IfErr, IsErrAnd, Result, Ok, Err, ◌∙◌, refl, sym, ap, subst, inl, inr, arith}
+use Rattle.std.proofs.Common.{◌≡◌, ◌≤◌, ◌<◌, ◌⊎◌, ℕ, zero, suc, ◌+◌, length, IsTrue, IsErrAnd, Result, Ok, Err, ◌∙◌, refl, sym, ap, subst, inl, inr, arith}
 use Rattle.std.proofs.lemmas.Result.{IfErr-weaker, IfOk-weaker, on_ok_weaker}
 use Rattle.sqlite_trees.specs.Tree.{Trees}
 use Rattle.sqlite.specs.Effect.{Database}
@@ -31,10 +31,6 @@ leaves_less old new s = record {
   closes = s.closes;
   crash = λ clean db left. elim (s.crash clean db left) [ inl was ↦ inl was | inr none ↦ absurd none ];
 }
-
-pub refusal_leaves_less : {A : Type 0} (r : Result A OpenFault) (old new : State) → Survives old new (λ _. ⊥) → IfErr r (λ fault. Survives old new (LeavesRefused old fault))
-refusal_leaves_less (Ok x) old new s = tt
-refusal_leaves_less (Err fault) old new s = leaves_less old new s
 
 module _ (old new : State) (clean : HasCleanDisk new) (survives : Survives old new (LeavesBrought old)) where
   -- what a crash leaves stands for the office, begun or not

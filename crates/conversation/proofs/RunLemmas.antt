@@ -36,11 +36,6 @@ awaits_nothing = (
   refl,
 )
 
--- something is awaited
-pub awaited_some : (rest : List ℕ) (w : Wants) → IsAwaited rest w → 0 < count_of w
-awaited_some rest (Head count) (head, all) = omega (arith, head.short)
-awaited_some rest (Body count) body = body.some
-
 -- what is left and what is awaited of it is at most the longest message
 pub awaited_fits : (rest : List ℕ) (w : Wants) → IsAwaited rest w → length rest + count_of w ≤ longest_message
 awaited_fits rest (Head count) (head, all) = omega (arith, all)

@@ -2,30 +2,15 @@
 use Rattle.std.proofs.Common.{◌≡◌, ◌≢◌, ℕ, zero, suc, ◌^◌, ◌<◌, ◌≤◌, List, ◌++◌, length, get_or, Option, Some, None, Result, Ok, Err, refl, ap, sym, subst, ◌∙◌, arith}
 use Rattle.std.specs.Prelude.{◌↔◌, IfSome, IsSome, IsUtf8, MatchOption, decimal}
 use Rattle.std.specs.Borrow.{Bor}
-use Rattle.std.specs.List.{after_first, before_first}
 use Rattle.std.specs.Str.Parse.{AllDigits, ParsesUnsigned, digits_value}
 use Rattle.std.proofs.lemmas.Fmt.{IsAscii-decimal, decimal-digits_value, decimal_digit, decimal_injective, decimal_is_IsNumeral, decimal_nonempty, first_decimal}
 use Rattle.std.proofs.lemmas.List.{append_cancel_left, append_cancel_right}
 use Rattle.std.proofs.lemmas.Str.{IsUtf8-from_ascii}
 use Rattle.std.proofs.lemmas.Str.Parse.{IsNumeralModel, digit_at, numerals_by_value, parse_plain, tells_digits}
 use Rattle.desk.specs.Reads.{ReadsWritten}
-use Rattle.desk.specs.route.Endpoint.{closes, filled, opens}
 use Rattle.desk.specs.route.Route.{IsTargetNumber}
 
 -- ---- between a front and an end
-
--- what stands in the place of a parameter, where the pattern was cut at its braces
-pub stands_at : (pattern target : List ℕ) (front end : List ℕ) (r : Option (Bor (List ℕ)))
-    → front ≡ before_first opens pattern → end ≡ after_first closes pattern
-    → MatchOption r ((middle : List ℕ) → target ≢ (front ++ middle) ++ end)
-    (λ middle. target ≡ (front ++ middle.now) ++ end)
-    → MatchOption r ((value : List ℕ) → target ≢ filled pattern value)
-    (λ value. target ≡ filled pattern value.now)
-stands_at pattern target front end r e f is =
-    subst (λ (b : List ℕ). MatchOption r ((value : List ℕ) → target ≢ (before_first opens pattern ++ value) ++ b)
-    (λ value. target ≡ (before_first opens pattern ++ value.now) ++ b)) f
-    (subst (λ (a : List ℕ). MatchOption r ((value : List ℕ) → target ≢ (a ++ value) ++ end)
-    (λ value. target ≡ (a ++ value.now) ++ end)) e is)
 
 -- what stands between, by what stands before the end, and what of that behind the front
 pub stands_between : (text front rest end : List ℕ) (r : Option (Bor (List ℕ))) → text ≡ rest ++ end

@@ -1,5 +1,5 @@
 -- Where one row of a table is read, its columns are the same wherever the table stands.
-use Rattle.std.proofs.Common.{◌≡◌, ℕ, zero, suc, Bool, true, false, ◌&&◌, ◌==◌, if◌then◌else◌, unwrap_or, option_map, Option, Some, None, List, [], ◌∷◌, is_some, slice_get, Ok, refl, sym, ap, true≢false}
+use Rattle.std.proofs.Common.{◌≡◌, ℕ, zero, suc, Bool, true, false, ◌&&◌, ◌==◌, if◌then◌else◌, unwrap_or, option_map, Option, Some, None, List, [], is_some, slice_get, Ok, refl, sym, ap, true≢false}
 use Rattle.sqlite_schema.specs.Names.{column_named}
 use Rattle.sqlite_schema.specs.declared.schema.Schema.{Schema}
 use Rattle.sqlite_schema.specs.declared.schema.Table.{Table}

@@ -176,10 +176,6 @@ stops_on IsReadable sql params old new rows begins same Bad (inl none) = cc
 stops_on IsReadable sql params old new rows begins same (Failed e) (inr bad) = absurd (let no = bad.0 in cc)
 stops_on IsReadable sql params old new rows begins same Bad (inr bad) = (record { rows = rows; begins = begins; bad = bad.1 }, same)
 
-pub stops_at : (IsReadable : Row → Type 0) (sql : List ℕ) (params : Row) (old new : State) (rows : List Row) (i : ℕ) (row : Row) → i < length rows → row ≡ get_or rows i row
-    → Begins sql params new rows → IsUnchanged old new → (why : ReadFault) → OnlyWhere (¬ IsReadable row) why → FailsToRead IsReadable sql params old new why
-stops_at IsReadable sql params old new rows i row low is begins same why refused = stops_on IsReadable sql params old new rows begins same why (only_where why (λ bad. (i, row, low, sym is, bad)) refused)
-
 -- the same of an answer that was taken whole
 pub stops_in : (IsReadable : Row → Type 0) (sql : List ℕ) (params : Row) (old new : State) → OnlyAsks sql old → (rows : List Row) → Shown sql params old new rows → IsUnchanged old new
     → (why : ReadFault) → OnlyWhere (Any (λ row. ¬ IsReadable row) rows) why → FailsToRead IsReadable sql params old new why

@@ -1,6 +1,6 @@
 -- The parts of a SELECT, and what RETURNING shows, mean the same where the names that they may have
 -- find the same columns.
-use Rattle.std.proofs.Common.{◌≡◌, ℕ, Bool, true, List, [], ◌∷◌, ◌++◌, Option, Some, None, is_some, unwrap_or, slice_get, refl, sym, ap, ap₂, true≢false}
+use Rattle.std.proofs.Common.{◌≡◌, ℕ, true, List, [], ◌∷◌, ◌++◌, Option, Some, None, is_some, unwrap_or, refl, sym, ap, ap₂, true≢false}
 use Rattle.std.specs.List.{list_all}
 use Rattle.std.proofs.Math.Path.{fun_ext}
 use Rattle.std.proofs.lemmas.Bool.{and_parts}
@@ -15,7 +15,7 @@ use Rattle.sqlite_resolve.specs.declared.scope.Output.{Output}
 use Rattle.sqlite_resolve.specs.Lowering.{Lowering, ◌>>=◌, ◌<$>◌, pure, last}
 use Rattle.sqlite_resolve.specs.Scope.{Context, Name}
 use Rattle.sqlite_resolve.specs.Terms.{conjuncts}
-use Rattle.sqlite_resolve.specs.Body.{heading, heading_at, is_column, shown, shown_at, outputs_from, outputs, tests, declared}
+use Rattle.sqlite_resolve.specs.Body.{heading, heading_at, is_column, shown, shown_at, outputs_from, outputs, tests}
 use Rattle.sqlite_resolve.specs.Order.{key, peeled, alias_in, aliased_or, sort, sorts_from}
 use Rattle.sqlite_resolve.specs.Expr.{lower}
 use Rattle.sqlite_resolve.specs.declared.scope.Bound.{Bound}

@@ -13,7 +13,6 @@ use Rattle.sqlite_schema.specs.Names.{table_named, view_named, index_named}
 use Rattle.sqlite_schema.specs.declared.schema.Schema.{Schema}
 use Rattle.sqlite_schema.specs.declared.schema.Table.{Table}
 use Rattle.sqlite_resolve.specs.declared.compiled.Compiled.{Compiled}
-use Rattle.sqlite_resolve.specs.declared.error.CompileError.{CompileError}
 use Rattle.sqlite_resolve.specs.declared.error.CompileError.TheVariants.{Exists, Misuse, Unsupported}
 use Rattle.sqlite_resolve.specs.Lowering.{Checked, and_then}
 use Rattle.sqlite_resolve.specs.Scope.{Name}
@@ -34,19 +33,6 @@ use Rattle.sqlite_catalog.specs.Change.{created, is_used, KeepsRows}
 use Rattle.sqlite_tied.specs.Compute.{everything}
 use Rattle.sqlite_value.specs.Order.{Row}
 use Rattle.one_table.specs.Making.{is_creation, is_creation_as, counters, with_counters, MakesTable}
-
--- what went on had a value to go on with
-pub went : {A B : Type 0} (r : Checked A) (f : A → Checked B) (b : B) → and_then r f ≡ Ok b → (a : A) × (r ≡ Ok a) × (f a ≡ Ok b)
-went (Ok a) f b h = (a, refl, h)
-went (Err e) f b h = absurd (cc)
-
-if_went : {A : Type 0} (test : Bool) (e : CompileError) (rest : Checked A) (a : A) → cond test (Err e) rest ≡ Ok a → rest ≡ Ok a
-if_went true e rest a h = absurd (cc)
-if_went false e rest a h = h
-
-unless_went : {A : Type 0} (test : Bool) (e : CompileError) (rest : Checked A) (a : A) → cond test rest (Err e) ≡ Ok a → rest ≡ Ok a
-unless_went true e rest a h = h
-unless_went false e rest a h = absurd (cc)
 
 -- without IF NOT EXISTS, a name that is taken is refused
 anew_by : (reserved other same is_new : Bool) → cond reserved (Err Misuse) (cond other (Err Exists) (cond same (cond false (Ok false) (Err Exists)) (Ok true))) ≡ Ok is_new → is_new ≡ true

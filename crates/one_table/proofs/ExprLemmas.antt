@@ -1,6 +1,6 @@
 -- A simple expression means the same in any two contexts in which the names that it may have find
 -- the same columns.
-use Rattle.std.proofs.Common.{◌≡◌, ℕ, zero, suc, Bool, true, false, ◌&&◌, ◌||◌, ◌==◌, if◌then◌else◌, unwrap_or, option_map, List, [], Option, Some, None, is_some, slice_get, Ok, refl, sym, ap, ap₂, ◌∙◌, true≢false}
+use Rattle.std.proofs.Common.{◌≡◌, ℕ, zero, suc, Bool, true, false, ◌&&◌, ◌||◌, if◌then◌else◌, Option, Some, None, slice_get, Ok, refl, sym, ap, ap₂, ◌∙◌, true≢false}
 use Rattle.std.proofs.Math.Path.{fun_ext}
 use Rattle.std.proofs.lemmas.Bool.{and_parts}
 use Rattle.sqlite_ast.specs.declared.Binary.{Binary}
@@ -15,7 +15,7 @@ use Rattle.sqlite_sql.specs.declared.ops.UnaryOp.TheVariants.{Not}
 use Rattle.sqlite_sql.specs.Term.{Term, lit, col, op1, op2, case}
 use Rattle.sqlite_resolve.specs.declared.error.CompileError.TheVariants.{Unsupported}
 use Rattle.sqlite_resolve.specs.declared.scope.Found.TheVariants.{Column}
-use Rattle.sqlite_resolve.specs.Lowering.{Lowering, ◌>>=◌, ◌>>◌, pure, fail, spend, begin, finish, last, chosen}
+use Rattle.sqlite_resolve.specs.Lowering.{Lowering, pure, fail, spend, begin, finish, last, chosen}
 use Rattle.sqlite_resolve.specs.Scope.{Context, Name, find, column, column_at, term_of}
 use Rattle.sqlite_resolve.specs.Compare.{affinity_of, of_column, compared}
 use Rattle.sqlite_resolve.specs.Expr.{is_alias, passes, combine, operator, operated, applied, operation, wanted_truth, truth_at, tests_truth, tests_alias, is_alias_at, is_identity, both, node_at, opened, node, lower_to}

@@ -1,6 +1,6 @@
 -- What an upsert sets, and what it shows, read a row that is given: its columns are the same
 -- wherever the table stands.
-use Rattle.std.proofs.Common.{◌≡◌, ℕ, zero, suc, Bool, true, false, not, ◌&&◌, ◌==◌, if◌then◌else◌, unwrap_or, option_map, Option, Some, None, List, [], ◌∷◌, ◌++◌, is_some, length, map, slice_get, Ok, refl, sym, ap, ◌∙◌, true≢false}
+use Rattle.std.proofs.Common.{◌≡◌, ℕ, Bool, true, false, not, ◌&&◌, ◌==◌, if◌then◌else◌, unwrap_or, option_map, Option, Some, None, List, [], ◌∷◌, is_some, length, map, slice_get, Ok, refl, sym, ap, ◌∙◌, true≢false}
 use Rattle.std.specs.Char.{to_ascii_lowercase}
 use Rattle.std.proofs.lemmas.Bool.{and_parts}
 use Rattle.std.proofs.lemmas.Map.Text.{is_eq-slice_cmp}

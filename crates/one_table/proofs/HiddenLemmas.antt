@@ -1,8 +1,6 @@
 -- The answer of a SELECT over a table whose rows have hidden numbers.
-use Rattle.std.proofs.Common.{◌≡◌, ℕ, ℤ, ◌≤◌, ◌<ℤ◌, Bool, true, List, [], ◌∷◌, map, filter, length, sym, ap, subst, ◌∙◌, IsPermutation}
-use Rattle.std.specs.List.{AllByRecursion}
+use Rattle.std.proofs.Common.{◌≡◌, ℕ, ℤ, ◌≤◌, ◌<ℤ◌, Bool, List, [], ◌∷◌, map, filter, length, sym, ap, subst, ◌∙◌, IsPermutation}
 use Rattle.std.proofs.lemmas.List.{length-map}
-use Rattle.sqlite_value.specs.declared.keys.Key.{Key}
 use Rattle.sqlite_value.specs.declared.value.Value.{Value}
 use Rattle.sqlite_value.specs.declared.value.Value.TheVariants.{Int}
 use Rattle.sqlite_value.specs.Order.{Row, column}
@@ -14,7 +12,7 @@ use Rattle.sqlite_keyed.specs.Keyed.{IsKeyedBy}
 use Rattle.sqlite_keyed.proofs.ListLemmas.{map-map, filter-map, ascending_from_map}
 use Rattle.one_table.specs.Listed.{IsListing, query_on, no_limit, rising}
 use Rattle.one_table.specs.Numbered.{IsHiddenListing}
-use Rattle.one_table.proofs.ListedLemmas.{all_rows, one_row, rising_rows, each_shown}
+use Rattle.one_table.proofs.ListedLemmas.{all_rows, one_row, rising_rows}
 use Rattle.one_table.proofs.LookUpLemmas.{with_number, numbered}
 
 module _ {X : Type 0} {db : Trees} {tree : ℕ} {tests shown : List Term} {params : Row} {stored : X → Row} {xs : List X} {p : X → Bool} {show : X → Row}

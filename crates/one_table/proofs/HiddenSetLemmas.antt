@@ -1,5 +1,5 @@
 -- What an UPDATE does to a table whose rows have hidden numbers.
-use Rattle.std.proofs.Common.{◌≡◌, ◌≤◌, ℤ, Bool, List, [], map, filter, length, IsTrue, refl, sym, ap, ◌∙◌, subst}
+use Rattle.std.proofs.Common.{◌≡◌, ◌≤◌, Bool, List, [], map, filter, length, IsTrue, refl, sym, subst}
 use Rattle.std.specs.List.{AllByRecursion}
 use Rattle.sqlite_value.specs.Order.{Row}
 use Rattle.sqlite_trees.specs.Tree.{rowid, IsTable}

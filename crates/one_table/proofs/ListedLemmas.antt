@@ -1,16 +1,14 @@
 -- The answer of a SELECT over one table, as a function of what the table holds.
-use Rattle.std.proofs.Common.{Some, ◌++◌, take, zero, suc, Option, ◌≡◌, ℕ, ◌-◌, ◌^◌, nat_le, Bool, true, false, if◌then◌else◌, cond, List, [], ◌∷◌, map, filter, flat_map, length, reverse, None, slice_get, unwrap_or, refl, sym, ap, ap₂, subst, ◌∙◌, IsPermutation, Less, arith, ◌≤◌, ◌<ℤ◌, ℤ, int_cmp}
+use Rattle.std.proofs.Common.{◌++◌, ◌≡◌, ℕ, ◌-◌, ◌^◌, nat_le, Bool, true, false, if◌then◌else◌, cond, List, [], ◌∷◌, map, filter, flat_map, length, reverse, None, slice_get, unwrap_or, refl, sym, ap, ap₂, subst, ◌∙◌, IsPermutation, Less, arith, ◌≤◌, ◌<ℤ◌, ℤ, int_cmp}
 use Rattle.std.specs.List.{list_all, AllByRecursion}
 use Rattle.std.proofs.Math.Path.{fun_ext}
 use Rattle.std.proofs.lemmas.List.{length-map, reverse-append}
-use Rattle.std.proofs.lemmas.List.Elements.{recursion_from_All, All-from_recursion}
-use Rattle.std.proofs.lemmas.List.Sorted.{All-permutation, IsPermutation-map, IsPermutation-refl, IsPermutation-sym, length_permutation, IsPermutation-trans, IsPermutation-reverse}
+use Rattle.std.proofs.lemmas.List.Sorted.{IsPermutation-map, IsPermutation-refl, IsPermutation-sym, length_permutation, IsPermutation-trans, IsPermutation-reverse}
 use Rattle.sqlite_value.specs.declared.keys.Key.{Key}
 use Rattle.sqlite_value.specs.declared.value.Value.TheVariants.{Null, Int}
 use Rattle.sqlite_value.specs.Order.{Row, column, value_cmp}
 use Rattle.sqlite_value.proofs.OrderLemmas.{value_cmp-Int, then-Equal}
 use Rattle.sqlite_trees.specs.Tree.{Trees, IsAscending}
-use Rattle.sqlite_trees.proofs.ListLemmas.{pull_back}
 use Rattle.sqlite_sql.specs.Term.{Term, Env, eval, holds}
 use Rattle.sqlite_sql.specs.Query.{Query, end, inner, matches, Output, output, output_cmp, page, limited, as_count, IsAnswer}
 use Rattle.sqlite_sql.specs.Program.{overlay}
@@ -80,23 +78,6 @@ falls-reverse {X} R (x ∷ xs) h =
     let before : AllByRecursion (λ y. AllByRecursion (λ z. R z y) (x ∷ [])) (reverse xs) = all_weaker (R x) (λ y. AllByRecursion (λ z. R z y) (x ∷ [])) (λ y below. (below, tt)) (reverse xs) (all-reverse (R x) xs h.0) in
     subst (IsAscending (λ a b. R b a)) (sym (reverse-append (x ∷ []) xs)) (ascending-append (λ a b. R b a) (reverse xs) (x ∷ []) (falls-reverse R xs h.1) (tt, tt) before)
 
-all-take : {X : Type 0} (P : X → Type 0) (n : ℕ) (xs : List X) → AllByRecursion P xs → AllByRecursion P (take n xs)
-all-take P zero xs h = tt
-all-take P (suc n) [] h = tt
-all-take P (suc n) (x ∷ xs) h = (h.0, all-take P n xs h.1)
-
-all-limited : {X : Type 0} (P : X → Type 0) (most : Option ℕ) (xs : List X) → AllByRecursion P xs → AllByRecursion P (limited most xs)
-all-limited P None xs h = h
-all-limited P (Some n) xs h = all-take P n xs h
-
-all-kept : {X : Type 0} (P : Row → Type 0) (p : X → Bool) (show : X → Row) → ((x : X) → p x ≡ true → P (show x)) → (xs : List X) → AllByRecursion P (map show (filter p xs))
-all-kept P p show each [] = tt
-all-kept P p show each (x ∷ xs) = by_test (p x) refl (all-kept P p show each xs)
-  where
-    by_test : (b : Bool) → p x ≡ b → AllByRecursion P (map show (filter p xs)) → AllByRecursion P (map show (cond b (x ∷ filter p xs) (filter p xs)))
-    by_test false is more = more
-    by_test true is more = (each x is, more)
-
 -- ---- what a table holds
 
 module _ {X : Type 0} {db : Trees} {tree : ℕ} {tests shown : List Term} {params : Row} {stored : X → Row} {xs : List X} {p : X → Bool} {show : X → Row}
@@ -123,9 +104,6 @@ module _ {X : Type 0} {db : Trees} {tree : ℕ} {tests shown : List Term} {param
     shown_of : (ys : List X) → map (λ (o : Output). o.1) (map out ys) ≡ map show ys
     shown_of ys = map-map (λ (o : Output). o.1) out ys ∙ map_same (λ x. (out x).1) show l.shows ys
 
-    abbrev cut : List Row → List Row
-    cut = page q params
-
     -- the rows in any order that agrees with ORDER BY
     in_some_order : IsPermutation (map show (filter p xs)) (map (λ (o : Output). o.1) answer.ordered)
     in_some_order = subst (λ l. IsPermutation l (map (λ (o : Output). o.1) answer.ordered)) (shown_of (filter p xs)) (IsPermutation-map (λ (o : Output). o.1) (map out (filter p xs)) answer.ordered arranged)
@@ -136,15 +114,6 @@ module _ {X : Type 0} {db : Trees} {tree : ℕ} {tests shown : List Term} {param
         let is : answer.ordered ≡ map out ys = sorted_unique (output_cmp q) (output_cmp_total q) (map out ys) answer.ordered (ascending-map (λ a b. output_cmp q a b ≡ Less) out ys rises)
         (IsPermutation-trans (map out ys) (map out (filter p xs)) answer.ordered (IsPermutation-map out ys (filter p xs) (IsPermutation-sym (filter p xs) ys same)) arranged) answer.sorted in
         answer.shown ∙ ap (λ l. page q params (map (λ (o : Output). o.1) l)) is ∙ ap (page q params) (shown_of ys)
-
-  -- whatever the order and the limit: each row is that of a value that passes
-  pub each_shown : (order : List (Term × Key)) (limit : Term) (rows : List Row) → IsAnswer (query_on tree tests shown order limit) db params rows
-      → (P : Row → Type 0) → ((x : X) → p x ≡ true → P (show x)) → AllByRecursion P rows
-  each_shown order limit rows answer P each =
-      let some : List Row = map (λ (o : Output). o.1) answer.ordered in
-      let all = recursion_from_All P some (All-permutation P (map show (filter p xs)) some (in_some_order order limit rows answer)
-      (All-from_recursion P (map show (filter p xs)) (all-kept P p show each xs))) in
-      subst (AllByRecursion P) (sym answer.shown) (all-limited P (as_count (eval limit (params ∷ []))) some all)
 
   -- with no ORDER BY and no LIMIT: each row that passes once, in any order
   pub all_rows : (rows : List Row) → IsAnswer (query_on tree tests shown [] no_limit) db params rows → IsPermutation (map show (filter p xs)) rows

@@ -1,7 +1,6 @@
 -- What follows for a caller: the one row of a look-up, the last row, the values that a reader
 -- gives, and rows with a hidden number.
 use Rattle.std.proofs.Common.{◌≡◌, ℤ, ◌≤◌, ◌<ℤ◌, arith, Bool, true, false, List, [], ◌∷◌, map, filter, find, take, length, reverse, option_map, slice_get, refl, sym, ap, ap₂, ◌∙◌, true≢false}
-use Rattle.std.specs.List.{AllZip}
 use Rattle.std.proofs.lemmas.Int.{ints}
 use Rattle.std.proofs.lemmas.Option.{slice_get-map}
 use Rattle.sqlite_value.specs.declared.value.Value.{Value}
@@ -46,13 +45,6 @@ pub last_row : {X : Type 0} (show : X → Row) (ys : List X) (rows : List Row) �
 last_row show ys rows is = ap (λ l. slice_get l 0) is ∙ first_taken (map show (reverse ys)) ∙ slice_get-map show (reverse ys) 0
 
 -- ---- what a reader gives of rows that are known
-
-pub values_read : {M X : Type 0} (IsReadAs : Row → X → Type 0) (show : M → Row) (value : M → X) → ((m : M) (x : X) → IsReadAs (show m) x → x ≡ value m)
-    → (ms : List M) (xs : List X) → AllZip IsReadAs (map show ms) xs → xs ≡ map value ms
-values_read IsReadAs show value is [] [] all = refl
-values_read IsReadAs show value is [] (x ∷ xs) all = absurd all
-values_read IsReadAs show value is (m ∷ ms) [] all = absurd all
-values_read IsReadAs show value is (m ∷ ms) (x ∷ xs) all = ap₂ ◌∷◌ (is m x all.0) (values_read IsReadAs show value is ms xs all.1)
 
 -- ---- rows with a hidden number
 

@@ -1,7 +1,6 @@
 -- An upsert of a table that holds values, as a function of these.
 use Rattle.std.proofs.Common.{◌≡◌, ◌≤◌, ◌⊎◌, ◌||◌, ℤ, Bool, true, false, List, [], ◌∷◌, map, filter, length, refl, sym, ap, ap₂, ◌∙◌, subst, inl, inr}
 use Rattle.std.specs.List.{list_any}
-use Rattle.sqlite_value.specs.declared.value.Value.{Value}
 use Rattle.sqlite_value.specs.declared.value.Value.TheVariants.{Int}
 use Rattle.sqlite_value.specs.Order.{Row}
 use Rattle.sqlite_trees.specs.Tree.{put_row, rowid, without_rowid}
@@ -18,7 +17,7 @@ use Rattle.sqlite_typed.proofs.RowLemmas.{puts-map}
 use Rattle.sqlite.specs.State.{State}
 use Rattle.one_table.specs.InTransaction.{HasChanged}
 use Rattle.one_table.specs.Inserting.{source_row}
-use Rattle.one_table.specs.Merges.{PutsGiven, SetsThere, Upserts, given_row, set_by, set_row}
+use Rattle.one_table.specs.Merges.{PutsGiven, SetsThere, Upserts, given_row, set_by}
 use Rattle.one_table.specs.Standing.{own_keys}
 use Rattle.one_table.specs.Upserting.{Merging, is_of_key}
 use Rattle.one_table.proofs.OneRowLemmas.{only_kept}

@@ -10,10 +10,9 @@ use Rattle.sqlite_schema.specs.declared.schema.Reference.{Reference}
 use Rattle.sqlite_schema.specs.declared.schema.Schema.{Schema}
 use Rattle.sqlite_schema.specs.declared.schema.Table.{Table}
 use Rattle.sqlite_schema.specs.Names.{same_name}
-use Rattle.sqlite_catalog.specs.Change.{created, is_used, next_tree}
-use Rattle.sqlite_catalog.proofs.ListFacts.{none_placed}
+use Rattle.sqlite_catalog.specs.Change.{created, next_tree}
 use Rattle.sqlite_catalog.proofs.SoundLemmas.{lowered}
-use Rattle.sqlite_catalog.proofs.StepLemmas.{no_table, table_below}
+use Rattle.sqlite_catalog.proofs.StepLemmas.{table_below}
 use Rattle.sqlite.specs.Does.{lacks_sequence}
 use Rattle.one_table.specs.Making.{counters, made}
 use Rattle.one_table.specs.Referring.{is_among, is_apart, is_unreferred, is_idle, is_harmless, points_to, is_left_alone}

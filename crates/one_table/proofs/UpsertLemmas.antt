@@ -1,15 +1,13 @@
 -- What an upsert of one row does, and what it shows.
-use Rattle.std.proofs.Common.{◌≡◌, ◌+◌, ◌⊎◌, ◌≤◌, ◌<◌, arith, ℕ, zero, suc, ℤ, Bool, true, false, ◌&&◌, ◌||◌, ◌==◌, if◌then◌else◌, IsTrue, List, [], ◌∷◌, ◌++◌, map, filter, length, append-nil, drop, bytes_eq, get_or, Option, None, Some, Ok, refl, sym, ap, ◌∙◌, subst, inl, inr}
-use Rattle.std.specs.List.{AllByRecursion, list_all, list_any}
+use Rattle.std.proofs.Common.{◌≡◌, ◌+◌, ◌≤◌, ◌<◌, arith, ℕ, zero, suc, ℤ, Bool, true, false, ◌&&◌, ◌||◌, ◌==◌, if◌then◌else◌, IsTrue, List, [], ◌∷◌, ◌++◌, map, filter, length, append-nil, drop, bytes_eq, get_or, None, Some, Ok, refl, sym, ap, ◌∙◌, subst, inl, inr}
+use Rattle.std.specs.List.{list_all, list_any}
 use Rattle.std.proofs.Math.Path.{fun_ext}
 use Rattle.std.proofs.lemmas.Bool.{and_parts, cases_Bool, not-true}
-use Rattle.std.proofs.lemmas.List.{length-map}
-use Rattle.sqlite_value.specs.declared.value.Value.TheVariants.{Null, Int, Real, Text, Blob}
+use Rattle.sqlite_value.specs.declared.value.Value.TheVariants.{Null, Int}
 use Rattle.sqlite_value.specs.Keys.{plain}
 use Rattle.sqlite_value.specs.Order.{Row, column}
-use Rattle.sqlite_trees.specs.Tree.{IsTable, Trees, put_row, rowid, without_rowid}
-use Rattle.sqlite_trees.specs.View.{is_int}
-use Rattle.sqlite_sql.specs.Query.{Query, IsAnswer}
+use Rattle.sqlite_trees.specs.Tree.{Trees, put_row, rowid, without_rowid}
+use Rattle.sqlite_sql.specs.Query.{IsAnswer}
 use Rattle.sqlite_sql.specs.Ops.{binary, is_true}
 use Rattle.sqlite_sql.specs.Term.{Term, col, eval_all, holds}
 use Rattle.sqlite_sql.specs.declared.ops.BinaryOp.TheVariants.{Compare}
@@ -20,42 +18,40 @@ use Rattle.sqlite_resolve.specs.declared.compiled.Compiled.{Compiled}
 use Rattle.sqlite_typed.proofs.TestLemmas.{at_ints, last_term}
 use Rattle.std.specs.Ordering.{int_eq}
 use Rattle.std.proofs.lemmas.Bool.Decides.{Decides-int_eq}
-use Rattle.sqlite_schema.specs.Rules.{agree, guards}
+use Rattle.sqlite_schema.specs.Rules.{agree}
 use Rattle.sqlite_schema.specs.declared.command.Conflict.TheVariants.{Abort}
-use Rattle.sqlite_schema.specs.declared.command.Returning.{Returning}
 use Rattle.sqlite_schema.specs.declared.command.Source.TheVariants.{Values}
 use Rattle.sqlite_schema.specs.declared.command.Upsert.{Upsert}
 use Rattle.sqlite_schema.specs.declared.schema.Index.{Index}
 use Rattle.sqlite_schema.specs.declared.schema.Keys.TheVariants.{Enforced}
 use Rattle.sqlite_schema.specs.declared.schema.Schema.{Schema}
 use Rattle.sqlite_schema.specs.declared.schema.Table.{Table}
-use Rattle.sqlite_rules.specs.declared.error.Refusal.{Refusal}
 use Rattle.sqlite_rules.specs.declared.error.Rowids.TheVariants.{Above, Chosen, Given}
 use Rattle.sqlite_rules.specs.Calls.{ids_of}
 use Rattle.sqlite_rules.specs.Cast.{cast_row}
-use Rattle.sqlite_rules.specs.Edit.{Edit, edit_of, edited, id_in, taken_by, with_rowid}
+use Rattle.sqlite_rules.specs.Edit.{edit_of, id_in, taken_by, with_rowid}
 use Rattle.sqlite_rules.specs.Keys.{AreConflicts, conflicts, shares}
 use Rattle.sqlite_rules.specs.Lists.{Has as Member}
 use Rattle.sqlite_rules.proofs.ProbeLemmas.{has_mapped}
 use Rattle.sqlite.specs.Clock.{timed}
 use Rattle.sqlite.specs.Does.{Returns, Shows as ShowsEach}
-use Rattle.sqlite.specs.Rows.{Clears, Edited, InsertsOr, Judged, Meets, Puts, Task, Tries, TriesEach, Updates, Upserts as Upserts', Written, count_of, nothing, shown}
+use Rattle.sqlite.specs.Rows.{Clears, Edited, InsertsOr, Meets, Puts, Task, Tries, TriesEach, Updates, Upserts as Upserts', Written, count_of, nothing, shown}
 use Rattle.sqlite.specs.State.{Shown, Shows, ShowsRows, State, Writes, text_of}
 use Rattle.sqlite.proofs.Callers.{one_step}
 use Rattle.sqlite_keyed.proofs.KeyedLemmas.{same_int}
 use Rattle.sqlite.specs.declared.error.Error.{Error}
 use Rattle.one_table.specs.declared.read_fault.ReadFault.{ReadFault}
 use Rattle.one_table.specs.declared.read_fault.ReadFault.TheVariants.{Database as Failed, Row as Bad}
-use Rattle.one_table.specs.InTransaction.{FailsToShow, HasChanged, IsUnderWay, PutsRow}
+use Rattle.one_table.specs.InTransaction.{FailsToShow, HasChanged, IsUnderWay}
 use Rattle.one_table.specs.ReadFaults.{OnlyWhere}
 use Rattle.one_table.specs.Inserting.{source_of_row}
 use Rattle.one_table.specs.Listed.{IsListing}
-use Rattle.one_table.specs.Merges.{FailsToUpsert, PutsGiven, SetsThere, TakesUpserts, Upserts, given_row, set_row, shown_row}
+use Rattle.one_table.specs.Merges.{FailsToUpsert, TakesUpserts, Upserts, given_row, set_row, shown_row}
 use Rattle.one_table.specs.Numbered.{IsInOrder}
 use Rattle.one_table.specs.Place.{Has}
 use Rattle.one_table.specs.Reading.{is_whole}
 use Rattle.one_table.specs.Standing.{Key, key_of, keys_on, own_keys}
-use Rattle.one_table.specs.Upserting.{IsUpsert, Merging, is_of_key, returning_as, set_query, shown_source, upsert_as}
+use Rattle.one_table.specs.Upserting.{IsUpsert, Merging, is_of_key, returning_as, set_query, upsert_as}
 use Rattle.one_table.proofs.AnswerLemmas.{shown_open}
 use Rattle.one_table.proofs.ChangeLemmas.{HasWritten, has_changed, has_written, same_value, task_on, went}
 use Rattle.one_table.proofs.InsertLemmas.{by_false, no_works, one_value_row, sourced}

@@ -1,24 +1,18 @@
 -- An upsert of one row is understood in any schema that has the table with its own keys.
-use Rattle.std.proofs.Common.{◌≡◌, ℕ, ◌+◌, arith, Bool, true, false, not, ◌&&◌, ◌==◌, if◌then◌else◌, List, [], ◌∷◌, ◌++◌, length, map, filter, find, bytes_eq, option_map, is_some, Option, Some, None, Ok, Err, refl, sym, ap, ◌∙◌, append-nil, subst}
+use Rattle.std.proofs.Common.{◌≡◌, ℕ, ◌+◌, arith, Bool, true, false, not, ◌&&◌, ◌==◌, if◌then◌else◌, List, [], ◌∷◌, length, map, filter, find, bytes_eq, option_map, is_some, Option, Some, None, Ok, Err, refl, sym, ap, ◌∙◌, subst}
 use Rattle.std.specs.List.{list_all, list_any}
 use Rattle.std.proofs.lemmas.Bool.{and_parts, eqb-true}
 use Rattle.std.proofs.lemmas.Slice.Eq.{bytes_eq-Decides}
 use Rattle.sqlite_ast.specs.declared.Conflict.TheVariants as conflict
-use Rattle.sqlite_ast.specs.declared.Expr.{Expr}
 use Rattle.sqlite_ast.specs.declared.Rows.TheVariants as rows
-use Rattle.sqlite_ast.specs.declared.Shown.{Shown}
 use Rattle.sqlite_ast.specs.declared.Statement.{Statement}
 use Rattle.sqlite_ast.specs.declared.Statement.TheVariants as written
-use Rattle.sqlite_ast.specs.declared.Upsert.{Upsert}
 use Rattle.sqlite_syntax.specs.declared.statement.Parsed.{Parsed}
 use Rattle.sqlite_sql.specs.Query.{Query, end, inner}
-use Rattle.sqlite_sql.specs.Term.{Term}
 use Rattle.sqlite_schema.specs.Names.{same_name}
-use Rattle.sqlite_schema.specs.declared.command.Returning.{Returning}
 use Rattle.sqlite_schema.specs.declared.command.Source.{Source}
 use Rattle.sqlite_schema.specs.declared.command.Source.TheVariants as source
 use Rattle.sqlite_schema.specs.declared.command.Upsert as compiled_upsert
-use Rattle.sqlite_schema.specs.declared.program.Program.{Program}
 use Rattle.sqlite_schema.specs.declared.schema.Index.{Index}
 use Rattle.sqlite_schema.specs.declared.schema.Schema.{Schema}
 use Rattle.sqlite_schema.specs.declared.schema.Table.{Table}
@@ -26,19 +20,17 @@ use Rattle.sqlite_draft.specs.declared.query.Draft.{Draft}
 use Rattle.sqlite_draft.specs.Query.{query_of}
 use Rattle.sqlite_resolve.specs.declared.error.CompileError.{CompileError}
 use Rattle.sqlite_resolve.specs.declared.error.CompileError.TheVariants.{Mismatch, Misuse, Unsupported}
-use Rattle.sqlite_resolve.specs.declared.write.NewRows.{NewRows}
 use Rattle.sqlite_resolve.specs.declared.write.NewRows.TheVariants as new
 use Rattle.sqlite_resolve.specs.declared.scope.Output.{Output}
 use Rattle.sqlite_resolve.specs.Body.{outputs}
-use Rattle.sqlite_resolve.specs.Compile.{command, compiled, first, formats_of, insert_or, insert_or_abort, meaning, new_rows, planned, queried, returning, shows, small, source_of, timed, with_command}
-use Rattle.sqlite_resolve.specs.Expr.{lower}
+use Rattle.sqlite_resolve.specs.Compile.{command, compiled, first, insert_or, insert_or_abort, meaning, planned, returning, shows, small, source_of, timed}
 use Rattle.sqlite_resolve.specs.Given.{are_among, at_rowid, do_update, given_level, is_all_of, is_key_at, is_subquery, key_at, key_meant, laid_out, returned, update, upsert, upserts}
 use Rattle.sqlite_resolve.specs.Lowering.{Checked, Lowering, and_then, or_else, fresh, max_budget}
 use Rattle.sqlite_resolve.specs.Program.{program}
 use Rattle.sqlite_resolve.specs.Scope.{Name}
 use Rattle.sqlite_resolve.specs.Write.{places, updated_in}
 use Rattle.one_table.specs.Changing.{draft_if_typed}
-use Rattle.one_table.specs.Inserting.{Puts, is_simple_insert, is_value, puts_meant, source_of_row}
+use Rattle.one_table.specs.Inserting.{is_simple_insert, is_value, puts_meant, source_of_row}
 use Rattle.one_table.specs.Place.{Has}
 use Rattle.one_table.specs.Reading.{MeansAs, is_typed}
 use Rattle.one_table.specs.Simple.{depth, is_simple, is_simple_output, one}

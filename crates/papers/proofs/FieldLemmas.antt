@@ -24,22 +24,6 @@ pub field-or : (found : Option (Bor (List ℕ))) (other : Bor (List ℕ)) (field
 field-or found other fields place is none =
     unwrap-now found other ∙ ap (λ text. unwrap_or text other.now) is ∙ ap (λ text. unwrap_or (field_at fields place) text) none ∙ field_at-or fields place
 
--- a record of four fields, or of two, is these fields
-pub four-fields : (fields : List (List ℕ)) → length fields ≡ 4
-    → fields ≡ get_or fields 0 [] ∷ get_or fields 1 [] ∷ get_or fields 2 [] ∷ get_or fields 3 [] ∷ []
-four-fields [] count = absurd (omega (arith, count))
-four-fields (a ∷ []) count = absurd (omega (arith, count))
-four-fields (a ∷ b ∷ []) count = absurd (omega (arith, count))
-four-fields (a ∷ b ∷ c ∷ []) count = absurd (omega (arith, count))
-four-fields (a ∷ b ∷ c ∷ d ∷ []) count = refl
-four-fields (a ∷ b ∷ c ∷ d ∷ e ∷ rest) count = absurd (omega (arith, count))
-
-pub two-fields : (fields : List (List ℕ)) → length fields ≡ 2 → fields ≡ get_or fields 0 [] ∷ get_or fields 1 [] ∷ []
-two-fields [] count = absurd (omega (arith, count))
-two-fields (a ∷ []) count = absurd (omega (arith, count))
-two-fields (a ∷ b ∷ []) count = refl
-two-fields (a ∷ b ∷ c ∷ rest) count = absurd (omega (arith, count))
-
 -- a field that is wanted, read through the list of them
 wanted-at : (fields : List (Bor (List ℕ))) (place : ℕ) (other : Bor (List ℕ)) → place < length fields
     → get_or (map (λ f. f.now) fields) place [] ≡ (get_or fields place other).now

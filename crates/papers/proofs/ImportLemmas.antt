@@ -3,7 +3,7 @@ use Rattle.std.proofs.Common.{◌≡◌, ◌≢◌, ◌∙◌, ◌+◌, ◌-◌,
 use Rattle.std.specs.Prelude.{◌==◌}
 use Rattle.std.specs.Result.{IfErr, IsErrAnd, OnOk, is_ok}
 use Rattle.papers.specs.File.{Fields, IsFirstOutside, IsFromText, IsTariffText, KeepsRuleAt, RecordSays, RecordSaysTariff, base_text, header_of, kind_of}
-use Rattle.papers.specs.Import.{AreRowsIn, AreSaid, HasCause, HasForm, FileHasFault, IsFault, IsFirstFault, IsNoRow, IsReading, IsRowAt, IsRowFault, TakesRoom, looked_at}
+use Rattle.papers.specs.Import.{AreRowsIn, AreSaid, HasCause, HasForm, FileHasFault, IsFault, IsFirstFault, IsNoRow, IsReading, IsRowAt, IsRowFault, TakesRoom}
 use Rattle.papers.specs.declared.row_fault.RowFault.{RowFault}
 use Rattle.papers.specs.declared.row_fault.RowFault.TheVariants.{At, Memory}
 use Rattle.vend_core.specs.Name.{IsName}
@@ -269,16 +269,6 @@ steps-take DatedTariffs fields tariffs count named priced = record { count = cou
     good zero h = named
     good (suc zero) h = priced
     good (suc (suc n)) h = absurd (omega (arith, h))
-
-looked-within : (form : FileForm) (place : ℕ) → place < looked_at form → place < length (header_of form)
-looked-within Meters place h = h
-looked-within Tariffs place h = h
-looked-within DatedTariffs place h = omega (arith, h)
-
-pub row-takes : (form : FileForm) (fields : Fields) (row : Row) → RecordSays form fields row → TakesRoom form fields
-row-takes form fields row says =
-    let count = says-count form fields row says in
-    record { count = count; good = λ place h. says-rules form fields row place says (omega (arith, count, looked-within form place h)) }
 
 -- the same of the fault that a row has
 pub row-fault : (form : FileForm) (before after : List Fields) (rows : List Row) (fields : Fields) (number : ℕ) (fault : RowFault) → AreRowsIn form before rows

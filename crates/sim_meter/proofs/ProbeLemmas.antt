@@ -4,9 +4,6 @@ use Rattle.std.proofs.lemmas.Bool.{cases_Bool, false≢true}
 use Rattle.std.proofs.lemmas.List.Sums.{sum_by-cons}
 use Rattle.sim_meter.specs.Probe.{AreTrueFirst, true_count, value_at}
 
-one_if : Bool → ℕ
-one_if value = cond value 1 0
-
 -- none true after a false one, whatever the count of the values
 abbrev NoneAfter : List Bool → Type 0
 NoneAfter values = (first later : ℕ) → first < later → value_at values first ≡ false

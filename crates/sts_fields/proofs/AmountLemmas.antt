@@ -97,17 +97,6 @@ floor_is t e r top =
           omega arith;
     }
 
-pub representable_from_no_rest : (t e : ℕ) → LiesIn t e → t ≤ greatest_amount
-    → (t - start_of e) % 10 ^ e ≡ 0 → IsRepresentable t
-representable_from_no_rest t e r top none =
-    let parts = rounded_down_parts t e r top in
-    let whole : t - (t - start_of e) % 10 ^ e ≡ t = omega arith in (
-      e,
-      (t - start_of e) / 10 ^ e,
-      subst
-          (λ (u : ℕ). HasParts u e ((t - start_of e) / 10 ^ e)) whole parts,
-    )
-
 pub no_rest_from_representable : (t e : ℕ) → LiesIn t e → IsRepresentable t
     → (t - start_of e) % 10 ^ e ≡ 0
 no_rest_from_representable t e r carried =

@@ -16,9 +16,3 @@ joined_payload rnd tid code r t c =
     ap (λ (n : ℕ). bit_or (bit_or n (tid * 2 ^ 16 % 2 ^ 64)) code) rnd_fits
     ∙ ap (λ (n : ℕ). bit_or (bit_or (rnd * 2 ^ 40) n) code) tid_fits
     ∙ ap (λ (n : ℕ). bit_or n code) (high ∙ as_one) ∙ all ∙ omega arith
-
-pub joined_check : (payload check : ℕ) → payload < 2 ^ 48 → check < 2 ^ 16
-    → bit_or (payload * 2 ^ 16 % 2 ^ 64) check ≡ payload * 2 ^ 16 + check
-joined_check payload check p c =
-    let fits : payload * 2 ^ 16 % 2 ^ 64 ≡ payload * 2 ^ 16 = omega arith in
-    ap (λ (n : ℕ). bit_or n check) fits ∙ or_shifted payload 16 check c

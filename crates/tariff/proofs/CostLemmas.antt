@@ -112,11 +112,6 @@ pub record IsSummed (steps : List Step) (prior end priced sum i : ℕ) : Type 0 
       ≡ sum + prices_of (drop i steps) priced (end - priced)
   pub bound : sum ≤ (priced - prior) * 1000000
 
-pub is_summed_start : (steps : List Step) (prior end : ℕ) → prior ≤ end
-    → IsSummed steps prior end prior 0 0
-is_summed_start steps prior end within =
-    record { from_prior = omega arith; to_end = within; left = omega arith; bound = omega arith }
-
 pub is_summed_more : (steps : List Step) (prior end priced sum i upper : ℕ) (d : Step)
     → i < length steps → upper ≡ max (reach_of (get_or steps i d).ends end) priced
     → (get_or steps i d).price ≤ 1000000 → IsSummed steps prior end priced sum i

@@ -1,5 +1,5 @@
 -- How many tenths money pays for: the steps are paid in turn, while the money lasts.
-use Rattle.std.proofs.Common.{◌≡◌, ℕ, ◌+◌, ◌-◌, ◌*◌, ◌/◌, ◌<◌, ◌≤◌, inl, inr, List, Option, Some, None, ◌∷◌, length, get_or, drop, max, ◌∙◌, refl, arith}
+use Rattle.std.proofs.Common.{◌≡◌, ℕ, ◌+◌, ◌-◌, ◌*◌, ◌/◌, ◌<◌, ◌≤◌, inl, inr, List, Option, Some, None, ◌∷◌, length, get_or, drop, max, refl, arith}
 use Rattle.std.proofs.Math.Nat.{div-mul-le_self, le-div_iff_mul-le}
 use Rattle.sts_fields.specs.Amount.{greatest_amount}
 use Rattle.std.proofs.lemmas.Bool.{cases_lt}
@@ -17,26 +17,11 @@ pub record ArePaid (steps : List Step) (prior budget end paid left i : ℕ) : Ty
   pub spent : (u : ℕ) → paid ≤ u → u ≤ end
       → prices_of steps prior (u - prior) + left ≡ budget + prices_of (drop i steps) paid (u - paid)
 
-pub are_paid_start : (steps : List Step) (prior budget end : ℕ) → prior ≤ end
-    → ArePaid steps prior budget end prior budget 0
-are_paid_start steps prior budget end within =
-    record { from_prior = omega arith; to_end = within; spent = λ u from to. omega arith }
-
 -- where a step stops among fewer tenths, if it stops before their end
 reach_of-earlier : (o : Option ℕ) (end paid upper u : ℕ) → upper ≡ max (reach_of o end) paid
     → upper ≤ u → u ≤ end → upper ≡ max (reach_of o u) paid
 reach_of-earlier None end paid upper u is below to = omega arith
 reach_of-earlier (Some e) end paid upper u is below to = omega arith
-
--- what is left is of the budget
-pub left_within : (steps : List Step) (prior budget end paid left i : ℕ)
-    → ArePaid steps prior budget end paid left i → left ≤ budget
-left_within steps prior budget end paid left i p =
-    let at = p.spent paid (omega arith) p.to_end in
-    let none : paid - paid ≡ 0 = omega arith in
-    let nothing : prices_of (drop i steps) paid (paid - paid) ≡ 0 =
-    prices_of-flat (drop i steps) 0 paid (paid - paid) (λ j from to. absurd (omega arith)) ∙ omega arith in
-    omega arith
 
 -- a step that is paid whole
 pub are_paid_more : (steps : List Step) (prior budget end paid left i upper : ℕ) (d : Step)

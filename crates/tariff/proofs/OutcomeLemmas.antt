@@ -8,11 +8,6 @@ use Rattle.tariff.proofs.PiecesLemmas.{one_list}
 abbrev pub IsTextOf : List ℕ → (List Step → Type 0) → Type 0
 IsTextOf text P = (steps : List Step) × IsStepsText text steps × P steps
 
--- where the text is that of no steps
-pub no_steps_iff : (text : List ℕ) (P : List Step → Type 0) (Q : Type 0)
-    → ((steps : List Step) → ¬ IsStepsText text steps) → ¬ Q → Q ↔ IsTextOf text P
-no_steps_iff text P Q none never = (λ q. absurd (never q), λ t. absurd (none t.0 t.1))
-
 -- where it is that of these, and no others
 pub steps_iff : (text : List ℕ) (P : List Step → Type 0) (Q : Type 0) (steps : List Step)
     → IsStepsText text steps → Q ↔ P steps → Q ↔ IsTextOf text P

@@ -3,7 +3,7 @@ use Rattle.std.proofs.Common.{◌≡◌, ◌≢◌, ℕ, zero, suc, ◌+◌, ◌
 use Rattle.std.specs.Prelude.{All, IfSome, IsUtf8, decimal}
 use Rattle.std.specs.List.{join_with_byte, slice_split}
 use Rattle.std.proofs.lemmas.List.{get_or_default, length-append, length-map, length-set, map-append, take-append-le, take_all, take_more_set}
-use Rattle.std.proofs.lemmas.List.Elements.{All-head, All-map, All-nil, All-push, All-tail, All-weaker}
+use Rattle.std.proofs.lemmas.List.Elements.{All-head, All-map, All-push, All-tail, All-weaker}
 use Rattle.std.proofs.lemmas.Fmt.{IsAscii-decimal}
 use Rattle.std.proofs.lemmas.Str.{IsUtf8-append, IsUtf8-from_ascii, IsUtf8-nil}
 use Rattle.std.proofs.lemmas.List.Splits.{join_with_byte-slice_split, length-slice_split, slice_split_at, slice_split_none}
@@ -70,9 +70,6 @@ pub one_list : (text : List ℕ) (steps others : List Step) → IsStepsText text
 one_list text steps others t u =
     same_steps steps others t.writable u.writable (sym (pieces_from_text text steps t)
     ∙ pieces_from_text text others u)
-
-pub are_first_start : (first : List Step) → AreFirst [] first 0
-are_first_start first = record { count = refl; begins = refl }
 
 -- a step is put at its place among the first eight
 pub are_first_put : (steps first : List Step) (n : ℕ) (s : Step) → length first ≡ 8 → n < 8
@@ -174,9 +171,6 @@ no_piece text piece i at none steps t =
     none (get_or steps i d) (t.writable i d there)
     (at.1 ∙ get_or_default (pieces_of text) i piece (step_text d) at.0
     ∙ ap (λ ps. get_or ps i (step_text d)) pieces ∙ get_or-map step_text steps i d)
-
-pub are_read_start : (first : List Step) → length first ≡ 8 → AreRead [] first 0
-are_read_start first eight = record { steps = []; writable = All-nil IsWritable; texts_are = refl; are_first = are_first_start first; eight = eight }
 
 pub are_read_put : (texts : List (List ℕ)) (first : List Step) (n : ℕ) (s : Step) → IsWritable s
     → n < 8 → AreRead texts first n

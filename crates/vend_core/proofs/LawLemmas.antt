@@ -87,14 +87,6 @@ sold_again forward o at order first office asks was =
     subst (λ request. Repeats o order first (decision_of forward o at.moment at.nibble request)) (sym asks)
     (subst (λ found. Repeats o order first (sell_once forward at.moment at.nibble order found (open_shift o order.operator) (account_of o order.meter at.moment) (length o.sales))) (sym (first_found o order first office was)) (repeats o order first))
 
--- a refusal changes nothing
-refused_result : (o : Office) (r : Result Change Refusal) (refusal : Refusal) → reply_of r ≡ Err refusal → office_after o r ≡ o
-refused_result o (Ok change) refusal e = cc
-refused_result o (Err other) refusal e = refl
-
-pub refused_stays : (forward : ℕ → ℕ → ℕ) (o : Office) (at : Stamped) (refusal : Refusal) → reply forward o at ≡ Err refusal → step forward o at ≡ o
-refused_stays forward o at refusal e = refused_result o (decision_of forward o at.moment at.nibble at.request) refusal e
-
 -- a reprint and a report change nothing, and give what stands
 reprint_stays : (o : Office) (sale : Option Sale) → office_after o (reprint sale) ≡ o
 reprint_stays o None = refl

@@ -17,7 +17,7 @@ use Rattle.one_table.proofs.ChangeLemmas.{stays_then}
 use Rattle.book_tables.specs.format.Filling.{AwaitsBases, FillsBases, FillsTotals, HasTotalsUpto}
 use Rattle.book_tables.specs.format.Format.{HasFormat, TellsFormat}
 use Rattle.book_tables.specs.Holds.{HasOffice, HasOfficeOf, HoldsMembers, HoldsOf, StandsFor, rows_in}
-use Rattle.book_tables.specs.Kept.{Kept, about_kept, bases_kept, kept, kept_names, last_ids_kept, meters_kept, month_tenths_kept, sales_kept, shift_totals_kept}
+use Rattle.book_tables.specs.Kept.{Kept, about_kept, bases_kept, kept, kept_names, last_ids_kept, meters_kept, month_tenths_kept, shift_totals_kept}
 use Rattle.book_tables.specs.format.Looking.{ShowMeters, ShowSales, ShowsRows, ShowsRowsOf}
 use Rattle.book_tables.specs.format.Making.{BringsInside, MakesMissing, TellsOf, TellsPresent, rows_upto}
 use Rattle.book_tables.specs.row.Rows.{DatedStepRow, Rows, present_format}
@@ -29,7 +29,7 @@ use Rattle.book_tables.proofs.FormatLemmas.AboutLemmas.{IsAnother, IsAnotherThan
 use Rattle.book_tables.proofs.WritingLemmas.EditLemmas.{no_members}
 use Rattle.book_tables.proofs.HoldsLemmas.{held_as}
 use Rattle.book_tables.proofs.FormatLemmas.MakingLemmas.{MayChange, about_may, still_beside}
-use Rattle.book_tables.proofs.OfficeTableLemmas.{bases_in, last_ids_in, meters_in, month_tenths_in, sales_in, shift_totals_in}
+use Rattle.book_tables.proofs.OfficeTableLemmas.{bases_in, last_ids_in, meters_in, month_tenths_in, shift_totals_in}
 use Rattle.book_tables.proofs.WritingLemmas.OnlyLemmas.{AreAmong, only_among, only_both}
 use Rattle.book_tables.proofs.SalesOfLemmas.{same_test, tells_under}
 
@@ -109,9 +109,6 @@ bases_another = ((bases_in, refl), tt)
 
 totals_another : AllByRecursion IsAnother totals_kept
 totals_another = ((last_ids_in, refl), ((month_tenths_in, refl), ((shift_totals_in, refl), tt)))
-
-sales_others : AllByRecursion (IsAnotherThan sales_kept) totals_kept
-sales_others = ((last_ids_in, refl), ((month_tenths_in, refl), ((shift_totals_in, refl), tt)))
 
 meters_others : AllByRecursion (IsAnotherThan meters_kept) totals_kept
 meters_others = ((last_ids_in, refl), ((month_tenths_in, refl), ((shift_totals_in, refl), tt)))

@@ -13,7 +13,7 @@ use Rattle.book_tables.specs.reading.Reading.{AreOfOffice, FailsToReadOf, HasTab
 use Rattle.book_tables.specs.row.Rows.{Rows}
 use Rattle.book_tables.specs.declared.error.TableError.{TableError}
 use Rattle.book_tables.specs.declared.error.TableError.TheVariants.{RowOfNoOffice}
-use Rattle.book_tables.proofs.FormatLemmas.FillingLemmas.{IsPageOf, few_in_office, number_in_page, page_dropped, page_is}
+use Rattle.book_tables.proofs.FormatLemmas.FillingLemmas.{few_in_office, number_in_page, page_dropped, page_is}
 use Rattle.book_tables.proofs.FormatLemmas.LookingLemmas.{page_within, shows_upto}
 use Rattle.book_tables.proofs.WritingLemmas.RefusalLemmas.{same_error}
 
@@ -63,9 +63,6 @@ module _ {T : Type 0} (k : Kept) (Says : T → List Row → Type 0) where
 -- ---- a page of sales
 
 module _ (page : List Sale) (done : ℕ) (rows : Rows) (of_office : AreOfOffice rows) (is : page ≡ take 1000 (filter (λ s. nat_lt done s.number) rows.sales)) where
-  it : IsPageOf page done rows
-  it = page_is page done rows of_office is
-
   -- the numbers of an office's sales have no gap
   pub page_is_next : AreNext done page
   page_is_next i s at = number_in_page page done rows (page_is page done rows of_office is) i s at

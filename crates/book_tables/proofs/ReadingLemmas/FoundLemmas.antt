@@ -23,13 +23,6 @@ same_bytes a b is = (bytes_eq-Decides a b).0 is
 is_same : (a b : List ℕ) → a ≡ b → bytes_eq a b ≡ true
 is_same a b is = (bytes_eq-Decides a b).1 is
 
-not_same : (a b : List ℕ) (t : Bool) → bytes_eq a b ≡ t → a ≢ b → t ≡ false
-not_same a b true is apart = absurd (apart (same_bytes a b is))
-not_same a b false is apart = refl
-
-both : (x y : Bool) → x ≡ true → y ≡ true → (x && y) ≡ true
-both x y p q = ap (λ b. b && y) p ∙ q
-
 parts : (x y : Bool) → (x && y) ≡ true → (x ≡ true) × (y ≡ true)
 parts true y e = (refl, e)
 parts false y e = cc

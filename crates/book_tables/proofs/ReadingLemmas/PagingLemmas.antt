@@ -1,8 +1,7 @@
 -- What reads inside a transaction give, and what they leave.
-use Rattle.std.proofs.Common.{◌≡◌, ◌∙◌, ℕ, true, List, [], map, Result, Ok, Err, IfErr, IfSome, IsErrAnd, Option, None, Some, slice_get, inl, get_or, refl, sym, subst, IsPermutation, ap, drop}
+use Rattle.std.proofs.Common.{◌≡◌, ◌∙◌, ℕ, true, List, [], map, Result, Ok, Err, IfErr, IsErrAnd, inl, get_or, refl, sym, subst, IsPermutation, ap, drop}
 use Rattle.std.specs.Prelude.{All}
-use Rattle.std.proofs.lemmas.List.Elements.{All-cons, All-map, All-nil, All-same, Contains-get_or}
-use Rattle.std.specs.Option.{option_to_list}
+use Rattle.std.proofs.lemmas.List.Elements.{All-map, Contains-get_or}
 use Rattle.std.proofs.lemmas.List.Sorted.{All-permutation, IsPermutation-map}
 use Rattle.sqlite.specs.Order.{Row}
 use Rattle.sqlite.specs.State.{HasCleanDisk, State}
@@ -20,7 +19,6 @@ use Rattle.book_tables.specs.Tables.{meters_table}
 use Rattle.book_tables.specs.declared.error.TableError.{TableError}
 use Rattle.book_tables.specs.row.Values.{AreMeterValues}
 use Rattle.book_tables.specs.declared.reading.pages.MeterRow.{MeterRow}
-use Rattle.book_tables.proofs.ReadingLemmas.FindLemmas.{Finds}
 use Rattle.book_tables.proofs.WritingLemmas.BaseTexts.{all_meters_asks, all_meters_names, all_meters_query, all_meters_text}
 use Rattle.book_tables.proofs.ReadingLemmas.LastLemmas.{all_pass}
 use Rattle.book_tables.proofs.ReadingLemmas.ListingLemmas.{Lists, fails, only_asks}
@@ -62,10 +60,6 @@ module _ {M : Type 0} {k : Kept} {sql : List ℕ} {params : Row} {shown : M → 
   reads_inside old new r values are this = inside_where r (only_asks l old) this (λ clean has. fails l old new has r values are (this.faults clean (only_asks l old has)))
 
 -- ---- a text that finds one record at most
-
-listed_kept : {M : Type 0} (keeps : M → Type 0) (o : Option M) → IfSome o keeps → All keeps (option_to_list o)
-listed_kept keeps None kept = All-nil keeps
-listed_kept keeps (Some x) kept = All-cons keeps x [] kept (All-nil keeps)
 
 -- ---- all meters
 

@@ -8,7 +8,7 @@ use Rattle.std.specs.List.Sorted.{IsStrictlySortedBy}
 use Rattle.std.specs.Ordering.{is_eq, nat_cmp}
 use Rattle.std.proofs.lemmas.Cmp.{nat_cmp_total, nat_list_cmp_total, on_total, then_total, tied_itself}
 use Rattle.std.proofs.lemmas.List.{length-append}
-use Rattle.std.proofs.lemmas.List.Elements.{All-contains, All-from_recursion, All-nil, All-push, All-weaker}
+use Rattle.std.proofs.lemmas.List.Elements.{All-contains, All-from_recursion, All-push, All-weaker}
 use Rattle.std.proofs.lemmas.List.Sums.{sum_by-le, sum_by_push}
 use Rattle.std.proofs.lemmas.Map.Keys.{sorted_head, sorted_tail}
 use Rattle.std.proofs.lemmas.Map.Lookups.{CmpEqualImpliesEq, exact_bytes, exact_pairs, exact_unsigned}
@@ -59,14 +59,6 @@ module _ {Q K V : Type 0} (cmp : Q → Q → Ordering) (total : IsTotalOrder cmp
     value_is : (k : K) (v : K × V) (o : Option V) → option_map (with_key k) o ≡ Some v → o ≡ Some v.1
     value_is k v None none = cc
     value_is k v (Some w) is = let same : (k, w) ≡ v = cc in ap Some (ap (λ (x : K × V). x.1) same)
-
-    -- what stands under a key, as it is read
-    pub read_none : (k : K) → get cmp m (place k) ≡ None → has k ≡ None
-    read_none k none = by_case (has k) (sym (holds.found k) ∙ none)
-      where
-        by_case : (o : Option V) → option_map (with_key k) o ≡ None → o ≡ None
-        by_case None none = refl
-        by_case (Some w) none = cc
 
     pub read_some : (k : K) (v : K × V) → get cmp m (place k) ≡ Some v → has k ≡ Some v.1
     read_some k v some = value_is k v (has k) (sym (holds.found k) ∙ some)

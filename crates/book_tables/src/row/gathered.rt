@@ -183,7 +183,7 @@ impl Gathered {
         }
     }
 
-    /// Adds a sale to them. After an error they are those of no sales.
+    /// Adds a sale to them. After an error they hold a part of it and are of no use.
     ///
     /// # Errors
     /// Want of memory.

@@ -4,7 +4,7 @@ use Rattle.std.specs.Prelude.{if◌then◌else◌, nat_lt, slice_get}
 use Rattle.std.specs.Option.{IfSome, option_copied}
 use Rattle.std.specs.Result.{IsErrAnd}
 use Rattle.std.proofs.lemmas.Bool.Decides.{nat_tests}
-use Rattle.std.proofs.lemmas.List.{append-nil, drop_all, drop_more, length-drop}
+use Rattle.std.proofs.lemmas.List.{append-nil, drop_more, length-drop}
 use Rattle.std.proofs.lemmas.Option.{slice_get-get_or, slice_get_past, slice_get_read}
 use Rattle.vend_core.specs.Decision.{◌>>=◌, at_row, is_new, new_rows, row_decision}
 use Rattle.vend_core.specs.Decision.Edits.{office_after, with_rows}
@@ -86,12 +86,6 @@ module _ (o : Office) (today : ℕ) (rows : List Row) (taken : List Row) (i : �
       ∙ ahead_more taken row (is_some change.edit) (new_rows (office_after p (Ok change)) today (i + 1 + 1) (drop (i + 1) rows))
       ∙ ap (λ (q : Office). ahead (taken_more taken row change) (new_rows q today (i + 1 + 1) (drop (i + 1) rows))) (sym (office_more taken row change o (row_grants p today row change granted)))
 
-  pub stops_there : (refusal : Refusal) → at_row (i + 1) (row_decision (with_rows taken o) today row) ≡ Err refusal → new_rows o today 1 rows ≡ Err refusal
-  stops_there refusal refused =
-      let p = with_rows taken o in
-      at_this
-      ∙ ap (λ (r : Result Change Refusal). ahead taken (r >>= (λ change. new_rows (office_after p (Ok change)) today (i + 1 + 1) (drop (i + 1) rows) >>= (λ new. Ok (if is_some change.edit then row ∷ new else new))))) refused
-
 pub stays_on : (o : Office) (today : ℕ) (taken : List Row) (row : Row) (change : Change) → HaveStayed o (with_rows taken o) → row_decision (with_rows taken o) today row ≡ Ok change → HaveStayed o (with_rows (taken_more taken row change) o)
 stays_on o today taken row change stayed granted =
     let p = with_rows taken o in
@@ -106,12 +100,6 @@ facts_further o today rows fs taken i row change stayed granted at = further at.
     further : (row_decision o today row ≡ Err refusals.Differs) ⊎ AreRowsFacts o today (drop (i + 1) rows) (drop (i + 1) fs) → AreRowsFacts o today (drop (i + 1) rows) (drop (i + 1) fs)
     further (inl differs) = let still = differs_still o (with_rows taken o) today row stayed differs in cc
     further (inr rest) = rest
-
--- at the end nothing is left
-pub walked : (o : Office) (today : ℕ) (rows taken : List Row) (i : ℕ) → length rows ≤ i → new_rows o today 1 rows ≡ ahead taken (new_rows (with_rows taken o) today (i + 1) (drop i rows)) → new_rows o today 1 rows ≡ Ok taken
-walked o today rows taken i past invariant =
-    invariant ∙ ap (λ (l : List Row). ahead taken (new_rows (with_rows taken o) today (i + 1) l)) (drop_all i rows past)
-    ∙ ap (λ (l : List Row). let r : Result (List Row) Refusal = Ok l in r) (append-nil taken)
 
 -- a row is new of which there is none before it, or none of the rows taken is
 abbrev pub SeesNew : Office → ℕ → List Row → List Row → ℕ → Type 0

@@ -1,5 +1,5 @@
 use Rattle.std.proofs.Common.{arith}
-use Rattle.one_table.proofs.AnswerLemmas.{only_where, read_more}
+use Rattle.one_table.proofs.AnswerLemmas.{read_more}
 use Rattle.one_table.proofs.readers.values.Goals as goal
 
 pub loop-row-preserved : goal.loop-row-preserved

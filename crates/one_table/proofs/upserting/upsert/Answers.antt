@@ -2,7 +2,7 @@ use Rattle.std.proofs.Common.{ap, get_or, slice_get, subst, sym, ◌∙◌}
 use Rattle.sqlite.specs.State.{Shown}
 use Rattle.sqlite.specs.Values.{bound}
 use Rattle.sqlite.specs.Held.{state}
-use Rattle.one_table.specs.declared.read_fault.ReadFault.TheVariants.{Database, Row as Bad}
+use Rattle.one_table.specs.declared.read_fault.ReadFault.TheVariants.{Database}
 use Rattle.one_table.proofs.ChangeLemmas.{all_ok, if_err, if_ok, told_as, transaction_into, transaction_off}
 use Rattle.one_table.proofs.TouchLemmas.{fails_to_touch, touched, touched_unread}
 use Rattle.one_table.proofs.UpsertLemmas.{fails_to_upsert, fails_unread, upserted}
