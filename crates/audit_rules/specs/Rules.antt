@@ -89,8 +89,8 @@ pub record AreShifts (shifts : List Shift) : Type 0 where
 abbrev pub IsInShift : ℕ → Sale → Type 0
 IsInShift count s = (1 ≤ s.shift) × (s.shift ≤ count)
 
--- sales of so many shifts: no more than an office holds, numbered, each identifier of a meter under a
--- base and each ref of an operator once, each in a shift and under a base that its meter had
+-- sales of so many shifts: no more than an office holds, numbered, each identifier of a meter under
+-- a base and each ref of an operator once, each in a shift and under a base that its meter had
 pub record AreSales (shifts : ℕ) (bases : List BaseRow) (sales : List Sale) : Type 0 where
   pub count : length sales ≤ greatest_count
   pub numbers : AreNumbered (λ s. s.number) sales

@@ -24,9 +24,9 @@ pub record HasEdit (edit : Edit) (old new : State) : Type 0 where
   pub limit : new.step_limit ≡ old.step_limit
 
 -- The commit failed: an open connection has what it had, and a crash leaves what it left before, or
--- the edit. It failed of an edit that was made, and for a cause: the connection was in a transaction
--- that held the edit, and then there was no memory or the disk failed. `Been` says that a
--- connection over the same store was so (`HasBeen`).
+-- the edit. It failed of an edit that was made, and for a cause: the connection was in a
+-- transaction that held the edit, and then there was no memory or the disk failed. `Been` says that
+-- a connection over the same store was so (`HasBeen`).
 pub record DoubtsEdit (Been : (State → Type 0) → Type 0) (edit : Edit) (prior : ℕ)
     (old new : State) : Type 0 where
   pub was_open : IsTrue old.is_open

@@ -72,8 +72,8 @@ abbrev pub fault_of_table : TableError → OpenFault
 fault_of_table (table.Database e) = fault_of e
 fault_of_table table.RowOfNoOffice = NotAnOffice
 
--- what is found by an audit is answered as: a row that is no office's, and tables of no format, show
--- that there is none
+-- what is found by an audit is answered as: a row that is no office's, and tables of no format,
+-- show that there is none
 abbrev pub fault_of_audit : AuditFault → OpenFault
 fault_of_audit (audit.Found f) = NotAnOffice
 fault_of_audit audit.NoOffice = NotAnOffice

@@ -9,9 +9,9 @@ use Rattle.book_states.specs.Others.{LeavesOthers}
 use Rattle.book_states.specs.Same.{ChangesNothing}
 use Rattle.books.specs.Keeps.{BooksHaveTables, Represents, Seen}
 
--- Books were read, and gave this. Every life that they kept they keep, and nothing was written. They
--- answer as stopped exactly where they were, and are stopped after a failure. Beside the refusals
--- of its own, a read has those that tell why the tables were not read.
+-- Books were read, and gave this. Every life that they kept they keep, and nothing was written.
+-- They answer as stopped exactly where they were, and are stopped after a failure. Beside the
+-- refusals of its own, a read has those that tell why the tables were not read.
 pub record ReadsBooks {A : Type 0} (Own : Refusal → Type 0) (given : Result A Refusal)
     (old new : Seen) : Type 0 where
   pub keeps : (life : Life) → Represents life old → Represents life new

@@ -1,6 +1,6 @@
 //! A store that fails within `serve`: that it stopped is told, and that it is open again; the next
-//! connection is served, and a repeated ref is one sale. Or it fails for good: then nobody is served
-//! after it.
+//! connection is served, and a repeated ref is one sale. Or it fails for good: then nobody is
+//! served after it.
 mod lapse;
 mod lost;
 mod ports;
@@ -49,8 +49,8 @@ struct Outcome {
     replies: String,
 }
 
-// What is told once the door listens, once a connection left the books stopped, and once they are open
-// again.
+// What is told once the door listens, once a connection left the books stopped, and once they are
+// open again.
 const LISTENING: &str = "listening 127.0.0.1:80\n";
 
 const STOPPED: &str = "listening 127.0.0.1:80\nstopped 16 Store\n";
@@ -135,8 +135,8 @@ enum Met {
     Request,
 }
 
-// What is told of books by these replies, of which some are this refusal: the books open again before
-// the next connection, if there is one.
+// What is told of books by these replies, of which some are this refusal: the books open again
+// before the next connection, if there is one.
 fn told_of(replies: &str, failed: usize) -> &'static str {
     if failed == 0 {
         LISTENING

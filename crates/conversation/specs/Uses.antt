@@ -166,8 +166,8 @@ EndsWriting uses = ((passed : Passed) × Stops passed × EndsWith uses (sent pas
     ⊎ (AreSound uses × (most_tries ≤ writes_in uses))
 
 -- By these uses a run ends so: with a read fault where the last of them is a read that failed and
--- was not interrupted, or where one read more would be number 2^64; with a write fault where writing
--- ends; and else where nothing failed.
+-- was not interrupted, or where one read more would be number 2^64; with a write fault where
+-- writing ends; and else where nothing failed.
 abbrev pub EndsBy : End → List Use → Type 0
 EndsBy ReadFault uses =
     ((count : ℕ) × EndsWith uses (asked count failed))

@@ -39,8 +39,8 @@ impl Unanswered {
     }
 
     // Reads at most as many bytes as wanted behind those that are there, and says how many came:
-    // 0 only at the end of the input, and `None` where the system interrupted the read. Room is made
-    // first, so that want of memory loses no byte.
+    // 0 only at the end of the input, and `None` where the system interrupted the read. Room is
+    // made first, so that want of memory loses no byte.
     pub(crate) fn read_more<L: Line<R, W>, R: Read, W: Write>(
         &mut self,
         line: &mut L,
@@ -109,7 +109,8 @@ fn read_into<L: Line<R, W>, R: Read, W: Write>(
     ensures bytes { ReadsAt (R.remaining reader.old) (R.remaining reader.new)
         (drop at buffer.new.items) result }
     ensures told { Grows (L.uses line.old) (L.uses line.new)
-        (asked (length (drop at buffer.old.items)) (passed_of (drop at buffer.new.items) result) ∷ []) }
+        (asked (length (drop at buffer.old.items))
+        (passed_of (drop at buffer.new.items) result) ∷ []) }
 {
     read_at(line, reader, buffer.as_mut_slice(), at)
 }

@@ -1,6 +1,6 @@
 //! A sale and the call for its receipt, 159 bytes, over books: cut after any byte, in pieces, by a
-//! reader that fails, to a writer that fails, and where the system interrupts reads and writes. Each
-//! time over an office of its own, so that it has to sell anew.
+//! reader that fails, to a writer that fails, and where the system interrupts reads and writes.
+//! Each time over an office of its own, so that it has to sell anew.
 use crate::prepared::{NO_HEAD, PRINTED, RECEIPT, SALE, SOLD, hold, prepared};
 use crate::streams::{Asking, Calls, Counting, Failing, Full, Interrupted, Pieces};
 use crate::texts::first;
@@ -210,8 +210,8 @@ fn a_reply_leaves_before_more_is_asked_for(rt: HostRuntime) -> Result<(), Fail> 
     Ok(())
 }
 
-// The same conversation where the system interrupts some reads, and some writes. The input comes byte
-// by byte, and the writer takes three bytes at a time.
+// The same conversation where the system interrupts some reads, and some writes. The input comes
+// byte by byte, and the writer takes three bytes at a time.
 fn goes_on(
     rt: &(impl Abort + AllocGlobal),
     input: &[u8],
@@ -244,8 +244,8 @@ fn goes_on(
     Ok(())
 }
 
-// Before each byte of the input in turn, and at its end; before each piece of the replies; and before
-// all of these, twice.
+// Before each byte of the input in turn, and at its end; before each piece of the replies; and
+// before all of these, twice.
 #[test]
 fn calls_that_the_system_interrupts(rt: HostRuntime) -> Result<(), Fail> {
     let alloc = rt.alloc();

@@ -40,7 +40,14 @@ AreDefined texts ts = AllZip (λ text t. table_defined_by text ≡ Ok t) texts t
 
 abbrev untyped : List ℕ → Column
 untyped name =
-    record { name = name; kind = Any; is_strict = false; not_null = false; default = Null; collation = Binary }
+    record {
+      name = name;
+      kind = Any;
+      is_strict = false;
+      not_null = false;
+      default = Null;
+      collation = Binary;
+    }
 
 -- SQLite's own table, in which an AUTOINCREMENT counts
 abbrev pub counters : Table

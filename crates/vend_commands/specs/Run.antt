@@ -44,7 +44,8 @@ IsCarriedOut store m (Serve words) o end =
     m.loop.leaves × IsServedTo store m.way m.at m.door m.answers words o end
 IsCarriedOut store m (Selfcheck words) o end = m.untouched × IsShut m
     × IsSelfchecked (m.loop.agrees words.transform) (m.loop.disagrees words.transform) o end
-IsCarriedOut store m (Audit words) o end = IsOffline m × IsAudited (m.at words.file.now words.wait) o end
+IsCarriedOut store m (Audit words) o end =
+    IsOffline m × IsAudited (m.at words.file.now words.wait) o end
 
 -- what is said of words that are no command's: help, which goes to the output, or what is wrong
 -- with them, which goes to the error output

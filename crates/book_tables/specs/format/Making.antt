@@ -26,7 +26,13 @@ IsSoundOfFormat n s = IsTrue s.is_open → IsDatabase s.now × HasOfficeOf n s.n
 abbrev pub rows_upto : ℕ → Rows → Rows
 rows_upto zero rows = no_rows
 rows_upto (suc zero) rows =
-    record rows { last_ids = []; month_tenths = []; shift_totals = []; bases = []; dated_steps = [] }
+    record rows {
+      last_ids = [];
+      month_tenths = [];
+      shift_totals = [];
+      bases = [];
+      dated_steps = [];
+    }
 rows_upto (suc (suc zero)) rows = record rows { bases = []; dated_steps = [] }
 rows_upto (suc (suc (suc zero))) rows = record rows { dated_steps = [] }
 rows_upto (suc (suc (suc (suc n)))) rows = rows

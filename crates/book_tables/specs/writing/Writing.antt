@@ -44,7 +44,8 @@ pub record WritesTables (Makes : State → State → Type 0) (old new : State)
 -- that has ended would let it run.
 pub record MergesTables {T : Type 0} (Makes : T → State → State → Type 0) (old new : State)
     (result : Result T TableError) : Type 0 where
-  pub made : HasCleanDisk new → IsUnderWay old → HasAllTables old → IfOk result (λ x. Makes x old new)
+  pub made : HasCleanDisk new → IsUnderWay old → HasAllTables old
+      → IfOk result (λ x. Makes x old new)
   pub transaction : KeepsTransaction old new result
   pub refused : HasCleanDisk new → IsUnderWay old → HasAllTables old
       → IfErr result (FailsToMerge old new)

@@ -162,8 +162,8 @@ fn first_stop(rt: &HostRuntime) -> Result<u64, Fail> {
     Err(Fail::new("no request met a failure"))
 }
 
-// The lines that tell of a stop and of its end are cut after each of their bytes: the desk serves on
-// as if they had been written.
+// The lines that tell of a stop and of its end are cut after each of their bytes: the desk serves
+// on as if they had been written.
 #[test]
 fn it_serves_on_where_a_stop_is_not_told(rt: HostRuntime) -> Result<(), Fail> {
     let path = folder::enter(&rt)?;

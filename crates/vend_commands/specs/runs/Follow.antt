@@ -32,8 +32,8 @@ abbrev pub IsClean : Use → Type 0
 IsClean unseen = ⊤
 IsClean (connected image living last) = HasCleanDisk last
 
--- What the ports of a run tell: the file of an office, on what it is kept and how its salts are drawn,
--- and what else the machine has.
+-- What the ports of a run tell: the file of an office, on what it is kept and how its salts are
+-- drawn, and what else the machine has.
 pub record Here (P D R W : Type 0) : Type 1 where
   pub M : Type 0
   pub S : Type 0

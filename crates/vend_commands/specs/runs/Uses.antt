@@ -105,8 +105,9 @@ AreCoursed way forward count door answers last_door left before lives =
 
 -- ---- what a run made of the file
 
--- Nothing of the file was seen: none was found, or no connection was made to it. Or a connection was
--- made while the file held this, the office lived so, and in this state the last one was let go.
+-- Nothing of the file was seen: none was found, or no connection was made to it. Or a connection
+-- was made while the file held this, the office lived so, and in this state the last one was let
+-- go.
 pub data Use : Type 1 where
   unseen : Use
   connected : (image : Image) → (living : Living) → (last : State) → Use
@@ -170,11 +171,15 @@ use_served way forward see loses wanted old door answers printed image (Ok (book
     connected image (many_lives (AreCoursed way forward wanted old.door old.answers door answers))
     (see books).state
 use_served way forward see loses wanted old door answers printed image (Ok (books, false)) none =
-    connected image (many_lives (AreCoursed way forward none.count old.door old.answers none.last.door
-    none.last.answers)) (see books).state
+    connected image
+    (many_lives (AreCoursed way forward none.count old.door old.answers
+    none.last.door none.last.answers))
+    (see books).state
 use_served way forward see loses wanted old door answers printed image (Err fault) lost =
-    connected image (many_lives (AreCoursed way forward lost.count old.door old.answers lost.last.door
-    lost.last.answers)) (see lost.last.books).state
+    connected image
+    (many_lives (AreCoursed way forward lost.count old.door old.answers
+    lost.last.door lost.last.answers))
+    (see lost.last.books).state
 
 module _ {M S H D R W : Type 0} (disk : disk.Ghosts M) (salts : source.Ghosts S)
     (of : file.Ghosts H M S) (office : H) (m : Machine D R W) where

@@ -96,7 +96,8 @@ pub data IsServing {S D R W : Type 0} (store : Ghosts S) (way : Way D R W) (at :
       → IsServing store way at door answers words err_old err_new end
   unheard : (old : Books S Shipped store shipped)
       → IsOpenedAt (at words.file.now words.wait) words.transform old
-      → (at words.file.now words.wait).finds → (last : D) → IsDeaf way words.listen door last err_old err_new
+      → (at words.file.now words.wait).finds → (last : D)
+      → IsDeaf way words.listen door last err_old err_new
       → way.leaves last → (at words.file.now words.wait).closes (seen_in old) → end ≡ Refused
       → IsServing store way at door answers words err_old err_new end
   was_open : (old : Books S Shipped store shipped)

@@ -23,8 +23,8 @@ use std::io::Write;
 use sts_fields::Moment;
 use vend_core::Request;
 
-/// Opens the office where its file is there, prints a paper of it, and closes its file; or tells why
-/// it is not opened. No token is written, so any transform serves.
+/// Opens the office where its file is there, prints a paper of it, and closes its file; or tells
+/// why it is not opened. No token is written, so any transform serves.
 pub(crate) fn run<H: OfficeFile, P: Progress, O: Write, E: Write>(
     words: &ReportWords,
     alloc: Global,

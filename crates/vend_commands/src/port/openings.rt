@@ -15,8 +15,8 @@ use std::time::{Clock, Duration};
 // So many milliseconds.
 const PAUSE: u64 = 10;
 
-/// Stands for what the files hold as `B` does, at each try. A try that fails opens none, so that one
-/// pair of files is opened for one `B`.
+/// Stands for what the files hold as `B` does, at each try. A try that fails opens none, so that
+/// one pair of files is opened for one `B`.
 #[derive(Drop)]
 pub struct EachTry<B: Start> {
     start: PhantomData<B>,
@@ -101,8 +101,8 @@ impl<B: Start> Tries for PresentOpenings<'_, B> {
     ghost gives = { λ outcome. IfOk outcome
         (λ found. IfSome found (λ pair. IsFresh true pair.0 × IsFresh false pair.1)) };
 
-    // Its name is looked at before each try, for it may be taken away while it is waited for. Where it
-    // is taken away between the two calls, an empty one is made.
+    // Its name is looked at before each try, for it may be taken away while it is waited for. Where
+    // it is taken away between the two calls, an empty one is made.
     fn attempt(&mut self) -> Option<Result<Option<Pair<B>>, OpenFault>> {
         match fs::exists(self.openings.rt, self.openings.path) {
             Ok(true) => match self.openings.attempt()? {

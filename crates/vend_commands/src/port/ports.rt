@@ -63,8 +63,8 @@ pub trait OfficeFile: Drop {
     /// What the salts of its log are drawn from.
     fn salts(&self) -> Self::Salts;
 
-    /// Opens the log and the database file at a path, or makes them where there is none. Waits up to
-    /// so many seconds while another program has them.
+    /// Opens the log and the database file at a path, or makes them where there is none. Waits up
+    /// to so many seconds while another program has them.
     fn find(self, path: &str, wait: u32) -> Result<(Self::Medium, Self::Medium), OpenFault>
         ensures image { IfOk result (λ pair. seen_image Self.Medium.Disk pair.0 pair.1
             ≡ image self path.now) }

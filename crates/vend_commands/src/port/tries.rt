@@ -27,8 +27,8 @@ pub(crate) trait Tries {
         ensures { pauses self.new ≡ suc (pauses self.old) };
 }
 
-/// Tries it until no other program has it, for so many seconds at the most: it pauses after each try
-/// but the last. `None` where another program had it all the while.
+/// Tries it until no other program has it, for so many seconds at the most: it pauses after each
+/// try but the last. `None` where another program had it all the while.
 pub(crate) fn try_for<T: Tries>(tries: &mut T, seconds: u32) -> Option<T::Outcome>
     requires { T.pauses tries.old ≡ 0 }
     ensures gives { IfSome result T.gives }

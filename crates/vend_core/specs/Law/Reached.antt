@@ -45,7 +45,8 @@ IsInOpenShift o earlier s =
 
 -- the meter was not moved back: no sale to it before was made under a later base
 abbrev pub IsUnderPresentBase : List Sale → Sale → Type 0
-IsUnderPresentBase earlier s = All (λ a. a.meter ≡ s.meter → year_of a.base ≤ year_of s.base) earlier
+IsUnderPresentBase earlier s =
+    All (λ a. a.meter ≡ s.meter → year_of a.base ≤ year_of s.base) earlier
 
 -- the sale's moment has a minute under its base, and its identifier is the fresh one in it, after
 -- those that were sold to the meter under the base before

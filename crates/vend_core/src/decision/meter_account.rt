@@ -23,7 +23,12 @@ impl Model for MeterAccount {
     ghost use Rattle.std.specs.Option.{ForSome};
     ghost use Rattle.sts_fields.specs.Tid.{last_tid};
 
-    ghost view = { λ b. record { meter = b.meter; steps = b.steps; last = b.last; prior = b.prior } };
+    ghost view = { λ b. record {
+      meter = b.meter;
+      steps = b.steps;
+      last = b.last;
+      prior = b.prior;
+    } };
 
     ghost invariant = { λ b. ForSome b.last (λ tid. tid ≤ last_tid) × (b.prior ≤ 10 ^ 17) };
 }

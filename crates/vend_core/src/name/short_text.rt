@@ -26,8 +26,12 @@ impl<const N: usize> Model for ShortText<N> {
     ghost inverse = { λ text. record { bytes = padded N text; len = length text } };
 
     ghost inverse_ok = { λ t p.
-        ap (λ (all : List ℕ). let r : Inside = record { bytes = all; len = length (take t.len t.bytes) } in r) (padded-text N t.len t.bytes p)
-        ∙ ap (λ (k : ℕ). let r : Inside = record { bytes = t.bytes; len = k } in r) (length-text N t.len t.bytes p) };
+        ap (λ (all : List ℕ). let r : Inside = record {
+          bytes = all;
+          len = length (take t.len t.bytes);
+        } in r) (padded-text N t.len t.bytes p)
+        ∙ ap (λ (k : ℕ). let r : Inside = record { bytes = t.bytes; len = k } in r)
+        (length-text N t.len t.bytes p) };
 }
 
 impl<const N: usize> ShortText<N> {
