@@ -71,6 +71,10 @@ pub(crate) const SALE_NUMBERED: &str = select_sale!(" FROM sales WHERE number = 
 
 pub(crate) const SALE_OF_REF: &str = select_sale!(" FROM sales WHERE operator = ?1 AND ref = ?2");
 
+pub(crate) const SALE_OF_TID: &str = select_sale!(
+    " FROM sales WHERE meter = ?1 AND base = ?2 AND tid = ?3"
+);
+
 pub(crate) const LAST_SALE_NUMBER: &str = "SELECT number FROM sales ORDER BY number DESC LIMIT 1";
 
 pub(crate) const SHIFT_NUMBERED: &str = select_shift!(" WHERE number = ?1");

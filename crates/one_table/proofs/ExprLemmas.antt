@@ -15,7 +15,7 @@ use Rattle.sqlite_sql.specs.declared.ops.UnaryOp.TheVariants.{Not}
 use Rattle.sqlite_sql.specs.Term.{Term, lit, col, op1, op2, case}
 use Rattle.sqlite_resolve.specs.declared.error.CompileError.TheVariants.{Unsupported}
 use Rattle.sqlite_resolve.specs.declared.scope.Found.TheVariants.{Column}
-use Rattle.sqlite_resolve.specs.Lowering.{Lowering, pure, fail, spend, begin, finish, last, chosen}
+use Rattle.sqlite_resolve.specs.Lowering.{Lowering, ◌>>=◌, ◌>>◌, pure, fail, spend, begin, finish, last, chosen}
 use Rattle.sqlite_resolve.specs.Scope.{Context, Name, find, column, column_at, term_of}
 use Rattle.sqlite_resolve.specs.Compare.{affinity_of, of_column, compared}
 use Rattle.sqlite_resolve.specs.Expr.{is_alias, passes, combine, operator, operated, applied, operation, wanted_truth, truth_at, tests_truth, tests_alias, is_alias_at, is_identity, both, node_at, opened, node, lower_to}

@@ -23,7 +23,7 @@ use Rattle.sqlite_resolve.specs.declared.scope.Level.{Level}
 use Rattle.sqlite_resolve.specs.declared.scope.Output.{Output}
 use Rattle.sqlite_resolve.specs.declared.select.Clauses.{Clauses}
 use Rattle.sqlite_resolve.specs.declared.state.State.{State}
-use Rattle.sqlite_resolve.specs.Lowering.{Checked, and_then, Lowering, pure, get, fresh, max_budget, take_slot}
+use Rattle.sqlite_resolve.specs.Lowering.{Checked, and_then, Lowering, ◌>>=◌, pure, get, fresh, max_budget, take_slot}
 use Rattle.sqlite_resolve.specs.Scope.{Name}
 use Rattle.sqlite_resolve.specs.Body.{bounds, bound, table_in, shared, join, inner_join, joins, tests, result, outputs, matching, body}
 use Rattle.sqlite_resolve.specs.Order.{keys, sorts}

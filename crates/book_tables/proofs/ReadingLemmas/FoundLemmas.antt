@@ -6,6 +6,8 @@ use Rattle.std.proofs.lemmas.Bool.{false≢true}
 use Rattle.std.proofs.lemmas.Bool.Decides.{nat_tests}
 use Rattle.std.proofs.lemmas.Option.{slice_get-get_or}
 use Rattle.std.proofs.lemmas.Slice.Eq.{bytes_eq-Decides}
+use Rattle.sts_fields.specs.Base.{base_eq, year_of}
+use Rattle.sts_fields.specs.declared.base.Base.{Base}
 use Rattle.tariff.specs.declared.step.Step.{Step}
 use Rattle.vend_core.specs.Office.Lookup.{open_shift, sale_of_ref}
 use Rattle.vend_core.specs.Office.{AreNumbered, IsBefore, IsOffice, NotBothOpen, Office}
@@ -15,6 +17,7 @@ use Rattle.vend_core.specs.declared.office.shift.Shift.{Shift}
 use Rattle.book_tables.specs.reading.Found.{meters_numbered, tariffs_named}
 use Rattle.book_tables.specs.row.Rows.{Rows}
 use Rattle.book_tables.specs.Stands.{AreMembersOf}
+use Rattle.book_tables.proofs.RowLemmas.RecordLemmas.{one_base}
 use Rattle.book_tables.proofs.ListLemmas.{NotBothPass, first_is_all, none_pass, one_passes, pairs_weaker}
 
 same_bytes : (a b : List ℕ) → bytes_eq a b ≡ true → a ≡ b
@@ -118,3 +121,22 @@ found_ref o operator order_ref office =
     let in_b = parts (bytes_eq b.operator operator) (bytes_eq b.order_ref order_ref) q in
     before.order_ref (same_bytes a.operator operator in_a.0 ∙ sym (same_bytes b.operator operator in_b.0))
     (same_bytes a.order_ref order_ref in_a.1 ∙ sym (same_bytes b.order_ref order_ref in_b.1))) office.before)
+
+same_number : (x y : ℕ) → (x == y) ≡ true → x ≡ y
+same_number x y is = grind (arith, nat_tests)
+
+pub found_tid : (o : Office) (meter : List ℕ) (base : Base) (tid : ℕ) → IsOffice o
+    → filter (λ s. bytes_eq s.meter meter && (base_eq s.base base && (s.tid == tid))) o.sales
+    ≡ option_to_list (find (λ s. bytes_eq s.meter meter && (base_eq s.base base && (s.tid == tid))) o.sales)
+found_tid o meter base tid office =
+    let under : Sale → Bool = λ s. base_eq s.base base && (s.tid == tid) in
+    let test : Sale → Bool = λ s. bytes_eq s.meter meter && under s in
+    first_is_all test o.sales
+    (pairs_weaker IsBefore (NotBothPass test) o.sales (λ a b before p q.
+    let in_a = parts (bytes_eq a.meter meter) (under a) p in
+    let in_b = parts (bytes_eq b.meter meter) (under b) q in
+    let under_a = parts (base_eq a.base base) (a.tid == tid) in_a.1 in
+    let under_b = parts (base_eq b.base base) (b.tid == tid) in_b.1 in
+    before.tid (same_bytes a.meter meter in_a.0 ∙ sym (same_bytes b.meter meter in_b.0))
+    (one_base a.base b.base (same_number (year_of a.base) (year_of base) under_a.0 ∙ sym (same_number (year_of b.base) (year_of base) under_b.0)))
+    (same_number a.tid tid under_a.1 ∙ sym (same_number b.tid tid under_b.1))) office.before)

@@ -9,6 +9,8 @@ use Rattle.sqlite_sql.specs.Term.{lit}
 use Rattle.sqlite_typed.proofs.TestLemmas.{last_term, then_term}
 use Rattle.one_table.proofs.ListedLemmas.{last_by_key, one_row}
 use Rattle.one_table.proofs.TestsLemmas.{number_is, text_is}
+use Rattle.sts_fields.specs.Base.{base_eq, year_of}
+use Rattle.sts_fields.specs.declared.base.Base.{Base}
 use Rattle.vend_core.specs.Office.{AreNumbered, IsOffice, Office}
 use Rattle.vend_core.specs.declared.office.sale.Sale.{Sale}
 use Rattle.book_tables.specs.reading.Reading.{AreOfOffice}
@@ -17,11 +19,11 @@ use Rattle.book_tables.specs.row.Rows.{Rows, number, shown_number, shown_sale}
 use Rattle.book_tables.specs.Tables.{sales_table}
 use Rattle.book_tables.specs.row.Values.{AreSaleValues, IsNumber}
 use Rattle.book_tables.proofs.ReadingLemmas.FindLemmas.{Finds}
-use Rattle.book_tables.proofs.ReadingLemmas.FoundLemmas.{found_numbered, found_ref}
+use Rattle.book_tables.proofs.ReadingLemmas.FoundLemmas.{found_numbered, found_ref, found_tid}
 use Rattle.book_tables.proofs.ReadingLemmas.LastLemmas.{all_pass, last_is_count, last_number_keeps, last_number_shown, numbers_rise}
 use Rattle.book_tables.proofs.ReadingLemmas.ReadLemmas.{few, found_keeps}
 use Rattle.book_tables.proofs.RowLemmas.RecordLemmas.{one_number, one_shown_sale}
-use Rattle.book_tables.proofs.ReadingLemmas.SaleTexts.{last_sale_asks, last_sale_query, last_sale_text, sale_names, sale_numbered_asks, sale_numbered_query, sale_numbered_text, sale_of_ref_asks, sale_of_ref_query, sale_of_ref_text}
+use Rattle.book_tables.proofs.ReadingLemmas.SaleTexts.{last_sale_asks, last_sale_query, last_sale_text, sale_names, sale_numbered_asks, sale_numbered_query, sale_numbered_text, sale_of_ref_asks, sale_of_ref_query, sale_of_ref_text, sale_of_tid_asks, sale_of_tid_query, sale_of_tid_text}
 use Rattle.book_tables.proofs.RowLemmas.ValueLemmas.{sales_keep}
 
 -- what holds of the sales of each office
@@ -90,6 +92,30 @@ module _ (operator order_ref : List ℕ) where
         one_row (record { holds_them = held.1.1; passes = λ s. then_term (text_is s.operator operator) (last_term (text_is s.order_ref order_ref)); shows = λ s. refl }) answer is
         (few_of_rows has_ref of_one_ref rows of_office)
         ∙ ap (map shown_sale) (one_of_rows has_ref of_one_ref rows of_office);
+  }
+
+-- ---- the sale of an identifier of a meter under a base
+
+module _ (meter : List ℕ) (base : Base) (tid : ℕ) where
+  abbrev has_tid : Sale → Bool
+  has_tid s = bytes_eq s.meter meter && (base_eq s.base base && (s.tid == tid))
+
+  of_one_tid : IsOfOne has_tid
+  of_one_tid o office = found_tid o meter base tid office
+
+  pub sale_of_tid : Finds sales_kept sale_of_tid_text (Text meter ∷ number (year_of base) ∷ number tid ∷ []) shown_sale AreSaleValues (λ rows. find has_tid rows.sales)
+  sale_of_tid = record {
+    table = sales_table;
+    query = sale_of_tid_query;
+    names = sale_names;
+    asks = sale_of_tid_asks meter (year_of base) tid;
+    stands = λ s has. has.0.has;
+    one = λ a b keeps_a keeps_b same. one_shown_sale a b same;
+    kept = λ rows of_office. found_keeps has_tid AreSaleValues rows.sales (sales_keep_values rows of_office);
+    answers = λ db rows held of_office answer is.
+        one_row (record { holds_them = held.1.1; passes = λ s. then_term (text_is s.meter meter) (then_term (number_is (year_of s.base) (year_of base)) (last_term (number_is s.tid tid))); shows = λ s. refl }) answer is
+        (few_of_rows has_tid of_one_tid rows of_office)
+        ∙ ap (map shown_sale) (one_of_rows has_tid of_one_tid rows of_office);
   }
 
 -- ---- the number of the last sale

@@ -54,6 +54,22 @@ unfolding everything is_whole meant select_meant text_meant
 sale_of_ref_asks operator order_ref =
     record { is = λ tree. record { means = refl; from = refl }; bare = λ tree. refl; typed = λ tree. refl; whole = refl }
 
+abbrev pub sale_of_tid_text : List ℕ
+sale_of_tid_text =
+    codes "SELECT number, moment, shift, operator, ref, meter, base, tid, rnd, tenths, price, tender, digits FROM sales WHERE meter = ?1 AND base = ?2 AND tid = ?3"
+
+abbrev has_tid : List Term
+has_tid =
+    op2 (Compare Eq Binary) (col 1 7) (col 0 0) ∷ op2 (Compare Eq Binary) (col 1 8) (col 0 1) ∷ op2 (Compare Eq Binary) (col 1 9) (col 0 2) ∷ []
+
+abbrev pub sale_of_tid_query : ℕ → Query
+sale_of_tid_query tree = query_on tree has_tid sale_terms [] no_limit
+
+pub sale_of_tid_asks : (meter : List ℕ) (year tid : ℕ) → Asks sales_table sale_of_tid_query sale_names sale_of_tid_text (Text meter ∷ number year ∷ number tid ∷ [])
+unfolding everything is_whole meant select_meant text_meant
+sale_of_tid_asks meter year tid =
+    record { is = λ tree. record { means = refl; from = refl }; bare = λ tree. refl; typed = λ tree. refl; whole = refl }
+
 abbrev pub last_sale_text : List ℕ
 last_sale_text = codes "SELECT number FROM sales ORDER BY number DESC LIMIT 1"
 

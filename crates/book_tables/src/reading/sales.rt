@@ -3,15 +3,17 @@
 ghost use Rattle.std.specs.Prelude.{◌≡◌, ◌&&◌, ◌==◌, bytes_eq, find, length, option_map, unwrap_or, None};
 ghost use Rattle.std.specs.List.{last_or};
 ghost use Rattle.one_table.specs.Over.{Over};
+ghost use Rattle.sts_fields.specs.Base.{base_eq};
 ghost use Rattle.book_tables.specs.Kept.{sales_kept};
 ghost use Rattle.book_tables.specs.reading.Reading.{ReadsTable, SaysOfTable};
 
 use crate::error::TableError;
 use crate::row::record::first_record;
-use crate::row::values::{number_values, ref_values};
-use crate::texts::{LAST_SALE_NUMBER, SALE_NUMBERED, SALE_OF_REF};
+use crate::row::values::{last_id_values, number_values, ref_values};
+use crate::texts::{LAST_SALE_NUMBER, SALE_NUMBERED, SALE_OF_REF, SALE_OF_TID};
 use sqlite::{Alter, Connection};
-use vend_core::{Operator, Ref, Sale};
+use sts_fields::Base;
+use vend_core::{MeterNo, Operator, Ref, Sale};
 
 /// The sale of a number.
 ///
@@ -43,6 +45,24 @@ pub fn sale_of_ref<S: Alter>(
     ensures reads { Over S.Store conn (λ old new. ReadsTable sales_kept old new result) }
 {
     first_record(conn, SALE_OF_REF, &ref_values(operator, order_ref))
+}
+
+/// The sale of an identifier of a meter under a base.
+///
+/// # Errors
+/// What the database refuses, and a row that is no office's.
+pub fn sale_of_tid<S: Alter>(
+    conn: &mut Connection<S>,
+    meter: &MeterNo,
+    base: Base,
+    tid: u32,
+) -> Result<Option<Sale>, TableError>
+    ensures given { Over S.Store conn (λ old new. SaysOfTable sales_kept (λ rows found. found ≡
+        find (λ s. bytes_eq s.meter meter.now && (base_eq s.base base && (s.tid == tid)))
+        rows.sales) old new result) }
+    ensures reads { Over S.Store conn (λ old new. ReadsTable sales_kept old new result) }
+{
+    first_record(conn, SALE_OF_TID, &last_id_values(meter, base, tid))
 }
 
 /// The number of the last sale, if there is one. It is how many sales there are, since they are

@@ -192,7 +192,7 @@ pub(crate) fn month_values(meter: &MeterNo, month: u32) -> [ValueRef<'_>; 2]
     [ValueRef::Text(meter.as_bytes()), whole(month)]
 }
 
-/// The number of a meter, a base, and the last identifier of the meter under it.
+/// The number of a meter, a base, and an identifier of the meter under it.
 pub(crate) fn last_id_values(meter: &MeterNo, base: Base, tid: u32) -> [ValueRef<'_>; 3]
     ensures { bound result ≡ last_id_columns ((meter.now, base), tid) }
 {
