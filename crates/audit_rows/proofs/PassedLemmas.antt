@@ -12,7 +12,6 @@ use Rattle.sqlite.proofs.StateLemmas.{survives_then}
 use Rattle.one_table.specs.Reading.{FailsPlainly}
 use Rattle.one_table.specs.ReadsOnly.{ReadsOnly}
 use Rattle.one_table.proofs.AnswerLemmas.{left_then}
-use Rattle.book_tables.specs.Kept.{Kept}
 use Rattle.audit_rows.specs.Breaks.{Breaks}
 use Rattle.audit_rows.specs.Fails.{FailsToAudit, HasNoFormat, IsKnown}
 use Rattle.audit_rows.specs.declared.finding.AuditFault.{AuditFault}
@@ -79,10 +78,6 @@ read_after Known {T} {U} {x} {r = Err e} {old} {mid} {new} first shut this = rec
       fails_after old mid new (first.same was known) (first.survives known) e (this.faults clean known_mid);
   survives = λ known. survives_then old mid new _ _ (λ _. ⊥) (λ _ db none. none) (λ _ db none. none) (first.survives known) (this.survives (known_after Known first shut known));
 }
-
--- ---- what an audit makes of a read of a table
-
-module _ (k : Kept) {old new : State} where
 
 -- ---- two reads
 
