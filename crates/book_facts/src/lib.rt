@@ -6,11 +6,15 @@
 
 pub use decided::Decided;
 pub use decisions::decision_of;
+pub use look_up::look_up;
+pub use lookup::{Found, Lookup, MeterSummary, Quote};
 pub use pages::page;
 pub use shift_totals::totals;
 
 mod decided;
 mod decisions;
 mod facts;
+mod look_up;
+mod lookup;
 mod pages;
 mod shift_totals;

@@ -1,0 +1,59 @@
+//! What is looked up in an office, and what is found. No key of a meter is.
+
+use book_tables::Totals;
+use sts_fields::{Amount, Base};
+use tariff::Tender;
+use vend_core::{MeterNo, Operator, Ref, Sale, TariffName};
+
+/// What is looked up in an office. Nothing is changed by it (`docs/OFFICE.md`, "Look-ups").
+#[derive(Clone, Copy, Debug, PartialEq, Eq)]
+pub enum Lookup {
+    /// How many sales there are.
+    SaleCount,
+    /// A meter: what it has, what was sold to it in the month, and its last sale.
+    Meter(MeterNo),
+    /// The last sale to a meter.
+    LastSale(MeterNo),
+    /// The sale that an operator made under a ref.
+    SaleOfRef(Operator, Ref),
+    /// What a tender would buy for a meter.
+    Quote(MeterNo, Tender),
+    /// The running totals of the shift of a number (1 to 10^9).
+    ShiftTotals(u32),
+}
+
+/// What is found where something is looked up.
+#[derive(Clone, Copy, Debug, PartialEq, Eq)]
+pub enum Found {
+    /// At most 10^9.
+    SaleCount(u64),
+    Meter(MeterSummary),
+    Sale(Sale),
+    Quote(Quote),
+    /// The number of the shift, and its totals.
+    ShiftTotals(u32, Totals),
+}
+
+/// What is told of a meter.
+#[derive(Clone, Copy, Debug, PartialEq, Eq)]
+pub struct MeterSummary {
+    pub number: MeterNo,
+    pub base: Base,
+    pub tariff: TariffName,
+    /// The tenths of a kWh sold to it in the month, under any base.
+    pub tenths: u64,
+    /// The number of the last sale to it.
+    pub last_sale: Option<u32>,
+}
+
+/// What a tender would buy for a meter, as a sale at the moment would have it.
+#[derive(Clone, Copy, Debug, PartialEq, Eq)]
+pub struct Quote {
+    pub meter: MeterNo,
+    /// The meter's tariff.
+    pub tariff: TariffName,
+    pub tender: Tender,
+    pub tenths: Amount,
+    /// What the amount costs, in whole cents, at most the tender.
+    pub price: u32,
+}
