@@ -165,14 +165,14 @@ account_is o number moment there m found steps b there_is here found_is known is
     account_with : Office → List ℕ → ℕ → Meter → MeterAccount
     account_with o number moment m = record { meter = m; steps = steps_on o m.tariff (day_at moment); last = greatest_of (used o number m.base); prior = prior o number (month_at moment) }
 
--- the latest steps that have begun, or else the first
-pub begun_or_first : (begun first found : Option (List Step)) → is_some begun ≡ false → found ≡ first → found ≡ option_or begun first
+-- the first where there is one, or else the second
+pub begun_or_first : {X : Type 0} (begun first found : Option X) → is_some begun ≡ false → found ≡ first → found ≡ option_or begun first
 begun_or_first None first found none is = is
-begun_or_first (Some steps) first found none is = absurd (false≢true (sym none))
+begun_or_first (Some x) first found none is = absurd (false≢true (sym none))
 
-pub begun_alone : (begun first : Option (List Step)) → is_some begun ≡ true → begun ≡ option_or begun first
+pub begun_alone : {X : Type 0} (begun first : Option X) → is_some begun ≡ true → begun ≡ option_or begun first
 begun_alone None first some = absurd (false≢true some)
-begun_alone (Some steps) first some = refl
+begun_alone (Some x) first some = refl
 
 -- ---- the rows of an import
 

@@ -1,3 +1,4 @@
 pub mod FactsLemmas
+pub mod LookupLemmas
 pub mod PageLemmas
 pub mod PassedLemmas

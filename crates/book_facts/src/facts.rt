@@ -12,7 +12,7 @@ use sqlite::{Alter, Connection};
 use std::alloc::Global;
 use vend_core::{Facts, Request, Stamped};
 
-mod accounts;
+pub(crate) mod accounts;
 mod imports;
 mod meters;
 mod sales;

@@ -6,7 +6,7 @@
 
 pub use decided::Decided;
 pub use decisions::decision_of;
-pub use look_up::look_up;
+pub use looking::{look_up, quote_law};
 pub use lookup::{Found, Lookup, MeterSummary, Quote};
 pub use pages::page;
 pub use shift_totals::totals;
@@ -14,7 +14,7 @@ pub use shift_totals::totals;
 mod decided;
 mod decisions;
 mod facts;
-mod look_up;
+mod looking;
 mod lookup;
 mod pages;
 mod shift_totals;

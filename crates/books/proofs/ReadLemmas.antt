@@ -1,16 +1,23 @@
 -- What a call that only reads makes of books.
-use Rattle.std.proofs.Common.{◌≡◌, ◌≢◌, ◌⊎◌, ◌↔◌, false, true, IsTrue, Result, Ok, Err, refl, sym, subst, ◌∙◌, inl, inr}
+use Rattle.std.proofs.Common.{◌≡◌, ◌≢◌, ◌⊎◌, ◌↔◌, ◌+◌, ℕ, length, false, true, IsTrue, Result, Ok, Err, refl, sym, subst, ◌∙◌, inl, inr}
 use Rattle.std.proofs.lemmas.Bool.{false≢true}
 use Rattle.std.specs.Prelude.{IfErr}
 use Rattle.sqlite.specs.State.{HasCleanDisk}
+use Rattle.vend_core.specs.Law.Life.{Life, present}
+use Rattle.vend_core.specs.Office.{Office}
 use Rattle.vend_core.specs.declared.decision.refusal.Refusal.{Refusal}
 use Rattle.vend_core.specs.declared.decision.refusal.Refusal.TheVariants.{Memory, Store, Stopped}
 use Rattle.book_tables.specs.reading.Reading.{HasAllTables}
+use Rattle.book_facts.specs.Lookups.{IsFoundIn}
+use Rattle.book_facts.specs.declared.lookup.Found.{Found}
+use Rattle.book_facts.specs.declared.lookup.Lookup.{Lookup}
 use Rattle.book_states.specs.Failing.{IsToldOfRead}
 use Rattle.book_states.specs.Same.{ChangesNothing}
+use Rattle.book_states.specs.Stores.{Stores}
 use Rattle.book_states.proofs.OthersLemmas.{nothing_others, others_same, tables_stay}
 use Rattle.book_states.proofs.StayLemmas.{has_tables, nothing_same, still_held}
-use Rattle.books.specs.Keeps.{Seen}
+use Rattle.books.specs.Keeps.{IsPresent, Seen}
+use Rattle.books.specs.Looking.{IsFoundAt}
 use Rattle.books.specs.Reads.{ReadsBooks}
 use Rattle.books.proofs.PageLemmas.{kept_read}
 use Rattle.books.proofs.ServeLemmas.{stops_on}
@@ -69,3 +76,14 @@ was_read Own given old new runs forward next nothing back failures refusals own 
       refusals = or_stopped Own given refusals;
       failures = λ clean has running. failures clean (has (back clean) running);
     }
+
+-- what is found in the office that the tables hold is found in the present office of the life
+pub found_here : (life : Life) (books : Seen) (moment : ℕ) (lookup : Lookup) (given : Result Found Refusal) → (here : IsPresent life books)
+    → ((o : Office) → Stores books.state o → books.next_number ≡ length o.sales + 1 → IsFoundIn o moment lookup given) → IsFoundAt life moment lookup given
+found_here life books moment lookup given here found =
+    let is : present life ≡ here.present = here.running.present in
+    elim (found here.present here.at here.next) [
+      | inl told ↦ inl (rw is told)
+      | inr (inl memory) ↦ inr (inl memory)
+      | inr (inr failed) ↦ inr (inr (inl failed))
+    ]

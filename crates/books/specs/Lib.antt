@@ -2,6 +2,7 @@ pub mod Asking
 pub mod Found
 pub mod Headline
 pub mod Keeps
+pub mod Looking
 pub mod Path
 pub mod Reads
 pub mod Serving
@@ -11,6 +12,7 @@ pub use Rattle.book_opening.specs.Opening
 pub use Rattle.book_states.specs.Changing
 pub use Rattle.book_states.specs.Failing
 pub use Rattle.book_states.specs.Others
+pub use Rattle.book_facts.specs.Lookups
 pub use Rattle.book_facts.specs.Totals
 pub use Rattle.book_edits.specs.Transaction
 pub use Rattle.book_states.specs.Same

@@ -8,6 +8,7 @@ mod ask;
 mod attempt;
 mod close;
 mod files;
+mod look_up;
 mod memory;
 mod open;
 mod pages;

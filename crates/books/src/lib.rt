@@ -6,6 +6,7 @@
 #![tactic(auto)]
 
 pub use book_opening::OpenFault;
+pub use book_facts::{Found, Lookup, MeterSummary, Quote};
 pub use book_tables::Totals;
 pub use books::Books;
 pub use headline::headline_law;

@@ -1,0 +1,86 @@
+//! A look-up in the tables.
+
+ghost use Rattle.std.specs.Prelude.{◌≡◌, ◌≢◌, ◌⊎◌, ◌+◌, Err, IfErr, IfOk, false, length};
+ghost use Rattle.sqlite.specs.State.{HasCleanDisk};
+ghost use Rattle.one_table.specs.Over.{Over};
+ghost use Rattle.vend_core.specs.Office.{Office};
+ghost use Rattle.book_tables.specs.reading.Reading.{HasAllTables, OnlyReads};
+ghost use Rattle.book_states.specs.Failing.{IsToldOfRead};
+ghost use Rattle.book_states.specs.Members.{SaysOfOffice};
+ghost use Rattle.book_states.specs.Stores.{Stores};
+ghost use Rattle.book_states.specs.Same.{ChangesNothing, IsSame};
+ghost use Rattle.book_facts.specs.Lookups.{IsFoundIn, IsOfRules, found_in};
+
+use crate::lookup::{Found, Lookup};
+use book_states::refusal_of;
+use book_tables::TableError;
+use sqlite::{Alter, Connection};
+use std::alloc::Global;
+use vend_core::{Moment, Refusal};
+
+mod last_sales;
+mod meters;
+mod quotes;
+mod sales;
+mod shifts;
+
+pub use quotes::quote_law;
+
+/// What the tables have of what is looked up, at a moment, where this is the number of the next
+/// sale.
+///
+/// # Errors
+/// `NoMeter`, `NoSale`, `NoSuchShift`; of a quote those of a new sale, but for its shift; `Store`
+/// and `Memory`.
+pub fn look_up<S: Alter>(
+    alloc: Global,
+    conn: &mut Connection<S>,
+    moment: Moment,
+    next_number: u64,
+    lookup: &Lookup,
+) -> Result<Found, Refusal>
+    requires { conn.old.in_transaction ≡ false }
+    ensures found { Over S.Store conn (λ old new. HasCleanDisk new → (o : Office) → Stores old o
+        → next_number ≡ length o.sales + 1 → IsFoundIn o moment lookup.now result) }
+    ensures nothing { Over S.Store conn (λ old new. HasCleanDisk new → HasAllTables old
+        → ChangesNothing old new) }
+    ensures failures { Over S.Store conn (λ old new. HasCleanDisk new → HasAllTables old
+        → IfErr result (λ refusal. IsOfRules refusal ⊎ IsToldOfRead refusal old new)) }
+    ensures clean { Over S.Store conn (λ old new. HasCleanDisk new → HasCleanDisk old) }
+    ensures refusals { IfErr result (λ refusal. IsOfRules refusal
+        ⊎ ((refusal ≡ Refusal.Memory) ⊎ (refusal ≡ Refusal.Store))) }
+    ensures never_stopped { result ≢ Err Refusal.Stopped }
+    ensures outside { conn.new.in_transaction ≡ false }
+{
+    // Outside a transaction an open connection has what was committed last.
+    let _settled = conn.is_autocommit();
+    match found_of(alloc, conn, moment, next_number.saturating_sub(1), lookup) {
+        Ok(found) => found,
+        Err(error) => Err(refusal_of(error)),
+    }
+}
+
+// What the tables have of it, or why the rules give nothing. The count of sales is the caller's.
+fn found_of<S: Alter>(
+    alloc: Global,
+    conn: &mut Connection<S>,
+    moment: Moment,
+    sale_count: u64,
+    lookup: &Lookup,
+) -> Result<Result<Found, Refusal>, TableError>
+    ensures facts { Over S.Store conn (λ old new. SaysOfOffice (λ o found. sale_count ≡ length
+        o.sales → found ≡ found_in o moment lookup.now) old new result) }
+    ensures reads { Over S.Store conn (λ old new. OnlyReads IsSame old new result) }
+    ensures rules { IfOk result (λ found. IfErr found IsOfRules) }
+{
+    match lookup {
+        Lookup::SaleCount => Ok(Ok(Found::SaleCount(sale_count))),
+        Lookup::Meter(number) => meters::meter_of(conn, moment, number),
+        Lookup::LastSale(number) => last_sales::last_sale_of(conn, number),
+        Lookup::SaleOfRef(operator, order_ref) => sales::sale_under(conn, operator, order_ref),
+        Lookup::Quote(number, tender) => {
+            quotes::quote_of(alloc, conn, moment, number, *tender, sale_count)
+        },
+        Lookup::ShiftTotals(number) => shifts::totals_under(conn, *number),
+    }
+}

@@ -1,0 +1,78 @@
+//! The last sale to a meter.
+
+ghost use Rattle.std.specs.Prelude.{◌≡◌, IfErr, IfOk};
+ghost use Rattle.sqlite.specs.State.{IsUnchanged};
+ghost use Rattle.one_table.specs.Over.{Over};
+ghost use Rattle.book_tables.specs.reading.Reading.{OnlyReads};
+ghost use Rattle.book_states.specs.Members.{SaysOfOffice};
+ghost use Rattle.book_facts.specs.Lookups.{IsOfRules, last_found, last_sale, last_under};
+
+use crate::looking::sales::sale_or_none;
+use crate::lookup::Found;
+use book_tables::reading::{meters, sales, totals};
+use book_tables::{TableError, members_law};
+use sqlite::{Alter, Connection};
+use sts_fields::Base;
+use vend_core::{MeterNo, Refusal, Sale, store_law};
+
+/// The last sale to the meter of a number, where there is one of it.
+pub(crate) fn last_sale_of<S: Alter>(
+    conn: &mut Connection<S>,
+    number: &MeterNo,
+) -> Result<Result<Found, Refusal>, TableError>
+    ensures facts { Over S.Store conn (λ old new. SaysOfOffice (λ o found. found ≡ last_found
+        (o.meters number.now) (last_sale o number.now)) old new result) }
+    ensures reads { Over S.Store conn (λ old new. OnlyReads IsUnchanged old new result) }
+    ensures rules { IfOk result (λ found. IfErr found IsOfRules) }
+{
+    members_law();
+    let there = meters::meter_numbered(conn, number)?;
+    if there.is_none() {
+        return Ok(Err(Refusal::NoMeter));
+    }
+    let last = last_sale(conn, number)?;
+    Ok(sale_or_none(last))
+}
+
+/// The last sale to a meter: under the latest base that it has one under.
+pub(crate) fn last_sale<S: Alter>(
+    conn: &mut Connection<S>,
+    number: &MeterNo,
+) -> Result<Option<Sale>, TableError>
+    ensures facts { Over S.Store conn (λ old new. SaysOfOffice (λ o found. found ≡ last_sale o
+        number.now) old new result) }
+    ensures reads { Over S.Store conn (λ old new. OnlyReads IsUnchanged old new result) }
+{
+    let latest = last_under(conn, number, Base::Y2035)?;
+    if latest.is_some() {
+        return Ok(latest);
+    }
+    let before = last_under(conn, number, Base::Y2014)?;
+    if before.is_some() {
+        return Ok(before);
+    }
+    last_under(conn, number, Base::Y1993)
+}
+
+// The last sale to a meter under a base: that of the greatest identifier.
+fn last_under<S: Alter>(
+    conn: &mut Connection<S>,
+    number: &MeterNo,
+    base: Base,
+) -> Result<Option<Sale>, TableError>
+    ensures facts { Over S.Store conn (λ old new. SaysOfOffice (λ o found. found ≡ last_under o
+        number.now base) old new result) }
+    ensures reads { Over S.Store conn (λ old new. OnlyReads IsUnchanged old new result) }
+{
+    store_law();
+    let last = totals::greatest_tid(conn, number, base)?;
+    let Some(tid) = last else {
+        return Ok(None);
+    };
+    let there = sales::sale_of_tid(conn, number, base, tid)?;
+    let Some(sale) = there else {
+        // The greatest identifier of an office is that of one of its sales.
+        return Err(TableError::RowOfNoOffice);
+    };
+    Ok(Some(sale))
+}

@@ -1,0 +1,41 @@
+//! The sale of a ref.
+
+ghost use Rattle.std.specs.Prelude.{◌≡◌, IfErr, IfOk};
+ghost use Rattle.sqlite.specs.State.{IsUnchanged};
+ghost use Rattle.one_table.specs.Over.{Over};
+ghost use Rattle.vend_core.specs.Office.Lookup.{sale_of_ref};
+ghost use Rattle.book_tables.specs.reading.Reading.{OnlyReads};
+ghost use Rattle.book_states.specs.Members.{SaysOfOffice};
+ghost use Rattle.book_facts.specs.Lookups.{IsOfRules, sale_found};
+
+use crate::lookup::Found;
+use book_tables::TableError;
+use book_tables::reading::sales;
+use sqlite::{Alter, Connection};
+use vend_core::{Operator, Ref, Refusal, Sale};
+
+/// The sale that the operator made under the ref.
+pub(crate) fn sale_under<S: Alter>(
+    conn: &mut Connection<S>,
+    operator: &Operator,
+    order_ref: &Ref,
+) -> Result<Result<Found, Refusal>, TableError>
+    ensures facts { Over S.Store conn (λ old new. SaysOfOffice (λ o found. found ≡ sale_found
+        (sale_of_ref o operator.now order_ref.now)) old new result) }
+    ensures reads { Over S.Store conn (λ old new. OnlyReads IsUnchanged old new result) }
+    ensures rules { IfOk result (λ found. IfErr found IsOfRules) }
+{
+    let there = sales::sale_of_ref(conn, operator, order_ref)?;
+    Ok(sale_or_none(there))
+}
+
+/// The sale that was looked up, where there is one.
+pub(crate) fn sale_or_none(there: Option<Sale>) -> Result<Found, Refusal>
+    ensures value { result ≡ sale_found there }
+    ensures rules { IfErr result IsOfRules }
+{
+    match there {
+        Some(sale) => Ok(Found::Sale(sale)),
+        None => Err(Refusal::NoSale),
+    }
+}

@@ -1,0 +1,39 @@
+//! The totals of a shift.
+
+ghost use Rattle.std.specs.Prelude.{◌≡◌, IfErr, IfOk};
+ghost use Rattle.sqlite.specs.State.{IsUnchanged};
+ghost use Rattle.one_table.specs.Over.{Over};
+ghost use Rattle.book_tables.specs.reading.Reading.{OnlyReads};
+ghost use Rattle.book_states.specs.Members.{SaysOfOffice};
+ghost use Rattle.book_facts.specs.Lookups.{IsOfRules, totals_found};
+ghost use Rattle.book_facts.specs.Totals.{shift_totals};
+
+use crate::facts::shifts::totals_of;
+use crate::lookup::Found;
+use book_tables::{TableError, Totals};
+use sqlite::{Alter, Connection};
+use vend_core::Refusal;
+
+/// The totals of the shift of a number.
+pub(crate) fn totals_under<S: Alter>(
+    conn: &mut Connection<S>,
+    number: u32,
+) -> Result<Result<Found, Refusal>, TableError>
+    ensures facts { Over S.Store conn (λ old new. SaysOfOffice (λ o found. found ≡ totals_found
+        number (shift_totals o number)) old new result) }
+    ensures reads { Over S.Store conn (λ old new. OnlyReads IsUnchanged old new result) }
+    ensures rules { IfOk result (λ found. IfErr found IsOfRules) }
+{
+    let there = totals_of(conn, number)?;
+    Ok(totals_or_none(number, there))
+}
+
+fn totals_or_none(number: u32, there: Option<Totals>) -> Result<Found, Refusal>
+    ensures value { result ≡ totals_found number there }
+    ensures rules { IfErr result IsOfRules }
+{
+    match there {
+        Some(totals) => Ok(Found::ShiftTotals(number, totals)),
+        None => Err(Refusal::NoSuchShift),
+    }
+}
