@@ -1,6 +1,6 @@
 -- What is found where something is looked up, and why nothing is.
-use Rattle.std.proofs.Common.{◌≡◌, ◌≢◌, ◌⊎◌, inl, ℕ, ◌+◌, ◌&&◌, ◌==◌, Bool, true, false, Option, None, Some, Result, Ok, Err, IsSome, List, ap, find, is_none, option_map, refl, subst, sym, ◌∙◌}
-use Rattle.std.specs.Prelude.{Contains, IfErr, bytes_eq, nat_lt, if◌then◌else◌}
+use Rattle.std.proofs.Common.{◌≡◌, ◌≢◌, ◌⊎◌, inl, ℕ, ◌+◌, ◌&&◌, ◌==◌, Bool, true, false, Option, None, Some, Result, Ok, Err, IsSome, List, ap, is_none, option_map, refl, subst, sym, ◌∙◌}
+use Rattle.std.specs.Prelude.{IfErr, bytes_eq, nat_lt, if◌then◌else◌}
 use Rattle.std.specs.Option.{ok_or}
 use Rattle.std.proofs.lemmas.Bool.{false≢true}
 use Rattle.std.proofs.lemmas.List.Elements.{All-contains}

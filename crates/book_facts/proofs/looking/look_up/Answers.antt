@@ -1,4 +1,4 @@
-use Rattle.std.proofs.Common.{◌≡◌, arith, length, rules, IsTrue, ap, inl, inr, Err, subst}
+use Rattle.std.proofs.Common.{◌≡◌, arith, length, rules, IsTrue, ap, inl, inr, Err}
 use Rattle.sqlite.specs.Held.{state}
 use Rattle.book_states.proofs.FailingLemmas.{told_of_read}
 use Rattle.book_states.proofs.StayLemmas.{clean_before, left_same}

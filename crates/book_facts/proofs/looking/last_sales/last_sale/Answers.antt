@@ -3,11 +3,11 @@ use Rattle.std.proofs.Common.{Option, ap, sym, ◌∙◌}
 use Rattle.std.proofs.lemmas.Result.{IfOk-weaker}
 use Rattle.std.specs.Option.{option_or}
 use Rattle.sqlite.specs.Held.{state}
-use Rattle.sts_fields.specs.declared.base.Base.TheVariants.{Y1993, Y2014, Y2035}
+use Rattle.sts_fields.specs.declared.base.Base.TheVariants.{Y1993, Y2014}
 use Rattle.vend_core.specs.declared.office.sale.Sale.{Sale}
 use Rattle.book_facts.specs.Lookups.{last_under}
 use Rattle.book_facts.proofs.FactsLemmas.{begun_alone, begun_or_first, members_after, was_clean}
-use Rattle.book_facts.proofs.PassedLemmas.{clean_before, passed, passed_after, passed_none, read_after}
+use Rattle.book_facts.proofs.PassedLemmas.{clean_before, passed, passed_after, read_after}
 use Rattle.book_facts.proofs.FactsLemmas.{tables_of}
 use Rattle.book_facts.proofs.looking.last_sales.last_sale.Goals as goal
 
