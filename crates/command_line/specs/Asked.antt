@@ -2,10 +2,10 @@
 use Rattle.std.specs.Prelude.{◌≡◌, List, [], Option, Some, None, codes}
 use Rattle.clap.specs.Walk.{Row}
 use Rattle.sts_fields.specs.Text.{Text}
-use Rattle.command_line.specs.Commands.{SaysAudit, SaysImport, SaysMeterCommand, SaysQuote, SaysReport, SaysRequestWords, SaysSelfcheck, SaysServe, SaysTrial}
+use Rattle.command_line.specs.Commands.{SaysAudit, SaysImport, SaysMeterCommand, SaysOffer, SaysQuote, SaysReport, SaysRequestWords, SaysSelfcheck, SaysServe, SaysShow, SaysTrial}
 use Rattle.command_line.specs.Line.{command_in, faults_in}
 use Rattle.command_line.specs.declared.asked.Asked.{Asked}
-use Rattle.command_line.specs.declared.asked.Asked.TheVariants.{Trial, Import, Request, Report, Meter, Quote, Serve, Selfcheck, Audit}
+use Rattle.command_line.specs.declared.asked.Asked.TheVariants.{Trial, Import, Request, Report, Show, Meter, Quote, Offer, Serve, Selfcheck, Audit}
 
 -- the command of this name asks for this, as its rows say
 abbrev pub ArgumentsSay : (name : Text) → List Row → Asked → Type 0
@@ -13,8 +13,10 @@ ArgumentsSay name rows (Trial words) = (name ≡ codes "trial") × SaysTrial row
 ArgumentsSay name rows (Import words) = (name ≡ codes "import") × SaysImport rows words
 ArgumentsSay name rows (Request words) = SaysRequestWords name rows words
 ArgumentsSay name rows (Report words) = (name ≡ codes "report") × SaysReport rows words
+ArgumentsSay name rows (Show words) = (name ≡ codes "show") × SaysShow rows words
 ArgumentsSay name rows (Meter words) = (name ≡ codes "meter") × SaysMeterCommand rows words
 ArgumentsSay name rows (Quote words) = (name ≡ codes "quote") × SaysQuote rows words
+ArgumentsSay name rows (Offer words) = (name ≡ codes "offer") × SaysOffer rows words
 ArgumentsSay name rows (Serve words) = (name ≡ codes "serve") × SaysServe rows words
 ArgumentsSay name rows (Selfcheck words) = (name ≡ codes "selfcheck") × SaysSelfcheck rows words
 ArgumentsSay name rows (Audit words) = (name ≡ codes "audit") × SaysAudit rows words

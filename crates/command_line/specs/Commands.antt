@@ -10,12 +10,16 @@ use Rattle.command_line.specs.Values.{SayEach, SaysAmount, SaysBase, SaysConnect
 use Rattle.command_line.specs.declared.commands.audit.AuditWords.{AuditWords}
 use Rattle.command_line.specs.declared.commands.import.ImportWords.{ImportWords}
 use Rattle.command_line.specs.declared.commands.meter.MeterWords.{MeterWords}
+use Rattle.command_line.specs.declared.commands.offer.OfferWords.{OfferWords}
 use Rattle.command_line.specs.declared.commands.quote.QuoteWords.{QuoteWords}
 use Rattle.command_line.specs.declared.commands.report.Paper.{Paper}
 use Rattle.command_line.specs.declared.commands.report.Paper.TheVariants.{Shift, Receipt, Totals, Sales}
 use Rattle.command_line.specs.declared.commands.report.ReportWords.{ReportWords}
 use Rattle.command_line.specs.declared.commands.selfcheck.SelfcheckWords.{SelfcheckWords}
 use Rattle.command_line.specs.declared.commands.serve.ServeWords.{ServeWords}
+use Rattle.command_line.specs.declared.commands.show.ShowWords.{ShowWords}
+use Rattle.command_line.specs.declared.commands.show.Shown.{Shown}
+use Rattle.command_line.specs.declared.commands.show.Shown.TheVariants as shown
 use Rattle.command_line.specs.declared.commands.trial.TrialWords.{TrialWords}
 use Rattle.command_line.specs.declared.request_words.RequestWords.{RequestWords}
 use Rattle.vend_core.specs.declared.decision.request.Order.{Order}
@@ -112,6 +116,30 @@ pub record SaysReport (rows : List Row) (words : ReportWords) : Type 0 where
   pub wait : IsArgument SaysWait (parsed_argument (codes "wait") rows) words.wait
   pub paper : SaysPaper (parsed_argument (codes "kind") rows)
       (parsed_argument (codes "number") rows) words.paper
+
+-- a meter, or its last sale, by its number; a sale by its operator and ref
+abbrev pub SaysShown : List Row → Shown → Type 0
+SaysShown rows (shown.Meter meter) = (parsed_argument (codes "what") rows ≡ Some (codes "meter"))
+    × IsArgument SaysMeterNo (parsed_argument (codes "meter") rows) meter
+SaysShown rows (shown.Last meter) = (parsed_argument (codes "what") rows ≡ Some (codes "last"))
+    × IsArgument SaysMeterNo (parsed_argument (codes "meter") rows) meter
+SaysShown rows (shown.Sale operator order_ref) =
+    (parsed_argument (codes "what") rows ≡ Some (codes "sale"))
+    × IsArgument SaysOperator (parsed_argument (codes "operator") rows) operator
+    × IsArgument SaysRef (parsed_argument (codes "ref") rows) order_ref
+
+pub record SaysShow (rows : List Row) (words : ShowWords) : Type 0 where
+  pub file : IsArgument SaysText (parsed_argument (codes "file") rows) words.file
+  pub wait : IsArgument SaysWait (parsed_argument (codes "wait") rows) words.wait
+  pub at : IsOptionalArgument SaysMoment (parsed_argument (codes "at") rows) words.at
+  pub shown : SaysShown rows words.shown
+
+pub record SaysOffer (rows : List Row) (words : OfferWords) : Type 0 where
+  pub file : IsArgument SaysText (parsed_argument (codes "file") rows) words.file
+  pub wait : IsArgument SaysWait (parsed_argument (codes "wait") rows) words.wait
+  pub at : IsOptionalArgument SaysMoment (parsed_argument (codes "at") rows) words.at
+  pub meter : IsArgument SaysMeterNo (parsed_argument (codes "meter") rows) words.meter
+  pub tender : IsArgument SaysTender (parsed_argument (codes "tender") rows) words.tender
 
 pub record SaysServe (rows : List Row) (words : ServeWords) : Type 0 where
   pub transform : IsArgument SaysTransform

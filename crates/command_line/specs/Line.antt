@@ -75,6 +75,15 @@ abbrev pub report_command : Shape
 report_command = command_named (codes "report") (needed (codes "file") ∷ wait_option
     ∷ needed (codes "kind") ∷ with_default (codes "number") (codes "1") ∷ [])
 
+abbrev pub show_command : Shape
+show_command = command_named (codes "show") (needed (codes "file") ∷ wait_option ∷ at_option
+    ∷ option_named (codes "meter") ∷ option_named (codes "operator") ∷ option_named (codes "ref")
+    ∷ word_named (codes "what") ∷ [])
+
+abbrev pub offer_command : Shape
+offer_command = command_named (codes "offer") (needed (codes "file") ∷ wait_option ∷ at_option
+    ∷ needed (codes "meter") ∷ word_named (codes "tender") ∷ [])
+
 abbrev pub meter_command : Shape
 meter_command = command_named (codes "meter")
     (transform_option ∷ needed (codes "key") ∷ words_named (codes "tokens") ∷ [])
@@ -97,9 +106,9 @@ audit_command = command_named (codes "audit") (needed (codes "file") ∷ wait_op
 
 -- the commands, each of which has one level of words
 abbrev pub commands : List Shape
-commands = import_command ∷ shift_command ∷ sell_command ∷ report_command ∷ base_command
-    ∷ audit_command ∷ serve_command ∷ quote_command ∷ meter_command ∷ trial_command
-    ∷ selfcheck_command ∷ []
+commands = import_command ∷ shift_command ∷ sell_command ∷ report_command ∷ show_command
+    ∷ offer_command ∷ base_command ∷ audit_command ∷ serve_command ∷ quote_command
+    ∷ meter_command ∷ trial_command ∷ selfcheck_command ∷ []
 
 abbrev pub has_none : List Shape → Bool
 has_none [] = true
@@ -132,10 +141,22 @@ abbrev pub sells_by_base : List Text → Bool
 sells_by_base (command ∷ next ∷ rest) = pointwise eqb command (codes "sell") && is_base_option next
 sells_by_base words = false
 
--- the words as they are meant: `sell` is `trial` where `--base` comes next
+-- `--file`, alone or with its value after `=`
+abbrev pub is_file_option : Text → Bool
+is_file_option word = pointwise eqb word (codes "--file") || starts_with eqb word (codes "--file=")
+
+-- `quote`, and the option `--file` right after it
+abbrev pub quotes_by_file : List Text → Bool
+quotes_by_file (command ∷ next ∷ rest) =
+    pointwise eqb command (codes "quote") && is_file_option next
+quotes_by_file words = false
+
+-- the words as they are meant: `sell` is `trial` where `--base` comes next, and `quote` is `offer`
+-- where `--file` does
 abbrev pub meant_by : List Text → List Text
 meant_by (command ∷ rest) =
-    (if sells_by_base (command ∷ rest) then codes "trial" else command) ∷ rest
+    (if sells_by_base (command ∷ rest) then codes "trial"
+    else if quotes_by_file (command ∷ rest) then codes "offer" else command) ∷ rest
 meant_by [] = []
 
 -- the faults that `clap` finds in the words; none where they are those of a command

@@ -5,10 +5,12 @@ ghost use Rattle.command_line.specs.Said.{ReadsOrFull};
 use crate::commands::audit::AuditWords;
 use crate::commands::import::ImportWords;
 use crate::commands::meter::MeterWords;
+use crate::commands::offer::OfferWords;
 use crate::commands::quote::QuoteWords;
 use crate::commands::report::ReportWords;
 use crate::commands::selfcheck::SelfcheckWords;
 use crate::commands::serve::ServeWords;
+use crate::commands::show::ShowWords;
 use crate::commands::trial::TrialWords;
 use crate::request_words::RequestWords;
 use crate::said;
@@ -23,8 +25,10 @@ pub enum Asked<'m, 'a> {
     Import(ImportWords<'a>),
     Request(RequestWords<'a>),
     Report(ReportWords<'a>),
+    Show(ShowWords<'a>),
     Meter(MeterWords<'m, 'a>),
     Quote(QuoteWords),
+    Offer(OfferWords<'a>),
     Serve(ServeWords<'a>),
     Selfcheck(SelfcheckWords),
     Audit(AuditWords<'a>),
@@ -45,11 +49,19 @@ impl<'m, 'a> Asked<'m, 'a> {
                 Some(words) => Ok(Asked::Report(words)),
                 None => Err(BadWords::Value),
             },
+            Some(("show", words)) => match ShowWords::read(words) {
+                Some(words) => Ok(Asked::Show(words)),
+                None => Err(BadWords::Value),
+            },
             Some(("meter", words)) => match MeterWords::read(words) {
                 Some(words) => Ok(Asked::Meter(words)),
                 None => Err(BadWords::Value),
             },
             Some(("quote", words)) => Ok(Asked::Quote(QuoteWords::read(alloc, words)?)),
+            Some(("offer", words)) => match OfferWords::read(words) {
+                Some(words) => Ok(Asked::Offer(words)),
+                None => Err(BadWords::Value),
+            },
             Some(("serve", words)) => match ServeWords::read(words) {
                 Some(words) => Ok(Asked::Serve(words)),
                 None => Err(BadWords::Value),

@@ -2,11 +2,12 @@ ghost use Rattle.std.specs.Prelude.{◌≡◌, List, [], ◌∷◌, ◌++◌, If
 ghost use Rattle.clap.specs.Kinds.{HasKind};
 ghost use Rattle.clap.specs.Simple.{Shape, app_of, subcommand_rows_of};
 ghost use Rattle.command_line.specs.Line.{IsDescribed, command_in, faults_in, line_of_commands, vend_line};
-ghost use Rattle.command_line.specs.Line.{is_base_option, meant_by, sells_by_base};
+ghost use Rattle.command_line.specs.Line.{is_base_option, is_file_option, meant_by};
+ghost use Rattle.command_line.specs.Line.{quotes_by_file, sells_by_base};
 ghost use Rattle.sts_fields.specs.Text.{Text};
 
 use crate::commands::{
-    audit, base, import, meter, quote, report, selfcheck, sell, serve, shift, trial,
+    audit, base, import, meter, offer, quote, report, selfcheck, sell, serve, shift, show, trial,
 };
 use clap::{ArgMatches, Command, Error};
 use std::alloc::{AllocError, Global};
@@ -21,7 +22,7 @@ const STATUSES: &str = "Exit status: 0 done; 1 refused or failed (standard error
     2 invalid arguments.\n'vend COMMAND --help' lists the options of a command.";
 
 /// The words of a line as they are meant, the program's own name left out: `sell` right before
-/// `--base` means `trial`.
+/// `--base` means `trial`, and `quote` right before `--file` means `offer`.
 pub fn meant<'a>(alloc: Global, words: &[&'a str]) -> Result<Vec<&'a str>, AllocError>
     ensures { IfOk result (λ meant. map (λ w. w.now) meant.items
         ≡ meant_by (map (λ w. w.now) words.now)) }
@@ -29,6 +30,8 @@ pub fn meant<'a>(alloc: Global, words: &[&'a str]) -> Result<Vec<&'a str>, Alloc
     let mut meant = words.to_vec(alloc)?;
     if sells_by_base(words) {
         meant[0] = "trial";
+    } else if quotes_by_file(words) {
+        meant[0] = "offer";
     }
     Ok(meant)
 }
@@ -48,6 +51,23 @@ fn is_base_option(word: &str) -> bool
     ensures { result ≡ is_base_option word.now }
 {
     word == "--base" || word.as_bytes().starts_with(b"--base=")
+}
+
+// `quote`, and the option `--file` right after it.
+fn quotes_by_file(words: &[&str]) -> bool
+    ensures { result ≡ quotes_by_file (map (λ w. w.now) words.now) }
+{
+    match words {
+        [command, next, ..] => *command == "quote" && is_file_option(next),
+        _ => false,
+    }
+}
+
+// `--file`, alone or with its value after `=`.
+fn is_file_option(word: &str) -> bool
+    ensures { result ≡ is_file_option word.now }
+{
+    word == "--file" || word.as_bytes().starts_with(b"--file=")
 }
 
 /// The matches of words as they are meant, or what `clap` says of them.
@@ -70,6 +90,8 @@ fn describe<'a>(alloc: Global) -> Result<Command<'a>, AllocError>
     let line = with(line, shift::describe(alloc)?)?;
     let line = with(line, sell::describe(alloc)?)?;
     let line = with(line, report::describe(alloc)?)?;
+    let line = with(line, show::describe(alloc)?)?;
+    let line = with(line, offer::describe(alloc)?)?;
     let line = with(line, base::describe(alloc)?)?;
     let line = with(line, audit::describe(alloc)?)?;
     let line = with(line, serve::describe(alloc)?)?;

@@ -7,6 +7,7 @@ ghost use Rattle.command_line.specs.Line.{at_option, needed, option_named, trans
 ghost use Rattle.command_line.specs.Line.{word_named, words_named};
 ghost use Rattle.command_line.specs.Said.{IsArgument, IsOptionalArgument, ReadsWhat, argument_rows, parsed_argument};
 ghost use Rattle.command_line.specs.Values.{SaysBase, SaysKey, SaysMeterNo, SaysMoment, SaysOperator};
+ghost use Rattle.command_line.specs.Values.{SaysRef};
 ghost use Rattle.command_line.specs.Values.{SaysTender, SaysText, SaysTransform, SaysWait};
 
 use crate::transform::Shipped;
@@ -16,7 +17,7 @@ use std::alloc::{AllocError, Global};
 use sts_fields::{Base, Moment};
 use sts_token::read_key;
 use tariff::Tender;
-use vend_core::{MeterNo, Operator};
+use vend_core::{MeterNo, Operator, Ref};
 
 /// A command with a line on what it does and an example below its options, and no words yet.
 pub(crate) fn command<'a>(
@@ -126,6 +127,15 @@ pub(crate) fn file<'a>(alloc: Global) -> Arg<'a>
     needed(alloc, "file", "FILE", help)
 }
 
+/// `--file`, of a command that makes no file.
+pub(crate) fn present_file<'a>(alloc: Global) -> Arg<'a>
+    ensures rule { rule_of result ≡ needed (codes "file") }
+    ensures own { result.global ≡ false }
+{
+    let help = "The office's file, which has to exist";
+    needed(alloc, "file", "FILE", help)
+}
+
 pub(crate) fn read_file<'a>(matches: &ArgMatches<'a>) -> Option<&'a str>
     ensures { ReadsWhat result (IsArgument SaysText
         (parsed_argument (codes "file") (argument_rows matches.now))) }
@@ -163,6 +173,13 @@ pub(crate) fn read_operator(matches: &ArgMatches) -> Option<Operator>
         (parsed_argument (codes "operator") (argument_rows matches.now))) }
 {
     Operator::read(said::text(matches, "operator")?.as_bytes())
+}
+
+pub(crate) fn read_ref(matches: &ArgMatches) -> Option<Ref>
+    ensures { ReadsWhat result (IsArgument SaysRef
+        (parsed_argument (codes "ref") (argument_rows matches.now))) }
+{
+    Ref::read(said::text(matches, "ref")?.as_bytes())
 }
 
 /// `--meter`.

@@ -2,7 +2,7 @@ ghost use Rattle.std.specs.Prelude.{IfOk};
 ghost use Rattle.command_line.specs.Line.{IsDescribed, audit_command};
 ghost use Rattle.command_line.specs.Said.{ReadsWhat, argument_rows};
 
-use crate::options::{self, needed, with};
+use crate::options::{self, with};
 use clap::{ArgMatches, Command};
 use std::alloc::{AllocError, Global};
 
@@ -22,10 +22,9 @@ pub(crate) fn describe<'a>(alloc: Global) -> Result<Command<'a>, AllocError>
     let about =
         "Checks every row of a file, changes none, and prints what the file has, or the first \
         row that breaks a rule";
-    let file = "The office's file, which has to exist";
     let example = "Example: vend audit --file office.db";
     let command = options::command(alloc, "audit", about, example);
-    let command = with(command, needed(alloc, "file", "FILE", file))?;
+    let command = with(command, options::present_file(alloc))?;
     with(command, options::wait(alloc))
 }
 

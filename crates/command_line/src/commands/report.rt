@@ -37,12 +37,11 @@ pub(crate) fn describe<'a>(alloc: Global) -> Result<Command<'a>, AllocError>
     ensures { IfOk result (IsDescribed report_command) }
 {
     let about = "Prints a shift's report or totals, a sale's receipt again, or all sales as CSV";
-    let file = "The office's file, which has to exist";
     let kind = "What to print: shift, receipt, totals or sales";
     let number = "The number of the shift or the sale, 1 to 1000000000; ignored with sales";
     let example = "Example: vend report --file office.db --kind receipt --number 7";
     let command = options::command(alloc, "report", about, example);
-    let command = with(command, needed(alloc, "file", "FILE", file))?;
+    let command = with(command, options::present_file(alloc))?;
     let command = with(command, options::wait(alloc))?;
     let command = with(command, needed(alloc, "kind", "KIND", kind))?;
     let number = options::option(alloc, "number", "N", number).default_value("1");

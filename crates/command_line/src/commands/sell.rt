@@ -1,14 +1,12 @@
 ghost use Rattle.std.specs.Prelude.{codes, IfOk};
 ghost use Rattle.command_line.specs.Commands.{SaysRequest};
 ghost use Rattle.command_line.specs.Line.{IsDescribed, sell_command};
-ghost use Rattle.command_line.specs.Said.{IsArgument, ReadsWhat, argument_rows, parsed_argument};
-ghost use Rattle.command_line.specs.Values.{SaysRef};
+ghost use Rattle.command_line.specs.Said.{ReadsWhat, argument_rows};
 
 use crate::options::{self, needed, with};
-use crate::said;
 use clap::{ArgMatches, Command};
 use std::alloc::{AllocError, Global};
-use vend_core::{Order, Ref, Request};
+use vend_core::{Order, Request};
 
 /// `sell --file F [--wait S] --operator O --ref R --meter M --tender C [--at S] [--transform X]`.
 pub(crate) fn describe<'a>(alloc: Global) -> Result<Command<'a>, AllocError>
@@ -40,15 +38,8 @@ pub(crate) fn read(matches: &ArgMatches) -> Option<Request>
 {
     Some(Request::Sell(Order {
         operator: options::read_operator(matches)?,
-        order_ref: read_ref(matches)?,
+        order_ref: options::read_ref(matches)?,
         meter: options::read_meter(matches)?,
         tender: options::read_tender(matches)?,
     }))
-}
-
-fn read_ref(matches: &ArgMatches) -> Option<Ref>
-    ensures { ReadsWhat result (IsArgument SaysRef
-        (parsed_argument (codes "ref") (argument_rows matches.now))) }
-{
-    Ref::read(said::text(matches, "ref")?.as_bytes())
 }

@@ -13,4 +13,6 @@ returns c =
     let after8 = c.in_ok-line-9.ensures _ _ after7 c.in_ok-describe-8.ensures in
     let after9 = c.in_ok-line-10.ensures _ _ after8 c.in_ok-describe-9.ensures in
     let after10 = c.in_ok-line-11.ensures _ _ after9 c.in_ok-describe-10.ensures in
-    c.with-11.ensures _ _ after10 c.in_ok-describe-11.ensures
+    let after11 = c.in_ok-line-12.ensures _ _ after10 c.in_ok-describe-11.ensures in
+    let after12 = c.in_ok-line-13.ensures _ _ after11 c.in_ok-describe-12.ensures in
+    c.with-13.ensures _ _ after12 c.in_ok-describe-13.ensures

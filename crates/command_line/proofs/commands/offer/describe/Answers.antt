@@ -1,0 +1,9 @@
+use Rattle.command_line.proofs.commands.offer.describe.Goals as goal
+
+pub returns : goal.returns
+returns c =
+    let after1 = c.in_ok-command.ensures _ _ c.command-command.ensures c.present_file.ensures.rule in
+    let after2 = c.in_ok-command-2.ensures _ _ after1 c.wait.ensures.rule in
+    let after3 = c.in_ok-command-3.ensures _ _ after2 c.at.ensures.rule in
+    let after4 = c.in_ok-command-4.ensures _ _ after3 c.meter.ensures.rule in
+    c.with-5.ensures _ _ after4 c.word.ensures.rule

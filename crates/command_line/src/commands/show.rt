@@ -1,0 +1,84 @@
+ghost use Rattle.std.specs.Prelude.{codes, IfOk};
+ghost use Rattle.command_line.specs.Commands.{SaysShow, SaysShown};
+ghost use Rattle.command_line.specs.Line.{IsDescribed, show_command};
+ghost use Rattle.command_line.specs.Said.{ReadsWhat, argument_rows};
+
+use crate::options::{self, needed, option, with};
+use crate::said;
+use clap::{ArgMatches, Command};
+use std::alloc::{AllocError, Global};
+use sts_fields::Moment;
+use vend_core::{MeterNo, Operator, Ref};
+
+/// What is shown of an office.
+#[derive(Clone, Copy, Debug, PartialEq, Eq)]
+pub enum Shown {
+    /// A meter, without its key.
+    Meter(MeterNo),
+    /// The receipt of the last sale to a meter.
+    Last(MeterNo),
+    /// The sale that an operator made under a ref.
+    Sale(Operator, Ref),
+}
+
+/// What `show` is asked for: something that an office has.
+#[derive(Clone, Copy)]
+pub struct ShowWords<'a> {
+    /// The file that keeps the office. It is not made.
+    pub file: &'a str,
+    /// For how many seconds it waits while another program has the file, 0 to 3600.
+    pub wait: u32,
+    /// The machine's clock where it is left out.
+    pub at: Option<Moment>,
+    pub shown: Shown,
+}
+
+/// `show --file F [--wait S] [--at S] meter|last --meter M`, and
+/// `show --file F [--wait S] [--at S] sale --operator O --ref R`.
+pub(crate) fn describe<'a>(alloc: Global) -> Result<Command<'a>, AllocError>
+    ensures { IfOk result (IsDescribed show_command) }
+{
+    let about = "Prints a meter and what it bought this month, a sale by its ref, or the receipt \
+        of a meter's last sale; changes nothing";
+    let meter = "With meter and last: the meter's number, eleven digits of which the last is a \
+        Luhn check";
+    let operator = "With sale: the cashier who sold, 1 to 16 ASCII letters or digits";
+    let order_ref = "With sale: your name for the order, 1 to 32 ASCII letters, digits or hyphens";
+    let what = "What to print: meter, sale or last";
+    let example = "Example: vend show --file office.db meter --meter 12345678903";
+    let command = options::command(alloc, "show", about, example);
+    let command = with(command, options::present_file(alloc))?;
+    let command = with(command, options::wait(alloc))?;
+    let command = with(command, options::at(alloc))?;
+    let command = with(command, option(alloc, "meter", "NUMBER", meter))?;
+    let command = with(command, option(alloc, "operator", "NAME", operator))?;
+    let command = with(command, option(alloc, "ref", "REF", order_ref))?;
+    with(command, options::word(alloc, "what", "WHAT", what))
+}
+
+impl<'a> ShowWords<'a> {
+    pub(crate) fn read(matches: &ArgMatches<'a>) -> Option<ShowWords<'a>>
+        ensures { ReadsWhat result (SaysShow (argument_rows matches.now)) }
+    {
+        Some(ShowWords {
+            file: options::read_file(matches)?,
+            wait: options::read_wait(matches)?,
+            at: options::read_at(matches)?,
+            shown: read_shown(matches)?,
+        })
+    }
+}
+
+fn read_shown(matches: &ArgMatches) -> Option<Shown>
+    ensures { ReadsWhat result (SaysShown (argument_rows matches.now)) }
+{
+    match said::text(matches, "what")? {
+        "meter" => Some(Shown::Meter(options::read_meter(matches)?)),
+        "last" => Some(Shown::Last(options::read_meter(matches)?)),
+        "sale" => {
+            let operator = options::read_operator(matches)?;
+            Some(Shown::Sale(operator, options::read_ref(matches)?))
+        }
+        _ => None,
+    }
+}
