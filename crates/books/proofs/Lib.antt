@@ -3,6 +3,7 @@ mod AttemptLemmas
 mod FoundLemmas
 mod FreshLemmas
 mod HeadlineLemmas
+mod LastSaleLemmas
 mod NothingLemmas
 mod OpenedLemmas
 pub mod OthersLemmas

@@ -1,14 +1,14 @@
 -- What a call that only reads makes of books.
-use Rattle.std.proofs.Common.{◌≡◌, ◌≢◌, ◌⊎◌, ◌↔◌, ◌+◌, ℕ, length, false, true, IsTrue, Result, Ok, Err, refl, sym, subst, ◌∙◌, inl, inr}
+use Rattle.std.proofs.Common.{◌≡◌, ◌≢◌, ◌⊎◌, ◌↔◌, ◌+◌, ℕ, length, false, true, IsTrue, Result, Ok, Err, ap, refl, sym, subst, ◌∙◌, inl, inr}
 use Rattle.std.proofs.lemmas.Bool.{false≢true}
 use Rattle.std.specs.Prelude.{IfErr}
 use Rattle.sqlite.specs.State.{HasCleanDisk}
-use Rattle.vend_core.specs.Law.Life.{Life, present}
+use Rattle.vend_core.specs.Law.Life.{Life}
 use Rattle.vend_core.specs.Office.{Office}
 use Rattle.vend_core.specs.declared.decision.refusal.Refusal.{Refusal}
 use Rattle.vend_core.specs.declared.decision.refusal.Refusal.TheVariants.{Memory, Store, Stopped}
 use Rattle.book_tables.specs.reading.Reading.{HasAllTables}
-use Rattle.book_facts.specs.Lookups.{IsFoundIn}
+use Rattle.book_facts.specs.Lookups.{IsFoundIn, found_in}
 use Rattle.book_facts.specs.declared.lookup.Found.{Found}
 use Rattle.book_facts.specs.declared.lookup.Lookup.{Lookup}
 use Rattle.book_states.specs.Failing.{IsToldOfRead}
@@ -81,9 +81,8 @@ was_read Own given old new runs forward next nothing back failures refusals own 
 pub found_here : (life : Life) (books : Seen) (moment : ℕ) (lookup : Lookup) (given : Result Found Refusal) → (here : IsPresent life books)
     → ((o : Office) → Stores books.state o → books.next_number ≡ length o.sales + 1 → IsFoundIn o moment lookup given) → IsFoundAt life moment lookup given
 found_here life books moment lookup given here found =
-    let is : present life ≡ here.present = here.running.present in
     elim (found here.present here.at here.next) [
-      | inl told ↦ inl (rw is told)
+      | inl told ↦ inl (told ∙ ap (λ (o : Office). found_in o moment lookup) (sym here.running.present))
       | inr (inl memory) ↦ inr (inl memory)
       | inr (inr failed) ↦ inr (inr (inl failed))
     ]

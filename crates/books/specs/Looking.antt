@@ -1,8 +1,10 @@
 -- What books find where something is looked up.
-use Rattle.std.specs.Prelude.{◌≡◌, ◌⊎◌, ℕ, Result, Err}
+use Rattle.std.specs.Prelude.{◌≡◌, ◌⊎◌, ◌≤◌, ℕ, List, Result, Err, Contains}
 use Rattle.vend_core.specs.Law.Life.{Life, present}
+use Rattle.vend_core.specs.Office.{Office}
 use Rattle.vend_core.specs.declared.decision.refusal.Refusal.{Refusal}
 use Rattle.vend_core.specs.declared.decision.refusal.Refusal.TheVariants.{Memory, Store, Stopped}
+use Rattle.vend_core.specs.declared.office.sale.Sale.{Sale}
 use Rattle.book_facts.specs.Lookups.{found_in}
 use Rattle.book_facts.specs.declared.lookup.Found.{Found}
 use Rattle.book_facts.specs.declared.lookup.Lookup.{Lookup}
@@ -13,3 +15,9 @@ abbrev pub IsFoundAt : Life → ℕ → Lookup → Result Found Refusal → Type
 IsFoundAt life moment lookup result =
     (result ≡ found_in (present life) moment lookup)
     ⊎ ((result ≡ Err Memory) ⊎ ((result ≡ Err Store) ⊎ (result ≡ Err Stopped)))
+
+-- the sale is the last one to a meter, by number
+pub record IsLastTo (o : Office) (number : List ℕ) (s : Sale) : Type 0 where
+  pub stands : Contains o.sales s
+  pub meter : s.meter ≡ number
+  pub last : (t : Sale) → Contains o.sales t → t.meter ≡ number → t.number ≤ s.number

@@ -10,10 +10,12 @@ pub use book_facts::{Found, Lookup, MeterSummary, Quote};
 pub use book_tables::Totals;
 pub use books::Books;
 pub use headline::headline_law;
+pub use last_sales::last_sale_law;
 pub use refused_files::RefusedFiles;
 pub use reopening::{found_law, opening_law};
 
 mod books;
 mod headline;
+mod last_sales;
 mod refused_files;
 mod reopening;
