@@ -1,9 +1,9 @@
 -- The shift of a sale, and the later ones of its operator.
-use Rattle.std.proofs.Common.{◌≡◌, ◌≢◌, ◌≤◌, ◌+◌, ◌-◌, ℕ, Bool, true, false, List, length, None, Some, inl, inr, refl, sym, ap, subst, ◌∙◌, arith}
+use Rattle.std.proofs.Common.{◌≡◌, ◌≢◌, ◌+◌, ◌-◌, ℕ, Bool, true, false, List, length, Some, inl, inr, refl, sym, ap, subst, ◌∙◌, arith}
 use Rattle.std.specs.Prelude.{Contains, ◌↔◌, IsTrue, min, not, slice_get}
 use Rattle.std.proofs.lemmas.Bool.{cases_lt, false≢true}
-use Rattle.std.proofs.lemmas.Option.{get_or_from_slice_get, none-some, same_Some, slice_get-get_or, slice_get_within}
-use Rattle.vend_core.specs.Law.Reached.{IsInOpenShift, IsInOwnShift}
+use Rattle.std.proofs.lemmas.Option.{get_or_from_slice_get, slice_get-get_or, slice_get_within}
+use Rattle.vend_core.specs.Law.Reached.{IsInOpenShift}
 use Rattle.vend_core.specs.Office.{AreNumbered, IsOffice, Office}
 use Rattle.vend_core.specs.declared.office.sale.Sale.{Sale}
 use Rattle.vend_core.specs.declared.office.shift.Shift.{Shift}
@@ -19,36 +19,6 @@ stands_at shifts i x at = (i, slice_get_within shifts i x at, get_or_from_slice_
 module _ (o : Office) (office : IsOffice o) (shifts : List Shift) (same : o.shifts ≡ shifts) (s : Sale) where
   numbered : AreNumbered (λ (x : Shift). x.number) shifts
   numbered = subst (AreNumbered (λ (x : Shift). x.number)) same office.shift_numbers
-
-  -- the own shift stands at the place before its number
-  own_at : (own : IsInOwnShift o s) → (1 ≤ s.shift) × (slice_get shifts (s.shift - 1) ≡ Some own.shift)
-  own_at own =
-      let at = at_place shifts own.shift (subst (λ (l : List Shift). Contains l own.shift) same own.stands) in
-      let number : own.shift.number ≡ at.0 + 1 = numbered at.0 own.shift at.1 in
-      let numbered_so : own.shift.number ≡ s.shift = own.numbered in
-      let place : at.0 ≡ s.shift - 1 = omega arith in
-      (omega arith, subst (λ (i : ℕ). slice_get shifts i ≡ Some own.shift) place at.1)
-
-  pub not_zero : s.shift ≡ 0 → ¬ IsInOwnShift o s
-  not_zero zero_is own = let some = (own_at own).0 in omega arith
-
-  pub not_there : slice_get shifts (s.shift - 1) ≡ None → ¬ IsInOwnShift o s
-  not_there none own = none-some own.shift (sym none ∙ (own_at own).1)
-
-  module _ (x : Shift) (there : slice_get shifts (s.shift - 1) ≡ Some x) where
-    pub not_of_number : x.number ≢ s.shift → ¬ IsInOwnShift o s
-    not_of_number other own = other (ap (λ (y : Shift). y.number) (same_Some x own.shift (sym there ∙ (own_at own).1)) ∙ own.numbered)
-
-    pub own_where : x.number ≡ s.shift → x.operator ≡ s.operator → IsInOwnShift o s
-    own_where number operator = record {
-      shift = x;
-      stands = subst (λ (l : List Shift). Contains l x) (sym same) (stands_at shifts (s.shift - 1) x there);
-      numbered = number;
-      operator = operator;
-    }
-
-    pub operator_where : IsInOwnShift o s → x.operator ≡ s.operator
-    operator_where own = ap (λ (y : Shift). y.operator) (same_Some x own.shift (sym there ∙ (own_at own).1)) ∙ own.operator
 
   -- ---- later shifts of the operator, up to the latest one of the sales before
 

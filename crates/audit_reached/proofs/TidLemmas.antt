@@ -1,5 +1,5 @@
 -- The fresh identifier, and the one that a sale has.
-use Rattle.std.proofs.Common.{◌≡◌, ◌≤◌, ℕ, List, Option, None, Some, Result, Ok, Err, sym, ap, subst, ◌∙◌}
+use Rattle.std.proofs.Common.{◌≡◌, ◌≤◌, ℕ, List, Option, None, Some, Result, Ok, sym, ap, subst, ◌∙◌}
 use Rattle.std.specs.Prelude.{◌&&◌, All, IfSome, bytes_eq, filter}
 use Rattle.std.proofs.lemmas.List.Elements.{All-contains, All-filter, All-map}
 use Rattle.sts_fields.specs.Base.{base_eq}
@@ -33,9 +33,6 @@ module _ (one : HaveOneOutcome) (earlier : List Sale) (s : Sale) where
   next_where minute is last greatest has =
       let same : has.minute ≡ minute = same_Ok (minute_of s.base s.moment) has.minute minute has.minute_is is in
       ap (fresh_after minute) greatest ∙ one sold minute (fresh_after minute (greatest_of sold)) (Ok s.tid) (fresh_after_is sold minute (greatest_of sold) (greatest_is_last sold)) (subst (λ (m : ℕ). FreshOutcome sold m (Ok s.tid)) same has.fresh)
-
-  pub no_minute : (fault : TidFault) → minute_of s.base s.moment ≡ Err fault → ¬ HasFreshTid earlier s
-  no_minute fault is has = let e = has.minute_is in cc
 
 -- the last identifier is one of those that were sold
 within_last : (ns : List ℕ) (last : Option ℕ) → IsLast ns last → All (λ u. u ≤ last_tid) ns → IfSome last (λ t. t ≤ last_tid)

@@ -2,7 +2,7 @@
 use Rattle.std.proofs.Common.{◌≡◌, ◌≤◌, ◌<◌, ◌+◌, ℕ, List, [], ◌∷◌, ◌++◌, Option, None, Some, length, take, get_or, max, refl, sym, ap, subst, add-one, ◌∙◌, arith}
 use Rattle.std.specs.Prelude.{All, slice_get}
 use Rattle.std.proofs.Math.Seq.{take-suc}
-use Rattle.std.proofs.lemmas.List.Elements.{All-contains, All-nil, All-push, All-take, All-weaker, Contains-append_left, Contains-push}
+use Rattle.std.proofs.lemmas.List.Elements.{All-contains, All-push, All-take, All-weaker, Contains-append_left, Contains-push}
 use Rattle.std.proofs.lemmas.Option.{slice_get-get_or}
 use Rattle.sts_fields.specs.Tid.{last_tid}
 use Rattle.vend_core.specs.Law.Reached.{EachAfter}
@@ -16,9 +16,6 @@ use Rattle.audit_reached.specs.declared.finding.Rule.{Rule}
 use Rattle.audit_reached.specs.declared.finding.Rule.TheVariants as rule
 
 -- ---- the greatest shift
-
-pub latest_none : IsLatest [] 0
-latest_none n some = (λ all. omega (arith, some), λ less. All-nil (λ (s : Sale). s.shift < n))
 
 pub latest_more : (earlier : List Sale) (latest : ℕ) (s : Sale) → IsLatest earlier latest → IsLatest (earlier ++ s ∷ []) (max latest s.shift)
 latest_more earlier latest s is n some = (
@@ -34,9 +31,6 @@ latest_more earlier latest s is n some = (
 module _ (o : Office) (earlier : List Sale) (s : Sale) where
   abbrev Kept : Rule → Type 0
   Kept r = Keeps r o earlier s
-
-  pub breaks_operator : ¬ Kept rule.Operator → BreaksFirst o earlier s rule.Operator
-  breaks_operator broken = record { before = λ r less. absurd (omega (arith, less)); breaks = broken }
 
   module _ (operator : Kept rule.Operator) where
     pub breaks_order : ¬ Kept rule.Order → BreaksFirst o earlier s rule.Order
