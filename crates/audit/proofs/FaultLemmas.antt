@@ -1,9 +1,7 @@
 -- Why an audit stops, from why the reading does.
-use Rattle.std.proofs.Common.{◌≡◌, ◌≤◌, ℕ, IsTrue, Result, Ok, Err, inl, inr, refl, sym, subst, arith}
+use Rattle.std.proofs.Common.{◌≡◌, ◌≤◌, ℕ, IsTrue, Result, Ok, Err, inl, refl, sym, subst}
 use Rattle.sqlite.specs.Effect.{Database}
-use Rattle.sqlite.specs.State.{HasCleanDisk, IsUnchanged, State, Survives}
-use Rattle.sqlite.specs.declared.error.Error.TheVariants.{SqliteFailure}
-use Rattle.sqlite.specs.declared.error.ErrorCode.TheVariants.{OutOfMemory}
+use Rattle.sqlite.specs.State.{HasCleanDisk, IsUnchanged, State}
 use Rattle.one_table.specs.ReadsOnly.{ReadsOnly}
 use Rattle.vend_core.specs.Office.{Office}
 use Rattle.book_tables.specs.Holds.{HasOfficeOf, StandsFor}
@@ -21,7 +19,7 @@ use Rattle.audit_stored.specs.declared.office_rows.OfficeRows.{OfficeRows}
 use Rattle.audit.specs.Audited.{IsToldAs}
 use Rattle.audit.specs.Fails.{FailsToAudit, IsNoOffices, IsSoundOf, by_office, by_row, read_fault}
 use Rattle.audit.specs.declared.fault.AuditFault.{AuditFault}
-use Rattle.audit.specs.declared.fault.AuditFault.TheVariants.{Failed, Found}
+use Rattle.audit.specs.declared.fault.AuditFault.TheVariants.{Found}
 
 as_read : (old new : State) (e : ReadFault) → FailsToRead old new e → FailsToAudit old new (read_fault e)
 as_read old new (read.Found g) why = (by_row g why.0 refl, why.1)
@@ -52,30 +50,6 @@ module _ {old new : State} where
         (by_office n some within (known same.0.was_open).has rows (told clean known).read broken, same);
     survives = this.survives;
   }
-
-  -- it succeeds, and memory is lacking then
-  pub memory_stops : {K : State → Type 0} {T U : Type 0} {x : T} → ReadsOnly K IsUnchanged FailsToRead old new (Ok x) → ReadsOnly {T = U} K IsUnchanged FailsToAudit old new (Err (Failed (SqliteFailure OutOfMemory)))
-  memory_stops this = record {
-    same = λ _ _. tt;
-    kept = λ clean known. inl (this.same clean known);
-    mode = this.mode;
-    faults = λ clean known. inr (refl, this.same clean known);
-    survives = this.survives;
-  }
-
--- ---- where nothing is read
-
-pub unread : (s : State) → IsTrue s.is_open → IsUnchanged s s
-unread s runs = (record { was_open = runs; is_open = runs; now_is = refl; committed_is = refl; mode = refl }, record { changes = refl; last_rowid = refl }, refl)
-
-pub unread_survives : (s : State) → Survives s s (λ _. ⊥)
-unread_survives s = record { clean = omega arith; shield = λ k. k; counts = omega arith; limit = refl; closes = λ _ k. inl k; crash = λ _ db k. inl k }
-
-pub unread_reads : {T : Type 0} (s : State) (x : T) → ReadsOnly (λ (s : State). IsTrue s.is_open) IsUnchanged FailsToAudit s s (Ok x)
-unread_reads s x = record { same = λ clean runs. unread s runs; kept = λ _ _. tt; mode = λ outside. outside; faults = λ _ _. tt; survives = λ _. unread_survives s }
-
-pub unread_stops : {T : Type 0} (s : State) (e : AuditFault) → (IsTrue s.is_open → IsUnchanged s s → FailsToAudit s s e) → ReadsOnly {T = T} (λ (s : State). IsTrue s.is_open) IsUnchanged FailsToAudit s s (Err e)
-unread_stops s e why = record { same = λ _ _. tt; kept = λ clean runs. inl (unread s runs); mode = λ outside. outside; faults = λ clean runs. why runs (unread s runs); survives = λ _. unread_survives s }
 
 -- what is known is known of a connection that is open
 pub when_open : (Known : Database → Type 0) {T : Type 0} {old new : State} (r : Result T AuditFault) → IsKnown Known old → ReadsOnly (IsKnown Known) IsUnchanged FailsToAudit old new r → ReadsOnly (λ (s : State). IsTrue s.is_open) IsUnchanged FailsToAudit old new r

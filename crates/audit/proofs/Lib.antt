@@ -1,3 +1,4 @@
 pub mod ClosingLemmas
 pub mod FaultLemmas
+pub mod LookLemmas
 pub mod ToldLemmas

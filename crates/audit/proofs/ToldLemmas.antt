@@ -59,15 +59,6 @@ module _ (n : ℕ) (some : 1 ≤ n) (known : n ≤ present_format) where
       told_other found other ((is n (omega (arith, known))).1 (tells_has n db some here))
 
   module _ (old new : State) where
-    pub told_passes : {T U E F : Type 0} {A : State → State → E → Type 0} {B : State → State → F → Type 0} {x : T} {y : U} → ReadsOnly (HasTable about_kept) IsUnchanged A old new (Ok x) → ReadsOnly (IsKnown (IsSoundOf n)) IsUnchanged B old new (Ok y)
-    told_passes this = record {
-      same = λ clean knows. this.same clean (about_there old knows);
-      kept = λ _ _. tt;
-      mode = this.mode;
-      faults = λ _ _. tt;
-      survives = λ knows. this.survives (about_there old knows);
-    }
-
     -- another format
     pub told_none : {T U E : Type 0} {A : State → State → E → Type 0} {x : T} → ReadsOnly (HasTable about_kept) IsUnchanged A old new (Ok x) → (HasCleanDisk new → IsKnown (IsSoundOf n) old → IsTrue old.is_open → HasNoFormat old.now)
         → ReadsOnly {T = U} (IsKnown (IsSoundOf n)) IsUnchanged FailsToAudit old new (Err NoOffice)

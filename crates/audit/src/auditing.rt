@@ -1,6 +1,6 @@
 //! The audit of a database: all rows of all its tables.
 
-ghost use Rattle.std.specs.Prelude.{◌≡◌, ◌≤◌, false, IfOk, IsTrue, OnOk};
+ghost use Rattle.std.specs.Prelude.{◌≡◌, ◌≤◌, IfOk, IsTrue, OnOk};
 ghost use Rattle.sqlite.specs.State.{HasCleanDisk, IsUnchanged, Survives};
 ghost use Rattle.one_table.specs.Over.{Over};
 ghost use Rattle.one_table.specs.ReadsOnly.{ReadsOnly};
@@ -10,6 +10,7 @@ ghost use Rattle.book_tables.specs.row.Rows.{present_format};
 ghost use Rattle.audit_rows.specs.Fails.{FailsToAudit as FailsToRead, IsKnown};
 ghost use Rattle.audit.specs.Audited.{HaveWholeShifts, IsTested, IsToldAs, Passes};
 ghost use Rattle.audit.specs.Fails.{FailsToAudit, IsSoundOf, failed};
+ghost use Rattle.audit.specs.Looked.{AreOfficeRows};
 
 use crate::audited::{Audited, counted, no_tables};
 use crate::fault::{AuditFault, read_fault};
@@ -19,7 +20,7 @@ use audit_stored::{OfficeRows, read_office_rows, stored_law};
 use book_tables::TableError;
 use book_tables::format::number::format_number;
 use book_tables::format::presence::format_here;
-use kept_order::{KeepsOrder, connection_order_law, order_law};
+use kept_order::order_law;
 use sqlite::{Alter, Connection, Error, ErrorCode, MemStore};
 use std::alloc::Global;
 
@@ -75,6 +76,32 @@ fn read_told<S: Alter>(
     read_office_rows(alloc, conn, format)
 }
 
+// The rows of the tables of a format, where they are those of an office.
+pub(crate) fn office_rows<S: Alter>(
+    alloc: Global,
+    conn: &mut Connection<S>,
+    format: u32,
+) -> Result<OfficeRows, AuditFault>
+    requires some { 1 ≤ format }
+    requires known { format ≤ present_format }
+    ensures given { Over S.Store conn (λ old new. HasCleanDisk new
+        → IsKnown (IsSoundOf format) old → IfOk result (AreOfficeRows format old.now)) }
+    ensures reads { Over S.Store conn (λ old new. ReadsOnly (IsKnown (IsSoundOf format))
+        IsUnchanged FailsToAudit old new result) }
+{
+    let rows = match read_told(alloc, conn, format) {
+        Ok(rows) => rows,
+        Err(fault) => return Err(read_fault(fault)),
+    };
+    match test_office(alloc, format, &rows) {
+        Ok(()) => Ok(rows),
+        Err(OfficeFault::Found(found)) => Err(AuditFault::Found(found)),
+        Err(OfficeFault::Memory) => {
+            Err(AuditFault::Failed(Error::SqliteFailure(ErrorCode::OutOfMemory)))
+        }
+    }
+}
+
 // The audit of the tables of a format.
 fn audit_format<S: Alter>(
     alloc: Global,
@@ -88,16 +115,9 @@ fn audit_format<S: Alter>(
     ensures reads { Over S.Store conn (λ old new. ReadsOnly (IsKnown (IsSoundOf format))
         IsUnchanged FailsToAudit old new result) }
 {
-    let rows = match read_told(alloc, conn, format) {
-        Ok(rows) => rows,
-        Err(fault) => return Err(read_fault(fault)),
-    };
-    match test_office(alloc, format, &rows) {
-        Ok(()) => Ok(counted(format, &rows)),
-        Err(OfficeFault::Found(found)) => Err(AuditFault::Found(found)),
-        Err(OfficeFault::Memory) => {
-            Err(AuditFault::Failed(Error::SqliteFailure(ErrorCode::OutOfMemory)))
-        }
+    match office_rows(alloc, conn, format) {
+        Ok(rows) => Ok(counted(format, &rows)),
+        Err(fault) => Err(fault),
     }
 }
 
@@ -135,21 +155,4 @@ pub fn audit_tables<S: Alter>(
         return Ok(no_tables());
     }
     audit_format(alloc, conn, format)
-}
-
-/// The same over a store that keeps the rows of each table in the order of their numbers. Where it
-/// passes outside a transaction, nothing of their order has to be promised.
-///
-/// # Errors
-/// A row that is no office's, so that the database stands for none (`audit_law`); tables of no
-/// format; what the database refuses, and want of memory. In each case the database is as it was.
-pub fn audit<S: KeepsOrder>(alloc: Global, conn: &mut Connection<S>) -> Result<Audited, AuditFault>
-    ensures given { Over S.Store conn (λ old new. HasCleanDisk new → IsTrue old.is_open
-        → old.in_transaction ≡ false → HaveWholeShifts old.now → IfOk result (Passes old.now)) }
-    ensures reads { Over S.Store conn (λ old new. ReadsOnly (λ s. IsTrue s.is_open) IsUnchanged
-        FailsToAudit old new result) }
-    ensures survives { Over S.Store conn (λ old new. Survives old new (λ _. ⊥)) }
-{
-    connection_order_law(conn);
-    audit_tables(alloc, conn)
 }

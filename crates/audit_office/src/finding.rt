@@ -15,7 +15,8 @@ pub enum Rule {
     TwoOpen,
     /// No row is at the place before it, or the steps are none that a tariff may have.
     Steps,
-    /// The base is none that the meter had, or a later one than its present base.
+    /// The base is none that the meter had, or a later one than its present base; or a sale to the
+    /// meter before was made under a later one.
     Base,
     /// Another row of the table has its key.
     Twice,
@@ -25,6 +26,15 @@ pub enum Rule {
     Surplus,
     /// A row of totals tells another value than the sales.
     Total,
+    /// The sale's operator is not that of its shift.
+    Operator,
+    /// The shift was opened while an earlier one of its operator was open; or a sale before this one
+    /// was made in the operator's next shift, or in one that was opened after that.
+    Order,
+    /// The sale's identifier is not the fresh one of its moment, after those before it.
+    Identifier,
+    /// The sale's digits are those of no token of class 0.
+    Token,
 }
 
 /// Which row of a table it is.
