@@ -5,8 +5,8 @@
 //! and a life that the contracts speak of.
 #![tactic(auto)]
 
-pub use book_opening::OpenFault;
 pub use book_facts::{Found, Lookup, MeterSummary, Quote};
+pub use book_opening::OpenFault;
 pub use book_tables::Totals;
 pub use books::Books;
 pub use headline::headline_law;

@@ -32,13 +32,7 @@ impl<S: Alter, T: BlockTransform> Books<S, T> {
         if self.stopped {
             return Err(Refusal::Stopped);
         }
-        let found = look_up(
-            self.alloc,
-            &mut self.conn,
-            moment,
-            self.next_number,
-            lookup,
-        );
+        let found = look_up(self.alloc, &mut self.conn, moment, self.next_number, lookup);
         self.stopped = has_failed(&found);
         found
     }
