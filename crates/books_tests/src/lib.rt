@@ -7,6 +7,8 @@
 #![tactic(auto)]
 
 #[cfg(test)]
+mod look_ups;
+#[cfg(test)]
 mod older;
 #[cfg(test)]
 mod pages;

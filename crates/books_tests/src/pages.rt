@@ -1,7 +1,7 @@
 //! Many requests at once, the sales a page at a time, and books whose connection is given back.
 
 use crate::shown::all_shown;
-use books::{Books, OpenFault};
+use books::{Books, Lookup, OpenFault};
 use office_testing::both::{Both, agree, ask, in_memory, is_same, office, serve, serve_all, sold};
 use office_testing::in_file::change_tables;
 use office_testing::older::OLDER;
@@ -234,6 +234,8 @@ fn stops_at(rt: &(impl Abort + AllocGlobal), sql: &str) -> Result<(), Fail> {
     assert!(rt; is_stopped_answer(&serve(&mut books, &sound)), "{sql}");
     assert!(rt; is_stopped_answer(&books.shift_totals(1)), "{sql}");
     assert!(rt; is_stopped_answer(&books.sales_after(0, 1000)), "{sql}");
+    let count = books.look_up(sound.moment, &Lookup::SaleCount);
+    assert!(rt; is_stopped_answer(&count), "{sql}");
     let mut conn = books.into_connection();
     assert_eq!(rt;
         all_shown(alloc, &mut conn)?.as_str(),
