@@ -63,9 +63,9 @@ pub fn sell_law<H: OfficeFile>()
     office_law();
 }
 
-/// What `audit` has shown where it ends as done: it printed what it counted, and where the disk
-/// returned what was written, that is the count of a database that an opening of the files may
-/// find, which passes.
+/// What `audit` has shown where it ends as done: it printed what it counted. Where the disk returned
+/// what was written, that is the count of a database that an opening of the files may find, which
+/// passes, and whose rows keep the rules of the offices that requests lead to, but for prices.
 pub fn sound_law<H: OfficeFile>()
     ensures { (file : H) (path : Text) (wait : ℕ) (o : Outputs)
         → IsAudited (places_of H.Medium.Disk H.Salts.SaltSource H.OfficeFile file path wait) o

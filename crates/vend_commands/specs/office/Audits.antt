@@ -7,8 +7,8 @@ use Rattle.sqlite_disk.specs.declared.Disk.{Ghosts}
 use Rattle.sqlite_store.specs.declared.store.FileStore.{FileStore}
 use Rattle.sqlite_wal.specs.Recovery.{Image}
 use Rattle.one_table.specs.ReadsOnly.{ReadsOnly}
-use Rattle.audit.specs.Audited.{HaveWholeShifts, Passes}
-use Rattle.audit.specs.Fails.{FailsToAudit}
+use Rattle.audit.specs.Audited.{HaveWholeShifts}
+use Rattle.audit.specs.Looked.{FailsToLook, IsSound}
 use Rattle.audit.specs.declared.audited.Audited.{Audited}
 use Rattle.audit.specs.declared.fault.AuditFault.{AuditFault}
 use Rattle.books.specs.Path.{IsConnected}
@@ -18,8 +18,8 @@ use Rattle.vend_commands.specs.office.Closed.{AreClosed}
 -- crash leaves nothing that it did not leave before.
 pub record IsAuditOf (old new : State) (answer : Result Audited AuditFault) : Type 0 where
   pub passes : HasCleanDisk new → IsTrue old.is_open → old.in_transaction ≡ false
-      → HaveWholeShifts old.now → IfOk answer (Passes old.now)
-  pub reads : ReadsOnly (λ s. IsTrue s.is_open) IsUnchanged FailsToAudit old new answer
+      → HaveWholeShifts old.now → IfOk answer (IsSound old.now)
+  pub reads : ReadsOnly (λ s. IsTrue s.is_open) IsUnchanged FailsToLook old new answer
   pub survives : Survives old new (λ trees. ⊥)
 
 -- A connection was just made to the files, an audit of it answered this, and they were closed with

@@ -33,6 +33,10 @@ rule_text rule.Twice = codes "twice"
 rule_text rule.Missing = codes "missing"
 rule_text rule.Surplus = codes "surplus"
 rule_text rule.Total = codes "total"
+rule_text rule.Operator = codes "operator"
+rule_text rule.Order = codes "order"
+rule_text rule.Identifier = codes "identifier"
+rule_text rule.Token = codes "token"
 
 -- a key is told where it is a number, or a text of 1 to 32 letters, digits or hyphens
 abbrev pub TellsKey : Value → (told : Text) → Type 0

@@ -111,5 +111,9 @@ fn rule_name(rule: Rule) -> &'static [u8]
         Rule::Missing => b"missing",
         Rule::Surplus => b"surplus",
         Rule::Total => b"total",
+        Rule::Operator => b"operator",
+        Rule::Order => b"order",
+        Rule::Identifier => b"identifier",
+        Rule::Token => b"token",
     }
 }
