@@ -88,6 +88,21 @@ SPOILT = [
     ("DELETE FROM sales WHERE number = 2;", "sales 2 gap"),
     ("DELETE FROM sales WHERE number = 4;", f"last_ids {METER} total"),
     (NEW_SALE, f"last_ids {METER} total"),
+    # Shifts and sales of an office that no requests lead to: in the totals nothing is wrong.
+    ("UPDATE shifts SET closed = NULL WHERE number = 1; UPDATE shifts SET closed = opened WHERE number = 3;",
+     "shifts 3 order"),
+    ("UPDATE sales SET operator = 'bob' WHERE number = 4;", "sales 4 operator"),
+    ("UPDATE sales SET shift = 3 WHERE number = 1; INSERT INTO shift_totals VALUES (3, 1, 1, 10);"
+     "UPDATE shift_totals SET sales = 1, tenths = 2, cash = 20 WHERE shift = 1;", "sales 4 order"),
+    (f"UPDATE sales SET base = 2014, tid = 2 WHERE number = 2; UPDATE sales SET base = 1993, tid = 11044803"
+     f" WHERE number = 3; UPDATE last_ids SET tid = CASE base WHEN 1993 THEN 11044803 ELSE 2 END WHERE"
+     f" meter = '{OTHER_METER}';", "sales 3 base"),
+    (f"UPDATE sales SET tid = 147600 WHERE number = 4; UPDATE last_ids SET tid = 147600 WHERE meter ="
+     f" '{METER}';", "sales 4 identifier"),
+    ("UPDATE sales SET tid = 0 WHERE number = 4; UPDATE sales SET tid = 57600 WHERE number = 1;"
+     "UPDATE sales SET tid = 2 WHERE number = 4;", "sales 1 identifier"),
+    ("UPDATE sales SET digits = '99999999999999999999' WHERE number = 1;", "sales 1 token"),
+    ("UPDATE sales SET digits = '00000000000134217728' WHERE number = 4;", "sales 4 token"),
     # Totals.
     (f"UPDATE last_ids SET meter = '12345678904' WHERE meter = '{METER}';",
      "last_ids 12345678904 value"),
@@ -135,6 +150,7 @@ SPOILT = [
 # What leaves an office: the rules ask nothing of it.
 STILL_SOUND = [
     ("UPDATE sales SET digits = '00000000000000000000' WHERE number = 1;", COUNTS),
+    ("UPDATE sales SET digits = (SELECT digits FROM sales WHERE number = 2) WHERE number = 1;", COUNTS),
     (f"UPDATE meters SET tariff = 'block' WHERE meter = '{METER}';", COUNTS),
     ("DELETE FROM shifts WHERE number = 3;", "tariffs 2 meters 2 shifts 2 sales 4"),
     ("DELETE FROM dated_steps WHERE tariff = 'block';", COUNTS),
@@ -196,11 +212,10 @@ def check_formats(whole, folder):
         shutil.copy(whole, file)
         text = back_to(number)
         if number < 3:
-            # A meter has one base in them.
-            text += f"UPDATE sales SET base = 2014 WHERE meter = '{OTHER_METER}';"
+            # A meter has one base in them; under this one the identifier is that of the minute.
+            text += "UPDATE sales SET base = 2014, tid = 2 WHERE base = 1993;"
         if number == 2:
-            text += f"DELETE FROM last_ids WHERE base = 1993; UPDATE last_ids SET tid = 11044802" \
-                f" WHERE meter = '{OTHER_METER}';"
+            text += "DELETE FROM last_ids WHERE base = 1993;"
         change(file, text + "PRAGMA wal_checkpoint(TRUNCATE);")
         is_sound_office(file, number, COUNTS)
 
