@@ -15,9 +15,9 @@ use Rattle.vend_commands.specs.print.AuditLines.{sound_line}
 use Rattle.vend_commands.specs.print.Told.{Outputs, Takes}
 
 -- The output was given what was counted. The database is one that an opening of the files may find,
--- and passes with these counts, and its rows keep the rules of the offices that requests lead to, as
--- long as the disk returned what was written up to the close, and no row of a shift lacks a column,
--- which nothing that reads by SQL can see.
+-- and passes with these counts, and its rows keep the rules of the offices that requests lead to:
+-- as long as the disk returned what was written up to the close, and no row of a shift lacks a
+-- column, which nothing that reads by SQL can see.
 pub record EndsSound {D : Type 0} (g : Ghosts D) (image : Image) (LetsGo : D → D → Type 0)
     (o : Outputs) : Type 0 where
   pub audited : Audited

@@ -1,5 +1,9 @@
-ghost use Rattle.std.specs.Prelude.{◌≡◌, ℕ, Ok, Contains};
+ghost use Rattle.std.specs.Prelude.{◌≡◌, ℕ, List, Ok, Err, Contains};
+ghost use Rattle.sqlite.specs.Files.{file_state};
 ghost use Rattle.sqlite.specs.State.{HasCleanDisk};
+ghost use Rattle.sqlite_wal.specs.Recovery.{Image};
+ghost use Rattle.audit.specs.declared.fault.AuditFault.TheVariants.{Found};
+ghost use Rattle.audit_office.specs.declared.finding.Finding.{Finding};
 ghost use Rattle.sts_fields.specs.Text.{Text};
 ghost use Rattle.sts_token.specs.Token.{BlockFunction};
 ghost use Rattle.books.specs.Headline.{RepresentTheLast};
@@ -14,9 +18,11 @@ ghost use Rattle.desk.specs.reply.Members.{json_text};
 ghost use Rattle.vend_commands.specs.Sound.{EndsSound};
 ghost use Rattle.vend_commands.specs.commands.Asked.{IsAskedAt};
 ghost use Rattle.vend_commands.specs.commands.Audited.{IsAudited};
+ghost use Rattle.vend_commands.specs.office.Audits.{AuditsIn};
 ghost use Rattle.vend_commands.specs.office.Closed.{IsClosed};
 ghost use Rattle.vend_commands.specs.serving.Connections.{AreHeld, Service, service};
 ghost use Rattle.vend_commands.specs.serving.Courses.{Course, LiveOn};
+ghost use Rattle.vend_core.specs.Law.Life.{AreLives, Life};
 ghost use Rattle.vend_core.specs.Office.{IsOffice, Office};
 ghost use Rattle.vend_core.specs.declared.decision.answer.Answer.TheVariants.{Sold};
 ghost use Rattle.vend_core.specs.declared.decision.request.Order.{Order};
@@ -35,6 +41,7 @@ ghost use Rattle.vend_commands.specs.declared.command_end.CommandEnd.TheVariants
 use crate::port::door::Door;
 use crate::port::loopback::Loopback;
 use crate::port::ports::{OfficeFile, TextFiles};
+use audit::look_law;
 use books::{found_law, opening_law};
 use desk::{Clock, reply_law};
 use papers::export_fields_law;
@@ -63,15 +70,29 @@ pub fn sell_law<H: OfficeFile>()
     office_law();
 }
 
-/// What `audit` has shown where it ends as done: it printed what it counted. Where the disk returned
-/// what was written, that is the count of a database that an opening of the files may find, which
-/// passes, and whose rows keep the rules of the offices that requests lead to, but for prices.
+/// What `audit` has shown where it ends as done: it printed what it counted. Where the disk
+/// returned what was written, that is the count of a database that an opening of the files may
+/// find, which passes, and whose rows keep the rules of the offices that requests lead to, but for
+/// prices.
 pub fn sound_law<H: OfficeFile>()
     ensures { (file : H) (path : Text) (wait : ℕ) (o : Outputs)
         → IsAudited (places_of H.Medium.Disk H.Salts.SaltSource H.OfficeFile file path wait) o
         Done
         → EndsSound H.Medium.Disk (H.image file path) H.lets_go o }
 {}
+
+/// What `audit` has shown where it tells of a row that breaks a rule: the files stand for no office
+/// that requests lead to, whatever lives it is of, as long as the disk returned what was written.
+/// So of files that nothing else wrote it tells of none.
+pub fn broken_law<H: OfficeFile>()
+    ensures { (image : Image) (finding : Finding) (lives : List Life) (office : Office)
+        → AreLives lives office → StandsIn image office
+        → (told : AuditsIn H.Medium.Disk image H.lets_go (Err (Found finding)))
+        → ¬ HasCleanDisk (file_state told.last) }
+{
+    found_law::<FileStore<H::Medium>>();
+    look_law();
+}
 
 /// What holds of connections that are served one after another, and of the openings between them:
 /// while the disk returns what was written, they are lives of one office. Each connection went on
