@@ -25,7 +25,7 @@ use Rattle.vend_core.specs.declared.decision.row_cause.RowCause.{RowCause}
 use Rattle.desk.specs.declared.body_fault.BodyFault.{BodyFault}
 use Rattle.desk.specs.declared.body_fault.BodyFault.TheVariants as faults
 use Rattle.desk.specs.declared.route.Route.{Route}
-use Rattle.desk.specs.declared.route.Route.TheVariants.{AddTariff, AddSteps, AddMeter, SetTariff, MoveBase, OpenShift, CloseShift, ShiftReport, Sell, Reprint, Receipt, ImportMeters, ImportTariffs}
+use Rattle.desk.specs.declared.route.Route.TheVariants.{AddTariff, AddSteps, AddMeter, SetTariff, MoveBase, OpenShift, CloseShift, ShiftReport, Sell, Reprint, Receipt, ImportMeters, ImportTariffs, LookUp}
 use Rattle.desk.specs.declared.json_body.kind.JsonKind.{JsonKind}
 use Rattle.desk.specs.declared.json_body.kind.JsonKind.TheVariants as kinds
 use Rattle.desk.specs.Asking.{AsksByJson, AsksImport, BodyAsks, SaysJson, import_of}
@@ -240,3 +240,4 @@ one_asking texts files (Reprint sale) body = λ a b x y u v. x ∙ sym y
 one_asking texts files (Receipt sale) body = λ a b x y u v. x ∙ sym y
 one_asking texts files ImportMeters body = one_import files Meters body
 one_asking texts files ImportTariffs body = one_import files Tariffs body
+one_asking texts files (LookUp lookup) body = λ a b x y u v. x ∙ sym y

@@ -8,7 +8,7 @@ use Rattle.std.specs.Cmp.Lexicographic.{slice_cmp}
 use Rattle.serde_json.specs.Data.{Data, Members, no_members, member, put}
 use Rattle.serde_json.specs.Written.{has_float, members_have_float}
 use Rattle.desk.specs.declared.reply.members.Member.{Member}
-use Rattle.desk.specs.declared.reply.members.Member.TheVariants.{Truth, Number, Word, Text}
+use Rattle.desk.specs.declared.reply.members.Member.TheVariants.{Truth, Number, Word, Text, Nothing}
 use Rattle.desk.specs.reply.Members.{Pair, data_of, put_all}
 
 -- one member more
@@ -59,3 +59,4 @@ data_of-no_float (Truth holds) = refl
 data_of-no_float (Number n) = refl
 data_of-no_float (Word word) = refl
 data_of-no_float (Text text) = refl
+data_of-no_float Nothing = refl

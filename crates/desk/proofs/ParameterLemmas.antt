@@ -1,13 +1,19 @@
 -- The numbers that targets name, and what is read between a front and an end.
-use Rattle.std.proofs.Common.{◌≡◌, ◌≢◌, ℕ, zero, suc, ◌^◌, ◌<◌, ◌≤◌, List, ◌++◌, length, get_or, Option, Some, None, Result, Ok, Err, refl, ap, sym, subst, ◌∙◌, arith}
+use Rattle.std.proofs.Common.{◌≡◌, ◌≢◌, ℕ, zero, suc, ◌^◌, ◌<◌, ◌≤◌, Bool, true, false, true≢false, List, ◌∷◌, ◌++◌, length, get_or, eqb, Option, Some, None, Result, Ok, Err, refl, ap, sym, subst, ◌∙◌, arith}
 use Rattle.std.specs.Prelude.{◌↔◌, IfSome, IsSome, IsUtf8, MatchOption, decimal}
 use Rattle.std.specs.Borrow.{Bor}
+use Rattle.std.specs.Char.{is_ascii_alphanumeric, is_ascii_digit}
+use Rattle.std.specs.List.{All, AllPass, after_first, before_first, position_or_len}
 use Rattle.std.specs.Str.Parse.{AllDigits, ParsesUnsigned, digits_value}
 use Rattle.std.proofs.lemmas.Fmt.{IsAscii-decimal, decimal-digits_value, decimal_digit, decimal_injective, decimal_is_IsNumeral, decimal_nonempty, first_decimal}
-use Rattle.std.proofs.lemmas.List.{append_cancel_left, append_cancel_right}
+use Rattle.std.proofs.lemmas.Bool.Decides.{nat_tests}
+use Rattle.std.proofs.lemmas.List.{append_cancel_left, append_cancel_right, get_or_append_left, get_or_at, length-append, take_at}
+use Rattle.std.proofs.lemmas.List.Sums.{position_or_len_is}
 use Rattle.std.proofs.lemmas.Str.{IsUtf8-from_ascii}
 use Rattle.std.proofs.lemmas.Str.Parse.{IsNumeralModel, digit_at, numerals_by_value, parse_plain, tells_digits}
+use Rattle.tariff.specs.Tender.{IsTender}
 use Rattle.desk.specs.Reads.{ReadsWritten}
+use Rattle.desk.specs.route.Endpoint.{LacksSlash}
 use Rattle.desk.specs.route.Route.{IsTargetNumber}
 
 -- ---- between a front and an end
@@ -38,6 +44,96 @@ pub reads_name : (rule : List ℕ → Type 0) (text : List ℕ) (r : Option (Lis
 reads_name rule text (Some name) known same = (subst rule (sym same) (known.0 refl), sym same)
 reads_name rule text None known same = λ name keeps e.
     let there : IsSome {T = List ℕ} None = known.1 (subst rule (sym e) keeps) in cc
+
+-- ---- up to a slash, and behind it
+
+is_slash : ℕ → Bool
+is_slash byte = eqb byte 47
+
+-- the first slash stands behind what lacks one
+first_place : (xs ys : List ℕ) → LacksSlash xs → position_or_len is_slash (xs ++ 47 ∷ ys) ≡ length xs
+first_place xs ys lacks = position_or_len_is is_slash (xs ++ 47 ∷ ys) (length xs) 0
+    (omega (arith, length-append xs (47 ∷ ys)))
+    (λ k before. rw (get_or_append_left xs (47 ∷ ys) 0 k before) (lacks k 0 before))
+    (λ there. rw (get_or_at xs 47 ys 0 (length xs) refl) refl)
+
+before_cut : (xs ys : List ℕ) → LacksSlash xs → before_first is_slash (xs ++ 47 ∷ ys) ≡ xs
+before_cut xs ys lacks = rw (first_place xs ys lacks) (take_at xs (47 ∷ ys) (length xs) refl)
+
+-- a text is cut at its first slash in one way
+pub same_cut : (a b x y : List ℕ) → LacksSlash a → LacksSlash b → a ++ 47 ∷ x ≡ b ++ 47 ∷ y → (a ≡ b) × (x ≡ y)
+same_cut a b x y la lb e =
+    let fronts : a ≡ b = sym (before_cut a x la) ∙ ap (before_first is_slash) e ∙ before_cut b y lb in
+    let rests : 47 ∷ x ≡ 47 ∷ y = append_cancel_left b (47 ∷ x) (47 ∷ y) (ap (λ f. f ++ 47 ∷ x) (sym fronts) ∙ e) in
+    (fronts, cc)
+
+-- what lacks a slash is cut nowhere
+pub not_cut : (text a x : List ℕ) → LacksSlash text → text ≢ a ++ 47 ∷ x
+not_cut text a x lacks e =
+    let whole : LacksSlash (a ++ 47 ∷ x) = subst LacksSlash e lacks in
+    let slash : is_slash (get_or (a ++ 47 ∷ x) (length a) 0) ≡ true = rw (get_or_at a 47 x 0 (length a) refl) refl in
+    true≢false (sym slash ∙ whole (length a) 0 (omega (arith, length-append a (47 ∷ x))))
+
+not_digit : (b : ℕ) → is_ascii_digit b ≡ true → is_slash b ≡ false
+not_digit b e = grind (arith, nat_tests)
+
+not_letter : (b : ℕ) → is_ascii_alphanumeric b ≡ true → is_slash b ≡ false
+not_letter b e = grind (arith, nat_tests)
+
+-- neither digits nor letters have one
+pub digits_lack : (text : List ℕ) → AllPass is_ascii_digit text → LacksSlash text
+digits_lack text passes = λ i d inside. not_digit _ (passes i d inside)
+
+pub letters_lack : (text : List ℕ) → AllPass is_ascii_alphanumeric text → LacksSlash text
+letters_lack text passes = λ i d inside. not_letter _ (passes i d inside)
+
+-- ---- two parameters
+
+-- what has no slash behind the front has no two
+pub no_slash : (text front middle rest : List ℕ) → text ≡ front ++ rest → LacksSlash rest
+    → (first second : List ℕ) → LacksSlash first → text ≢ front ++ (first ++ 47 ∷ (middle ++ second))
+no_slash text front middle rest is lacks first second some same =
+    not_cut rest first (middle ++ second) lacks (append_cancel_left front rest (first ++ 47 ∷ (middle ++ second)) (sym is ∙ same))
+
+-- nor what has no middle behind the slash
+pub no_middle : (text front middle rest a b : List ℕ) → text ≡ front ++ rest → LacksSlash a → rest ≡ a ++ 47 ∷ b
+    → ((second : List ℕ) → b ≢ middle ++ second)
+    → (first second : List ℕ) → LacksSlash first → text ≢ front ++ (first ++ 47 ∷ (middle ++ second))
+no_middle text front middle rest a b is lacks cut none first second some same =
+    let e = append_cancel_left front rest (first ++ 47 ∷ (middle ++ second)) (sym is ∙ same) in
+    none second (same_cut a first b (middle ++ second) lacks some (sym cut ∙ e)).1
+
+pub is_two : (text front middle rest a b second : List ℕ) → text ≡ front ++ rest → rest ≡ a ++ 47 ∷ b → b ≡ middle ++ second
+    → text ≡ front ++ (a ++ 47 ∷ (middle ++ second))
+is_two text front middle rest a b second is cut behind =
+    is ∙ ap (λ r. front ++ r) (cut ∙ ap (λ c. a ++ 47 ∷ c) behind)
+
+-- the values of two parameters are one
+pub same_two : (front middle a b x y : List ℕ) → LacksSlash a → LacksSlash b
+    → front ++ (a ++ 47 ∷ (middle ++ x)) ≡ front ++ (b ++ 47 ∷ (middle ++ y)) → (a ≡ b) × (x ≡ y)
+same_two front middle a b x y la lb same =
+    let cut = same_cut a b (middle ++ x) (middle ++ y) la lb
+    (append_cancel_left front (a ++ 47 ∷ (middle ++ x)) (b ++ 47 ∷ (middle ++ y)) same) in
+    (cut.0, append_cancel_left middle x y cut.1)
+
+-- what is read of two parameters
+module _ {A B : Type 0} (Rule : A → Type 0) (write : A → List ℕ) (Other : B → Type 0) (put : B → List ℕ)
+    (text front middle first second : List ℕ) (lacks : (value : A) → Rule value → LacksSlash (write value))
+    (cut : LacksSlash first) (is : text ≡ front ++ (first ++ 47 ∷ (middle ++ second))) where
+  AreRead : A × B → Type 0
+  AreRead named = (text ≡ front ++ (write named.0 ++ 47 ∷ (middle ++ put named.1))) × Rule named.0 × Other named.1
+
+  pub no_first : ReadsWritten Rule write first None → (named : A × B) → ¬ AreRead named
+  no_first none named (same, rule, other) =
+      none named.0 rule (same_two front middle first (write named.0) second (put named.1) cut (lacks named.0 rule) (sym is ∙ same)).0
+
+  pub no_second : ReadsWritten Other put second None → (named : A × B) → ¬ AreRead named
+  no_second none named (same, rule, other) =
+      none named.1 other (same_two front middle first (write named.0) second (put named.1) cut (lacks named.0 rule) (sym is ∙ same)).1
+
+  pub are_read : (named : A × B) → ReadsWritten Rule write first (Some named.0) → ReadsWritten Other put second (Some named.1) → AreRead named
+  are_read named a b =
+      (is ∙ ap (λ f. front ++ (f ++ 47 ∷ (middle ++ second))) a.1 ∙ ap (λ s. front ++ (write named.0 ++ 47 ∷ (middle ++ s))) b.1, a.0, b.0)
 
 -- ---- numbers
 

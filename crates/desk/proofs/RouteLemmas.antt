@@ -1,7 +1,7 @@
 -- The table of a router, endpoint by endpoint, and the one route that a target leads to.
-use Rattle.std.proofs.Common.{◌≡◌, ◌≢◌, ℕ, ◌+◌, ◌<◌, List, [], ◌++◌, get_or, take, inl, inr, false, Result, Ok, Err, Some, refl, ap, sym, ◌∙◌, arith}
+use Rattle.std.proofs.Common.{◌≡◌, ◌≢◌, ℕ, ◌+◌, ◌<◌, List, [], ◌++◌, get_or, take, inl, inr, Bool, true, false, true≢false, Result, Ok, Err, Some, refl, ap, sym, ◌∙◌, arith}
 use Rattle.std.specs.List.{after_first, before_first, fold}
-use Rattle.std.specs.Prelude.{decimal, is_err}
+use Rattle.std.specs.Prelude.{codes, decimal, is_err}
 use Rattle.std.proofs.lemmas.List.{append_cancel_left, append_cancel_right}
 use Rattle.std.proofs.lemmas.List.Sums.{fold_more}
 use Rattle.matchit.specs.Route.{Scan, parse_route}
@@ -11,12 +11,14 @@ use Rattle.conversation.specs.declared.message.method.Method.{Method}
 use Rattle.desk.specs.declared.desk_fault.DeskFault.{DeskFault}
 use Rattle.desk.specs.declared.desk_fault.DeskFault.TheVariants as faults
 use Rattle.desk.specs.declared.route.endpoint.Endpoint.{Endpoint}
-use Rattle.desk.specs.declared.route.endpoint.Endpoint.TheVariants.{Tariffs, TariffSteps, MeterTariff, MeterBase, Shift, Sale, SaleReceipt}
+use Rattle.desk.specs.declared.route.endpoint.Endpoint.TheVariants.{Tariffs, TariffSteps, Meters, MeterTariff, MeterBase, Shifts, ShiftClosing, Shift, Sales, Sale, SaleReceipt, MeterImports, TariffImports, Health, Meter, LastSale, Quote, SaleOfRef, ShiftTotals}
 use Rattle.desk.specs.declared.route.Route.{Route}
-use Rattle.desk.specs.declared.route.Route.TheVariants.{AddTariff, AddSteps, AddMeter, SetTariff, MoveBase, OpenShift, CloseShift, ShiftReport, Sell, Reprint, Receipt, ImportMeters, ImportTariffs}
+use Rattle.desk.specs.declared.route.Route.TheVariants.{AddTariff, AddSteps, AddMeter, SetTariff, MoveBase, OpenShift, CloseShift, ShiftReport, Sell, Reprint, Receipt, ImportMeters, ImportTariffs, LookUp}
+use Rattle.book_facts.specs.declared.lookup.Lookup.{Lookup}
+use Rattle.book_facts.specs.declared.lookup.Lookup.TheVariants as lookups
 use Rattle.desk.specs.route.Endpoint.{Table, closes, endpoints, endpoint_method, filled, opens, pattern_of, with_endpoint, with_pattern}
-use Rattle.desk.specs.route.Route.{Finds, IsRouted, LeadsTo, Names, endpoint_of}
-use Rattle.desk.proofs.ParameterLemmas.{same_number}
+use Rattle.desk.specs.route.Route.{Finds, IsRouted, LeadsTo, Names, NamesLookup, endpoint_of, lookup_endpoint}
+use Rattle.desk.proofs.ParameterLemmas.{digits_lack, letters_lack, same_number, same_two}
 
 -- what `insert` leaves where it succeeds
 pub inserted : (read : Result Scan InsertError) (endpoint : Endpoint) (old new : Table)
@@ -28,7 +30,7 @@ inserted (Err error) endpoint old new (Ok u) (same, inr e) clean = absurd (cc)
 inserted read endpoint old new (Err error) is clean = absurd (cc)
 
 -- the table with the endpoint at a place, after those before it
-pub next_rows : (old new : Table) (i : ℕ) (pattern : List ℕ) → i < 13
+pub next_rows : (old new : Table) (i : ℕ) (pattern : List ℕ) → i < 19
     → old ≡ fold with_endpoint [] (take i endpoints)
     → pattern ≡ pattern_of (get_or endpoints i Tariffs)
     → new ≡ with_pattern old (parse_route pattern) (get_or endpoints i Tariffs)
@@ -53,6 +55,43 @@ same_filled pattern target x y one other =
     append_cancel_left front x y
     (append_cancel_right (front ++ x) (front ++ y) (after_first closes pattern) (sym one ∙ other))
 
+-- a target names one look-up
+same_lookup : (target : List ℕ) (a b : Lookup) → lookup_endpoint a ≡ lookup_endpoint b
+    → NamesLookup target a → NamesLookup target b → a ≡ b
+same_lookup target lookups.SaleCount lookups.SaleCount e m n = refl
+same_lookup target (lookups.Meter x) (lookups.Meter y) e m n =
+    ap lookups.Meter (same_filled (pattern_of Meter) target x y m.0 n.0)
+same_lookup target (lookups.LastSale x) (lookups.LastSale y) e m n =
+    ap lookups.LastSale (same_filled (pattern_of LastSale) target x y m.0 n.0)
+same_lookup target (lookups.SaleOfRef o r) (lookups.SaleOfRef p s) e m n =
+    let same = same_two (codes "/operators/") (codes "sales/") o p r s (letters_lack o m.1.bytes) (letters_lack p n.1.bytes) (sym m.0 ∙ n.0) in
+    ap (λ operator. lookups.SaleOfRef operator r) same.0 ∙ ap (λ order_ref. lookups.SaleOfRef p order_ref) same.1
+same_lookup target (lookups.Quote x t) (lookups.Quote y u) e m n =
+    let same = same_two (codes "/meters/") (codes "quote?tender=") x y (decimal t) (decimal u) (digits_lack x m.1.digits) (digits_lack y n.1.digits) (sym m.0 ∙ n.0) in
+    let tenders = same_number t u (omega (arith, m.2.1)) (record { from_one = n.2.0; most = omega (arith, n.2.1) }) same.1 in
+    ap (λ meter. lookups.Quote meter t) same.0 ∙ ap (λ tender. lookups.Quote y tender) tenders
+same_lookup target (lookups.ShiftTotals x) (lookups.ShiftTotals y) e m n =
+    ap lookups.ShiftTotals (same_number x y (omega (arith, m.1.most)) n.1 (same_filled (pattern_of ShiftTotals) target (decimal x) (decimal y) m.0 n.0))
+same_lookup target a b e m n = absurd (cc)
+
+-- at an endpoint something is looked up, or a request is asked
+looks : Endpoint → Bool
+looks Health = true
+looks Meter = true
+looks LastSale = true
+looks Quote = true
+looks SaleOfRef = true
+looks ShiftTotals = true
+looks endpoint = false
+
+pub looks_up : (lookup : Lookup) → looks (lookup_endpoint lookup) ≡ true
+looks_up lookups.SaleCount = refl
+looks_up (lookups.Meter meter) = refl
+looks_up (lookups.LastSale meter) = refl
+looks_up (lookups.SaleOfRef operator order_ref) = refl
+looks_up (lookups.Quote meter tender) = refl
+looks_up (lookups.ShiftTotals number) = refl
+
 -- a target is that of one route
 same_route : (target : List ℕ) (a b : Route) → endpoint_of a ≡ endpoint_of b → Names target a
     → Names target b → a ≡ b
@@ -75,6 +114,9 @@ same_route target (Receipt x) (Receipt y) e m n =
     ap Receipt (same_number x y (omega (arith, m.1.most)) n.1 (same_filled (pattern_of SaleReceipt) target (decimal x) (decimal y) m.0 n.0))
 same_route target ImportMeters ImportMeters e m n = refl
 same_route target ImportTariffs ImportTariffs e m n = refl
+same_route target (LookUp x) (LookUp y) e m n = ap LookUp (same_lookup target x y e m n)
+same_route target (LookUp x) b e m n = absurd (true≢false (sym (looks_up x) ∙ ap looks e))
+same_route target a (LookUp y) e m n = absurd (true≢false (sym (looks_up y) ∙ ap looks (sym e)))
 same_route target a b e m n = absurd (cc)
 
 pub one_route : (target : List ℕ) (a b : Route) → LeadsTo target a → LeadsTo target b → a ≡ b

@@ -6,7 +6,7 @@ use Rattle.matchit.specs.Router.{RouteOf}
 use Rattle.matchit.specs.Seek.{first}
 use Rattle.matchit.proofs.OnLiterals.{matchit_on_literals}
 use Rattle.desk.specs.declared.route.endpoint.Endpoint.{Endpoint}
-use Rattle.desk.specs.declared.route.endpoint.Endpoint.TheVariants.{Tariffs, TariffSteps, Meters, MeterTariff, MeterBase, Shifts, ShiftClosing, Shift, Sales, Sale, SaleReceipt, MeterImports, TariffImports}
+use Rattle.desk.specs.declared.route.endpoint.Endpoint.TheVariants.{Tariffs, TariffSteps, Meters, MeterTariff, MeterBase, Shifts, ShiftClosing, Shift, Sales, Sale, SaleReceipt, MeterImports, TariffImports, Health, Meter, LastSale, Quote, SaleOfRef, ShiftTotals}
 use Rattle.desk.specs.route.Endpoint.{table}
 use Rattle.desk.specs.route.Route.{Finds}
 
@@ -25,6 +25,12 @@ target_of Sale = codes "/sales/1"
 target_of SaleReceipt = codes "/sales/1/receipt"
 target_of MeterImports = codes "/imports/meters"
 target_of TariffImports = codes "/imports/tariffs"
+target_of Health = codes "/health"
+target_of Meter = codes "/meters/0"
+target_of LastSale = codes "/meters/0/last"
+target_of Quote = codes "/meters/0/quote?tender=1"
+target_of SaleOfRef = codes "/operators/a/sales/a"
+target_of ShiftTotals = codes "/shifts/1/totals"
 
 found : (e : Endpoint) → option_map (λ (row : RouteOf Endpoint). row.value) (first table (target_of e)) ≡ Some e
 unfolding matchit_on_literals table
@@ -41,6 +47,12 @@ found Sale = refl
 found SaleReceipt = refl
 found MeterImports = refl
 found TariffImports = refl
+found Health = refl
+found Meter = refl
+found LastSale = refl
+found Quote = refl
+found SaleOfRef = refl
+found ShiftTotals = refl
 
 text : (e : Endpoint) → IsUtf8 (target_of e)
 unfolding encode
@@ -57,6 +69,12 @@ text Sale = (target_of Sale, (refl, refl))
 text SaleReceipt = (target_of SaleReceipt, (refl, refl))
 text MeterImports = (target_of MeterImports, (refl, refl))
 text TariffImports = (target_of TariffImports, (refl, refl))
+text Health = (target_of Health, (refl, refl))
+text Meter = (target_of Meter, (refl, refl))
+text LastSale = (target_of LastSale, (refl, refl))
+text Quote = (target_of Quote, (refl, refl))
+text SaleOfRef = (target_of SaleOfRef, (refl, refl))
+text ShiftTotals = (target_of ShiftTotals, (refl, refl))
 
 -- each endpoint is found for a target
 pub each_found : (endpoint : Endpoint) → (target : List ℕ) × Finds target endpoint

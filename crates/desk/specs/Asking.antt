@@ -15,7 +15,7 @@ use Rattle.desk.specs.declared.body_fault.BodyFault.TheVariants as faults
 use Rattle.desk.specs.declared.route.Route.{Route}
 use Rattle.desk.specs.declared.json_body.kind.JsonKind.{JsonKind}
 use Rattle.desk.specs.declared.json_body.kind.JsonKind.TheVariants as kinds
-use Rattle.desk.specs.declared.route.Route.TheVariants.{AddTariff, AddSteps, AddMeter, SetTariff, MoveBase, OpenShift, CloseShift, ShiftReport, Sell, Reprint, Receipt, ImportMeters, ImportTariffs}
+use Rattle.desk.specs.declared.route.Route.TheVariants.{AddTariff, AddSteps, AddMeter, SetTariff, MoveBase, OpenShift, CloseShift, ShiftReport, Sell, Reprint, Receipt, ImportMeters, ImportTariffs, LookUp}
 use Rattle.desk.specs.json_body.Body.{IsJson, BodySays}
 use Rattle.desk.specs.Reads.{IsFoundIn}
 
@@ -40,8 +40,9 @@ AsksImport kind body result =
     × (read : Result (List Row) RowFault) × IsReading kind records read × (result ≡ import_of read)
 
 -- What a body asks of a route: a request, or why there is none. A route that is asked by GET
--- doesn't look at the body, two are asked by files of rows, and the others by JSON. Each route has
--- its line, so that one more has no meaning until it has one.
+-- doesn't look at the body, two are asked by files of rows, and the others by JSON. No body asks a
+-- request of a route that looks something up. Each route has its line, so that one more has no
+-- meaning until it has one.
 abbrev pub BodyAsks : Route → List ℕ → Result Request BodyFault → Type 0
 BodyAsks AddTariff body result = AsksByJson kinds.Tariff body result
 BodyAsks (AddSteps tariff) body result = AsksByJson (kinds.TariffSteps tariff) body result
@@ -56,3 +57,4 @@ BodyAsks (Reprint sale) body result = result ≡ Ok (requests.Reprint sale)
 BodyAsks (Receipt sale) body result = result ≡ Ok (requests.Reprint sale)
 BodyAsks ImportMeters body result = AsksImport Meters body result
 BodyAsks ImportTariffs body result = AsksImport Tariffs body result
+BodyAsks (LookUp lookup) body result = result ≡ Err faults.OutsideRule

@@ -1,10 +1,13 @@
--- What messages mean: the request that one asks of the office and its moment, or why it asks none.
+-- What messages mean: the request that one asks of the office and its moment, or what it looks up
+-- there, or why it does neither.
 --
 -- A target and a method are looked at first, then the clock, and then the body.
 use Rattle.std.specs.Prelude.{◌≡◌, ◌≢◌, ℕ, ℤ, pos, Option, None, Some, Ok, Err, ⊤}
 use Rattle.sts_fields.specs.Moment.{IsMoment}
 use Rattle.vend_core.specs.declared.decision.refusal.Refusal.TheVariants.{ImportRow}
 use Rattle.vend_core.specs.declared.decision.request.Request.{Request}
+use Rattle.book_facts.specs.declared.lookup.Lookup.{Lookup}
+use Rattle.book_facts.specs.declared.lookup.Lookup.TheVariants as lookups
 use Rattle.conversation.specs.message.Messages.{Message}
 use Rattle.desk.specs.declared.body_fault.BodyFault.TheVariants.{OutsideRule, Row}
 use Rattle.desk.specs.declared.desk_fault.DeskFault.{DeskFault}
@@ -16,9 +19,18 @@ use Rattle.desk.specs.declared.meaning.Meaning.TheVariants as meanings
 use Rattle.desk.specs.declared.reply.outcome.Outcome.{Outcome}
 use Rattle.desk.specs.declared.reply.outcome.Outcome.TheVariants.{Faulty, Replied}
 use Rattle.desk.specs.declared.route.Route.{Route}
-use Rattle.desk.specs.declared.route.Route.TheVariants.{AddTariff, AddSteps, AddMeter, SetTariff, MoveBase, OpenShift, CloseShift, ShiftReport, Sell, Reprint, Receipt, ImportMeters, ImportTariffs}
+use Rattle.desk.specs.declared.route.Route.TheVariants.{AddTariff, AddSteps, AddMeter, SetTariff, MoveBase, OpenShift, CloseShift, ShiftReport, Sell, Reprint, Receipt, ImportMeters, ImportTariffs, LookUp}
 use Rattle.desk.specs.Asking.{BodyAsks}
 use Rattle.desk.specs.route.Route.{IsRouted}
+
+-- the form in which a sale that is looked up is told: the last one of a meter is told as its receipt
+abbrev pub lookup_form : Lookup → Form
+lookup_form lookups.SaleCount = Json
+lookup_form (lookups.Meter meter) = Json
+lookup_form (lookups.LastSale meter) = Paper
+lookup_form (lookups.SaleOfRef operator order_ref) = Json
+lookup_form (lookups.Quote meter tender) = Json
+lookup_form (lookups.ShiftTotals number) = Json
 
 -- the form in which a route tells a sale: a receipt is a paper
 abbrev pub sale_form_of : Route → Form
@@ -35,6 +47,11 @@ sale_form_of (Reprint sale) = Json
 sale_form_of (Receipt sale) = Paper
 sale_form_of ImportMeters = Json
 sale_form_of ImportTariffs = Json
+sale_form_of (LookUp lookup) = lookup_form lookup
+
+-- the route asks a request, and looks nothing up
+abbrev pub AsksRequest : Route → Type 0
+AsksRequest route = (lookup : Lookup) → route ≢ LookUp lookup
 
 -- the target and the method lead to the route
 abbrev pub IsFor : Message → Route → Type 0
@@ -54,6 +71,13 @@ pub record MessageAsks (m : Message) (now : Option ℤ) (form : Form) (moment : 
   pub asked : BodyAsks route m.body (Ok request)
   pub told : form ≡ sale_form_of route
 
+-- the message looks this up in the office at this moment, whatever its body, and is told a sale in
+-- this form
+pub record MessageLooks (m : Message) (now : Option ℤ) (form : Form) (moment : ℕ) (lookup : Lookup)
+    : Type 0 where
+  pub comes : ComesAt m now (LookUp lookup) moment
+  pub told : form ≡ lookup_form lookup
+
 -- the clock gave for a message what is no moment of the office
 pub record ComesOutside (m : Message) (now : Option ℤ) : Type 0 where
   pub route : Route
@@ -66,7 +90,7 @@ pub record ComesOutside (m : Message) (now : Option ℤ) : Type 0 where
 abbrev pub MessageHasFault : Message → Option ℤ → DeskFault → Type 0
 MessageHasFault m now faults.Clock = ComesOutside m now
 MessageHasFault m now faults.Body =
-    (route : Route) × (moment : ℕ) × ComesAt m now route moment
+    (route : Route) × (moment : ℕ) × ComesAt m now route moment × AsksRequest route
     × BodyAsks route m.body (Err OutsideRule)
 MessageHasFault m now fault = IsRouted m.target m.method (Err fault) × (now ≡ None)
 
@@ -82,5 +106,6 @@ IsIdle m now outcome = ⊥
 -- what a message means, with what the clock gave for it
 abbrev pub IsMeaning : Message → Option ℤ → Meaning → Type 0
 IsMeaning m now (meanings.Asks form moment request) = MessageAsks m now form moment request
+IsMeaning m now (meanings.Looks form moment lookup) = MessageLooks m now form moment lookup
 IsMeaning m now (meanings.Told outcome) = IsIdle m now outcome
 IsMeaning m now meanings.Memory = ⊤

@@ -16,7 +16,8 @@ use tariff::steps_text_law;
 use vend_core::{Request, Rows};
 
 /// The request that a body asks of a route, or why it asks none. A route that is asked by GET
-/// doesn't look at the body, and takes no memory.
+/// doesn't look at the body, and takes no memory. One that looks something up asks no request: for
+/// it no body keeps the rule.
 pub fn request_of(alloc: Global, route: Route, body: &[u8]) -> Result<Request, BodyFault>
     ensures { BodyAsks route body.now result }
 {
@@ -33,6 +34,7 @@ pub fn request_of(alloc: Global, route: Route, body: &[u8]) -> Result<Request, B
         Route::OpenShift => said_by(alloc, JsonKind::Opening, body),
         Route::CloseShift => said_by(alloc, JsonKind::Closing, body),
         Route::Sell => sale_by(alloc, body),
+        Route::LookUp(_) => Err(BodyFault::OutsideRule),
     }
 }
 

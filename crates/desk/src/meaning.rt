@@ -1,8 +1,10 @@
 //! What a message means, before the office is asked.
 
-ghost use Rattle.std.specs.Prelude.{◌≡◌, Some, Ok, pos};
+ghost use Rattle.std.specs.Prelude.{◌≡◌, ◌≢◌, MatchOption, Some, Ok, pos};
 ghost use Rattle.conversation.specs.message.Next.{message_of};
-ghost use Rattle.desk.specs.Meaning.{IsFor, IsMeaning, sale_form_of};
+ghost use Rattle.book_facts.specs.declared.lookup.Lookup.{Lookup};
+ghost use Rattle.desk.specs.Meaning.{AsksRequest, IsFor, IsMeaning, lookup_form, sale_form_of};
+ghost use Rattle.desk.specs.declared.route.Route.{Route};
 
 use crate::asking::request_of;
 use crate::body_fault::BodyFault;
@@ -10,6 +12,7 @@ use crate::desk_fault::DeskFault;
 use crate::reply::form::Form;
 use crate::reply::outcome::Outcome;
 use crate::route::Route;
+use book_facts::Lookup;
 use conversation::Received;
 use std::alloc::Global;
 use vend_core::{Moment, Refusal, Request};
@@ -19,6 +22,8 @@ use vend_core::{Moment, Refusal, Request};
 pub(crate) enum Meaning {
     /// It asks this of the office at this moment, and is to be told a sale in this form.
     Asks(Form, Moment, Request),
+    /// It looks this up in the office at this moment, and is to be told a sale in this form.
+    Looks(Form, Moment, Lookup),
     /// It asks nothing of the office, and this comes of it.
     Told(Outcome),
     /// There was no memory to read it.
@@ -44,7 +49,45 @@ impl Route {
             | Route::Reprint(_)
             | Route::ImportMeters
             | Route::ImportTariffs => Form::Json,
+            Route::LookUp(lookup) => lookup_form(lookup),
         }
+    }
+
+    // What it looks up, where it asks no request.
+    fn lookup(&self) -> Option<Lookup>
+        ensures { MatchOption result (AsksRequest self.now)
+            (λ lookup. self.now ≡ Route.LookUp lookup) }
+    {
+        match self {
+            Route::LookUp(lookup) => Some(*lookup),
+            Route::AddTariff
+            | Route::AddSteps(_)
+            | Route::AddMeter
+            | Route::SetTariff(_)
+            | Route::MoveBase(_)
+            | Route::OpenShift
+            | Route::CloseShift
+            | Route::ShiftReport(_)
+            | Route::Sell
+            | Route::Reprint(_)
+            | Route::Receipt(_)
+            | Route::ImportMeters
+            | Route::ImportTariffs => None,
+        }
+    }
+}
+
+// The form in which a sale that is looked up is told.
+fn lookup_form(lookup: &Lookup) -> Form
+    ensures { result ≡ lookup_form lookup.now }
+{
+    match lookup {
+        Lookup::LastSale(_) => Form::Paper,
+        Lookup::SaleCount
+        | Lookup::Meter(_)
+        | Lookup::SaleOfRef(..)
+        | Lookup::Quote(..)
+        | Lookup::ShiftTotals(_) => Form::Json,
     }
 }
 
@@ -70,6 +113,9 @@ fn meaning_at_moment(alloc: Global, route: Route, moment: Moment, message: &Rece
     ensures { IsMeaning (message_of message.now) (Some (pos moment)) result }
 {
     let form = route.form();
+    if let Some(lookup) = route.lookup() {
+        return Meaning::Looks(form, moment, lookup);
+    }
     match request_of(alloc, route, message.body) {
         Ok(request) => Meaning::Asks(form, moment, request),
         Err(BodyFault::OutsideRule) => Meaning::Told(Outcome::Faulty(DeskFault::Body)),

@@ -2,6 +2,7 @@
 
 mod body;
 pub(crate) mod form;
+mod found;
 mod head;
 pub(crate) mod law;
 mod members;

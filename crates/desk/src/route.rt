@@ -4,9 +4,11 @@ pub(crate) mod endpoint;
 mod parameter;
 pub(crate) mod routes;
 
+use book_facts::Lookup;
 use vend_core::{MeterNo, TariffName};
 
-/// What a target asks for, with the tariff, the meter or the number that it names.
+/// What a target asks for, with what it names: a request, which may change the office, or a look-up,
+/// which changes nothing.
 #[derive(Clone, Copy, Debug, PartialEq, Eq)]
 pub enum Route {
     AddTariff,
@@ -25,4 +27,6 @@ pub enum Route {
     Receipt(u32),
     ImportMeters,
     ImportTariffs,
+    /// Something is looked up, and no request asked.
+    LookUp(Lookup),
 }

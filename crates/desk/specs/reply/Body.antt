@@ -1,5 +1,5 @@
 -- The bodies of replies.
-use Rattle.std.specs.Prelude.{ℕ, true, List, [], ◌∷◌, codes, Ok, Err}
+use Rattle.std.specs.Prelude.{ℕ, ◌-◌, true, List, [], ◌∷◌, codes, Ok, Err}
 use Rattle.std.specs.Str.Lossy.{utf8_lossy}
 use Rattle.serde_json.specs.Data.{boolean, string}
 use Rattle.conversation.specs.message.MessageFault.{message_fault_word}
@@ -7,8 +7,15 @@ use Rattle.desk.specs.declared.reply.form.Form.{Form}
 use Rattle.desk.specs.declared.reply.form.Form.TheVariants.{Json, Paper}
 use Rattle.desk.specs.declared.reply.outcome.Outcome.{Outcome}
 use Rattle.desk.specs.declared.reply.outcome.Outcome.TheVariants.{Refused, Faulty, Replied}
+use Rattle.desk.specs.declared.reply.outcome.Outcome.TheVariants as outcomes
 use Rattle.desk.specs.DeskFault.{desk_fault_word}
-use Rattle.desk.specs.reply.Members.{Pair, json_text, whole_number}
+use Rattle.desk.specs.reply.Members.{Pair, json_text, some_number, whole_number}
+use Rattle.book_tables.specs.row.Rows.{present_format}
+use Rattle.book_tables.specs.declared.row.totals.Totals.{Totals}
+use Rattle.book_facts.specs.declared.lookup.Found.{Found}
+use Rattle.book_facts.specs.declared.lookup.Found.TheVariants as found
+use Rattle.book_facts.specs.declared.lookup.MeterSummary.{MeterSummary}
+use Rattle.book_facts.specs.declared.lookup.Quote.{Quote}
 use Rattle.papers.specs.Receipt.{receipt_of}
 use Rattle.papers.specs.Report.{report_of}
 use Rattle.papers.specs.Text.{change_of}
@@ -87,9 +94,57 @@ answer_body form (Sold sale) = sale_body form sale
 answer_body form (Reprinted sale) = sale_body form sale
 answer_body form (Report shift sales) = report_of shift sales
 
+-- that the office answers: the format of its file, and how many sales there are
+abbrev pub health_members : ℕ → List Pair
+health_members sales =
+    (codes "format", whole_number present_format)
+    ∷ (codes "sales", whole_number sales)
+    ∷ []
+
+-- a meter, without its key: the year of its base date, its number, the number of the last sale to
+-- it, its tariff, and the tenths that were sold to it in the month
+abbrev pub meter_members : MeterSummary → List Pair
+meter_members m =
+    (codes "base", whole_number (year_of m.base))
+    ∷ (codes "meter", string m.number)
+    ∷ (codes "sale", some_number m.last_sale)
+    ∷ (codes "tariff", string m.tariff)
+    ∷ (codes "tenths", whole_number m.tenths)
+    ∷ []
+
+-- what a tender would buy, and what would be given back of it
+abbrev pub quote_members : Quote → List Pair
+quote_members q =
+    (codes "change", whole_number (q.tender - q.price))
+    ∷ (codes "meter", string q.meter)
+    ∷ (codes "price", whole_number q.price)
+    ∷ (codes "tariff", string q.tariff)
+    ∷ (codes "tender", whole_number q.tender)
+    ∷ (codes "tenths", whole_number q.tenths)
+    ∷ []
+
+-- the running totals of the shift of a number
+abbrev pub totals_members : ℕ → Totals → List Pair
+totals_members number totals =
+    (codes "cash", whole_number totals.cash)
+    ∷ (codes "sales", whole_number totals.sales)
+    ∷ (codes "shift", whole_number number)
+    ∷ (codes "tenths", whole_number totals.tenths)
+    ∷ []
+
+-- what was found, where a sale is to have this form
+abbrev pub found_body : Form → Found → List ℕ
+found_body form (found.SaleCount sales) = json_text (health_members sales)
+found_body form (found.Meter summary) = json_text (meter_members summary)
+found_body form (found.Sale sale) = sale_body form sale
+found_body form (found.Quote quote) = json_text (quote_members quote)
+found_body form (found.ShiftTotals number totals) = json_text (totals_members number totals)
+
 -- the body for what came of a message
 abbrev pub body_of : Outcome → List ℕ
 body_of (Refused fault) = json_text (fault_members (message_fault_word fault))
 body_of (Faulty fault) = json_text (fault_members (desk_fault_word fault))
 body_of (Replied form (Ok answer)) = answer_body form answer
 body_of (Replied form (Err refusal)) = json_text (refusal_members refusal)
+body_of (outcomes.Found form (Ok found)) = found_body form found
+body_of (outcomes.Found form (Err refusal)) = json_text (refusal_members refusal)

@@ -8,8 +8,11 @@ use Rattle.desk.specs.declared.reply.form.Form.{Form}
 use Rattle.desk.specs.declared.reply.form.Form.TheVariants.{Json, Paper}
 use Rattle.desk.specs.declared.reply.outcome.Outcome.{Outcome}
 use Rattle.desk.specs.declared.reply.outcome.Outcome.TheVariants.{Refused, Faulty, Replied}
+use Rattle.desk.specs.declared.reply.outcome.Outcome.TheVariants as outcomes
 use Rattle.desk.specs.declared.reply.head.ReplyHead.{ReplyHead}
 use Rattle.desk.specs.DeskFault.{desk_fault_status}
+use Rattle.book_facts.specs.declared.lookup.Found.{Found}
+use Rattle.book_facts.specs.declared.lookup.Found.TheVariants as found
 use Rattle.vend_core.specs.declared.decision.answer.Answer.{Answer}
 use Rattle.vend_core.specs.declared.decision.answer.Answer.TheVariants.{Done, Imported, Opened, Closed, Sold, Reprinted, Report}
 use Rattle.vend_core.specs.Decision.Refusals.{refusal_category}
@@ -46,6 +49,14 @@ answer_form form (Sold sale) = form
 answer_form form (Reprinted sale) = form
 answer_form form (Report shift sales) = Paper
 
+-- the form of what was found, where a sale is to have this one: all else is JSON
+abbrev pub found_form : Form → Found → Form
+found_form form (found.SaleCount sales) = Json
+found_form form (found.Meter summary) = Json
+found_form form (found.Sale sale) = form
+found_form form (found.Quote quote) = Json
+found_form form (found.ShiftTotals number totals) = Json
+
 -- the head for what came of a message, after which the conversation ends or not; a message that is
 -- refused always ends it
 abbrev pub head_of : Outcome → Bool → ReplyHead
@@ -61,4 +72,8 @@ head_of (Faulty fault) closes =
 head_of (Replied form (Ok answer)) closes =
     record { status = 200; form = answer_form form answer; allowed = None; closes = closes }
 head_of (Replied form (Err refusal)) closes =
+    record { status = refusal_status refusal; form = Json; allowed = None; closes = closes }
+head_of (outcomes.Found form (Ok found)) closes =
+    record { status = 200; form = found_form form found; allowed = None; closes = closes }
+head_of (outcomes.Found form (Err refusal)) closes =
     record { status = refusal_status refusal; form = Json; allowed = None; closes = closes }

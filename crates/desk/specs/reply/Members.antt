@@ -1,12 +1,12 @@
 -- Objects of JSON, by their members.
-use Rattle.std.specs.Prelude.{ℕ, List}
+use Rattle.std.specs.Prelude.{ℕ, List, Option, Some, None}
 use Rattle.std.specs.Borrow.{Bor}
 use Rattle.std.specs.List.{fold}
 use Rattle.std.specs.Str.Lossy.{utf8_lossy}
-use Rattle.serde_json.specs.Data.{Data, boolean, number, unsigned, string, object, Members, no_members, put}
+use Rattle.serde_json.specs.Data.{Data, boolean, null, number, unsigned, string, object, Members, no_members, put}
 use Rattle.serde_json.specs.Written.{compact_text}
 use Rattle.desk.specs.declared.reply.members.Member.{Member}
-use Rattle.desk.specs.declared.reply.members.Member.TheVariants.{Truth, Number, Word, Text}
+use Rattle.desk.specs.declared.reply.members.Member.TheVariants.{Truth, Number, Word, Text, Nothing}
 
 -- a name and its value
 abbrev pub Pair : Type 0
@@ -15,6 +15,11 @@ Pair = List ℕ × Data
 -- a whole number
 abbrev pub whole_number : ℕ → Data
 whole_number n = number (unsigned n)
+
+-- a whole number, or that there is none
+abbrev pub some_number : Option ℕ → Data
+some_number (Some n) = whole_number n
+some_number None = null
 
 -- the members of an object that has each of these, in the order of their names
 abbrev pub put_all : List Pair → Members
@@ -30,6 +35,7 @@ data_of (Truth holds) = boolean holds
 data_of (Number n) = whole_number n
 data_of (Word word) = string word.now
 data_of (Text text) = string (utf8_lossy text.now)
+data_of Nothing = null
 
 -- a name and a member, as they stand in the code
 abbrev pub pair_of : Bor (List ℕ) × Member → Pair

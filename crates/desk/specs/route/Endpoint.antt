@@ -1,7 +1,7 @@
 -- The endpoints of the desk: the method and the pattern of each, and the table that targets are
 -- matched with.
-use Rattle.std.specs.Prelude.{◌<◌, ◌++◌, ℕ, Bool, List, [], ◌∷◌, Result, Ok, Err, codes, eqb, length}
-use Rattle.std.specs.List.{after_first, before_first, fold, position_or_len}
+use Rattle.std.specs.Prelude.{◌≡◌, ◌<◌, ◌++◌, ℕ, Bool, false, List, [], ◌∷◌, Result, Ok, Err, codes, decimal, eqb, length}
+use Rattle.std.specs.List.{All, after_first, before_first, fold, position_or_len}
 use Rattle.matchit.specs.Order.{placed}
 use Rattle.matchit.specs.Route.{Scan, parse_route}
 use Rattle.matchit.specs.Router.{RouteOf, route_from}
@@ -10,7 +10,7 @@ use Rattle.matchit.specs.declared.error.InsertError.{InsertError}
 use Rattle.conversation.specs.declared.message.method.Method.{Method}
 use Rattle.conversation.specs.declared.message.method.Method.TheVariants.{Get, Post}
 use Rattle.desk.specs.declared.route.endpoint.Endpoint.{Endpoint}
-use Rattle.desk.specs.declared.route.endpoint.Endpoint.TheVariants.{Tariffs, TariffSteps, Meters, MeterTariff, MeterBase, Shifts, ShiftClosing, Shift, Sales, Sale, SaleReceipt, MeterImports, TariffImports}
+use Rattle.desk.specs.declared.route.endpoint.Endpoint.TheVariants.{Tariffs, TariffSteps, Meters, MeterTariff, MeterBase, Shifts, ShiftClosing, Shift, Sales, Sale, SaleReceipt, MeterImports, TariffImports, Health, Meter, LastSale, Quote, SaleOfRef, ShiftTotals}
 
 -- the method that an endpoint is asked by
 abbrev pub endpoint_method : Endpoint → Method
@@ -27,6 +27,12 @@ endpoint_method Sale = Get
 endpoint_method SaleReceipt = Get
 endpoint_method MeterImports = Post
 endpoint_method TariffImports = Post
+endpoint_method Health = Get
+endpoint_method Meter = Get
+endpoint_method LastSale = Get
+endpoint_method Quote = Get
+endpoint_method SaleOfRef = Get
+endpoint_method ShiftTotals = Get
 
 -- the pattern of its targets
 abbrev pub pattern_of : Endpoint → List ℕ
@@ -43,6 +49,12 @@ pattern_of Sale = codes "/sales/{number}"
 pattern_of SaleReceipt = codes "/sales/{number}/receipt"
 pattern_of MeterImports = codes "/imports/meters"
 pattern_of TariffImports = codes "/imports/tariffs"
+pattern_of Health = codes "/health"
+pattern_of Meter = codes "/meters/{meter}"
+pattern_of LastSale = codes "/meters/{meter}/last"
+pattern_of Quote = codes "/meters/{meter}/quote?tender={tender}"
+pattern_of SaleOfRef = codes "/operators/{operator}/sales/{ref}"
+pattern_of ShiftTotals = codes "/shifts/{number}/totals"
 
 -- the braces around the name of a parameter
 abbrev pub opens : ℕ → Bool
@@ -60,11 +72,25 @@ HasParameter pattern = (position_or_len opens pattern < length pattern)
 abbrev pub filled : List ℕ → List ℕ → List ℕ
 filled pattern value = (before_first opens pattern ++ value) ++ after_first closes pattern
 
+-- the targets of the two patterns that have two parameters
+abbrev pub sale_target : List ℕ → List ℕ → List ℕ
+sale_target operator order_ref =
+    codes "/operators/" ++ (operator ++ (codes "/sales/" ++ order_ref))
+
+abbrev pub quote_target : List ℕ → ℕ → List ℕ
+quote_target meter tender =
+    codes "/meters/" ++ (meter ++ (codes "/quote?tender=" ++ decimal tender))
+
+-- no byte of it is a slash
+abbrev pub LacksSlash : List ℕ → Type 0
+LacksSlash text = All (λ byte. eqb byte 47 ≡ false) text
+
 -- all endpoints, in the order in which their patterns are inserted
 abbrev pub endpoints : List Endpoint
 endpoints =
     Tariffs ∷ TariffSteps ∷ Meters ∷ MeterTariff ∷ MeterBase ∷ Shifts ∷ ShiftClosing ∷ Shift ∷ Sales
-    ∷ Sale ∷ SaleReceipt ∷ MeterImports ∷ TariffImports ∷ []
+    ∷ Sale ∷ SaleReceipt ∷ MeterImports ∷ TariffImports ∷ Health ∷ Meter ∷ LastSale ∷ Quote
+    ∷ SaleOfRef ∷ ShiftTotals ∷ []
 
 -- the rows of a router, as `matchit` keeps them
 abbrev pub Table : Type 0

@@ -2,15 +2,27 @@
 use Rattle.std.specs.Prelude.{◌≡◌, ◌≢◌, ℕ, ◌≤◌, List, Some, option_map, Result, Ok, Err, IsUtf8, decimal, ⊤}
 use Rattle.matchit.specs.Router.{RouteOf}
 use Rattle.matchit.specs.Seek.{first}
-use Rattle.vend_core.specs.Name.{IsMeterNo, IsName}
+use Rattle.tariff.specs.Tender.{IsTender}
+use Rattle.vend_core.specs.Name.{IsMeterNo, IsName, IsOperator}
+use Rattle.book_facts.specs.declared.lookup.Lookup.{Lookup}
+use Rattle.book_facts.specs.declared.lookup.Lookup.TheVariants as lookups
 use Rattle.conversation.specs.declared.message.method.Method.{Method}
 use Rattle.desk.specs.declared.desk_fault.DeskFault.{DeskFault}
 use Rattle.desk.specs.declared.desk_fault.DeskFault.TheVariants as faults
 use Rattle.desk.specs.declared.route.endpoint.Endpoint.{Endpoint}
-use Rattle.desk.specs.declared.route.endpoint.Endpoint.TheVariants.{Tariffs, TariffSteps, Meters, MeterTariff, MeterBase, Shifts, ShiftClosing, Shift, Sales, Sale, SaleReceipt, MeterImports, TariffImports}
+use Rattle.desk.specs.declared.route.endpoint.Endpoint.TheVariants.{Tariffs, TariffSteps, Meters, MeterTariff, MeterBase, Shifts, ShiftClosing, Shift, Sales, Sale, SaleReceipt, MeterImports, TariffImports, Health, Meter, LastSale, Quote, SaleOfRef, ShiftTotals}
 use Rattle.desk.specs.declared.route.Route.{Route}
-use Rattle.desk.specs.declared.route.Route.TheVariants.{AddTariff, AddSteps, AddMeter, SetTariff, MoveBase, OpenShift, CloseShift, ShiftReport, Sell, Reprint, Receipt, ImportMeters, ImportTariffs}
-use Rattle.desk.specs.route.Endpoint.{endpoint_method, filled, pattern_of, table}
+use Rattle.desk.specs.declared.route.Route.TheVariants.{AddTariff, AddSteps, AddMeter, SetTariff, MoveBase, OpenShift, CloseShift, ShiftReport, Sell, Reprint, Receipt, ImportMeters, ImportTariffs, LookUp}
+use Rattle.desk.specs.route.Endpoint.{endpoint_method, filled, pattern_of, quote_target, sale_target, table}
+
+-- the endpoint at which something is looked up
+abbrev pub lookup_endpoint : Lookup → Endpoint
+lookup_endpoint lookups.SaleCount = Health
+lookup_endpoint (lookups.Meter meter) = Meter
+lookup_endpoint (lookups.LastSale meter) = LastSale
+lookup_endpoint (lookups.SaleOfRef operator order_ref) = SaleOfRef
+lookup_endpoint (lookups.Quote meter tender) = Quote
+lookup_endpoint (lookups.ShiftTotals number) = ShiftTotals
 
 -- the endpoint that a route is asked at
 abbrev pub endpoint_of : Route → Endpoint
@@ -27,6 +39,7 @@ endpoint_of (Reprint number) = Sale
 endpoint_of (Receipt number) = SaleReceipt
 endpoint_of ImportMeters = MeterImports
 endpoint_of ImportTariffs = TariffImports
+endpoint_of (LookUp lookup) = lookup_endpoint lookup
 
 -- a number that a target may name
 pub record IsTargetNumber (number : ℕ) : Type 0 where
@@ -38,6 +51,21 @@ pub record Finds (target : List ℕ) (endpoint : Endpoint) : Type 0 where
   pub text : IsUtf8 target
   pub found : option_map (λ (row : RouteOf Endpoint). row.value) (first table target)
       ≡ Some endpoint
+
+-- The target names what is looked up: nothing; a meter's number; a shift's; an operator and a ref;
+-- or a meter's number and, as its query, a tender in decimal digits without leading zeros.
+abbrev pub NamesLookup : List ℕ → Lookup → Type 0
+NamesLookup target lookups.SaleCount = ⊤
+NamesLookup target (lookups.Meter meter) =
+    (target ≡ filled (pattern_of Meter) meter) × IsMeterNo meter
+NamesLookup target (lookups.LastSale meter) =
+    (target ≡ filled (pattern_of LastSale) meter) × IsMeterNo meter
+NamesLookup target (lookups.SaleOfRef operator order_ref) =
+    (target ≡ sale_target operator order_ref) × IsOperator operator × IsName order_ref
+NamesLookup target (lookups.Quote meter tender) =
+    (target ≡ quote_target meter tender) × IsMeterNo meter × IsTender tender
+NamesLookup target (lookups.ShiftTotals number) =
+    (target ≡ filled (pattern_of ShiftTotals) (decimal number)) × IsTargetNumber number
 
 -- The target names what the route is for, where the pattern has its parameter: a tariff's name, a
 -- meter's number, or a number without leading zeros. A route whose pattern has none names nothing.
@@ -58,6 +86,7 @@ Names target (Receipt number) =
     (target ≡ filled (pattern_of SaleReceipt) (decimal number)) × IsTargetNumber number
 Names target ImportMeters = ⊤
 Names target ImportTariffs = ⊤
+Names target (LookUp lookup) = NamesLookup target lookup
 
 -- the target leads to the route, by whatever method
 pub record LeadsTo (target : List ℕ) (route : Route) : Type 0 where

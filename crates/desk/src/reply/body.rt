@@ -1,12 +1,14 @@
 ghost use Rattle.std.specs.Prelude.{◌≡◌, ◌↔◌, IfOk, IfSome, IsTrue};
 ghost use Rattle.sts_token.specs.Token.{AreTwentyDigits};
 ghost use Rattle.desk.specs.reply.Members.{json_text};
-ghost use Rattle.desk.specs.reply.Body.{answer_body, body_of, fault_members, name_members, refusal_members, row_members, sale_body, sale_members};
+ghost use Rattle.desk.specs.reply.Body.{answer_body, body_of, fault_members, found_body, name_members, refusal_members, row_members, sale_body, sale_members};
 
 use crate::reply::form::Form;
+use crate::reply::found::{health_body, meter_body, quote_body, totals_body};
 use crate::reply::members::{Member, object_text};
 use crate::reply::outcome::Outcome;
 use crate::reply::sale_text::{change, seconds};
+use book_facts::Found;
 use papers::{receipt, shift_report};
 use std::alloc::{AllocError, Global};
 use vend_core::{Answer, Category, Refusal, Sale};
@@ -19,7 +21,10 @@ pub(crate) fn body_of(alloc: Global, outcome: &Outcome) -> Result<Vec<u8>, Alloc
         Outcome::Refused(fault) => fault_body(alloc, fault.word()),
         Outcome::Faulty(fault) => fault_body(alloc, fault.word()),
         Outcome::Replied(form, Ok(answer)) => answer_body(alloc, *form, answer),
-        Outcome::Replied(_, Err(refusal)) => refusal_body(alloc, *refusal),
+        Outcome::Found(form, Ok(found)) => found_body(alloc, *form, found),
+        Outcome::Replied(_, Err(refusal)) | Outcome::Found(_, Err(refusal)) => {
+            refusal_body(alloc, *refusal)
+        }
     }
 }
 
@@ -90,6 +95,19 @@ fn answer_body(alloc: Global, form: Form, answer: &Answer) -> Result<Vec<u8>, Al
         }
         Answer::Sold(sale) | Answer::Reprinted(sale) => sale_body(alloc, form, sale),
         Answer::Report(shift, sales) => shift_report(alloc, shift, sales.as_slice()),
+    }
+}
+
+// What was found, where a sale is to have this form.
+fn found_body(alloc: Global, form: Form, found: &Found) -> Result<Vec<u8>, AllocError>
+    ensures { IfOk result (λ body. body.items ≡ found_body form found.now) }
+{
+    match found {
+        Found::SaleCount(sales) => health_body(alloc, *sales),
+        Found::Meter(meter) => meter_body(alloc, meter),
+        Found::Sale(sale) => sale_body(alloc, form, sale),
+        Found::Quote(quote) => quote_body(alloc, quote),
+        Found::ShiftTotals(shift, totals) => totals_body(alloc, *shift, totals),
     }
 }
 

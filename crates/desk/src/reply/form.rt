@@ -1,7 +1,8 @@
 ghost use Rattle.std.specs.Prelude.{◌≡◌, ◌++◌, codes};
 ghost use Rattle.desk.specs.reply.Text.{field_line, media_type};
-ghost use Rattle.desk.specs.reply.Head.{answer_form};
+ghost use Rattle.desk.specs.reply.Head.{answer_form, found_form};
 
+use book_facts::Found;
 use vend_core::Answer;
 
 /// What a sale is told as. All else that the office answers has one form only.
@@ -22,6 +23,17 @@ impl Form {
             Answer::Sold(_) | Answer::Reprinted(_) => self,
             Answer::Report(..) => Form::Paper,
             Answer::Done | Answer::Imported(_) | Answer::Opened(_) | Answer::Closed(_) =>
+                Form::Json,
+        }
+    }
+
+    // The form of what was found, where a sale is to have this one.
+    pub(crate) fn of_found(self, found: &Found) -> Form
+        ensures { result ≡ found_form self found.now }
+    {
+        match found {
+            Found::Sale(_) => self,
+            Found::SaleCount(_) | Found::Meter(_) | Found::Quote(_) | Found::ShiftTotals(..) =>
                 Form::Json,
         }
     }

@@ -42,7 +42,13 @@ impl ReplyHead {
                 allowed: None,
                 closes,
             },
-            Outcome::Replied(_, Err(refusal)) => ReplyHead {
+            Outcome::Found(form, Ok(found)) => ReplyHead {
+                status: 200,
+                form: form.of_found(found),
+                allowed: None,
+                closes,
+            },
+            Outcome::Replied(_, Err(refusal)) | Outcome::Found(_, Err(refusal)) => ReplyHead {
                 status: refusal_status(*refusal),
                 form: Form::Json,
                 allowed: None,

@@ -13,6 +13,7 @@ pub(crate) enum Member<'a> {
     Word(&'a str),
     // A text in UTF-8. What is none is replaced, as the library does it.
     Text(&'a [u8]),
+    Nothing,
 }
 
 // The text of the object with these members.
@@ -38,5 +39,6 @@ fn value_of(alloc: Global, member: &Member<'_>) -> Result<Value, AllocError>
         Member::Number(number) => Ok(Value::from(*number)),
         Member::Word(word) => Value::try_from_str(alloc, word),
         Member::Text(text) => Ok(Value::from(String::from_utf8_lossy(alloc, text)?)),
+        Member::Nothing => Ok(Value::Null),
     }
 }

@@ -1,7 +1,8 @@
 use crate::desk_fault::DeskFault;
 use crate::reply::form::Form;
+use book_facts::Found;
 use conversation::MessageFault;
-use vend_core::Reply;
+use vend_core::{Refusal, Reply};
 
 /// What comes of a message, which its reply tells.
 #[derive(Debug, Drop)]
@@ -13,4 +14,7 @@ pub enum Outcome {
     /// It asked the office, which answered this, or it brought rows that can't be read, which is a
     /// refusal as well. A sale is told in this form.
     Replied(Form, Reply),
+    /// It looked something up in the office, and this was found, or refused. A sale is told in this
+    /// form.
+    Found(Form, Result<Found, Refusal>),
 }

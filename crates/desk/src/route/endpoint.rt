@@ -19,6 +19,12 @@ pub enum Endpoint {
     SaleReceipt,
     MeterImports,
     TariffImports,
+    Health,
+    Meter,
+    LastSale,
+    Quote,
+    SaleOfRef,
+    ShiftTotals,
 }
 
 impl Endpoint {
@@ -28,6 +34,12 @@ impl Endpoint {
     {
         match self {
             Endpoint::Shift | Endpoint::Sale | Endpoint::SaleReceipt => Method::Get,
+            Endpoint::Health
+            | Endpoint::Meter
+            | Endpoint::LastSale
+            | Endpoint::Quote
+            | Endpoint::SaleOfRef
+            | Endpoint::ShiftTotals => Method::Get,
             Endpoint::Tariffs
             | Endpoint::TariffSteps
             | Endpoint::Meters
@@ -59,6 +71,12 @@ impl Endpoint {
             Endpoint::SaleReceipt => "/sales/{number}/receipt",
             Endpoint::MeterImports => "/imports/meters",
             Endpoint::TariffImports => "/imports/tariffs",
+            Endpoint::Health => "/health",
+            Endpoint::Meter => "/meters/{meter}",
+            Endpoint::LastSale => "/meters/{meter}/last",
+            Endpoint::Quote => "/meters/{meter}/quote?tender={tender}",
+            Endpoint::SaleOfRef => "/operators/{operator}/sales/{ref}",
+            Endpoint::ShiftTotals => "/shifts/{number}/totals",
         }
     }
 }

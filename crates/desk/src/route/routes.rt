@@ -2,7 +2,7 @@ ghost use Rattle.std.specs.Prelude.{◌≡◌, ℕ, List, Result};
 ghost use Rattle.conversation.specs.declared.message.method.Method.{Method};
 ghost use Rattle.desk.specs.route.Endpoint.{table};
 ghost use Rattle.desk.specs.Reads.{IsFound};
-ghost use Rattle.desk.specs.route.Route.{Finds, IsRouted, Names, endpoint_of};
+ghost use Rattle.desk.specs.route.Route.{Finds, IsRouted, Names, NamesLookup, endpoint_of, lookup_endpoint};
 ghost use Rattle.desk.specs.declared.desk_fault.DeskFault.{DeskFault};
 ghost use Rattle.desk.specs.declared.route.endpoint.Endpoint.{Endpoint};
 ghost use Rattle.desk.specs.declared.route.Route.{Route};
@@ -10,14 +10,15 @@ ghost use Rattle.desk.specs.declared.route.Route.{Route};
 use crate::desk_fault::DeskFault;
 use crate::route::Route;
 use crate::route::endpoint::Endpoint;
-use crate::route::parameter::{meter_at, number_at, tariff_at};
+use crate::route::parameter::{meter_at, number_at, quote_at, sale_of_ref_at, tariff_at};
+use book_facts::Lookup;
 use conversation::Method;
 use matchit::Router;
 use std::alloc::{AllocError, Global};
 use std::str;
 
 // The endpoints, in the order in which their patterns are inserted.
-const ENDPOINTS: [Endpoint; 13] = [
+const ENDPOINTS: [Endpoint; 19] = [
     Endpoint::Tariffs,
     Endpoint::TariffSteps,
     Endpoint::Meters,
@@ -31,6 +32,12 @@ const ENDPOINTS: [Endpoint; 13] = [
     Endpoint::SaleReceipt,
     Endpoint::MeterImports,
     Endpoint::TariffImports,
+    Endpoint::Health,
+    Endpoint::Meter,
+    Endpoint::LastSale,
+    Endpoint::Quote,
+    Endpoint::SaleOfRef,
+    Endpoint::ShiftTotals,
 ];
 
 /// The routes of the desk. Memory is taken once, where they are made.
@@ -115,5 +122,33 @@ fn read_route(endpoint: Endpoint, target: &[u8]) -> Option<Route>
         Endpoint::SaleReceipt => number_at(endpoint, target).map(Route::Receipt),
         Endpoint::MeterImports => Some(Route::ImportMeters),
         Endpoint::TariffImports => Some(Route::ImportTariffs),
+        Endpoint::Health
+        | Endpoint::Meter
+        | Endpoint::LastSale
+        | Endpoint::Quote
+        | Endpoint::SaleOfRef
+        | Endpoint::ShiftTotals => read_lookup(endpoint, target).map(Route::LookUp),
+    }
+}
+
+// What is looked up at an endpoint, as the target names it.
+fn read_lookup(endpoint: Endpoint, target: &[u8]) -> Option<Lookup>
+    ensures { IsFound (λ lookup. (lookup_endpoint lookup ≡ endpoint)
+        × NamesLookup target.now lookup) result }
+{
+    match endpoint {
+        Endpoint::Health => Some(Lookup::SaleCount),
+        Endpoint::Meter => meter_at(endpoint, target).map(Lookup::Meter),
+        Endpoint::LastSale => meter_at(endpoint, target).map(Lookup::LastSale),
+        Endpoint::Quote => match quote_at(target) {
+            Some((meter, tender)) => Some(Lookup::Quote(meter, tender)),
+            None => None,
+        },
+        Endpoint::SaleOfRef => match sale_of_ref_at(target) {
+            Some((operator, order_ref)) => Some(Lookup::SaleOfRef(operator, order_ref)),
+            None => None,
+        },
+        Endpoint::ShiftTotals => number_at(endpoint, target).map(Lookup::ShiftTotals),
+        _ => None,
     }
 }
