@@ -7,6 +7,7 @@ use Rattle.vend_core.specs.declared.decision.answer.Answer.{Answer}
 use Rattle.vend_core.specs.declared.decision.refusal.Refusal.{Refusal}
 use Rattle.vend_core.specs.declared.decision.request.Request.{Request}
 use Rattle.vend_core.specs.declared.decision.request.Stamped.{Stamped}
+use Rattle.book_facts.specs.declared.lookup.Found.{Found}
 use Rattle.conversation.specs.Exchanges.{MessageExchange, Exchanged, Timed, timed}
 use Rattle.conversation.specs.message.Messages.{Message}
 use Rattle.desk.specs.Along.{AreAsked}
@@ -31,20 +32,22 @@ asks_stamped m now form at moment request same_moment same_request asks = rw (sa
 
 -- a life goes along with what the exchanges asked, and nothing else
 pub goes_along : (old : Timed Life) (xs : List MessageExchange) (new : Timed Life) → Exchanged (timed (answers_by life_serves)) old xs new
-    → (ats : List Stamped) × (replies : List (Result Answer Refusal)) × AreAsked xs ats replies × (new.0 ≡ extended_along old.0 ats replies)
-goes_along old [] new same = ([], [], (refl, refl), ap (λ (o : Timed Life). o.0) same ∙ along_none old.0)
+    → (ats : List Stamped) × (replies : List (Result Answer Refusal)) × (finds : List (Result Found Refusal)) × AreAsked xs ats replies finds × (new.0 ≡ extended_along old.0 ats replies)
+goes_along old [] new same = ([], [], [], (refl, refl, refl), ap (λ (o : Timed Life). o.0) same ∙ along_none old.0)
 goes_along old (x ∷ xs) new (mid, ((outcome, inl (idle, same), told), reads), later) =
     let more = goes_along mid xs new later in (
       more.0,
       more.1,
-      inl (record { outcome = outcome; idle = idle; told = told }, more.2),
-      more.3 ∙ ap (λ (l : Life). extended_along l more.0 more.1) same,
+      more.2,
+      inl (record { outcome = outcome; idle = idle; told = told }, more.3),
+      more.4 ∙ ap (λ (l : Life). extended_along l more.0 more.1) same,
     )
-goes_along old (x ∷ xs) new (mid, ((outcome, inr (form, moment, request, reply, is, asks, (at, stamped, same)), told), reads), later) =
+goes_along old (x ∷ xs) new (mid, ((outcome, inr (inl (form, moment, request, reply, is, asks, (at, stamped, same))), told), reads), later) =
     let more = goes_along mid xs new later in (
       at ∷ more.0,
       reply ∷ more.1,
-      inr (
+      more.2,
+      inr (inl (
         at,
         reply,
         record {
@@ -56,7 +59,21 @@ goes_along old (x ∷ xs) new (mid, ((outcome, inr (form, moment, request, reply
         more.1,
         refl,
         refl,
+        more.3,
+      )),
+      more.4 ∙ ap (λ (l : Life). extended_along l more.0 more.1) same ∙ along_more old.0 at reply more.0 more.1,
+    )
+goes_along old (x ∷ xs) new (mid, ((outcome, inr (inr (form, moment, lookup, found, is, looks, (finds, same))), told), reads), later) =
+    let more = goes_along mid xs new later in (
+      more.0,
+      more.1,
+      found ∷ more.2,
+      inr (inr (
+        found,
+        record { form = form; moment = moment; lookup = lookup; looks = looks; told = told ∙ ap (λ o. reply_bytes_of o x.message.closes) is },
         more.2,
-      ),
-      more.3 ∙ ap (λ (l : Life). extended_along l more.0 more.1) same ∙ along_more old.0 at reply more.0 more.1,
+        refl,
+        more.3,
+      )),
+      more.4 ∙ ap (λ (l : Life). extended_along l more.0 more.1) same,
     )

@@ -13,6 +13,8 @@ use Rattle.books.specs.Asking.{IsAsked, Replies, ReplyAt}
 use Rattle.books.specs.Keeps.{Represents, Seen}
 use Rattle.books.specs.Others.{LeavesOthers}
 use Rattle.books.proofs.OthersLemmas.{kept_tables, others_same, others_then}
+use Rattle.book_facts.specs.declared.lookup.Found.{Found}
+use Rattle.book_facts.specs.declared.lookup.Lookup.{Lookup}
 use Rattle.conversation.specs.Exchanges.{MessageExchange, GaveUp, ReadsClock, Timed, timed}
 use Rattle.conversation.specs.message.Messages.{Message}
 use Rattle.conversation.specs.Run.{IsRun}
@@ -20,7 +22,7 @@ use Rattle.conversation.specs.Uses.{EndsBy, IsPaced, Use}
 use Rattle.conversation.specs.declared.end.End.{End}
 use Rattle.conversation.specs.declared.message.message_fault.MessageFault.{MessageFault}
 use Rattle.conversation.proofs.FollowLemmas.{Follows, run_along, run_well}
-use Rattle.desk.specs.Answering.{Comes, Serving, answers_by, books_serve, life_serves, message_refusal_of}
+use Rattle.desk.specs.Answering.{Comes, LifeReplies, Serving, answers_by, books_serve, life_serves, message_refusal_of}
 use Rattle.desk.specs.Converses.{Converses}
 use Rattle.desk.specs.Meaning.{IsIdle, IsMeaning}
 use Rattle.desk.specs.reply.Text.{reply_bytes_of}
@@ -29,13 +31,21 @@ use Rattle.desk.specs.declared.meaning.Meaning.{Meaning}
 use Rattle.desk.specs.declared.meaning.Meaning.TheVariants as meanings
 use Rattle.desk.specs.declared.reply.outcome.Outcome.{Outcome}
 use Rattle.desk.specs.declared.reply.outcome.Outcome.TheVariants.{Replied}
+use Rattle.desk.specs.declared.reply.outcome.Outcome.TheVariants as outcomes
 
 -- a message asks something, which is served
 pub comes_asked : {O : Type 0} (serves : Serving O) (m : Message) (now : Option ℤ) (meaning : Meaning) (form : Form) (moment : ℕ) (request : Request) (reply : Result Answer Refusal)
     (outcome : Outcome) (old new office : O) → IsMeaning m now meaning → meaning ≡ meanings.Asks form moment request → outcome ≡ Replied form reply → office ≡ new
-    → serves moment request reply old new → Comes serves m now outcome old office
+    → serves.replies moment request reply old new → Comes serves m now outcome old office
 comes_asked serves m now meaning form moment request reply outcome old new office is means told same served =
-    inr (form, moment, request, reply, told, subst (λ x. IsMeaning m now x) means is, subst (λ o. serves moment request reply old o) (sym same) served)
+    inr (inl (form, moment, request, reply, told, subst (λ x. IsMeaning m now x) means is, subst (λ o. serves.replies moment request reply old o) (sym same) served))
+
+-- a message looks something up, which is found or refused
+pub comes_looked : {O : Type 0} (serves : Serving O) (m : Message) (now : Option ℤ) (meaning : Meaning) (form : Form) (moment : ℕ) (lookup : Lookup) (found : Result Found Refusal)
+    (outcome : Outcome) (old new office : O) → IsMeaning m now meaning → meaning ≡ meanings.Looks form moment lookup → outcome ≡ outcomes.Found form found → office ≡ new
+    → serves.finds moment lookup found old new → Comes serves m now outcome old office
+comes_looked serves m now meaning form moment lookup found outcome old new office is means told same finds =
+    inr (inr (form, moment, lookup, found, told, subst (λ x. IsMeaning m now x) means is, subst (λ o. serves.finds moment lookup found old o) (sym same) finds))
 
 -- a message asks nothing, and the office is as before
 pub comes_told : {O : Type 0} (serves : Serving O) (m : Message) (now : Option ℤ) (meaning : Meaning) (told outcome : Outcome) (old office : O)
@@ -73,7 +83,7 @@ by_number life moment request reply at old new keeps clean asked replies unstopp
 -- a life goes on by what the books that keep it reply
 served_life : (life : Life) (moment : ℕ) (request : Request) (reply : Result Answer Refusal) (old new : Seen) → Represents life old
     → ReplyAt moment request reply old new → HasCleanDisk new.state
-    → (after : Life) × life_serves moment request reply life after × Represents after new
+    → (after : Life) × LifeReplies moment request reply life after × Represents after new
 served_life life moment request reply old new keeps (at, asked, replies) clean = (
   extended_by life at reply,
   (
@@ -101,18 +111,24 @@ books_follow {B} see start = record { back = back; next = next }
 
     back : (old : B) (x : MessageExchange) (new : B) → step old x new → HasCleanDisk (see new).state → HasCleanDisk (see old).state
     back old x new (outcome, inl (idle, same), text) clean = subst (λ b. HasCleanDisk (see b).state) same clean
-    back old x new (outcome, inr (form, moment, request, reply, is, asks, (at, asked, replies)), text) clean = replies.clean clean
+    back old x new (outcome, inr (inl (form, moment, request, reply, is, asks, (at, asked, replies))), text) clean = replies.clean clean
+    back old x new (outcome, inr (inr (form, moment, lookup, found, is, looks, finds)), text) clean = finds.reads.clean clean
 
     next : (life : Life) (old : B) (x : MessageExchange) (new : B) → KeepsFrom start life (see old) → step old x new → HasCleanDisk (see new).state
         → (after : Life) × answers_by life_serves life x after × KeepsFrom start after (see new)
     next life old x new kept (outcome, inl (idle, same), text) clean =
         (life, (outcome, inl (idle, refl), text), subst (λ b. KeepsFrom start life (see b)) (sym same) kept)
-    next life old x new kept (outcome, inr (form, moment, request, reply, is, asks, (at, asked, replies)), text) clean =
+    next life old x new kept (outcome, inr (inl (form, moment, request, reply, is, asks, (at, asked, replies))), text) clean =
         let goes = served_life life moment request reply (see old) (see new) kept.0 (at, asked, replies) clean in (
           goes.0,
-          (outcome, inr (form, moment, request, reply, is, asks, goes.1), text),
+          (outcome, inr (inl (form, moment, request, reply, is, asks, goes.1)), text),
           (goes.2, others_then start (see old).state (see new).state kept.1 (replies.others clean (kept_tables life (see old) kept.0))),
         )
+    next life old x new kept (outcome, inr (inr (form, moment, lookup, found, is, looks, finds)), text) clean = (
+      life,
+      (outcome, inr (inr (form, moment, lookup, found, is, looks, (finds.of_life clean life kept.0, refl))), text),
+      (finds.reads.keeps life kept.0, others_then start (see old).state (see new).state kept.1 (finds.reads.others clean (kept_tables life (see old) kept.0))),
+    )
 
 module _ {B : Type 0} (see : B → Seen) (refusal : MessageFault → List ℕ) (old new : Timed B) (unread left held holds : Option (List ℕ)) (end : End)
     (is_run : IsRun (answers_by (books_serve see)) refusal old new unread left held holds end) (clean : HasCleanDisk (see new.0).state) where

@@ -1,13 +1,16 @@
--- The requests that messages asked, and the replies that they got.
-use Rattle.std.specs.Prelude.{◌≡◌, ◌⊎◌, List, [], ◌∷◌, Result}
+-- The requests that messages asked, the replies that they got, and what they found.
+use Rattle.std.specs.Prelude.{◌≡◌, ◌⊎◌, ℕ, List, [], ◌∷◌, Result}
 use Rattle.vend_core.specs.declared.decision.answer.Answer.{Answer}
 use Rattle.vend_core.specs.declared.decision.refusal.Refusal.{Refusal}
 use Rattle.vend_core.specs.declared.decision.request.Stamped.{Stamped}
+use Rattle.book_facts.specs.declared.lookup.Found.{Found}
+use Rattle.book_facts.specs.declared.lookup.Lookup.{Lookup}
 use Rattle.conversation.specs.Exchanges.{MessageExchange}
 use Rattle.desk.specs.declared.reply.form.Form.{Form}
 use Rattle.desk.specs.declared.reply.outcome.Outcome.{Outcome}
 use Rattle.desk.specs.declared.reply.outcome.Outcome.TheVariants.{Replied}
-use Rattle.desk.specs.Meaning.{MessageAsks, IsIdle}
+use Rattle.desk.specs.declared.reply.outcome.Outcome.TheVariants as outcomes
+use Rattle.desk.specs.Meaning.{MessageAsks, MessageLooks, IsIdle}
 use Rattle.desk.specs.reply.Text.{reply_bytes_of}
 
 -- the message asked nothing of the office, and was told so
@@ -23,11 +26,24 @@ pub record AskedOffice (x : MessageExchange) (at : Stamped)
   pub asks : MessageAsks x.message x.now form at.moment at.request
   pub told : x.reply ≡ reply_bytes_of (Replied form reply) x.message.closes
 
--- the requests and the replies of these exchanges, each once and in order, and no others
-abbrev pub AreAsked : List MessageExchange → List Stamped → List (Result Answer Refusal) → Type 0
-AreAsked [] ats replies = (ats ≡ []) × (replies ≡ [])
-AreAsked (x ∷ xs) ats replies =
-    (AskedNothing x × AreAsked xs ats replies)
-    ⊎ ((at : Stamped) × (reply : Result Answer Refusal) × AskedOffice x at reply
+-- the message looked something up in the office, and was told what was found
+pub record LookedUp (x : MessageExchange) (found : Result Found Refusal) : Type 0 where
+  pub form : Form
+  pub moment : ℕ
+  pub lookup : Lookup
+  pub looks : MessageLooks x.message x.now form moment lookup
+  pub told : x.reply ≡ reply_bytes_of (outcomes.Found form found) x.message.closes
+
+-- the requests and the replies of these exchanges and what they found, each once and in order, and
+-- no others
+abbrev pub AreAsked : List MessageExchange → List Stamped → List (Result Answer Refusal)
+    → List (Result Found Refusal) → Type 0
+AreAsked [] ats replies finds = (ats ≡ []) × (replies ≡ []) × (finds ≡ [])
+AreAsked (x ∷ xs) ats replies finds =
+    (AskedNothing x × AreAsked xs ats replies finds)
+    ⊎ (((at : Stamped) × (reply : Result Answer Refusal) × AskedOffice x at reply
     × (later : List Stamped) × (others : List (Result Answer Refusal))
-    × (ats ≡ at ∷ later) × (replies ≡ reply ∷ others) × AreAsked xs later others)
+    × (ats ≡ at ∷ later) × (replies ≡ reply ∷ others) × AreAsked xs later others finds)
+    ⊎ ((found : Result Found Refusal) × LookedUp x found
+    × (others : List (Result Found Refusal))
+    × (finds ≡ found ∷ others) × AreAsked xs ats replies others))

@@ -1,7 +1,13 @@
--- How an office answers messages, by how it serves requests.
+-- How an office answers messages, by how it serves requests and what it finds.
 use Rattle.std.specs.Prelude.{◌≡◌, ◌≢◌, ℕ, ◌+◌, ◌%◌, ℤ, ◌⊎◌, true, List, length, Option, Result, Err}
 use Rattle.books.specs.Asking.{ReplyAt}
-use Rattle.books.specs.Keeps.{Seen}
+use Rattle.books.specs.Keeps.{Represents, Seen}
+use Rattle.books.specs.Looking.{IsFoundAt}
+use Rattle.books.specs.Reads.{ReadsBooks}
+use Rattle.book_facts.specs.Lookups.{IsOfRules}
+use Rattle.book_facts.specs.declared.lookup.Found.{Found}
+use Rattle.book_facts.specs.declared.lookup.Lookup.{Lookup}
+use Rattle.sqlite.specs.State.{HasCleanDisk}
 use Rattle.vend_core.specs.Law.Life.{Life, present}
 use Rattle.vend_core.specs.Law.LifeLaws.{extended_by}
 use Rattle.vend_core.specs.declared.decision.answer.Answer.{Answer}
@@ -15,22 +21,27 @@ use Rattle.conversation.specs.message.Messages.{Message}
 use Rattle.desk.specs.declared.reply.form.Form.{Form}
 use Rattle.desk.specs.declared.reply.outcome.Outcome.{Outcome}
 use Rattle.desk.specs.declared.reply.outcome.Outcome.TheVariants.{Refused, Replied}
-use Rattle.desk.specs.Meaning.{MessageAsks, IsIdle}
+use Rattle.desk.specs.declared.reply.outcome.Outcome.TheVariants as outcomes
+use Rattle.desk.specs.Meaning.{MessageAsks, MessageLooks, IsIdle}
 use Rattle.desk.specs.reply.Text.{reply_bytes_of}
 
--- How an office serves: at a moment a request gets a reply, between the office before it and the
--- office after it.
-abbrev pub Serving : Type 0 → Type 1
-Serving O = ℕ → Request → Result Answer Refusal → O → O → Type 0
+-- How an office serves: at a moment a request gets a reply, and a look-up finds something or is
+-- refused, between the office before it and the office after it.
+pub record Serving (O : Type 0) : Type 1 where
+  pub replies : ℕ → Request → Result Answer Refusal → O → O → Type 0
+  pub finds : ℕ → Lookup → Result Found Refusal → O → O → Type 0
 
--- what comes of a message: it asks nothing and the office is as before, or its request is served,
--- once
+-- what comes of a message: it asks nothing and the office is as before; or its request is served,
+-- once; or what it looks up is found, or refused, and the office is as the look-up leaves it
 abbrev pub Comes : {O : Type 0} → Serving O → Message → Option ℤ → Outcome → O → O → Type 0
 Comes serves m now outcome old new =
     (IsIdle m now outcome × (new ≡ old))
-    ⊎ ((form : Form) × (moment : ℕ) × (request : Request) × (reply : Result Answer Refusal)
+    ⊎ (((form : Form) × (moment : ℕ) × (request : Request) × (reply : Result Answer Refusal)
     × (outcome ≡ Replied form reply) × MessageAsks m now form moment request
-    × serves moment request reply old new)
+    × serves.replies moment request reply old new)
+    ⊎ ((form : Form) × (moment : ℕ) × (lookup : Lookup) × (found : Result Found Refusal)
+    × (outcome ≡ outcomes.Found form found) × MessageLooks m now form moment lookup
+    × serves.finds moment lookup found old new))
 
 -- the office answered a message by the reply that tells what came of it
 abbrev pub answers_by : {O : Type 0} → Serving O → O → MessageExchange → O → Type 0
@@ -42,9 +53,20 @@ answers_by serves old x new =
 abbrev pub message_refusal_of : MessageFault → List ℕ
 message_refusal_of fault = reply_bytes_of (Refused fault) true
 
+-- What books found of what was looked up at a moment: for each life that they keep what its present
+-- office has, or why they had no answer. They were only read.
+pub record FoundAt (moment : ℕ) (lookup : Lookup) (found : Result Found Refusal) (old new : Seen)
+    : Type 0 where
+  pub of_life : HasCleanDisk new.state → (life : Life) → Represents life old
+      → IsFoundAt life moment lookup found
+  pub reads : ReadsBooks IsOfRules found old new
+
 -- how books of any kind serve, by what contracts see of them
 abbrev pub books_serve : {B : Type 0} → (B → Seen) → Serving B
-books_serve see moment request reply old new = ReplyAt moment request reply (see old) (see new)
+books_serve see = record {
+  replies = λ moment request reply old new. ReplyAt moment request reply (see old) (see new);
+  finds = λ moment lookup found old new. FoundAt moment lookup found (see old) (see new);
+}
 
 -- the stamped request is this request at this moment, and its nibble that of the next sale's
 -- number, unless the office was stopped
@@ -56,6 +78,13 @@ pub record IsStampedBy (life : Life) (moment : ℕ) (request : Request)
   pub by_number : reply ≢ Err Stopped → at.nibble ≡ (length (present life).sales + 1) % 16
 
 -- how a life is served: it goes on by this request and this reply, and by nothing beside
-abbrev pub life_serves : Serving Life
-life_serves moment request reply old new =
+abbrev pub LifeReplies : ℕ → Request → Result Answer Refusal → Life → Life → Type 0
+LifeReplies moment request reply old new =
     (at : Stamped) × IsStampedBy old moment request reply at × (new ≡ extended_by old at reply)
+
+-- a look-up finds what its present office has, or there is no answer, and it stays as it is
+abbrev pub life_serves : Serving Life
+life_serves = record {
+  replies = LifeReplies;
+  finds = λ moment lookup found old new. IsFoundAt old moment lookup found × (new ≡ old);
+}

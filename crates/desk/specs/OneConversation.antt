@@ -2,24 +2,32 @@
 use Rattle.std.specs.Prelude.{◌≡◌, ℕ, ℤ, List, ◌++◌, map, Option}
 use Rattle.vend_core.specs.declared.decision.request.Request.{Request}
 use Rattle.vend_core.specs.declared.decision.request.Stamped.{Stamped}
+use Rattle.book_facts.specs.declared.lookup.Lookup.{Lookup}
 use Rattle.conversation.specs.Conversation.{last_words, replies_of}
 use Rattle.conversation.specs.Exchanges.{MessageExchange}
 use Rattle.conversation.specs.message.Messages.{AgreeBy, Ending, Message, Stop, ended}
 use Rattle.desk.specs.declared.reply.form.Form.{Form}
 use Rattle.desk.specs.declared.reply.outcome.Outcome.{Outcome}
 use Rattle.desk.specs.Answering.{message_refusal_of}
-use Rattle.desk.specs.Meaning.{IsIdle, MessageAsks}
+use Rattle.desk.specs.Meaning.{IsIdle, MessageAsks, MessageLooks}
 
--- With what the clock gave for it a message asks one thing of the office, or one thing comes of it
--- without the office, and never both.
+-- With what the clock gave for it a message asks one thing of the office, or looks one thing up, or
+-- one thing comes of it without the office, and never two of these.
 pub record HasOneMeaning (m : Message) (now : Option ℤ) : Type 0 where
   pub asks : (form other : Form) (moment later : ℕ) (request another : Request)
       → MessageAsks m now form moment request → MessageAsks m now other later another
       → (form ≡ other) × (moment ≡ later) × (request ≡ another)
+  pub looks : (form other : Form) (moment later : ℕ) (lookup another : Lookup)
+      → MessageLooks m now form moment lookup → MessageLooks m now other later another
+      → (form ≡ other) × (moment ≡ later) × (lookup ≡ another)
   pub idle : (outcome other : Outcome) → IsIdle m now outcome → IsIdle m now other
       → outcome ≡ other
   pub never_both : (form : Form) (moment : ℕ) (request : Request) (outcome : Outcome)
       → MessageAsks m now form moment request → ¬ IsIdle m now outcome
+  pub asks_or_looks : (form other : Form) (moment later : ℕ) (request : Request) (lookup : Lookup)
+      → MessageAsks m now form moment request → ¬ MessageLooks m now other later lookup
+  pub looks_or_idle : (form : Form) (moment : ℕ) (lookup : Lookup) (outcome : Outcome)
+      → MessageLooks m now form moment lookup → ¬ IsIdle m now outcome
 
 -- what the clock gave for each
 abbrev pub moments_of : List MessageExchange → List (Option ℤ)

@@ -18,7 +18,8 @@ use std::io::{Read, Write};
 use sts_token::BlockTransform;
 
 /// The desk of an office: it answers the messages of a conversation by what the office replies to
-/// their requests (`docs/DESK.md`). It keeps nothing between conversations but its routes.
+/// their requests, and by what they find there (`docs/DESK.md`). It keeps nothing between
+/// conversations but its routes.
 #[derive(Drop)]
 pub struct Desk {
     routes: Routes,
@@ -106,6 +107,9 @@ impl<S: Alter, T: BlockTransform> Service<Books<S, T>> for Desk {
         let outcome = match self.meaning_of(alloc, clock, message) {
             Meaning::Asks(form, moment, request) => {
                 Outcome::Replied(form, office.ask(moment, request))
+            }
+            Meaning::Looks(form, moment, lookup) => {
+                Outcome::Found(form, office.look_up(moment, &lookup))
             }
             Meaning::Told(outcome) => outcome,
             Meaning::Memory => return Err(AllocError),

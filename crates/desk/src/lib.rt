@@ -15,6 +15,7 @@ mod route;
 pub use along::{conversation_law, desk_law};
 pub use asking::{asking_law, request_of};
 pub use body_fault::BodyFault;
+pub use books::{Found, Lookup, MeterSummary, Quote, Totals};
 pub use conversation::{
     Clock, End, Line, MachineClock, MessageFault, Method, Next, Received, Script, TimeSource,
     Untold, next_of,

@@ -12,7 +12,7 @@ use crate::desk_fault::DeskFault;
 use crate::reply::form::Form;
 use crate::reply::outcome::Outcome;
 use crate::route::Route;
-use book_facts::Lookup;
+use books::Lookup;
 use conversation::Received;
 use std::alloc::Global;
 use vend_core::{Moment, Refusal, Request};

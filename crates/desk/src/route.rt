@@ -4,7 +4,7 @@ pub(crate) mod endpoint;
 mod parameter;
 pub(crate) mod routes;
 
-use book_facts::Lookup;
+use books::Lookup;
 use vend_core::{MeterNo, TariffName};
 
 /// What a target asks for, with what it names: a request, which may change the office, or a look-up,

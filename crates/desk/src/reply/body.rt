@@ -8,7 +8,7 @@ use crate::reply::found::{health_body, meter_body, quote_body, totals_body};
 use crate::reply::members::{Member, object_text};
 use crate::reply::outcome::Outcome;
 use crate::reply::sale_text::{change, seconds};
-use book_facts::Found;
+use books::Found;
 use papers::{receipt, shift_report};
 use std::alloc::{AllocError, Global};
 use vend_core::{Answer, Category, Refusal, Sale};

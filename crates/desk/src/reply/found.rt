@@ -5,8 +5,8 @@ ghost use Rattle.desk.specs.reply.Body.{health_members, meter_members, quote_mem
 ghost use Rattle.desk.specs.reply.Members.{data_of, json_text, some_number};
 
 use crate::reply::members::{Member, object_text};
-use book_facts::{MeterSummary, Quote};
-use book_tables::{PRESENT_FORMAT, Totals};
+use book_tables::PRESENT_FORMAT;
+use books::{MeterSummary, Quote, Totals};
 use std::alloc::{AllocError, Global};
 
 // The format of the office's file, and how many sales there are.

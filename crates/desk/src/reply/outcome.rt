@@ -1,6 +1,6 @@
 use crate::desk_fault::DeskFault;
 use crate::reply::form::Form;
-use book_facts::Found;
+use books::Found;
 use conversation::MessageFault;
 use vend_core::{Refusal, Reply};
 

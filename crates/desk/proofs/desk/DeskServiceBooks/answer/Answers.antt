@@ -1,8 +1,8 @@
 use Rattle.books.specs.Keeps.{seen}
 use Rattle.conversation.specs.message.Next.{message_of}
 use Rattle.desk.specs.Answering.{Comes, books_serve}
-use Rattle.desk.proofs.ServingLemmas.{comes_asked, comes_told, was_answered, was_given_up}
-use Rattle.desk.proofs.desk.DeskServiceBooks.answer.Goals.{in-Asks, in-Told}
+use Rattle.desk.proofs.ServingLemmas.{comes_asked, comes_looked, comes_told, was_answered, was_given_up}
+use Rattle.desk.proofs.desk.DeskServiceBooks.answer.Goals.{in-Asks, in-Looks, in-Told}
 use Rattle.desk.proofs.desk.DeskServiceBooks.answer.Goals as goal
 
 pub returns-clause-ok : goal.returns-clause-ok
@@ -15,6 +15,7 @@ returns-clause-ok g c =
     let comes : Comes serves m now outcome c.args.office.now c.match-meaning_of.office =
     elim c.match-meaning_of.branch [
       | in-Asks w ↦ comes_asked serves m now _ w.in-Asks.form w.in-Asks.moment w.in-Asks.request w.ask.result outcome _ w.ask.new.self _ means w.in-Asks.is w.outcome-is w.office-is w.ask.ensures.replies
+      | in-Looks w ↦ comes_looked serves m now _ w.in-Looks.form w.in-Looks.moment w.in-Looks.lookup w.look_up.result outcome _ w.look_up.new.self _ means w.in-Looks.is w.outcome-is w.office-is (record { of_life = w.look_up.ensures.found; reads = w.look_up.ensures.reads })
       | in-Told w ↦ comes_told serves m now _ w.in-Told.outcome outcome _ _ means w.in-Told.is w.outcome-is w.office-is
     ] in
     was_answered serves (λ v. v.items) (c.args.office.now, g.C.Clock.answers c.args.clock.now) (c.match-meaning_of.office, g.C.Clock.answers c.meaning_of.new.clock) m
@@ -30,6 +31,7 @@ returns-clause-err g c =
     let comes : Comes serves m now outcome c.args.office.now c.match-meaning_of.office =
     elim c.match-meaning_of.branch [
       | in-Asks w ↦ comes_asked serves m now _ w.in-Asks.form w.in-Asks.moment w.in-Asks.request w.ask.result outcome _ w.ask.new.self _ means w.in-Asks.is w.outcome-is w.office-is w.ask.ensures.replies
+      | in-Looks w ↦ comes_looked serves m now _ w.in-Looks.form w.in-Looks.moment w.in-Looks.lookup w.look_up.result outcome _ w.look_up.new.self _ means w.in-Looks.is w.outcome-is w.office-is (record { of_life = w.look_up.ensures.found; reads = w.look_up.ensures.reads })
       | in-Told w ↦ comes_told serves m now _ w.in-Told.outcome outcome _ _ means w.in-Told.is w.outcome-is w.office-is
     ] in
     was_given_up serves (c.args.office.now, g.C.Clock.answers c.args.clock.now) (c.match-meaning_of.office, g.C.Clock.answers c.meaning_of.new.clock) m
