@@ -47,7 +47,7 @@ reads_name rule text None known same = λ name keeps e.
 
 -- ---- up to a slash, and behind it
 
-is_slash : ℕ → Bool
+abbrev is_slash : ℕ → Bool
 is_slash byte = eqb byte 47
 
 -- the first slash stands behind what lacks one
@@ -120,7 +120,7 @@ same_two front middle a b x y la lb same =
 module _ {A B : Type 0} (Rule : A → Type 0) (write : A → List ℕ) (Other : B → Type 0) (put : B → List ℕ)
     (text front middle first second : List ℕ) (lacks : (value : A) → Rule value → LacksSlash (write value))
     (cut : LacksSlash first) (is : text ≡ front ++ (first ++ 47 ∷ (middle ++ second))) where
-  AreRead : A × B → Type 0
+  abbrev pub AreRead : A × B → Type 0
   AreRead named = (text ≡ front ++ (write named.0 ++ 47 ∷ (middle ++ put named.1))) × Rule named.0 × Other named.1
 
   pub no_first : ReadsWritten Rule write first None → (named : A × B) → ¬ AreRead named
@@ -189,3 +189,13 @@ pub not_text : (digits : List ℕ) → ¬ IsUtf8 digits → (number : ℕ) → I
     → digits ≢ decimal number
 not_text digits none number is same =
     none (subst IsUtf8 (sym same) (IsUtf8-from_ascii (decimal number) (IsAscii-decimal number (omega (arith, is.most)))))
+
+-- a tender is read where the digits write one
+pub reads_tender : (digits : List ℕ) (cents wide : ℕ) (r : Option ℕ) → digits ≡ decimal cents → IsTargetNumber cents
+    → wide ≡ cents → (IsSome r ↔ IsTender wide) → IfSome r (λ tender. tender ≡ wide) → ReadsWritten IsTender decimal digits r
+reads_tender digits cents wide (Some tender) written is same known value =
+    (subst IsTender (sym value) (known.0 refl), written ∙ ap decimal (sym same ∙ sym value))
+reads_tender digits cents wide None written is same known value = λ other keeps e.
+    let rule : IsTargetNumber other = record { from_one = keeps.0; most = omega (arith, keeps.1) } in
+    let equal = same_number cents other (omega (arith, is.most)) rule (sym written ∙ e) in
+    let there : IsSome {T = ℕ} None = known.1 (subst IsTender (sym (same ∙ equal)) keeps) in cc

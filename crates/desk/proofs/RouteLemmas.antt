@@ -4,6 +4,8 @@ use Rattle.std.specs.List.{after_first, before_first, fold}
 use Rattle.std.specs.Prelude.{codes, decimal, is_err}
 use Rattle.std.proofs.lemmas.List.{append_cancel_left, append_cancel_right}
 use Rattle.std.proofs.lemmas.List.Sums.{fold_more}
+use Rattle.tariff.specs.Tender.{IsTender}
+use Rattle.vend_core.specs.Name.{IsMeterNo, IsName, IsOperator}
 use Rattle.matchit.specs.Route.{Scan, parse_route}
 use Rattle.matchit.specs.Router.{InsertsRead}
 use Rattle.matchit.specs.declared.error.InsertError.{InsertError}
@@ -16,7 +18,7 @@ use Rattle.desk.specs.declared.route.Route.{Route}
 use Rattle.desk.specs.declared.route.Route.TheVariants.{AddTariff, AddSteps, AddMeter, SetTariff, MoveBase, OpenShift, CloseShift, ShiftReport, Sell, Reprint, Receipt, ImportMeters, ImportTariffs, LookUp}
 use Rattle.book_facts.specs.declared.lookup.Lookup.{Lookup}
 use Rattle.book_facts.specs.declared.lookup.Lookup.TheVariants as lookups
-use Rattle.desk.specs.route.Endpoint.{Table, closes, endpoints, endpoint_method, filled, opens, pattern_of, with_endpoint, with_pattern}
+use Rattle.desk.specs.route.Endpoint.{Table, closes, endpoints, endpoint_method, filled, opens, pattern_of, quote_target, sale_target, with_endpoint, with_pattern}
 use Rattle.desk.specs.route.Route.{Finds, IsRouted, LeadsTo, Names, NamesLookup, endpoint_of, lookup_endpoint}
 use Rattle.desk.proofs.ParameterLemmas.{digits_lack, letters_lack, same_number, same_two}
 
@@ -74,8 +76,22 @@ same_lookup target (lookups.ShiftTotals x) (lookups.ShiftTotals y) e m n =
     ap lookups.ShiftTotals (same_number x y (omega (arith, m.1.most)) n.1 (same_filled (pattern_of ShiftTotals) target (decimal x) (decimal y) m.0 n.0))
 same_lookup target a b e m n = absurd (cc)
 
+-- a target that names no quote is that of none
+pub no_quote : (target : List ℕ) (endpoint : Endpoint) → endpoint ≡ Quote
+    → ((named : List ℕ × ℕ) → ¬ ((target ≡ quote_target named.0 named.1) × IsMeterNo named.0 × IsTender named.1))
+    → (lookup : Lookup) → ¬ ((lookup_endpoint lookup ≡ endpoint) × NamesLookup target lookup)
+no_quote target endpoint is none (lookups.Quote meter tender) (e, named) = none (meter, tender) named
+no_quote target endpoint is none lookup (e, named) = absurd (cc)
+
+-- nor is one that names no sale of a ref
+pub no_sale_of_ref : (target : List ℕ) (endpoint : Endpoint) → endpoint ≡ SaleOfRef
+    → ((named : List ℕ × List ℕ) → ¬ ((target ≡ sale_target named.0 named.1) × IsOperator named.0 × IsName named.1))
+    → (lookup : Lookup) → ¬ ((lookup_endpoint lookup ≡ endpoint) × NamesLookup target lookup)
+no_sale_of_ref target endpoint is none (lookups.SaleOfRef operator order_ref) (e, named) = none (operator, order_ref) named
+no_sale_of_ref target endpoint is none lookup (e, named) = absurd (cc)
+
 -- at an endpoint something is looked up, or a request is asked
-looks : Endpoint → Bool
+abbrev looks : Endpoint → Bool
 looks Health = true
 looks Meter = true
 looks LastSale = true
@@ -84,7 +100,7 @@ looks SaleOfRef = true
 looks ShiftTotals = true
 looks endpoint = false
 
-pub looks_up : (lookup : Lookup) → looks (lookup_endpoint lookup) ≡ true
+looks_up : (lookup : Lookup) → looks (lookup_endpoint lookup) ≡ true
 looks_up lookups.SaleCount = refl
 looks_up (lookups.Meter meter) = refl
 looks_up (lookups.LastSale meter) = refl

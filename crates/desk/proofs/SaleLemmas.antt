@@ -1,5 +1,5 @@
--- A sale as JSON: what its members are, and that its names are text.
-use Rattle.std.proofs.Common.{◌≡◌, ℕ, ◌<◌, ◌≤◌, true, List, [], ◌∷◌, length, get_or, codes, refl, arith}
+-- A sale, a meter and a quote as JSON: what their members are, and that their names are text.
+use Rattle.std.proofs.Common.{◌≡◌, ℕ, ◌-◌, ◌<◌, ◌≤◌, true, List, [], ◌∷◌, length, get_or, codes, refl, arith}
 use Rattle.std.specs.Char.{is_ascii_alphanumeric, is_ascii_digit}
 use Rattle.std.specs.List.{AllPass}
 use Rattle.std.specs.Prelude.{Bool}
@@ -8,9 +8,11 @@ use Rattle.std.specs.Str.Lossy.{utf8_lossy}
 use Rattle.std.proofs.lemmas.Bool.Decides.{nat_tests}
 use Rattle.std.proofs.lemmas.List.{get_or_past}
 use Rattle.std.proofs.lemmas.Str.{IsUtf8-from_ascii, utf8_lossy-IsUtf8}
-use Rattle.serde_json.specs.Data.{string}
-use Rattle.desk.specs.reply.Members.{Pair, whole_number}
-use Rattle.desk.specs.reply.Body.{sale_members}
+use Rattle.serde_json.specs.Data.{Data, string}
+use Rattle.book_facts.specs.declared.lookup.MeterSummary.{MeterSummary}
+use Rattle.book_facts.specs.declared.lookup.Quote.{Quote}
+use Rattle.desk.specs.reply.Members.{Pair, some_number, whole_number}
+use Rattle.desk.specs.reply.Body.{meter_members, quote_members, sale_members}
 use Rattle.papers.specs.Text.{change_of}
 use Rattle.sts_fields.specs.Base.{year_of}
 use Rattle.vend_core.specs.Name.{IsMeterNo, IsName, IsOperator, is_name_byte}
@@ -68,3 +70,24 @@ sale_members-are s base change moment number price shift tender tenths tid meter
       kept is_ascii_alphanumeric small_letter s.operator r6.bytes,
       kept is_name_byte small_name s.order_ref r8.bytes,
     ) refl
+
+-- the members of a meter, one by one
+pub meter_members-are : (m : MeterSummary) (base : ℕ) (number tariff : List ℕ) (last : Data)
+    → base ≡ year_of m.base → number ≡ m.number → IsMeterNo m.number → last ≡ some_number m.last_sale → tariff ≡ m.tariff → IsName m.tariff
+    → let members : List Pair =
+    (codes "base", whole_number base) ∷ (codes "meter", string (utf8_lossy number)) ∷ (codes "sale", last)
+    ∷ (codes "tariff", string (utf8_lossy tariff)) ∷ (codes "tenths", whole_number m.tenths) ∷ [] in
+    members ≡ meter_members m
+meter_members-are m base number tariff last e1 e2 r2 e3 e4 r4 =
+    rw (e1, e2, e3, e4, digits-kept m.number r2.digits, kept is_name_byte small_name m.tariff r4.bytes) refl
+
+-- the members of a quote, one by one
+pub quote_members-are : (q : Quote) (change price tender tenths : ℕ) (meter tariff : List ℕ)
+    → change ≡ q.tender - q.price → meter ≡ q.meter → IsMeterNo q.meter → price ≡ q.price → tariff ≡ q.tariff → IsName q.tariff
+    → tender ≡ q.tender → tenths ≡ q.tenths
+    → let members : List Pair =
+    (codes "change", whole_number change) ∷ (codes "meter", string (utf8_lossy meter)) ∷ (codes "price", whole_number price)
+    ∷ (codes "tariff", string (utf8_lossy tariff)) ∷ (codes "tender", whole_number tender) ∷ (codes "tenths", whole_number tenths) ∷ [] in
+    members ≡ quote_members q
+quote_members-are q change price tender tenths meter tariff e1 e2 r2 e3 e4 r4 e5 e6 =
+    rw (e1, e2, e3, e4, e5, e6, digits-kept q.meter r2.digits, kept is_name_byte small_name q.tariff r4.bytes) refl
