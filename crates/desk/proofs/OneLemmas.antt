@@ -163,7 +163,7 @@ at_other Holds x y message now holds =
 pub same_exchanges : ((m : Message) (now : Option ℤ) → HasOneMeaning m now) → (xs ys : List MessageExchange) (ats bts : List Stamped)
     (replies : List (Result Answer Refusal)) (finds : List (Result Found Refusal)) → messages_of xs ≡ messages_of ys → moments_of xs ≡ moments_of ys
     → AreAsked xs ats replies finds → AreAsked ys bts replies finds → (xs ≡ ys) × (asked_at ats ≡ asked_at bts)
-same_exchanges one [] [] ats bts replies finds messages moments (a, _) (b, _) = (refl, ap asked_at (a ∙ sym b))
+same_exchanges one [] [] ats bts replies finds messages moments (a, _, _) (b, _, _) = (refl, ap asked_at (a ∙ sym b))
 same_exchanges one [] (y ∷ ys) ats bts replies finds messages moments a b = absurd (cc)
 same_exchanges one (x ∷ xs) [] ats bts replies finds messages moments a b = absurd (cc)
 same_exchanges one (x ∷ xs) (y ∷ ys) ats bts replies finds messages moments (inl (nothing, a)) (inl (none, b)) =

@@ -170,6 +170,12 @@ OutsideRule
 1 reprint 5
 /sales/5/receipt = {}
 1 reprint 5
+/health = {}
+OutsideRule
+/meters/12345678903 = {'base':2014}
+OutsideRule
+/operators/ann/sales/A-1 = ^
+OutsideRule
 /imports/meters = meter,base,tariff,key|12345678903,2014,flat,0000000000000000|
 1 import m,12345678903,2014,flat,0000000000000000
 /imports/meters = name,steps|flat,:100|home,500:100;:200|
@@ -223,7 +229,7 @@ fn what_each_body_asks_for(rt: HostRuntime) -> Result<(), Fail> {
     let alloc = rt.alloc();
     let routes = Routes::new(alloc)?;
     let mut lines = bodies().lines();
-    for _ in 0..86u32 {
+    for _ in 0..89u32 {
         let line = lines.next().ok_or("no body")?;
         let (target, body) = line.split_once(" = ").ok_or("no target")?;
         let found = asked(alloc, route_of(&routes, target)?, &bytes(alloc, body)?);

@@ -13,4 +13,5 @@
 pub(crate) mod answers;
 pub(crate) mod asks;
 pub(crate) mod later;
+pub(crate) mod looks;
 pub(crate) mod talks;

@@ -4,6 +4,7 @@
 use crate::lists::answers::answers;
 use crate::lists::asks::asks;
 use crate::lists::later::{again, later};
+use crate::lists::looks::{looks, looks_later};
 use crate::lists::talks::{after_asks, with_clocks};
 use crate::texts::{bytes, message, reply};
 use books::Books;
@@ -149,9 +150,12 @@ fn hold<S: Alter, T: BlockTransform>(
 
 #[test]
 fn lists_at_a_desk_in_memory(rt: HostRuntime) -> Result<(), Fail> {
-    for (first, next) in [(asks(), after_asks()), (later(), again())] {
+    for lists in [
+        [asks(), after_asks(), looks()],
+        [later(), again(), looks_later()],
+    ] {
         let mut both = in_memory(rt.alloc())?;
-        for list in [first, next] {
+        for list in lists {
             hold(&rt, &mut both, list)?;
             agree(&mut both)?;
         }
@@ -176,14 +180,17 @@ impl<T: BlockTransform, A: Abort + AllocGlobal> Life<T, ()> for Conversation<'_,
     }
 }
 
-// The office is opened again between two lists.
+// The office is opened again between its lists.
 #[test]
 fn lists_at_a_desk_over_a_file(rt: HostRuntime) -> Result<(), Fail> {
     let path = "desk.db";
-    for (first, next) in [(asks(), after_asks()), (later(), again())] {
+    for told in [
+        [asks(), after_asks(), looks()],
+        [later(), again(), looks_later()],
+    ] {
         remove(rt.alloc(), &rt, path)?;
         let mut lists = Lists::new(rt.alloc(), Plain);
-        for list in [first, next] {
+        for list in told {
             let (left, ()) = live(&rt, path, Plain, lists, Conversation { rt: &rt, list })?;
             lists = left;
         }

@@ -1,12 +1,15 @@
 //! Replies, byte for byte.
 
 use crate::texts::reply;
-use desk::{DeskFault, Form, MessageFault, Method, Outcome, reply_bytes};
+use desk::{
+    DeskFault, Form, Found, MessageFault, MeterSummary, Method, Outcome, Quote, Totals, reply_bytes,
+};
 use std::alloc::Global;
 use std::test::Fail;
 use sts_fields::{Amount, Base};
 use vend_core::{
-    Answer, MeterNo, Moment, Operator, Ref, Refusal, RowCause, Sale, Sales, Shift, Tender,
+    Answer, MeterNo, Moment, Operator, Ref, Refusal, RowCause, Sale, Sales, Shift, TariffName,
+    Tender,
 };
 
 // A tenth of a kWh for ten cents.
@@ -68,6 +71,41 @@ fn answers(alloc: Global) -> Result<Vec<Answer>, Fail> {
     Ok(answers)
 }
 
+fn findings(alloc: Global) -> Result<Vec<Found>, Fail> {
+    let sold = MeterSummary {
+        number: MeterNo::read(b"12345678903").ok_or("a meter")?,
+        base: Base::Y1993,
+        tariff: TariffName::read(b"flat").ok_or("a tariff")?,
+        tenths: 18_446_744_073_709_551_615,
+        last_sale: Some(1_000_000_000),
+    };
+    let mut findings = Vec::new(alloc);
+    findings.push(Found::SaleCount(0))?;
+    findings.push(Found::SaleCount(1_000_000_000))?;
+    findings.push(Found::Meter(sold))?;
+    findings.push(Found::Meter(MeterSummary {
+        base: Base::Y2035,
+        tenths: 0,
+        last_sale: None,
+        ..sold
+    }))?;
+    findings.push(Found::Sale(first_sale()?))?;
+    findings.push(Found::Quote(Quote {
+        meter: sold.number,
+        tariff: sold.tariff,
+        tender: Tender::read(100_000_000).ok_or("a tender")?,
+        tenths: Amount::of_tenths(18_201_624).ok_or("an amount")?,
+        price: 1_820_163,
+    }))?;
+    let totals = Totals {
+        sales: 3,
+        tenths: 40,
+        cash: 500,
+    };
+    findings.push(Found::ShiftTotals(2, totals))?;
+    Ok(findings)
+}
+
 static REFUSALS: [Refusal; 21] = [
     Refusal::RefReused,
     Refusal::NoShift,
@@ -90,6 +128,14 @@ static REFUSALS: [Refusal; 21] = [
     Refusal::ImportRow(2, RowCause::Field(1)),
     Refusal::ImportRow(10001, RowCause::TooManyRows),
     Refusal::ImportRow(2, RowCause::DayPast),
+];
+
+static UNFOUND: [Refusal; 5] = [
+    Refusal::NoMeter,
+    Refusal::NoSale,
+    Refusal::NoSuchShift,
+    Refusal::Store,
+    Refusal::Stopped,
 ];
 
 // Each with whether the message closes the conversation.
@@ -173,12 +219,32 @@ fn replies() -> &'static str {
 501 Not Implemented, 18, Connection: close~ = {'error':'Method'}
 501 Not Implemented, 18, Connection: close~ = {'error':'Coding'}
 501 Not Implemented, 18, Connection: close~ = {'error':'Coding'}
+200 OK, 22 = {'format':4,'sales':0}
+200 OK, 31 = {'format':4,'sales':1000000000}
+200 OK, 99 = {'base':1993,'meter':'12345678903','sale':1000000000,'tariff':'flat','tenths':18446744\
+    073709551615}
+200 OK, 74 = {'base':2035,'meter':'12345678903','sale':null,'tariff':'flat','tenths':0}
+200 OK, 189 = {'base':2014,'change':0,'meter':'12345678903','moment':1388534430,'number':1,'operato\
+    r':'ann','price':10,'ref':'A-1','shift':1,'tender':10,'tenths':1,'tid':2,'token':'0007205760262\
+    7981690'}
+200 OK, 110 = {'change':98179837,'meter':'12345678903','price':1820163,'tariff':'flat','tender':100\
+    000000,'tenths':18201624}
+200 OK, 44 = {'cash':500,'sales':3,'shift':2,'tenths':40}
+404 Not Found, 31 = {'error':'NoMeter','refusal':4}
+404 Not Found, 31 = {'error':'NoSale','refusal':12}
+404 Not Found, 36 = {'error':'NoSuchShift','refusal':13}
+503 Service Unavailable, 30 = {'error':'Store','refusal':16}
+503 Service Unavailable, 32 = {'error':'Stopped','refusal':17}
 "
 }
 
 // They have no clause: a proof takes much longer over a list that it knows item by item.
 fn refusals() -> &'static [Refusal] {
     &REFUSALS
+}
+
+fn unfound() -> &'static [Refusal] {
+    &UNFOUND
 }
 
 fn faults() -> &'static [(DeskFault, bool)] {
@@ -204,6 +270,12 @@ fn outcomes(alloc: Global) -> Result<Vec<(Outcome, bool)>, Fail> {
     for fault in message_faults() {
         outcomes.push((Outcome::Refused(*fault), false))?;
         outcomes.push((Outcome::Refused(*fault), true))?;
+    }
+    for found in findings(alloc)? {
+        outcomes.push((Outcome::Found(Form::Json, Ok(found)), false))?;
+    }
+    for refusal in unfound() {
+        outcomes.push((Outcome::Found(Form::Paper, Err(*refusal)), false))?;
     }
     Ok(outcomes)
 }
@@ -233,5 +305,7 @@ fn a_receipt(rt: HostRuntime) -> Result<(), Fail> {
         reply_bytes(alloc, &printed, false)?,
         reply(alloc, RECEIPT)?
     );
+    let found = Outcome::Found(Form::Paper, Ok(Found::Sale(first_sale()?)));
+    assert_eq!(rt; reply_bytes(alloc, &found, false)?, reply(alloc, RECEIPT)?);
     Ok(())
 }

@@ -1,9 +1,9 @@
 //! Which route a target and a method stand for.
 
 use crate::texts::bytes;
-use desk::{DeskFault, Endpoint, Method, Route, Routes};
+use desk::{DeskFault, Endpoint, Lookup, Method, Route, Routes};
 use std::test::Fail;
-use vend_core::{MeterNo, TariffName};
+use vend_core::{MeterNo, Operator, Ref, TariffName, Tender};
 
 // Each a target behind its method, and its route.
 fn targets() -> &'static str {
@@ -26,6 +26,17 @@ GET /sales/10/receipt = receipt 10
 GET /sales/1000000000/receipt = receipt 1000000000
 POST /imports/meters = import-meters
 POST /imports/tariffs = import-tariffs
+GET /health = health
+GET /meters/12345678903 = meter 12345678903
+GET /meters/12345678903/last = last-sale 12345678903
+GET /meters/12345678903/quote?tender=1 = quote 12345678903 1
+GET /meters/12345678903/quote?tender=100000000 = quote 12345678903 100000000
+GET /operators/a/sales/b = sale-of-ref a b
+GET /operators/sales/sales/sales = sale-of-ref sales sales
+GET /operators/abcdefghijKLMN09/sales/abcdefghijklmnopqrstuvwxyz-01234 = \
+    sale-of-ref abcdefghijKLMN09 abcdefghijklmnopqrstuvwxyz-01234
+GET /shifts/1/totals = totals 1
+GET /shifts/1000000000/totals = totals 1000000000
 "
 }
 
@@ -45,7 +56,26 @@ fn route(text: &str) -> Result<Route, Fail> {
         "receipt" => Route::Receipt(value.parse()?),
         "import-meters" => Route::ImportMeters,
         "import-tariffs" => Route::ImportTariffs,
-        _ => return Err(Fail::new(format_args!("no route: {text}"))),
+        _ => Route::LookUp(lookup(word, value)?),
+    })
+}
+
+fn lookup(word: &str, value: &str) -> Result<Lookup, Fail> {
+    let (first, second) = value.split_once(' ').unwrap_or((value, ""));
+    Ok(match word {
+        "health" => Lookup::SaleCount,
+        "meter" => Lookup::Meter(meter(first)?),
+        "last-sale" => Lookup::LastSale(meter(first)?),
+        "quote" => Lookup::Quote(
+            meter(first)?,
+            Tender::read(second.parse()?).ok_or("a tender")?,
+        ),
+        "sale-of-ref" => Lookup::SaleOfRef(
+            Operator::read(first.as_bytes()).ok_or("an operator")?,
+            Ref::read(second.as_bytes()).ok_or("a ref")?,
+        ),
+        "totals" => Lookup::ShiftTotals(first.parse()?),
+        _ => return Err(Fail::new(format_args!("no route: {word} {value}"))),
     })
 }
 
@@ -60,11 +90,28 @@ fn no_targets() -> &'static str {
     >/tariffs/fl%61t/steps>/tariffs/fl\u{e4}t/steps>/tariffs/a/b/steps\
     >/tariffs/abcdefghijklmnopqrstuvwxyz-012345/steps>/meters/12345678904/tariff\
     >/meters/1234567890/tariff>/meters/012345678903/tariff>/meters/%312345678903/tariff\
-    >/meters//tariff>/meters/12345678903>/meters/12345678904/base>/meters//base\
+    >/meters//tariff>/meters/12345678904>/meters/12345678904/base>/meters//base\
     >/meters/12345678903/bases>/meters/12345678903/base/>/shifts/closed>/shifts/0>/shifts/01\
     >/shifts/+1>/shifts/-1>/shifts/1.0>/shifts/%31>/shifts/>/shifts/1/>/sales/1000000001\
     >/sales/18446744073709551617>/sales/00000000001>/sales/1/receipts>/sales/0/receipt\
-    >/imports/sales"
+    >/imports/sales>/health/>/health?>/healthy>/meters/>/meters/1234567890>/meters/12345678903/\
+    >/meters/12345678903?a=1>/meters/12345678904/last>/meters/12345678903/last?>/meters//last\
+    >/meters/12345678903/last/>/meters/12345678903/quote>/meters/12345678903/quote?\
+    >/meters/12345678903/quote?tender=>/meters/12345678903/quote?tender=0\
+    >/meters/12345678903/quote?tender=01>/meters/12345678903/quote?tender=+1\
+    >/meters/12345678903/quote?tender=-1>/meters/12345678903/quote?tender=1.0\
+    >/meters/12345678903/quote?tender=100000001>/meters/12345678903/quote?tender=4294967297\
+    >/meters/12345678903/quote?tender=18446744073709551617>/meters/12345678903/quote?tender=1/\
+    >/meters/12345678903/quote?tender=1&tender=2>/meters/12345678903/quote?Tender=1\
+    >/meters/12345678903/quote?a=1&tender=1>/meters/12345678903/quote/?tender=1\
+    >/meters/12345678903/quote%3Ftender=1>/meters/12345678904/quote?tender=1\
+    >/meters//quote?tender=1>/meters/12345678903/quote?tender=1^>/operators>/operators/ann\
+    >/operators/ann/sales>/operators/ann/sales/>/operators//sales/A-1>/operators/a-b/sales/A-1\
+    >/operators/abcdefghijKLMN090/sales/A-1>/operators/ann/sales/A_1>/operators/ann/sales/A-1/\
+    >/operators/ann/sales/abcdefghijklmnopqrstuvwxyz-012345>/operators/ann/sales/A-1/receipt\
+    >/operators/ann/sales/A-1?>/operators/ann/sale/A-1>/operators/a/b/sales/A-1\
+    >/shifts/0/totals>/shifts/01/totals>/shifts//totals>/shifts/close/totals>/shifts/1/total\
+    >/shifts/1/totals/>/shifts/1/totals?>/shifts/1000000001/totals"
 }
 
 #[test]
@@ -83,7 +130,7 @@ fn each_route(rt: HostRuntime) -> Result<(), Fail> {
         let fault = Err(DeskFault::Method(own));
         assert_eq!(rt; routes.route_of(target, other), fault, "{line}");
     }
-    assert_eq!(rt; targets().lines().count(), 18);
+    assert_eq!(rt; targets().lines().count(), 28);
     Ok(())
 }
 
@@ -97,7 +144,7 @@ fn no_route(rt: HostRuntime) -> Result<(), Fail> {
             assert_eq!(rt; found, Err(DeskFault::NoRoute), "{text}");
         }
     }
-    assert_eq!(rt; no_targets().split('>').count(), 46);
+    assert_eq!(rt; no_targets().split('>').count(), 99);
     Ok(())
 }
 
@@ -107,4 +154,13 @@ fn patterns(rt: HostRuntime) {
     assert_eq!(rt; Endpoint::MeterTariff.method(), Method::Post);
     assert_eq!(rt; Endpoint::MeterBase.pattern(), "/meters/{meter}/base");
     assert_eq!(rt; Endpoint::TariffSteps.pattern(), "/tariffs/{tariff}/steps");
+    assert_eq!(rt;
+        Endpoint::Quote.pattern(),
+        "/meters/{meter}/quote?tender={tender}"
+    );
+    assert_eq!(rt; Endpoint::Quote.method(), Method::Get);
+    assert_eq!(rt;
+        Endpoint::SaleOfRef.pattern(),
+        "/operators/{operator}/sales/{ref}"
+    );
 }

@@ -50,7 +50,10 @@ pub(crate) fn quote_body(alloc: Global, quote: &Quote) -> Result<Vec<u8>, AllocE
 {
     let tender = quote.tender.cents();
     let members = [
-        ("change", Member::Number(u64::from(tender.saturating_sub(quote.price)))),
+        (
+            "change",
+            Member::Number(u64::from(tender.saturating_sub(quote.price))),
+        ),
         ("meter", Member::Text(quote.meter.as_bytes())),
         ("price", Member::Number(u64::from(quote.price))),
         ("tariff", Member::Text(quote.tariff.as_bytes())),
@@ -61,11 +64,7 @@ pub(crate) fn quote_body(alloc: Global, quote: &Quote) -> Result<Vec<u8>, AllocE
 }
 
 // The running totals of the shift of a number.
-pub(crate) fn totals_body(
-    alloc: Global,
-    shift: u32,
-    totals: &Totals,
-) -> Result<Vec<u8>, AllocError>
+pub(crate) fn totals_body(alloc: Global, shift: u32, totals: &Totals) -> Result<Vec<u8>, AllocError>
     ensures { IfOk result (λ body. body.items ≡ json_text (totals_members shift totals.now)) }
 {
     let members = [

@@ -84,9 +84,9 @@ pub(crate) fn quote_at(target: &[u8]) -> Option<(MeterNo, Tender)>
 fn two_behind<'t>(text: &'t [u8], front: &[u8], middle: &[u8]) -> Option<(&'t [u8], &'t [u8])>
     ensures { MatchOption result
         ((first second : List ℕ) → LacksSlash first
-            → text.now ≢ front.now ++ (first ++ 47 ∷ (middle.now ++ second)))
+        → text.now ≢ front.now ++ (first ++ 47 ∷ (middle.now ++ second)))
         (λ found. LacksSlash found.0.now
-            × (text.now ≡ front.now ++ (found.0.now ++ 47 ∷ (middle.now ++ found.1.now)))) }
+        × (text.now ≡ front.now ++ (found.0.now ++ 47 ∷ (middle.now ++ found.1.now)))) }
 {
     let Some(text) = text.strip_prefix(front) else {
         return None;
