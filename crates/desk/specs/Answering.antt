@@ -77,12 +77,13 @@ pub record IsStampedBy (life : Life) (moment : ℕ) (request : Request)
   pub for_request : at.request ≡ request
   pub by_number : reply ≢ Err Stopped → at.nibble ≡ (length (present life).sales + 1) % 16
 
--- how a life is served: it goes on by this request and this reply, and by nothing beside
+-- a life goes on by this request and this reply, and by nothing beside
 abbrev pub LifeReplies : ℕ → Request → Result Answer Refusal → Life → Life → Type 0
 LifeReplies moment request reply old new =
     (at : Stamped) × IsStampedBy old moment request reply at × (new ≡ extended_by old at reply)
 
--- a look-up finds what its present office has, or there is no answer, and it stays as it is
+-- how a life is served: by requests it goes on so; a look-up finds what its present office has, or
+-- has no answer, and it stays as it is
 abbrev pub life_serves : Serving Life
 life_serves = record {
   replies = LifeReplies;

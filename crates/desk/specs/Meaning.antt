@@ -23,7 +23,7 @@ use Rattle.desk.specs.declared.route.Route.TheVariants.{AddTariff, AddSteps, Add
 use Rattle.desk.specs.Asking.{BodyAsks}
 use Rattle.desk.specs.route.Route.{IsRouted}
 
--- the form in which a sale that is looked up is told: the last one of a meter is told as its receipt
+-- the form in which a sale that is looked up is told: a meter's last one is told as its receipt
 abbrev pub lookup_form : Lookup → Form
 lookup_form lookups.SaleCount = Json
 lookup_form (lookups.Meter meter) = Json

@@ -26,10 +26,10 @@ pub fn desk_law()
         × AreAsked xs ats replies finds × (new.0 ≡ extended_along old.0 ats replies) }
 {}
 
-/// A message has one meaning, and an input one conversation: with the same answers of the clock, the
-/// same replies of the office and the same that was found there, two conversations of an input are
-/// the same exchanges, and ask the same requests at the same moments. Where the input ended they end
-/// alike, and are written the same.
+/// A message has one meaning, and an input one conversation: with the same answers of the clock,
+/// the same replies of the office and the same that was found there, two conversations of an input
+/// are the same exchanges, and ask the same requests at the same moments. Where the input ended
+/// they end alike, and are written the same.
 pub fn conversation_law()
     ensures meaning { (m : Message) (now : Option ℤ) → HasOneMeaning m now }
     ensures one { (stop : Stop) (input : List ℕ) (xs ys : List MessageExchange) (e f : Ending)

@@ -7,8 +7,8 @@ pub(crate) mod routes;
 use books::Lookup;
 use vend_core::{MeterNo, TariffName};
 
-/// What a target asks for, with what it names: a request, which may change the office, or a look-up,
-/// which changes nothing.
+/// What a target asks for, with what it names: a request, which may change the office, or a
+/// look-up, which changes nothing.
 #[derive(Clone, Copy, Debug, PartialEq, Eq)]
 pub enum Route {
     AddTariff,
