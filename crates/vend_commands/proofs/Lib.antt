@@ -4,6 +4,7 @@ pub mod ConnectionLemmas
 pub mod CourseLemmas
 pub mod ExportLemmas
 pub mod MeteringLemmas
+pub mod OfferLemmas
 pub mod ReceiptLemmas
 pub mod RefusedLemmas
 pub mod RunLemmas

@@ -8,6 +8,8 @@ use Rattle.sqlite_trees.specs.declared.store.Store.{Ghosts}
 use Rattle.audit.specs.declared.audited.Audited.{Audited}
 use Rattle.audit.specs.declared.fault.AuditFault.{AuditFault}
 use Rattle.audit.specs.declared.fault.AuditFault.TheVariants.{Failed, Found, NoOffice}
+use Rattle.book_facts.specs.declared.lookup.Found.{Found as WhatIsFound}
+use Rattle.book_facts.specs.declared.lookup.Lookup.{Lookup}
 use Rattle.books.specs.Keeps.{Seen}
 use Rattle.book_tables.specs.declared.row.totals.Totals.{Totals}
 use Rattle.book_opening.specs.declared.fault.OpenFault.{OpenFault}
@@ -26,6 +28,8 @@ use Rattle.vend_commands.specs.commands.Audited.{IsAudited, TellsAudit}
 use Rattle.vend_commands.specs.commands.Audited.IsAudited.{absent, looked, unopened as audits_unopened}
 use Rattle.vend_commands.specs.print.Exported.{export_stop_end}
 use Rattle.vend_commands.specs.commands.Imported.{AreAdded, IsFileImported}
+use Rattle.vend_commands.specs.commands.LookedUp.{IsShownAt, TellsFound}
+use Rattle.vend_commands.specs.commands.LookedUp.IsShownAt.{absent as shown_absent, present as shown_present}
 use Rattle.command_line.specs.Line.{faults_in}
 use Rattle.vend_commands.specs.serving.Listening.{IsServedTo, IsServing, serving_end}
 use Rattle.vend_commands.specs.serving.Listening.IsServing.{unheard, unopened as serves_unopened, was_open}
@@ -152,6 +156,15 @@ report_ends : {S : Type 0} (store : Ghosts S) (at : Places) (words : ReportWords
 report_ends store at words o end (no_file misses told) = told_ends o _ _ how.Refused end (omega arith) told
 report_ends store at words o end (present printed) = visit_ends store _ _ _ o end (λ old new prints. paper_ends words.paper old new o end prints) printed
 
+found_ends : (lookup : Lookup) (found : Result WhatIsFound Refusal) (o : Outputs) (end : CommandEnd) → TellsFound lookup found o end → exit_status_of end ≤ 1
+found_ends lookup (Ok what) o end (inl told) = told_ends o _ _ how.Done end (omega arith) told
+found_ends lookup (Ok what) o end (inr (room, told)) = told_ends o _ _ how.Refused end (omega arith) told
+found_ends lookup (Err refusal) o end told = told_ends o _ _ how.Refused end (omega arith) told
+
+shown_ends : {S : Type 0} (store : Ghosts S) (at : Places) (file : Text) (wait moment : ℕ) (lookup : Lookup) (o : Outputs) (end : CommandEnd) → IsShownAt store at file wait moment lookup o end → exit_status_of end ≤ 1
+shown_ends store at file wait moment lookup o end (shown_absent misses told) = told_ends o _ _ how.Refused end (omega arith) told
+shown_ends store at file wait moment lookup o end (shown_present visit) = visit_ends store _ _ _ o end (λ old new done. found_ends lookup done.found o end done.told) visit
+
 done_ends : (Idle : Type 0) (At : ℕ → Type 0) (o : Outputs) (end : CommandEnd) (moment : Option ℕ) → ((moment : ℕ) → At moment → exit_status_of end ≤ 1) → IsDoneAt Idle At o end moment → exit_status_of end ≤ 1
 done_ends Idle At o end (Some moment) ends done = ends moment done
 done_ends Idle At o end None ends (idle, told) = told_ends o _ _ how.Refused end (omega arith) told
@@ -164,6 +177,8 @@ answer_ends store m (asks.Trial words) o end (idle, done) = timed_ends ⊤ words
 answer_ends store m (asks.Import words) o end (shut, done) = timed_ends m.untouched words.at m.answers _ o end (λ moment imported. import_ends store m words moment o end imported) done
 answer_ends store m (asks.Request words) o end (shut, done) = timed_ends m.untouched words.at m.answers _ o end (λ moment asked. asked_at_ends store m.at words.transform words.file.now words.wait moment words.request o end asked) done
 answer_ends store m (asks.Report words) o end (shut, done) = report_ends store m.at words o end done
+answer_ends store m (asks.Show words) o end (shut, done) = timed_ends m.untouched words.at m.answers _ o end (λ moment shown. shown_ends store m.at words.file.now words.wait moment _ o end shown) done
+answer_ends store m (asks.Offer words) o end (shut, done) = timed_ends m.untouched words.at m.answers _ o end (λ moment shown. shown_ends store m.at words.file.now words.wait moment _ o end shown) done
 answer_ends store m (asks.Meter words) o end (idle, done) = told_ends o _ _ how.Done end (omega arith) done
 answer_ends store m (asks.Quote words) o end (idle, done) =
     let bought = purchase_of words.steps words.prior words.tender in

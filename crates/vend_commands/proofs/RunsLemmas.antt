@@ -19,6 +19,8 @@ use Rattle.vend_core.specs.declared.decision.request.Request.{Request}
 use Rattle.vend_core.specs.declared.decision.request.Request.TheVariants as requests
 use Rattle.vend_core.specs.declared.office.row.Row.{Row}
 use Rattle.papers.specs.declared.row_fault.RowFault.{RowFault}
+use Rattle.book_facts.specs.declared.lookup.Lookup.{Lookup}
+use Rattle.book_facts.specs.declared.lookup.Lookup.TheVariants as lookups
 use Rattle.book_opening.specs.declared.fault.OpenFault.{OpenFault}
 use Rattle.books.specs.Found.{FindsOffice}
 use Rattle.books.specs.Headline.{RepresentTheLast, with_last}
@@ -43,6 +45,8 @@ use Rattle.vend_commands.specs.commands.Asked.{IsAskedAt}
 use Rattle.vend_commands.specs.commands.Audited.{IsAudited}
 use Rattle.vend_commands.specs.commands.Audited.IsAudited.{absent as audit_absent, looked as audit_looked, unopened as audit_unopened}
 use Rattle.vend_commands.specs.commands.Imported.{AreAdded, IsFileImported}
+use Rattle.vend_commands.specs.commands.LookedUp.{IsLookedUp, IsShownAt, lookup_of}
+use Rattle.vend_commands.specs.commands.LookedUp.IsShownAt.{absent as shown_absent, present as shown_present}
 use Rattle.vend_commands.specs.commands.Reported.{IsReported, PrintsPaper}
 use Rattle.vend_commands.specs.commands.Reported.IsReported.{absent as report_absent, present as report_present}
 use Rattle.vend_commands.specs.commands.Timed.{IsDoneAt}
@@ -55,7 +59,7 @@ use Rattle.vend_commands.specs.port.Places.IsUnopenedIn.{refused, unsalted}
 use Rattle.vend_commands.specs.print.Told.{Outputs, Sink}
 use Rattle.vend_commands.specs.runs.Follow.{AreRuns, Finds, Follow, Here, IsClean, LeftAfter, MayHold, ProgramRun, use_of}
 use Rattle.vend_commands.specs.runs.OneOffice.{AreLivedBy, AreOneOffice, LivesIn}
-use Rattle.vend_commands.specs.runs.Uses.{Living, AreCoursed, Use, connected, idle_life, many_lives, unseen, lives_asking, lives_printing, use_added, use_asked, use_audited, use_carried, use_imported, use_refused, use_reported, use_run, use_served, use_serving, use_timed, use_visited, with_file}
+use Rattle.vend_commands.specs.runs.Uses.{Living, AreCoursed, Use, connected, idle_life, many_lives, unseen, lives_asking, lives_printing, use_added, use_asked, use_audited, use_carried, use_imported, use_refused, use_reported, use_run, use_served, use_serving, use_shown, use_timed, use_visited, with_file}
 use Rattle.vend_commands.specs.serving.Connections.{AreHeld, AreReady, AreServed, Service, service}
 use Rattle.vend_commands.specs.serving.Courses.{AreLived, Course, IsNext, course}
 use Rattle.vend_commands.specs.serving.Listening.{IsServing}
@@ -243,6 +247,12 @@ module _ (laws : Laws) (Before : Image → Type 0) (lives : List Life) where
     printed_on (Totals number) o end old new begins done clean office stands led = idle_on place old new begins done.keeps clean office stands led
     printed_on Sales o end old new begins done clean office stands led = idle_on place old new begins done.keeps clean office stands led
 
+    -- something was looked up
+    looked_on : (moment : ℕ) (lookup : Lookup) (o : Outputs) (end : CommandEnd) (old new : Books S Shipped store shipped) (begins : IsOpenedAt place Plain old) (done : IsLookedUp moment lookup (seen_in old) (seen_in new) o end)
+        → HasCleanDisk (seen_in new).state → (office : Office) → StandsIn place.image office → AreLives lives office
+        → GoesOn (connected place.image (idle_life Plain) (seen_in new).state) Before lives
+    looked_on moment lookup o end old new begins done clean office stands led = idle_on place old new begins done.reads.keeps clean office stands led
+
   module _ {M S H D R W : Type 0} (disk : disk.Ghosts M) (salts : source.Ghosts S) (of : file.Ghosts H M S) (office : H) (m : Machine D R W) where
     abbrev here : Machine D R W
     here = with_file disk salts of office m
@@ -271,6 +281,14 @@ module _ (laws : Laws) (Before : Image → Type 0) (lives : List Life) where
     reporting_on words o end (report_absent misses told) found clean kept = unseen_on kept
     reporting_on words o end (report_present visit) found clean kept =
         visited_on (where_present (here.at words.file.now words.wait)) _ o end use_refused (lives_printing words.paper o end) refused_on (printed_on (where_present (here.at words.file.now words.wait)) words.paper o end) visit found clean kept
+
+    showing_on : (path : Text) (wait moment : ℕ) (lookup : Lookup) (o : Outputs) (end : CommandEnd) (shown : IsShownAt (over_files {g = disk}) here.at path wait moment lookup o end)
+        → Finds (use_shown disk salts of office m path wait moment lookup o end shown) Before → IsClean (use_shown disk salts of office m path wait moment lookup o end shown) → Kept Before lives
+        → GoesOn (use_shown disk salts of office m path wait moment lookup o end shown) Before lives
+    showing_on path wait moment lookup o end (shown_absent misses told) found clean kept = unseen_on kept
+    showing_on path wait moment lookup o end (shown_present visit) found clean kept =
+        visited_on (where_present (here.at path wait)) _ o end use_refused (λ old new done. idle_life Plain) refused_on
+        (looked_on (where_present (here.at path wait)) moment lookup o end) visit found clean kept
 
     timed_on : (Idle : Type 0) (At : ℕ → Type 0) (o : Outputs) (end : CommandEnd) (made : (moment : ℕ) → At moment → Use)
         → ((moment : ℕ) (it : At moment) → Finds (made moment it) Before → IsClean (made moment it) → Kept Before lives → GoesOn (made moment it) Before lives)
@@ -319,6 +337,11 @@ module _ (laws : Laws) (Before : Image → Type 0) (lives : List Life) where
       carried_on (asks.Request words) o end (shut, (moment, taken, done)) found clean kept =
           ∣ timed_on m.untouched _ o end (λ at it. use_asked disk salts of office m words.transform words.file.now words.wait at words.request o end it) (λ at it. asking_on words.transform words.file.now words.wait at words.request o end it) moment done found clean kept ∣₁
       carried_on (asks.Report words) o end (shut, done) found clean kept = ∣ reporting_on words o end done found clean kept ∣₁
+      carried_on (asks.Show words) o end (shut, (moment, taken, done)) found clean kept =
+          ∣ timed_on m.untouched _ o end (λ at it. use_shown disk salts of office m words.file.now words.wait at (lookup_of words.shown) o end it) (λ at it. showing_on words.file.now words.wait at (lookup_of words.shown) o end it) moment done found clean kept ∣₁
+      carried_on (asks.Offer words) o end (shut, (moment, taken, done)) found clean kept =
+          let lookup = lookups.Quote words.meter words.tender in
+          ∣ timed_on m.untouched _ o end (λ at it. use_shown disk salts of office m words.file.now words.wait at lookup o end it) (λ at it. showing_on words.file.now words.wait at lookup o end it) moment done found clean kept ∣₁
       carried_on (asks.Meter words) o end done found clean kept = ∣ unseen_on kept ∣₁
       carried_on (asks.Quote words) o end done found clean kept = ∣ unseen_on kept ∣₁
       carried_on (asks.Serve words) o end (left, (silent, done)) found clean kept = serving_on words o.err_old o.err_new end done found clean kept

@@ -7,6 +7,8 @@ use Rattle.sqlite_trees.specs.declared.store.Store.{Ghosts}
 use Rattle.audit.specs.declared.audited.Audited.{Audited}
 use Rattle.audit.specs.declared.fault.AuditFault.{AuditFault}
 use Rattle.audit.specs.declared.fault.AuditFault.TheVariants.{Failed, Found, NoOffice}
+use Rattle.book_facts.specs.declared.lookup.Found.{Found as WhatIsFound}
+use Rattle.book_facts.specs.declared.lookup.Lookup.{Lookup}
 use Rattle.books.specs.Keeps.{Seen}
 use Rattle.book_tables.specs.declared.row.totals.Totals.{Totals}
 use Rattle.sts_fields.specs.Text.{Text}
@@ -28,6 +30,8 @@ use Rattle.vend_commands.specs.commands.Asked.{IsAskedAt}
 use Rattle.vend_commands.specs.commands.Audited.{IsAudited, TellsAudit}
 use Rattle.vend_commands.specs.commands.Audited.IsAudited.{absent, looked, unopened as audits_unopened}
 use Rattle.vend_commands.specs.commands.Imported.{AreAdded, IsFileImported}
+use Rattle.vend_commands.specs.commands.LookedUp.{IsShownAt, TellsFound}
+use Rattle.vend_commands.specs.commands.LookedUp.IsShownAt.{absent as shown_absent, present as shown_present}
 use Rattle.vend_commands.specs.serving.Listening.{IsDeaf, IsServing}
 use Rattle.vend_commands.specs.serving.Listening.IsDeaf.{no_listener, no_room as deaf_for_room, no_text, not_told}
 use Rattle.vend_commands.specs.serving.Listening.IsServing.{unheard, unopened as serves_unopened, was_open}
@@ -111,6 +115,15 @@ report_same : {S : Type 0} (store : Ghosts S) (at : Places) (words : ReportWords
 report_same store at words o end (no_file misses told) = told_same o _ _ _ end told
 report_same store at words o end (present printed) = visit_same store _ _ _ o end (λ old new prints. paper_same words.paper old new o end prints) printed
 
+found_same : (lookup : Lookup) (found : Result WhatIsFound Refusal) (o : Outputs) (end : CommandEnd) → TellsFound lookup found o end → AreSame o
+found_same lookup (Ok what) o end (inl told) = told_same o _ _ _ end told
+found_same lookup (Ok what) o end (inr (room, told)) = told_same o _ _ _ end told
+found_same lookup (Err refusal) o end told = told_same o _ _ _ end told
+
+shown_same : {S : Type 0} (store : Ghosts S) (at : Places) (file : Text) (wait moment : ℕ) (lookup : Lookup) (o : Outputs) (end : CommandEnd) → IsShownAt store at file wait moment lookup o end → AreSame o
+shown_same store at file wait moment lookup o end (shown_absent misses told) = told_same o _ _ _ end told
+shown_same store at file wait moment lookup o end (shown_present visit) = visit_same store _ _ _ o end (λ old new done. found_same lookup done.found o end done.told) visit
+
 done_same : (Idle : Type 0) (At : ℕ → Type 0) (o : Outputs) (end : CommandEnd) (moment : Option ℕ) → ((moment : ℕ) → At moment → AreSame o) → IsDoneAt Idle At o end moment → AreSame o
 done_same Idle At o end (Some moment) same done = same moment done
 done_same Idle At o end None same (idle, told) = told_same o _ _ _ end told
@@ -123,6 +136,8 @@ answer_same store m (asks.Trial words) o end (idle, done) = timed_same ⊤ words
 answer_same store m (asks.Import words) o end (shut, done) = timed_same m.untouched words.at m.answers _ o end (λ moment imported. import_same store m words moment o end imported) done
 answer_same store m (asks.Request words) o end (shut, done) = timed_same m.untouched words.at m.answers _ o end (λ moment asked. asked_at_same store m.at words.transform words.file.now words.wait moment words.request o end asked) done
 answer_same store m (asks.Report words) o end (shut, done) = report_same store m.at words o end done
+answer_same store m (asks.Show words) o end (shut, done) = timed_same m.untouched words.at m.answers _ o end (λ moment shown. shown_same store m.at words.file.now words.wait moment _ o end shown) done
+answer_same store m (asks.Offer words) o end (shut, done) = timed_same m.untouched words.at m.answers _ o end (λ moment shown. shown_same store m.at words.file.now words.wait moment _ o end shown) done
 answer_same store m (asks.Meter words) o end (idle, done) = told_same o _ _ _ end done
 answer_same store m (asks.Quote words) o end (idle, done) = told_same o _ _ _ end done
 answer_same store m (asks.Serve words) o end (left, done) =

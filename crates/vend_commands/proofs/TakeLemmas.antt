@@ -87,23 +87,23 @@ puts_last a b c d front unwritten left piece last whole p is (written, q, apart)
 
 -- ---- words on a line
 
--- words, each behind a separator: the first one behind this, the others behind a space
-abbrev pub spaced : Text → List Text → Text
-spaced separator [] = []
-spaced separator (word ∷ words) = separator ++ (word ++ spaced (32 ∷ []) words)
+-- words, each behind a separator: the first one behind this, the others behind a byte
+abbrev pub spaced : (byte : ℕ) → Text → List Text → Text
+spaced byte separator [] = []
+spaced byte separator (word ∷ words) = separator ++ (word ++ spaced byte (byte ∷ []) words)
 
-pub spaced-join : (words : List Text) → spaced [] words ≡ join_with_byte 32 words
-spaced-join [] = refl
-spaced-join (word ∷ []) = append-nil word
-spaced-join (word ∷ next ∷ words) = ap (λ rest. word ++ (32 ∷ rest)) (spaced-join (next ∷ words))
+pub spaced-join : (byte : ℕ) (words : List Text) → spaced byte [] words ≡ join_with_byte byte words
+spaced-join byte [] = refl
+spaced-join byte (word ∷ []) = append-nil word
+spaced-join byte (word ∷ next ∷ words) = ap (λ rest. word ++ (byte ∷ rest)) (spaced-join byte (next ∷ words))
 
 -- the next word of a line, with what is left behind it
-pub spaced-next : (separator : Text) (words : List (Bor Text)) (i : ℕ) (d : Bor Text) (front whole end : List ℕ) → i < length words → whole ≡ front ++ (spaced separator (map (λ w. w.now) (drop i words)) ++ end)
-    → whole ≡ front ++ (separator ++ ((get_or words i d).now ++ (spaced (32 ∷ []) (map (λ w. w.now) (drop (i + 1) words)) ++ end)))
-spaced-next separator words i d front whole end within left =
+pub spaced-next : (byte : ℕ) (separator : Text) (words : List (Bor Text)) (i : ℕ) (d : Bor Text) (front whole end : List ℕ) → i < length words → whole ≡ front ++ (spaced byte separator (map (λ w. w.now) (drop i words)) ++ end)
+    → whole ≡ front ++ (separator ++ ((get_or words i d).now ++ (spaced byte (byte ∷ []) (map (λ w. w.now) (drop (i + 1) words)) ++ end)))
+spaced-next byte separator words i d front whole end within left =
     let word = (get_or words i d).now in
-    let rest = spaced (32 ∷ []) (map (λ w. w.now) (drop (i + 1) words)) in
-    let next : spaced separator (map (λ w. w.now) (drop i words)) ≡ separator ++ (word ++ rest) = rw add-one (ap (λ ws. spaced separator (map (λ w. w.now) ws)) (drop-cons words i d within)) in
+    let rest = spaced byte (byte ∷ []) (map (λ w. w.now) (drop (i + 1) words)) in
+    let next : spaced byte separator (map (λ w. w.now) (drop i words)) ≡ separator ++ (word ++ rest) = rw add-one (ap (λ ws. spaced byte separator (map (λ w. w.now) ws)) (drop-cons words i d within)) in
     left ∙ ap (λ l. front ++ (l ++ end)) next
     ∙ ap (λ l. front ++ l) (append_assoc separator (word ++ rest) end ∙ ap (λ l. separator ++ l) (append_assoc word rest end))
 

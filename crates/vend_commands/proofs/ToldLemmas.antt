@@ -22,6 +22,8 @@ use Rattle.vend_core.specs.declared.decision.request.Request.TheVariants as requ
 use Rattle.vend_core.specs.declared.office.row.Row.{Row}
 use Rattle.vend_core.specs.declared.office.sale.Sale.{Sale}
 use Rattle.papers.specs.declared.row_fault.RowFault.{RowFault}
+use Rattle.book_facts.specs.declared.lookup.Lookup.{Lookup}
+use Rattle.book_facts.specs.declared.lookup.Lookup.TheVariants as lookups
 use Rattle.book_opening.specs.declared.fault.OpenFault.{OpenFault}
 use Rattle.books.specs.Keeps.{Seen}
 use Rattle.books.specs.declared.refused_files.RefusedFiles.TheVariants.{Connected, Unconnected}
@@ -42,6 +44,8 @@ use Rattle.vend_commands.specs.commands.Asked.{IsAskedAt}
 use Rattle.vend_commands.specs.commands.Audited.{IsAudited}
 use Rattle.vend_commands.specs.commands.Audited.IsAudited.{absent as audit_absent, looked as audit_looked, unopened as audit_unopened}
 use Rattle.vend_commands.specs.commands.Imported.{AreAdded, IsFileImported}
+use Rattle.vend_commands.specs.commands.LookedUp.{IsShownAt, lookup_of}
+use Rattle.vend_commands.specs.commands.LookedUp.IsShownAt.{absent as shown_absent, present as shown_present}
 use Rattle.vend_commands.specs.commands.Reported.{IsReported, PrintsPaper}
 use Rattle.vend_commands.specs.commands.Reported.IsReported.{absent as report_absent, present as report_present}
 use Rattle.vend_commands.specs.commands.Timed.{IsDoneAt}
@@ -54,7 +58,7 @@ use Rattle.vend_commands.specs.port.Places.IsUnopenedIn.{refused, unsalted}
 use Rattle.vend_commands.specs.print.Told.{Outputs, Sink}
 use Rattle.vend_commands.specs.runs.Follow.{Here, ProgramRun, use_of}
 use Rattle.vend_commands.specs.runs.OneOffice.{AreLivedBy, AreOneOffice, Asks, AsksIn, AsksSo, Gets, IsAmong, IsUnlessFailed, LivesIn}
-use Rattle.vend_commands.specs.runs.Uses.{IsAskedLife, Living, Question, Use, asking_life, connected, idle_life, lives_asking, lives_printing, many_lives, no_life, unseen, use_added, use_asked, use_audited, use_carried, use_imported, use_refused, use_reported, use_run, use_served, use_serving, use_timed, use_visited, with_file}
+use Rattle.vend_commands.specs.runs.Uses.{IsAskedLife, Living, Question, Use, asking_life, connected, idle_life, lives_asking, lives_printing, many_lives, no_life, unseen, use_added, use_asked, use_audited, use_carried, use_imported, use_refused, use_reported, use_run, use_served, use_serving, use_shown, use_timed, use_visited, with_file}
 use Rattle.vend_commands.specs.serving.Connections.{AreServed, Service, service}
 use Rattle.vend_commands.specs.serving.Listening.{IsServing}
 use Rattle.vend_commands.specs.serving.Listening.IsServing.{unheard as serve_unheard, unopened as serve_unopened, was_open as serve_open}
@@ -126,6 +130,12 @@ module _ {M S H D R W : Type 0} (disk : disk.Ghosts M) (salts : source.Ghosts S)
   reporting_tells words o end (report_present visit) q is =
       visited_tells (where_present (here.at words.file.now words.wait)) _ o end use_refused (lives_printing words.paper o end) (λ fault why. refused_tells fault why o end) (printed_tells words.paper o end) visit q is
 
+  showing_tells : (path : Text) (wait moment : ℕ) (lookup : Lookup) (o : Outputs) (end : CommandEnd) (shown : IsShownAt (over_files {g = disk}) here.at path wait moment lookup o end)
+      → Tells (use_shown disk salts of office m path wait moment lookup o end shown) o end
+  showing_tells path wait moment lookup o end (shown_absent misses told) q is = absurd is
+  showing_tells path wait moment lookup o end (shown_present visit) q is =
+      visited_tells (where_present (here.at path wait)) _ o end use_refused (λ old new done. idle_life Plain) (λ fault why. refused_tells fault why o end) (λ old new done asked none. absurd none) visit q is
+
   audited_tells : (words : AuditWords) (o : Outputs) (end : CommandEnd) (audited : IsAudited (here.at words.file.now words.wait) o end) → Tells (use_audited disk salts of office m words o end audited) o end
   audited_tells words o end (audit_absent misses told) q is = absurd is
   audited_tells words o end (audit_unopened fault why told) q is = refused_tells fault why o end q is
@@ -144,6 +154,11 @@ module _ {M S H D R W : Type 0} (disk : disk.Ghosts M) (salts : source.Ghosts S)
   carried_tells (asks.Request words) o end (shut, (moment, taken, done)) q is =
       timed_tells m.untouched _ o end (λ at it. use_asked disk salts of office m words.transform words.file.now words.wait at words.request o end it) (λ at it. asking_tells words.transform words.file.now words.wait at words.request o end it) moment done q is
   carried_tells (asks.Report words) o end (shut, done) q is = reporting_tells words o end done q is
+  carried_tells (asks.Show words) o end (shut, (moment, taken, done)) q is =
+      timed_tells m.untouched _ o end (λ at it. use_shown disk salts of office m words.file.now words.wait at (lookup_of words.shown) o end it) (λ at it. showing_tells words.file.now words.wait at (lookup_of words.shown) o end it) moment done q is
+  carried_tells (asks.Offer words) o end (shut, (moment, taken, done)) q is =
+      let lookup = lookups.Quote words.meter words.tender in
+      timed_tells m.untouched _ o end (λ at it. use_shown disk salts of office m words.file.now words.wait at lookup o end it) (λ at it. showing_tells words.file.now words.wait at lookup o end it) moment done q is
   carried_tells (asks.Meter words) o end done q is = absurd is
   carried_tells (asks.Quote words) o end done q is = absurd is
   carried_tells (asks.Serve words) o end (left, (silent, done)) q is = serving_tells words o.err_old o.err_new o end done q is

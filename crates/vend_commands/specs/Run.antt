@@ -10,7 +10,9 @@ use Rattle.command_line.specs.Asked.{AskFor}
 use Rattle.command_line.specs.Line.{faults_in}
 use Rattle.vend_commands.specs.commands.Asked.{IsAskedAt}
 use Rattle.vend_commands.specs.commands.Audited.{IsAudited}
+use Rattle.book_facts.specs.declared.lookup.Lookup.TheVariants as lookups
 use Rattle.vend_commands.specs.commands.Imported.{IsFileImported}
+use Rattle.vend_commands.specs.commands.LookedUp.{IsShown, lookup_of}
 use Rattle.vend_commands.specs.serving.Listening.{IsServedTo}
 use Rattle.vend_commands.specs.commands.Metered.{IsMetered}
 use Rattle.vend_commands.specs.port.Places.{IsIdle, IsOffline, IsShut, Machine}
@@ -22,7 +24,7 @@ use Rattle.vend_commands.specs.commands.Timed.{IsTimed}
 use Rattle.vend_commands.specs.print.Told.{Outputs, IsTold}
 use Rattle.vend_commands.specs.commands.Tried.{IsTried}
 use Rattle.command_line.specs.declared.asked.Asked.{Asked}
-use Rattle.command_line.specs.declared.asked.Asked.TheVariants.{Trial, Import, Request, Report, Meter, Quote, Serve, Selfcheck, Audit}
+use Rattle.command_line.specs.declared.asked.Asked.TheVariants.{Trial, Import, Request, Report, Show, Offer, Meter, Quote, Serve, Selfcheck, Audit}
 use Rattle.vend_commands.specs.declared.command_end.CommandEnd.{CommandEnd}
 use Rattle.vend_commands.specs.declared.command_end.CommandEnd.TheVariants.{Done, Refused, BadWords}
 
@@ -38,6 +40,10 @@ IsCarriedOut store m (Request words) o end = IsOffline m × IsTimed m.untouched 
     (λ moment. IsAskedAt store m.at words.transform words.file.now words.wait moment
     words.request o end) o end
 IsCarriedOut store m (Report words) o end = IsOffline m × IsReported store m.at words o end
+IsCarriedOut store m (Show words) o end = IsOffline m × IsShown store m.at m.untouched m.answers
+    words.at words.file.now words.wait (lookup_of words.shown) o end
+IsCarriedOut store m (Offer words) o end = IsOffline m × IsShown store m.at m.untouched m.answers
+    words.at words.file.now words.wait (lookups.Quote words.meter words.tender) o end
 IsCarriedOut store m (Meter words) o end = IsIdle m × IsMetered words o end
 IsCarriedOut store m (Quote words) o end = IsIdle m × IsQuoted words o end
 IsCarriedOut store m (Serve words) o end =

@@ -1,6 +1,7 @@
 pub mod Asked
 pub mod Audited
 pub mod Imported
+pub mod LookedUp
 pub mod Metered
 pub mod Quoted
 pub mod Reported

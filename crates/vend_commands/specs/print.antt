@@ -1,5 +1,6 @@
 pub mod AuditLines
 pub mod Exported
+pub mod FoundTexts
 pub mod Printed
 pub mod Told
 pub mod Totalled

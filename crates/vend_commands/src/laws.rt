@@ -6,7 +6,10 @@ ghost use Rattle.audit.specs.declared.fault.AuditFault.TheVariants.{Found};
 ghost use Rattle.audit_office.specs.declared.finding.Finding.{Finding};
 ghost use Rattle.sts_fields.specs.Text.{Text};
 ghost use Rattle.sts_token.specs.Token.{BlockFunction};
+ghost use Rattle.book_facts.specs.declared.lookup.Found.TheVariants.{Quote as Quoted};
+ghost use Rattle.book_facts.specs.declared.lookup.Quote.{Quote};
 ghost use Rattle.books.specs.Headline.{RepresentTheLast};
+ghost use Rattle.books.specs.Lookups.{found_in};
 ghost use Rattle.books.specs.Path.{StandsIn};
 ghost use Rattle.books.specs.declared.books.Books.{Books};
 ghost use Rattle.sqlite_store.specs.declared.store.FileStore.{FileStore as Files};
@@ -18,6 +21,7 @@ ghost use Rattle.desk.specs.reply.Members.{json_text};
 ghost use Rattle.vend_commands.specs.Sound.{EndsSound};
 ghost use Rattle.vend_commands.specs.commands.Asked.{IsAskedAt};
 ghost use Rattle.vend_commands.specs.commands.Audited.{IsAudited};
+ghost use Rattle.vend_commands.specs.commands.LookedUp.{IsPurchaseFor};
 ghost use Rattle.vend_commands.specs.office.Audits.{AuditsIn};
 ghost use Rattle.vend_commands.specs.office.Closed.{IsClosed};
 ghost use Rattle.vend_commands.specs.serving.Connections.{AreHeld, Service, service};
@@ -42,7 +46,7 @@ use crate::port::door::Door;
 use crate::port::loopback::Loopback;
 use crate::port::ports::{OfficeFile, TextFiles};
 use audit::look_law;
-use books::{found_law, opening_law};
+use books::{Lookup, found_law, opening_law};
 use desk::{Clock, reply_law};
 use papers::export_fields_law;
 use sqlite::FileStore;
@@ -69,6 +73,14 @@ pub fn sell_law<H: OfficeFile>()
 {
     office_law();
 }
+
+/// What `quote` of a file prints is a purchase that `quote` prints: of the steps that hold for the
+/// meter on the day, after the tenths that its month has before.
+pub fn offer_law()
+    ensures { (office : Office) (moment : ℕ) (meter : Text) (tender : ℕ) (quoted : Quote)
+        → found_in office moment (Lookup.Quote meter tender) ≡ Ok (Quoted quoted)
+        → IsPurchaseFor office moment meter tender quoted }
+{}
 
 /// What `audit` has shown where it ends as done: it printed what it counted. Where the disk
 /// returned what was written, that is the count of a database that an opening of the files may

@@ -1,6 +1,7 @@
-//! An office in a file: opened, asked, opened again, and audited.
+//! An office in a file: opened, asked, looked up in, opened again, and audited.
 
 pub(crate) mod asking;
 pub(crate) mod auditing;
+pub(crate) mod looking;
 pub(crate) mod opening;
 pub(crate) mod reopening;

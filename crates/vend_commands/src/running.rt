@@ -201,6 +201,14 @@ fn answer<
             let mut progress = ports.progress;
             commands::report::run(&words, alloc, ports.office, &mut progress, out, err)
         }
+        Asked::Show(words) => {
+            go_offline(ports.door, ports.loopback);
+            commands::show::run(&words, alloc, ports.office, &mut clock, out, err)
+        }
+        Asked::Offer(words) => {
+            go_offline(ports.door, ports.loopback);
+            commands::offer::run(&words, alloc, ports.office, &mut clock, out, err)
+        }
         Asked::Meter(words) => {
             leave_all(ports.office, ports.door, ports.loopback);
             commands::meter::run(&words, out)

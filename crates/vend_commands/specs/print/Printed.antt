@@ -14,9 +14,13 @@ use Rattle.vend_core.specs.declared.decision.refusal.Refusal.{Refusal}
 use Rattle.vend_core.specs.declared.decision.refusal.Refusal.TheVariants.{ImportRow, Store}
 use Rattle.command_line.specs.declared.address.Address.{Address}
 
--- words with a space between them, and the end of the line
+-- words with a byte between them, and the end of the line
+abbrev pub joined_line : (byte : ℕ) → List Text → Text
+joined_line byte words = join_with_byte byte words ++ 10 ∷ []
+
+-- the same with a space
 abbrev pub line_of : List Text → Text
-line_of words = join_with_byte 32 words ++ 10 ∷ []
+line_of words = joined_line 32 words
 
 abbrev pub token_line : Text → Text
 token_line token = line_of (token ∷ [])

@@ -20,6 +20,8 @@ use Rattle.vend_core.specs.declared.decision.request.Request.TheVariants as requ
 use Rattle.vend_core.specs.declared.decision.request.Stamped.{Stamped}
 use Rattle.vend_core.specs.declared.office.row.Row.{Row}
 use Rattle.papers.specs.declared.row_fault.RowFault.{RowFault}
+use Rattle.book_facts.specs.declared.lookup.Lookup.{Lookup}
+use Rattle.book_facts.specs.declared.lookup.Lookup.TheVariants as lookups
 use Rattle.book_opening.specs.declared.fault.OpenFault.{OpenFault}
 use Rattle.books.specs.Headline.{with_last}
 use Rattle.books.specs.Keeps.{Seen}
@@ -41,6 +43,8 @@ use Rattle.vend_commands.specs.commands.Asked.{IsAskedAt}
 use Rattle.vend_commands.specs.commands.Audited.{IsAudited}
 use Rattle.vend_commands.specs.commands.Audited.IsAudited.{absent as audit_absent, looked as audit_looked, unopened as audit_unopened}
 use Rattle.vend_commands.specs.commands.Imported.{AreAdded, IsFileImported}
+use Rattle.vend_commands.specs.commands.LookedUp.{IsShownAt, lookup_of}
+use Rattle.vend_commands.specs.commands.LookedUp.IsShownAt.{absent as shown_absent, present as shown_present}
 use Rattle.vend_commands.specs.commands.Reported.{IsReported, PrintsPaper}
 use Rattle.vend_commands.specs.commands.Reported.IsReported.{absent as report_absent, present as report_present}
 use Rattle.vend_commands.specs.commands.Timed.{IsDoneAt}
@@ -218,6 +222,15 @@ module _ {M S H D R W : Type 0} (disk : disk.Ghosts M) (salts : source.Ghosts S)
       use_visited {place = where_present (with_file.at words.file.now words.wait)} use_refused
       (lives_printing words.paper o end) visit
 
+  -- a look-up
+  abbrev pub use_shown : (path : Text) → (wait moment : ℕ) → (lookup : Lookup) → (o : Outputs)
+      → (end : CommandEnd)
+      → IsShownAt (over_files {g = disk}) with_file.at path wait moment lookup o end → Use
+  use_shown path wait moment lookup o end (shown_absent misses told) = unseen
+  use_shown path wait moment lookup o end (shown_present visit) =
+      use_visited {place = where_present (with_file.at path wait)} use_refused
+      (λ old new done. idle_life Plain) visit
+
   abbrev pub use_serving : (words : ServeWords) → (err_old err_new : Sink) → (end : CommandEnd)
       → IsServing (over_files {g = disk}) m.way with_file.at m.door m.answers words err_old
       err_new end → Use
@@ -249,6 +262,12 @@ module _ {M S H D R W : Type 0} (disk : disk.Ghosts M) (salts : source.Ghosts S)
       use_timed m.untouched _ o end (λ at it. use_asked words.transform words.file.now words.wait at
       words.request o end it) moment done
   use_carried (asks.Report words) o end (shut, done) = use_reported words o end done
+  use_carried (asks.Show words) o end (shut, (moment, taken, done)) =
+      use_timed m.untouched _ o end (λ at it. use_shown words.file.now words.wait at
+      (lookup_of words.shown) o end it) moment done
+  use_carried (asks.Offer words) o end (shut, (moment, taken, done)) =
+      use_timed m.untouched _ o end (λ at it. use_shown words.file.now words.wait at
+      (lookups.Quote words.meter words.tender) o end it) moment done
   use_carried (asks.Meter words) o end done = unseen
   use_carried (asks.Quote words) o end done = unseen
   use_carried (asks.Serve words) o end (left, (silent, done)) =

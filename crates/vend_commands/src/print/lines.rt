@@ -2,7 +2,9 @@
 ghost use Rattle.std.specs.Prelude.{◌≡◌, ◌≢◌, ℕ, IfOk, map, string_bytes};
 ghost use Rattle.vend_core.specs.Decision.RowCauses.{cause_text};
 ghost use Rattle.vend_commands.specs.print.Printed.{added_line, address_text, answer_line, clock_line, credit_line};
-ghost use Rattle.vend_commands.specs.print.Printed.{host_text, line_of, open_line, opening_line, pair_text, progress_line};
+ghost use Rattle.vend_commands.specs.print.FoundTexts.{row_of};
+ghost use Rattle.vend_commands.specs.print.Printed.{host_text, joined_line, line_of, open_line};
+ghost use Rattle.vend_commands.specs.print.Printed.{opening_line, pair_text, progress_line};
 ghost use Rattle.vend_commands.specs.print.Printed.{quote_line, refusal_line, shift_line, stopped_line, token_line};
 ghost use Rattle.vend_commands.specs.print.Told.{IsPutOn, Takes, sink};
 
@@ -26,12 +28,29 @@ pub(crate) fn put_line<W: Write>(words: &[&[u8]], out: &mut Watched<'_, W>)
     ensures { Takes (sink W.contents out.old) (sink W.contents out.new)
         (line_of (map (λ word. word.now) words.now)) }
 {
+    put_joined(b' ', words, out);
+}
+
+/// The same of fields, with a tab between them.
+pub(crate) fn put_row<W: Write>(fields: &[&[u8]], out: &mut Watched<'_, W>)
+    ensures { Takes (sink W.contents out.old) (sink W.contents out.new)
+        (row_of (map (λ field. field.now) fields.now)) }
+{
+    put_joined(b'\t', fields, out);
+}
+
+// Prints words on a line, with this byte between them.
+fn put_joined<W: Write>(byte: u8, words: &[&[u8]], out: &mut Watched<'_, W>)
+    ensures { Takes (sink W.contents out.old) (sink W.contents out.new)
+        (joined_line byte (map (λ word. word.now) words.now)) }
+{
+    let between: &[u8] = &[byte];
     let mut line = ArrayVec::new();
     let mut separator: &[u8] = b"";
     for word in words {
         add(separator, &mut line, out);
         add(word, &mut line, out);
-        separator = b" ";
+        separator = between;
     }
     add(b"\n", &mut line, out);
     out.put(&line);

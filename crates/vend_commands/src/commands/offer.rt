@@ -1,0 +1,41 @@
+ghost use Rattle.vend_commands.specs.commands.LookedUp.{IsShown};
+ghost use Rattle.vend_commands.specs.port.Places.{places_of};
+ghost use Rattle.vend_commands.specs.print.Told.{outputs, sink};
+
+use crate::command_end::CommandEnd;
+use crate::commands::look_up::{self, FileLookup};
+use crate::port::ports::OfficeFile;
+use crate::print::watched::Watched;
+use books::Lookup;
+use command_line::OfferWords;
+use desk::Clock;
+use sqlite::FileStore;
+use sqlite_trees::store::Store;
+use std::alloc::Global;
+use std::io::Write;
+
+/// Prints what a tender would buy for a meter of the office in a file.
+pub(crate) fn run<H: OfficeFile, C: Clock, O: Write, E: Write>(
+    words: &OfferWords,
+    alloc: Global,
+    office: H,
+    clock: &mut C,
+    out: &mut Watched<'_, O>,
+    err: &mut Watched<'_, E>,
+) -> CommandEnd
+    ensures { IsShown ⟦<FileStore<H::Medium> as Store>⟧
+        (places_of H.Medium.Disk H.Salts.SaltSource H.OfficeFile office)
+        (H.leaves office) (C.answers clock.old)
+        words.now.at words.now.file.now words.now.wait
+        (Lookup.Quote words.now.meter words.now.tender)
+        (outputs (sink O.contents out.old) (sink O.contents out.new)
+        (sink E.contents err.old) (sink E.contents err.new)) result }
+{
+    let asked = FileLookup {
+        file: words.file,
+        wait: words.wait,
+        at: words.at,
+        lookup: Lookup::Quote(words.meter, words.tender),
+    };
+    look_up::run(&asked, alloc, office, clock, out, err)
+}

@@ -1,0 +1,59 @@
+//! Something that is looked up in an open office, and what is printed of it.
+
+ghost use Rattle.books.specs.Keeps.{seen};
+ghost use Rattle.vend_commands.specs.commands.LookedUp.{IsLookedUp, TellsText};
+ghost use Rattle.vend_commands.specs.print.Told.{outputs, sink};
+
+use crate::command_end::CommandEnd;
+use crate::print::found::put_found;
+use crate::print::lines::put_refusal;
+use crate::print::watched::Watched;
+use books::{Books, Found, Lookup};
+use sqlite::Alter;
+use std::alloc::Global;
+use std::io::Write;
+use sts_token::BlockTransform;
+use vend_core::{Moment, Refusal};
+
+/// Looks something up in books at a moment, and prints what is found, or tells why nothing is.
+pub(crate) fn look_up<S: Alter, T: BlockTransform, O: Write, E: Write>(
+    alloc: Global,
+    books: &mut Books<S, T>,
+    moment: Moment,
+    lookup: &Lookup,
+    out: &mut Watched<'_, O>,
+    err: &mut Watched<'_, E>,
+) -> CommandEnd
+    ensures { IsLookedUp moment lookup.now (seen books.old) (seen books.new)
+        (outputs (sink O.contents out.old) (sink O.contents out.new)
+        (sink E.contents err.old) (sink E.contents err.new)) result }
+{
+    match books.look_up(moment, lookup) {
+        Ok(found) => tell_found(alloc, lookup, &found, out, err),
+        Err(refusal) => {
+            put_refusal(refusal, err);
+            CommandEnd::Refused
+        }
+    }
+}
+
+// Prints what was found, or tells that there was no room for its text.
+fn tell_found<O: Write, E: Write>(
+    alloc: Global,
+    lookup: &Lookup,
+    found: &Found,
+    out: &mut Watched<'_, O>,
+    err: &mut Watched<'_, E>,
+) -> CommandEnd
+    ensures { TellsText lookup.now found.now
+        (outputs (sink O.contents out.old) (sink O.contents out.new)
+        (sink E.contents err.old) (sink E.contents err.new)) result }
+{
+    match put_found(alloc, lookup, found, out) {
+        Ok(()) => CommandEnd::Done,
+        Err(_) => {
+            put_refusal(Refusal::Memory, err);
+            CommandEnd::Refused
+        }
+    }
+}

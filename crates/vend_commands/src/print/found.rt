@@ -1,0 +1,119 @@
+//! What was looked up, printed.
+
+ghost use Rattle.std.specs.Prelude.{◌≡◌, ◌++◌, [], MatchResult};
+ghost use Rattle.vend_commands.specs.print.FoundTexts.{IsExportedSale, found_text, meter_header};
+ghost use Rattle.vend_commands.specs.print.FoundTexts.{meter_row, number_or_none, purchase_in};
+ghost use Rattle.vend_commands.specs.print.FoundTexts.{sale_text};
+ghost use Rattle.vend_commands.specs.print.Told.{Takes, sink};
+ghost use Rattle.book_facts.specs.declared.lookup.Found.TheVariants.{Sale as FoundSale};
+
+use crate::print::lines::{put_line, put_quote, put_row};
+use crate::print::totals::put_totals;
+use crate::print::watched::Watched;
+use books::{Found, Lookup, MeterSummary, Quote};
+use itoa::Buffer;
+use papers::{export, receipt_in_place};
+use std::alloc::{AllocError, Global};
+use std::io::Write;
+use tariff::Buy;
+use vend_core::Sale;
+
+/// Prints what was found. Only an export may find no room, and then nothing is printed.
+pub(crate) fn put_found<O: Write>(
+    alloc: Global,
+    lookup: &Lookup,
+    found: &Found,
+    out: &mut Watched<'_, O>,
+) -> Result<(), AllocError>
+    ensures { MatchResult result
+        (λ _. Takes (sink O.contents out.old) (sink O.contents out.new)
+        (found_text lookup.now found.now))
+        (λ _. IsExportedSale lookup.now found.now
+        × Takes (sink O.contents out.old) (sink O.contents out.new) []) }
+{
+    match found {
+        Found::SaleCount(count) => put_count(*count, out),
+        Found::Meter(meter) => put_meter(meter, out),
+        Found::Sale(sale) => return put_sale(alloc, lookup, sale, out),
+        Found::Quote(quote) => put_quote(&purchase_in(quote), out),
+        Found::ShiftTotals(number, totals) => put_totals(*number, *totals, out),
+    }
+    Ok(())
+}
+
+// Prints how many sales there are.
+fn put_count<O: Write>(count: u64, out: &mut Watched<'_, O>)
+    ensures { Takes (sink O.contents out.old) (sink O.contents out.new)
+        (found_text Lookup.SaleCount (Found.SaleCount count)) }
+{
+    let mut number = Buffer::new();
+    put_line(&[b"sales", number.format(count).as_bytes()], out);
+}
+
+// Prints a meter, below the names of its fields.
+fn put_meter<O: Write>(meter: &MeterSummary, out: &mut Watched<'_, O>)
+    ensures { Takes (sink O.contents out.old) (sink O.contents out.new)
+        (meter_header ++ meter_row meter.now) }
+{
+    put_row(&[b"meter", b"base", b"tariff", b"tenths", b"sale"], out);
+    put_values(meter, out);
+}
+
+// Prints what a meter has in each field.
+fn put_values<O: Write>(meter: &MeterSummary, out: &mut Watched<'_, O>)
+    ensures { Takes (sink O.contents out.old) (sink O.contents out.new) (meter_row meter.now) }
+{
+    let mut base = Buffer::new();
+    let mut tenths = Buffer::new();
+    let mut sale = Buffer::new();
+    let number = meter.number.as_bytes();
+    let base = base.format(meter.base.year()).as_bytes();
+    let tariff = meter.tariff.as_bytes();
+    let tenths = tenths.format(meter.tenths).as_bytes();
+    let sale = number_or_none(meter.last_sale, &mut sale);
+    put_row(&[number, base, tariff, tenths, sale], out);
+}
+
+// The number of a sale, or a hyphen where there is none.
+fn number_or_none(number: Option<u32>, room: &mut Buffer) -> &[u8]
+    ensures { result.now ≡ number_or_none number }
+{
+    match number {
+        Some(number) => room.format(number).as_bytes(),
+        None => b"-",
+    }
+}
+
+// Prints a sale: the last one of a meter as its receipt, another as an export of it alone.
+fn put_sale<O: Write>(
+    alloc: Global,
+    lookup: &Lookup,
+    sale: &Sale,
+    out: &mut Watched<'_, O>,
+) -> Result<(), AllocError>
+    ensures { MatchResult result
+        (λ _. Takes (sink O.contents out.old) (sink O.contents out.new)
+        (sale_text lookup.now sale.now))
+        (λ _. IsExportedSale lookup.now (FoundSale sale.now)
+        × Takes (sink O.contents out.old) (sink O.contents out.new) []) }
+{
+    match lookup {
+        Lookup::LastSale(_) => out.put(&receipt_in_place(sale)),
+        _ => {
+            let text = export(alloc, &[*sale], true)?;
+            out.put(&text);
+        }
+    }
+    Ok(())
+}
+
+// The purchase that is quoted. Its price is at most the tender, so nothing is cut off.
+fn purchase_in(quote: &Quote) -> Buy
+    ensures { result ≡ purchase_in quote.now }
+{
+    Buy {
+        tenths: quote.tenths,
+        price: quote.price,
+        change: quote.tender.cents().saturating_sub(quote.price),
+    }
+}
