@@ -2,6 +2,7 @@
 //! connection is served, and a repeated ref is one sale. Or it fails for good: then nobody is
 //! served after it.
 mod lapse;
+mod look_ups;
 mod lost;
 mod ports;
 
