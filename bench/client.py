@@ -80,5 +80,9 @@ def sale(meter, ref):
     return b"".join(order(meter, ref))
 
 
+def get(target):
+    return f"GET {target} HTTP/1.1\r\nHost: d\r\n\r\n".encode()
+
+
 def reprint(number):
-    return b"GET /sales/%d HTTP/1.1\r\nHost: d\r\n\r\n" % number
+    return get(f"/sales/{number}")

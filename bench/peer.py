@@ -87,6 +87,41 @@ def serve(office, options, _):
                 "tender": sale[TENDER], "tenths": sale[TENTHS], "tid": sale[TID],
                 "token": sale[DIGITS]}
 
+    def found_meter(number):
+        base, tariff = office.meter(number)
+        last = office.last_of(number)
+        return {"base": base, "meter": number, "sale": last[NUMBER] if last else None, "tariff": tariff,
+                "tenths": office.prior(number, int(time.time()))}
+
+    def quoted(number, query):
+        tender = int(query.removeprefix("tender="))
+        _, tariff, _, _, (tenths, price, _) = office.offer(number, tender, int(time.time()))
+        return {"change": tender - price, "meter": number, "price": price, "tariff": tariff,
+                "tender": tender, "tenths": tenths}
+
+    def totals(number):
+        sales, tenths, cash = office.totals(number)
+        return {"cash": cash, "sales": sales, "shift": number, "tenths": tenths}
+
+    def found_at(target):
+        """What a target asks for: the members of its reply, or its text."""
+        path, _, query = target.partition("?")
+        match path[1:].split("/"):
+            case ["sales", number]:
+                return members(office.sale(int(number)))
+            case ["health"]:
+                return {"format": 4, "sales": office.sold}
+            case ["meters", number]:
+                return found_meter(number)
+            case ["meters", number, "last"]:
+                return receipt(office.last_sale(number))
+            case ["meters", number, "quote"]:
+                return quoted(number, query)
+            case ["operators", operator, "sales", ref]:
+                return members(office.sale_of(operator, ref))
+            case ["shifts", number, "totals"]:
+                return totals(int(number))
+
     class Handler(BaseHTTPRequestHandler):
         protocol_version = "HTTP/1.1"
         disable_nagle_algorithm = True
@@ -97,24 +132,25 @@ def serve(office, options, _):
 
         def answer(self, ask):
             try:
-                status, body = 200, members(ask())
+                status, body = 200, ask()
             except Refused as refusal:
-                status = 422 if refusal.number == 10 else 404 if refusal.number in (4, 12) else 409
+                status = 422 if refusal.number == 10 else 404 if refusal.number in (4, 12, 13) else 409
                 body = {"error": refusal.name, "refusal": refusal.number}
-            text = json.dumps(body, separators=(",", ":")).encode()
+            is_text = isinstance(body, str)
+            text = (body if is_text else json.dumps(body, separators=(",", ":"))).encode()
             self.send_response_only(status)
-            self.send_header("Content-Type", "application/json")
+            self.send_header("Content-Type", "text/plain" if is_text else "application/json")
             self.send_header("Content-Length", str(len(text)))
             self.end_headers()
             self.wfile.write(text)
 
         def do_GET(self):
-            self.answer(lambda: office.sale(int(self.path.removeprefix("/sales/"))))
+            self.answer(lambda: found_at(self.path))
 
         def do_POST(self):
             order = json.loads(self.rfile.read(int(self.headers["Content-Length"])))
-            self.answer(lambda: office.sell(order["operator"], order["ref"], order["meter"],
-                                            order["tender"], int(time.time())))
+            self.answer(lambda: members(office.sell(
+                order["operator"], order["ref"], order["meter"], order["tender"], int(time.time()))))
 
     host, _, port = options["listen"].partition(":")
     with socketserver.TCPServer((host, int(port)), Handler) as server:

@@ -1,7 +1,7 @@
 """The office over Python's sqlite3, for the peer: the program's own statements, read from its
-source, and the rules of a sale, a reprint, an export and an import of meters as docs/OFFICE.md and
-docs/PROFILE.md have them. It takes no other requests, and makes no tables: it works on a copy of a
-file that the program has made.
+source, and the rules of a sale, a reprint, an export, an import of meters and look-ups as
+docs/OFFICE.md and docs/PROFILE.md have them. It takes no other requests, and makes no tables: it works
+on a copy of a file that the program has made.
 
 It imports no more than a sale needs, so that a short command of the peer is a quick one.
 """
@@ -173,6 +173,27 @@ class Office:
             return self.rows("STEPS_FROM", tariff, *begun)
         return self.rows("STEPS_OF", tariff)
 
+    def meter(self, meter):
+        """The base and the tariff of a meter."""
+        there = self.row("METER_NUMBERED", meter)
+        if not there:
+            raise Refused(4, "NoMeter")
+        return there[:2]
+
+    def prior(self, meter, moment):
+        """The tenths of a meter in the month of a moment."""
+        [tenths] = self.row("MONTH_TENTHS", meter, month_of(moment)) or [0]
+        return tenths
+
+    def offer(self, meter, tender, moment):
+        """What a new sale would have: base, tariff, identifier, the tenths before it, the purchase."""
+        base, tariff = self.meter(meter)
+        steps = self.steps_on(tariff, day_of(moment))
+        [last] = self.row("LAST_ID", meter, base) or [0]
+        prior = self.prior(meter, moment)
+        tid = fresh_tid(base, moment, last)
+        return base, tariff, tid, prior, purchase(steps, prior, tender)
+
     def sell(self, operator, ref, meter, tender, moment):
         there = self.row("SALE_OF_REF", operator, ref)
         if there:
@@ -182,17 +203,9 @@ class Office:
         shift = self.row("OPEN_SHIFT", operator)
         if not shift:
             raise Refused(2, "NoShift")
-        buyer = self.row("METER_NUMBERED", meter)
-        if not buyer:
-            raise Refused(4, "NoMeter")
-        base, tariff, _ = buyer
-        steps = self.steps_on(tariff, day_of(moment))
+        base, _, tid, prior, (tenths, price, code) = self.offer(meter, tender, moment)
         month = month_of(moment)
-        [last] = self.row("LAST_ID", meter, base) or [0]
-        [prior] = self.row("MONTH_TENTHS", meter, month) or [0]
         number = self.sold + 1
-        tid = fresh_tid(base, moment, last)
-        tenths, price, code = purchase(steps, prior, tender)
         rnd = number % 16
         digits = token(rnd, tid, code)
         _, told, all_tenths, _ = self.write(
@@ -212,6 +225,33 @@ class Office:
         if not there:
             raise Refused(12, "NoSale")
         return there
+
+    def sale_of(self, operator, ref):
+        there = self.row("SALE_OF_REF", operator, ref)
+        if not there:
+            raise Refused(12, "NoSale")
+        return there
+
+    def last_of(self, meter):
+        """The last sale to a meter, or None: under the latest base that has one."""
+        for base in sorted(BASES, reverse=True):
+            last = self.row("LAST_ID", meter, base)
+            if last:
+                return self.row("SALE_OF_TID", meter, base, *last)
+        return None
+
+    def last_sale(self, meter):
+        self.meter(meter)
+        there = self.last_of(meter)
+        if not there:
+            raise Refused(12, "NoSale")
+        return there
+
+    def totals(self, shift):
+        """The sales, the tenths and the cash of a shift."""
+        if not self.row("SHIFT_NUMBERED", shift):
+            raise Refused(13, "NoSuchShift")
+        return self.row("SHIFT_TOTALS", shift) or (0, 0, 0)
 
     def pages(self):
         """All sales, a thousand at a time."""

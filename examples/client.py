@@ -74,6 +74,23 @@ def move_base(desk, meter, year):
     ask_until_known(desk, "POST", f"/meters/{meter}/base", json.dumps({"base": year}))
 
 
+def quote(desk, meter, tender):
+    """What a tender would buy for a meter now: `tenths`, `price`, `change`, `tariff`. Nothing is sold."""
+    return json.loads(ask_until_known(desk, "GET", f"/meters/{meter}/quote?tender={tender}"))
+
+
+def sale_of(desk, operator, ref):
+    """The sale under a ref, or None. An order whose message may still be on its way is not settled by
+    None: send it again."""
+    status, text = ask(desk, "GET", f"/operators/{operator}/sales/{ref}")
+    members = json.loads(text)
+    if status == 200:
+        return members
+    if members.get("error") == "NoSale":
+        return None
+    raise (Unknown if status == 503 else Refused)(f"{status} {text.decode()}")
+
+
 def lose_the_reply(desk, method, target, body):
     """Sends a message, and closes the connection before the reply is read."""
     connection = http.client.HTTPConnection(desk, timeout=TIMEOUT)

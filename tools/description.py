@@ -27,6 +27,8 @@ def why_not(document, schema, value):
     if "oneOf" in schema:
         fitting = [one for one in schema["oneOf"] if why_not(document, one, value) is None]
         return None if len(fitting) == 1 else f"{value} fits {len(fitting)} of several"
+    if value is None and schema.get("nullable"):
+        return None
     if type(value) is not KINDS[schema["type"]]:
         return f"{value!r} is no {schema['type']}"
     if value not in schema.get("enum", [value]):
@@ -81,10 +83,16 @@ def check_examples(document, part):
             check_examples(document, inner)
 
 
+def targets_at(document, path):
+    """A pattern of the targets at a path, with the query that it asks for."""
+    asked = [resolve(document, it) for it in document["paths"][path].get("parameters", [])]
+    query = "&".join(f"{it['name']}=[^&]*" for it in asked if it["in"] == "query")
+    return re.sub(r"\{\w+\}", "[^/]+", path) + (rf"\?{query}" if query else "")
+
+
 def path_of(document, target):
     """The path of the description that a target is at, or None."""
-    fitting = [path for path in document["paths"]
-               if re.fullmatch(re.sub(r"\{\w+\}", "[^/]+", path), target)]
+    fitting = [path for path in document["paths"] if re.fullmatch(targets_at(document, path), target)]
     return min(fitting, key=lambda path: path.count("{"), default=None)
 
 

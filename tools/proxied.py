@@ -103,7 +103,16 @@ def check_proxy(counter):
             # Tariffs and meters are for managers, however the target is written.
             *((401, ("POST", f"/api/{target}", "{}"), {}) for target in (
                 "tariffs", "tariffs/flat/steps", "meters", f"meters/{METER}/base", "imports/tariffs",
-                "/tariffs", "%74ariffs", "./tariffs", "sales/../tariffs")),
+                "/tariffs", "%74ariffs", "./tariffs", "sales/../tariffs", f"meters/{METER}",
+                f"meters/{METER}/last")),
+            *((401, ("GET", f"/api/{target}"), {}) for target in (
+                "meters", f"meters/{METER}/base", f"meters/{METER}/last/more", f"meters/../tariffs/{METER}")),
+            # Whoever looks something up has to sign in, and no page of another site does.
+            *((status, ("GET", f"/api/{target}"), options) for target in (
+                f"meters/{METER}", f"meters/{METER}/quote?tender=10", "operators/ann/sales/A-1", "health")
+              for status, options in ((401, {"user": None}), (403, {"till": None}))),
+            *((403, ("GET", "/health"), {"source": "127.0.0.2", "user": user, "till": till})
+              for user, till in ((None, None), (MANAGER, "1"))),
             (401, ("GET", "/office.html"), {})):
         same(proxy.status(*words, **options), status, f"{words[:2]} {options}")
     for name in ("other.example", "localhost"):
@@ -127,9 +136,15 @@ def check_proxy(counter):
     same(sorted(relay.heads[-1].split(b"\r\n")), [b"Connection: close", b"GET /sales/1 HTTP/1.0", b"Host: desk"],
          "what the desk gets")
     same(proxy.status("POST", "/api/tariffs", "{}", user=MANAGER), 422, "a manager")
+    for target in (f"/meters/{METER}", f"/meters/{METER}/last", f"/meters/{METER}/quote?tender=10",
+                   "/operators/ann/sales/A-1", "/shifts/1/totals"):
+        same(proxy.status("GET", f"/api{target}"), 404, f"a cashier at {target}")
+        same(relay.heads[-1].split(b"\r\n")[0], f"GET {target} HTTP/1.0".encode(), "what the desk gets")
+    same(proxy.status("GET", "/health", user=None, till=None), 200, "a monitor on this computer")
+    same(relay.heads[-1].split(b"\r\n")[0], b"GET /health HTTP/1.0", "what the desk gets")
     counter.has_sold(0, 0, "programs")
-    print("proxy: without the field 403, without a password 401, managers alone at tariffs and meters, other "
-          "names refused, long bodies 413, a strict policy")
+    print("proxy: without the field 403, without a password 401, managers alone change tariffs and meters, cashiers "
+          "look up, the health for this computer alone, other names refused, long bodies 413, a strict policy")
 
 
 def check_other_site(counter):

@@ -209,20 +209,20 @@ class Proxy:
                 os.killpg(self.process.pid, signal.SIGKILL)
             self.process.wait()
 
-    def connect(self, name=NAME):
+    def connect(self, name=NAME, source="127.0.0.1"):
         """A connection with TLS to a name, by the certificate that was made for it."""
         context = ssl.create_default_context(cafile=self.folder / "tls.crt")
-        plain = socket.create_connection(("127.0.0.1", self.port), timeout=WAIT)
+        plain = socket.create_connection(("127.0.0.1", self.port), timeout=WAIT, source_address=(source, 0))
         try:
             return context.wrap_socket(plain, server_hostname=name)
         except BaseException:
             plain.close()
             raise
 
-    def ask(self, method, target, body=None, user=CASHIER, till="1", **fields):
+    def ask(self, method, target, body=None, user=CASHIER, till="1", source="127.0.0.1", **fields):
         """A message as a program sends it: the status and the fields of its reply."""
         client = http.client.HTTPConnection(NAME, timeout=WAIT)
-        client.sock = self.connect()
+        client.sock = self.connect(source=source)
         if user:
             word = base64.b64encode(":".join(user).encode()).decode()
             fields["Authorization"] = f"Basic {word}"
