@@ -6,6 +6,8 @@ http.server and sqlite3. It is honest, not hardened: it trusts its options.
     peer.py sell --file F --operator O --ref R --meter M --tender C [--at S]
     peer.py report --file F --kind receipt|sales [--number N]
     peer.py import --file F meters CSV
+    peer.py show --file F [--at S] meter|last --meter M
+    peer.py quote --file F [--at S] --meter M TENDER
 """
 import sys
 import time
@@ -41,6 +43,24 @@ def report(office, options, _):
     for page in office.pages():
         writer.writerows((*sale[:TID + 1], *sale[TENTHS:DIGITS], sale[TENDER] - sale[PRICE],
                           sale[DIGITS]) for sale in page)
+
+
+def show(office, options, words):
+    moment, number = int(options.get("at", time.time())), options["meter"]
+    if words == ["last"]:
+        sys.stdout.write(receipt(office.last_sale(number)))
+        return
+    base, tariff = office.meter(number)
+    last = office.last_of(number)
+    sale = last[NUMBER] if last else "-"
+    print("meter\tbase\ttariff\ttenths\tsale")
+    print(number, base, tariff, office.prior(number, moment), sale, sep="\t")
+
+
+def quote(office, options, words):
+    moment, tender = int(options.get("at", time.time())), int(words[0])
+    tenths, price, _ = office.offer(options["meter"], tender, moment)[-1]
+    print(tenths, price, tender - price)
 
 
 def is_meter_number(text):
@@ -159,7 +179,7 @@ def serve(office, options, _):
             server.handle_request()
 
 
-COMMANDS = {"serve": serve, "sell": sell, "report": report, "import": add}
+COMMANDS = {"serve": serve, "sell": sell, "report": report, "import": add, "show": show, "quote": quote}
 
 
 def main():

@@ -94,6 +94,10 @@ def cut_reports(folder):
     at = ["--at", AT, "--file", str(file)]
     report = ["report", "--file", str(file), "--kind"]
     count = sum(cut_output(folder, [*report, kind]) for kind in ("receipt", "shift", "sales", "totals"))
+    shown = [["meter", "--meter", METER], ["last", "--meter", METER], ["sale", "--operator", "ann", "--ref", "A-1"]]
+    count += sum(cut_output(folder, ["show", *at, *words]) for words in shown)
+    quote = ["quote", "--file", str(file), "--at", AT, "--meter", METER]
+    count += cut_output(folder, [*quote, "15"])
     (folder / "wrong.csv").write_bytes(b"name,steps\nflat,:100\nhome,100\n")
     refused = [
         (["import", *at, "tariffs", "wrong.csv"], b"refused 14 ImportRow 2 Field 2\n"),
@@ -103,6 +107,9 @@ def cut_reports(folder):
         (["base", *at, "--meter", METER, "--base", "1993"], b"refused 18 NotLater\n"),
         (sell_words(file, "A-1", "20"), b"refused 1 RefReused\n"),
         ([*report, "totals", "--number", "2"], b"refused 13 NoSuchShift\n"),
+        (["show", *at, "sale", "--operator", "ann", "--ref", "A-2"], b"refused 12 NoSale\n"),
+        (["show", "--file", "none.db", "last", "--meter", METER], b"file\n"),
+        ([*quote, "9"], b"refused 10 TooLittle\n"),
         (["report", "--file", ".", "--kind", "sales"], b"open 3 Store\n"),
         (["base", *at, "--meter", "1", "--base", "2014"], b"bad word\n"),
     ]

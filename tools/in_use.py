@@ -3,7 +3,7 @@ import subprocess
 import time
 
 from desk_client import Desk
-from program import VEND, WAIT, expect, is_sound, prepare, query, sell_words, vend
+from program import METER, VEND, WAIT, expect, is_sound, prepare, query, sell_words, vend
 from shared import FORMAT
 
 TOGETHER = 20
@@ -64,7 +64,9 @@ def check_held(folder):
     report = ["report", "--file", str(file), "--kind", "totals"]
     for number, is_killed in enumerate((False, True), start=1):
         with Desk(file, 1) as desk:
-            for words in (sell_words(file, f"H-{number}"), report, ["audit", "--file", str(file)]):
+            for words in (sell_words(file, f"H-{number}"), report, ["audit", "--file", str(file)],
+                          ["show", "--file", str(file), "meter", "--meter", METER],
+                          ["quote", "--file", str(file), "--meter", METER, "10"]):
                 expect(vend(*words, "--wait", "0"), 1, b"", b"open 3 Store\n")
             sale = begun([*sell_words(file, f"H-{number}"), "--wait", "600"])
             time.sleep(BRIEFLY)

@@ -148,6 +148,10 @@ def check_calls(folder, watcher):
             (["shift", *given, "--operator", "bob", "open"], 0, office, []),
             (["base", *given, "--meter", METER, "--base", "2014"], 0, office, []),
             (["report", "--file", str(file), "--kind", "sales"], 0, office, []),
+            (["show", *given, "meter", "--meter", METER], 0, office, []),
+            (["show", *given, "sale", "--operator", "ann", "--ref", "A-1"], 0, office, []),
+            (["quote", *given, "--meter", METER, "10"], 0, office, []),
+            (["quote", *given, "--meter", METER, "9"], 1, office, []),
             (["import", *given, "tariffs", rows], 0, office | {os.path.realpath(rows)}, []),
             (["import", *given, "meters", rows], 1, {os.path.realpath(rows)}, []),
             (["import", *given, "tariffs", "none.csv"], 1, {none}, []),
@@ -209,6 +213,7 @@ def check_waits(folder, watcher):
         ["shift", *given, "--operator", "bob", "open"], ["audit", *given],
         ["base", *given, "--meter", METER, "--base", "2014"],
         *(["report", *given, "--kind", kind] for kind in ("shift", "receipt", "totals", "sales")),
+        ["show", *given, "last", "--meter", METER], ["quote", *given, "--meter", METER, "10"],
         ["serve", *given, "--listen", "127.0.0.1:0", "--connections", "1"])
     with open(file, "r+b") as held:
         fcntl.lockf(held, fcntl.LOCK_EX | fcntl.LOCK_NB, LOCKED[1], LOCKED[0])
@@ -224,9 +229,12 @@ def check_waits(folder, watcher):
             raise SystemExit("wrong: a command that is not told how long to wait waits for five seconds")
         # What else is wrong with a file is told at once.
         expect(watcher.run(["report", "--file", str(folder), "--kind", "sales"]), 1, b"", b"open 3 Store\n")
-        expect(watcher.run(["report", "--file", "none.db", "--kind", "sales"]), 1, b"", b"file\n")
-        if watcher.calls() != (set(), 0, []):
-            raise SystemExit(f"wrong: for a file that is not there a report asked {watcher.calls()}")
+        for words in (["report", "--file", "none.db", "--kind", "sales"],
+                      ["show", "--file", "none.db", "last", "--meter", METER],
+                      ["quote", "--file", "none.db", "--meter", METER, "10"]):
+            expect(watcher.run(words), 1, b"", b"file\n")
+            if watcher.calls() != (set(), 0, []):
+                raise SystemExit(f"wrong: for a file that is not there {words} asked {watcher.calls()}")
 
 
 class Served(Desk):
