@@ -94,6 +94,8 @@ export async function replyTo(method, target, body, field) {
   throw new Error(`${outcome.unknown} Try again.`);
 }
 
+export const MOST = 100000000; // cents of one tender
+
 /** An amount of money as people write it, such as 12, 12.5 or 12,50, in cents; null where it is none. */
 export function cents(text) {
   const found = /^(\d{1,7})(?:[.,](\d{1,2}))?$/.exec(text.trim());

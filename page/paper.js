@@ -1,7 +1,7 @@
 // What stands on a receipt and on a report, on the screen and on paper, each with its title first.
 
 export const money = (amount) => (amount / 100).toFixed(2);
-const energy = (amount) => `${(amount / 10).toFixed(1)} kWh`;
+export const energy = (amount) => `${(amount / 10).toFixed(1)} kWh`;
 const time = (text) => text.replace("T", " ").replace(/(\.\d+)?Z$/, " UTC");
 
 function element(name, className, ...parts) {

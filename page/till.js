@@ -1,8 +1,9 @@
 // The cashier's page. A sale is kept in this browser before it is sent, and stays until the desk has said what
 // became of it: so a lost reply, a reload, a double click and a second tab lead to one sale and its receipt.
 import { PAUSES, ask, askAgain, inWords, wait } from "./desk.js";
-import { Wrong, act, cents, find, hush, meterIn, numberIn, onSubmit, replyTo, say } from "./forms.js";
+import { MOST, Wrong, act, cents, find, hush, meterIn, numberIn, onSubmit, replyTo, say } from "./forms.js";
 import { PENDING, SHIFT, keep, kept, pending, shift } from "./kept.js";
+import { offer } from "./offer.js";
 import { money, receipt, report } from "./paper.js";
 
 const LOCK = "till.sale"; // one tab at a time sends a sale
@@ -14,7 +15,6 @@ const AGAIN = `Please wait. The office has been asked again. ${LONG} ${ONCE}`;
 const DOUBT = "It is not known whether the sale was made. Let the customer wait.";
 const ELSEWHERE = "Another tab of this page has asked the office for this sale. Wait for the receipt there.";
 const UNANSWERED = `This sale has no answer yet. Another tab of this page may be waiting for it. If not, press 'Ask again now'. ${ONCE}`;
-const MOST = 100000000; // cents of one tender
 
 let closing = null; // the shift that the cashier was asked about, whether to close it
 
@@ -205,6 +205,7 @@ onSubmit("start-form", async ({ operator }) => {
 });
 
 onSubmit("order-form", ({ meter, tender }) => navigator.locks.request(LOCK, { ifAvailable: true }, async (lock) => {
+  offer(true);
   const amount = cents(tender.value);
   const order = { meter: meterIn(meter), operator: shift().operator, ref: newRef(), tender: amount };
   if (!amount || amount > MOST) throw new Wrong("Write the money as 12 or 12.50, up to 1000000.00.", tender);
@@ -224,6 +225,14 @@ onSubmit("reprint-form", ({ number }) =>
   showPaperOf(number, "/sales/", (sale) => receipt(sale, "Receipt, printed again")));
 
 onSubmit("report-form", ({ number }) => showPaperOf(number, "/shifts/", report));
+
+/** Shows the receipt of the last sale to the meter that is written. */
+async function showLast() {
+  const field = find("meter");
+  const { sale } = await replyTo("GET", `/meters/${meterIn(field)}`, undefined, field);
+  if (!sale) throw new Wrong("Nothing was sold to this meter.", field);
+  showPaper(receipt(await replyTo("GET", `/sales/${sale}`), "Last receipt"));
+}
 
 /** Asks whether the shift is to be closed, which no single click does. */
 function askToClose() {
@@ -267,6 +276,9 @@ function leave() {
   showNext();
 }
 
+find("order-form").addEventListener("input", () => offer(false));
+find("order-form").addEventListener("reset", () => offer(true));
+find("last").addEventListener("click", () => act("order-form", showLast));
 find("other").addEventListener("click", () => act("start-form", leave));
 find("retry").addEventListener("click", press);
 find("print").addEventListener("click", () => print());

@@ -100,6 +100,17 @@ class Browser:
         self.run("for (const [id, text] of Object.entries(arguments[0])) document.getElementById(id).value = text",
                  {name.replace("_", "-"): text for name, text in fields.items()})
 
+    def type(self, **fields):
+        """Writes into fields key by key, faster than anybody does."""
+        self.run("""
+            for (const [id, text] of Object.entries(arguments[0])) {
+              const field = document.getElementById(id);
+              for (let end = 0; end <= text.length; end += 1) {
+                field.value = text.slice(0, end);
+                field.dispatchEvent(new Event("input", {bubbles: true}));
+              }
+            }""", fields)
+
     def send(self, form, **fields):
         """Fills a form and presses its own button."""
         self.fill(**fields)

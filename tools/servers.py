@@ -86,7 +86,7 @@ def message_from(client):
 
 
 class Plan:
-    """What becomes of the next order: where it `waits`, it goes on to the desk once it may; its reply is the
+    """What becomes of the next order, or look-up: where it `waits`, it goes on to the desk once it may; its reply is the
     desk's, or `answer` in its place, and what `after` makes of it, b"" for none."""
 
     def __init__(self, waits=False, answer=None, after=None):
@@ -106,7 +106,7 @@ class Plan:
 
 
 class Relay:
-    """Stands between nginx and the desk: passes each message on, and does with orders as is planned."""
+    """Stands between nginx and the desk: passes each message on, and does with orders and look-ups as planned."""
 
     def __init__(self, desk):
         self.desk = desk
@@ -115,6 +115,7 @@ class Relay:
         self.orders = []  # the bodies of all orders that came
         self.heads = []  # the heads of all messages
         self.plans = []
+        self.looks = []  # plans for look-ups of meters
         threading.Thread(target=self.run, daemon=True).start()
 
     def run(self):
@@ -131,6 +132,8 @@ class Relay:
             if head.startswith(b"POST /sales "):
                 plan = self.plans.pop(0) if self.plans else None
                 self.orders.append(body)
+            elif head.startswith(b"GET /meters/"):
+                plan = self.looks.pop(0) if self.looks else None
             client.sendall(plan.reply(self.desk, text) if plan else self.desk.answer(text))
         if plan:
             plan.ended.set()

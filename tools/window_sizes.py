@@ -3,7 +3,7 @@ the page says is in it. It is no script of its own."""
 import json
 import time
 
-from program import KEY, METER, NO_METER, OTHER_METER
+from program import KEY, METER, NO_METER, OTHER_METER, SPENT
 from servers import Plan, said, until
 from shared import same
 
@@ -45,6 +45,16 @@ def look_at_till(counter):
     browser.sell("10", NO_METER)
     browser.says("order-form", "no meter with this number")
     counter.has_sold(0, 1, "a refusal")
+    for meter, tender, words in ((METER, "", "This month"), (METER, MOST_MONEY, "Tariff"), (SPENT, "10", "used up")):
+        browser.type(meter=meter, tender=tender)
+        browser.when("textOf('offer').includes(words[0])", words, words)
+        browser.fits(words)
+    browser.fill(meter=METER)
+    browser.press("last")
+    browser.when("textOf('title') === 'Last receipt' && isIdle()", "the last receipt")
+    browser.is_seen("#title", "the last receipt")
+    browser.fits("the last receipt")
+    browser.next()
     look_at_sale(counter)
     for form, done in (("reprint", "printed again"), ("report", f"Shift {number}, {LONGEST_NAME}")):
         for wrong_number, words in (("0", "Write a number"), ("999999999", "of this number")):
