@@ -23,7 +23,8 @@ use Rattle.vend_commands.specs.port.Places.{Way}
 
 answered_opening : (old new : Timed Life) (x : MessageExchange) → timed (answers_by life_serves) old x new → new.0.opening ≡ old.0.opening
 answered_opening old new x ((outcome, inl (idle, same), told), clock) = ap (λ l. l.opening) same
-answered_opening old new x ((outcome, inr (form, moment, request, reply, is, asks, (at, stamped, goes)), told), clock) = ap (λ l. l.opening) goes
+answered_opening old new x ((outcome, inr (inl (form, moment, request, reply, is, asks, (at, stamped, goes))), told), clock) = ap (λ l. l.opening) goes
+answered_opening old new x ((outcome, inr (inr (form, moment, lookup, found, is, looks, (finds, same))), told), clock) = ap (λ l. l.opening) same
 
 exchanged_opening : (old new : Timed Life) (xs : List MessageExchange) → Exchanged (timed (answers_by life_serves)) old xs new → new.0.opening ≡ old.0.opening
 exchanged_opening old new [] same = ap (λ l. l.0.opening) same
