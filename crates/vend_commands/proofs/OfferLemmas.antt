@@ -6,7 +6,7 @@ use Rattle.sts_fields.specs.Text.{Text}
 use Rattle.tariff.specs.Purchase.{purchase_of}
 use Rattle.tariff.specs.declared.bought.Buy.{Buy}
 use Rattle.tariff.specs.declared.step.Step.{Step}
-use Rattle.vend_core.specs.Decision.{◌>>=◌, MeterAccount, account_of, next_number, or_refusal}
+use Rattle.vend_core.specs.Decision.{◌>>=◌, MeterAccount, next_number, or_refusal}
 use Rattle.vend_core.specs.Office.{Office}
 use Rattle.vend_core.specs.declared.decision.refusal.Refusal.{Refusal}
 use Rattle.vend_core.specs.declared.decision.refusal.Refusal.TheVariants as refusals
