@@ -194,8 +194,16 @@ Row(0, Header)
 }
 
 // It has no clause, so that the proof of a test does not carry what the desk promises.
-fn asked(alloc: Global, route: Route, body: &[u8]) -> Result<Request, BodyFault> {
-    request_of(alloc, route, body)
+fn asked(
+    alloc: Global,
+    routes: &Routes,
+    target: &str,
+    body: &[u8],
+) -> Result<Result<Request, BodyFault>, Fail> {
+    match route_of(routes, target) {
+        Ok(route) => Ok(request_of(alloc, route, body)),
+        Err(fail) => Err(fail),
+    }
 }
 
 // The route of a target, whichever its method is.
@@ -232,7 +240,7 @@ fn what_each_body_asks_for(rt: HostRuntime) -> Result<(), Fail> {
     for _ in 0..89u32 {
         let line = lines.next().ok_or("no body")?;
         let (target, body) = line.split_once(" = ").ok_or("no target")?;
-        let found = asked(alloc, route_of(&routes, target)?, &bytes(alloc, body)?);
+        let found = asked(alloc, &routes, target, &bytes(alloc, body)?)?;
         let wanted = wanted(alloc, lines.next().ok_or("nothing wanted")?)?;
         assert_eq!(rt; named(alloc, found)?.as_str(), wanted.as_str(), "{line}");
     }
