@@ -24,8 +24,11 @@ pub(crate) fn records_of<T: Record + Drop>(
     shown.into_iter().map(|shown| shown.record).collect(alloc)
 }
 
-/// The records that the rows of an answer show, in its order.
-pub(crate) fn all_records<S: Alter, T: Record + Drop>(
+/// The records that the rows of an answer show, in its order: for a SELECT over one table.
+///
+/// # Errors
+/// What the database refuses, want of memory, and a row that shows no such record.
+pub fn all_records<S: Alter, T: Record + Drop>(
     alloc: Global,
     conn: &mut Connection<S>,
     sql: &str,

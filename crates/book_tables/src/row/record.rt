@@ -46,8 +46,12 @@ impl<T: Record> FromRow for Shown<T> {
     }
 }
 
-/// The record that the first row of an answer shows: for a text that answers at most one row.
-pub(crate) fn first_record<S: Alter, T: Record>(
+/// The record that the first row of an answer shows: for a SELECT over one table that answers at
+/// most one row.
+///
+/// # Errors
+/// What the database refuses, and a row that shows no such record.
+pub fn first_record<S: Alter, T: Record>(
     conn: &mut Connection<S>,
     sql: &str,
     params: &[ValueRef<'_>],
