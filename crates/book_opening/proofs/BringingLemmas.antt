@@ -1,14 +1,13 @@
 -- From what is made inside a transaction to an office that was brought to the present format.
-use Rattle.std.proofs.Common.{◌≡◌, ◌<◌, ◌⊎◌, ℕ, IsTrue, OnOk, Result, Ok, Err, refl, inl, inr, arith}
+use Rattle.std.proofs.Common.{◌≡◌, ◌⊎◌, ℕ, IsTrue, OnOk, Result, Ok, Err, refl, inl, inr, arith}
 use Rattle.sqlite.specs.State.{HasCleanDisk, State, Survives}
 use Rattle.sqlite.specs.declared.error.Error.{Error}
 use Rattle.sqlite_trees.specs.Tree.{Trees}
 use Rattle.one_table.specs.Committing.{LeavesMade}
 use Rattle.book_tables.specs.format.Making.{BringsInside, IsSoundOfFormat, TellsOf}
-use Rattle.book_tables.specs.row.Rows.{present_format}
 use Rattle.book_tables.specs.declared.error.TableError.{TableError}
 use Rattle.book_tables.specs.declared.error.TableError.TheVariants as table
-use Rattle.book_opening.specs.Opening.{BringsSound, LeavesBrought, FaultFitsDatabase, fault_of_table}
+use Rattle.book_opening.specs.Opening.{BringsSound, FaultFitsDatabase, LeavesPresent, fault_of_table}
 use Rattle.book_opening.specs.declared.fault.OpenFault.{OpenFault}
 use Rattle.book_opening.specs.declared.fault.OpenFault.TheVariants.{Store, Memory}
 
@@ -25,8 +24,8 @@ module _ (from : ℕ) (old new : State) where
   tells_no_office is_open has table.RowOfNoOffice fault kind is told = rw is (let it = has is_open in (is_open, told it.0 it.1))
 
   -- what a crash leaves of the change is the office in the present format
-  pub leaves_brought : from < present_format → (HasCleanDisk old → IsTrue old.is_open) → IsSoundOfFormat from old → Survives old new (LeavesMade (BringsSound from) old.now) → Survives old new (LeavesBrought old)
-  leaves_brought known opens has s = record {
+  pub leaves_present : (HasCleanDisk old → IsTrue old.is_open) → IsSoundOfFormat from old → Survives old new (LeavesMade (BringsSound from) old.now) → Survives old new (LeavesPresent from old)
+  leaves_present opens has s = record {
     clean = s.clean;
     shield = s.shield;
     counts = s.counts;
@@ -35,8 +34,8 @@ module _ (from : ℕ) (old new : State) where
     crash = λ clean trees left. elim (s.crash clean trees left) [ inl was ↦ inl was | inr made ↦ inr (brought clean trees made) ];
   }
     where
-      brought : HasCleanDisk new → (trees : Trees) → LeavesMade (BringsSound from) old.now trees → LeavesBrought old trees
+      brought : HasCleanDisk new → (trees : Trees) → LeavesMade (BringsSound from) old.now trees → LeavesPresent from old trees
       brought clean trees made =
           let is_open = opens (omega (arith, s.clean)) in
           let it = has is_open in
-          (is_open, (made.0, (from, known, made.1 it.0 it.1), made.2))
+          (is_open, (made.0, made.1 it.0 it.1, made.2))

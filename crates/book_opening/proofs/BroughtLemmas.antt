@@ -14,7 +14,7 @@ use Rattle.book_states.specs.Stores.{RecoversTo, StoreStandsFor}
 use Rattle.book_tables.specs.format.Making.{BringsOffice}
 use Rattle.book_tables.specs.reading.Reading.{HasAllTables}
 use Rattle.book_tables.specs.row.Rows.{present_format}
-use Rattle.book_opening.specs.Opening.{BringsOlder, BringsTold, EndsOpening, HasSoundDatabase, HasTablesOfFormat, IsAnOffices, IsBrought, IsNextSale, LeavesBrought, LeavesRefused, LooksAt, OpensAs, OpensAt, Refuses, FaultFitsStore, FaultFitsDatabase}
+use Rattle.book_opening.specs.Opening.{AfterStore, BringsTold, EndsOpening, HasSoundDatabase, HasTablesOfFormat, IsAnOffices, IsBrought, IsNextSale, LeavesBrought, LeavesPresent, LeavesRefused, LooksAt, OpensAs, OpensAt, Refuses, FaultFitsStore, FaultFitsDatabase}
 use Rattle.book_states.specs.Same.{IsSame}
 use Rattle.book_opening.specs.declared.fault.OpenFault.{OpenFault}
 use Rattle.book_opening.specs.declared.fault.OpenFault.TheVariants.{NotAnOffice, Store, Memory}
@@ -32,6 +32,10 @@ leaves_less old new s = record {
   crash = λ clean db left. elim (s.crash clean db left) [ inl was ↦ inl was | inr none ↦ absurd none ];
 }
 
+-- what was brought to the present format
+brings_of : (old new : Database) → BringsTold old new → (from : ℕ) × BringsOffice from old new
+brings_of old new (from, known, brings, told, audited) = (from, brings)
+
 module _ (old new : State) (clean : HasCleanDisk new) (survives : Survives old new (LeavesBrought old)) where
   -- what a crash leaves stands for the office, begun or not
   pub left_for : (o : Office) → StoreStandsFor old o → (trees : Trees) → new.may_leave trees → RecoversTo trees o
@@ -39,8 +43,9 @@ module _ (old new : State) (clean : HasCleanDisk new) (survives : Survives old n
     | inl was ↦ at.left trees was
     | inr brought ↦
         (let made = brought.1 in
-        let members = made.1.2.members o (at.now brought.0) in
-        (made.0, made.1.2.beside.sound, made.2, stands_present made.0 o at.office members))
+        let it = (brings_of old.now made.0 made.1).1 in
+        let members = it.members o (at.now brought.0) in
+        (made.0, it.beside.sound, made.2, stands_present made.0 o at.office members))
   ]
 
   pub stands_still : IsSame old new → (o : Office) → StoreStandsFor old o → StoreStandsFor new o
@@ -79,7 +84,7 @@ module _ (old mid new : State) (same : HasCleanDisk mid → IsUnchanged old mid)
   pub survives_after : Survives old new (LeavesBrought old)
   survives_after = survives_then old mid new (λ _. ⊥) (LeavesBrought mid) (LeavesBrought old) (λ _ _ none. absurd none) (λ clean trees begun.
       let it = look clean in
-      (it.0.was_open, subst (λ (db : Database). LeavesMade BringsOlder db trees) it.0.now_is begun.1)) one two
+      (it.0.was_open, subst (λ (db : Database). LeavesMade BringsTold db trees) it.0.now_is begun.1)) one two
 
   pub brought_after : (from : ℕ) → HasCleanDisk new → IsBrought from mid new → IsBrought from old new
   brought_after from clean h = let it = look clean in record {
@@ -109,9 +114,30 @@ module _ (old mid new : State) (same : HasCleanDisk mid → IsUnchanged old mid)
   risks_after fault risk = survives_then old mid new (λ _. ⊥) (LeavesRefused mid fault) (LeavesRefused old fault) (λ _ _ none. absurd none) (refused fault) one risk
     where
       refused : (fault : OpenFault) → HasCleanDisk new → (trees : Trees) → LeavesRefused mid fault trees → LeavesRefused old fault trees
-      refused Store clean trees begun = (let it = look clean in (it.0.was_open, subst (λ (db : Database). LeavesMade BringsOlder db trees) it.0.now_is begun.1))
+      refused Store clean trees begun = (let it = look clean in (it.0.was_open, subst (λ (db : Database). LeavesMade BringsTold db trees) it.0.now_is begun.1))
       refused Memory clean trees none = none
       refused NotAnOffice clean trees none = none
+
+-- What is left of the tables of a format is left of an opening, where these had told their format and
+-- were an office's.
+module _ (from : ℕ) (old new : State) (known : from < present_format) (told : HasCleanDisk old → TellsFormat from old.now) (audited : HasCleanDisk old → IsAnOffices old.now) where
+  present_brought : HasCleanDisk old → (trees : Trees) → LeavesPresent from old trees → LeavesBrought old trees
+  present_brought clean trees left = (left.0, (left.1.0, (from, known, left.1.1, told clean, audited clean), left.1.2))
+
+  pub leaves_told : Survives old new (LeavesPresent from old) → Survives old new (LeavesBrought old)
+  leaves_told s = record {
+    clean = s.clean;
+    shield = s.shield;
+    counts = s.counts;
+    limit = s.limit;
+    closes = s.closes;
+    crash = λ clean trees left. elim (s.crash clean trees left) [ inl was ↦ inl was | inr made ↦ inr (present_brought (omega (arith, s.clean)) trees made) ];
+  }
+
+  pub risks_told : (fault : OpenFault) → Survives old new (AfterStore (LeavesPresent from old) fault) → Survives old new (LeavesRefused old fault)
+  risks_told Store s = leaves_told s
+  risks_told Memory s = s
+  risks_told NotAnOffice s = s
 
 -- ---- how an opening ends
 

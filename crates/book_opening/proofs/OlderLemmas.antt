@@ -7,7 +7,7 @@ use Rattle.sqlite.specs.declared.error.Error.{Error}
 use Rattle.one_table.specs.ReadsOnly.{ReadsOnly}
 use Rattle.vend_core.specs.Office.{Office}
 use Rattle.book_tables.specs.Holds.{StandsFor}
-use Rattle.book_tables.specs.format.Format.{HasFormat}
+use Rattle.book_tables.specs.format.Format.{HasFormat, TellsFormat}
 use Rattle.book_tables.specs.format.Making.{IsSoundOfFormat}
 use Rattle.book_tables.specs.row.Rows.{present_format}
 use Rattle.audit_office.specs.declared.finding.Finding.{Finding}
@@ -15,11 +15,11 @@ use Rattle.audit_rows.specs.Fails.{HasNoFormat}
 use Rattle.audit.specs.Fails.{FailsToAudit, IsNoOffices}
 use Rattle.audit.specs.declared.fault.AuditFault.{AuditFault}
 use Rattle.audit.specs.declared.fault.AuditFault.TheVariants as audit
-use Rattle.book_opening.specs.Opening.{EndsOpening, IsAnOffices, IsBrought, IsNextSale, LeavesBrought, LeavesRefused, LooksAt, FaultFitsDatabase, FaultFitsStore, fault_of_audit}
+use Rattle.book_opening.specs.Opening.{AfterStore, EndsOpening, IsAnOffices, IsBrought, IsNextSale, LeavesBrought, LeavesPresent, LooksAt, FaultFitsDatabase, FaultFitsStore, fault_of_audit}
 use Rattle.book_states.specs.Same.{IsSame}
 use Rattle.book_opening.specs.declared.fault.OpenFault.{OpenFault}
 use Rattle.book_opening.specs.declared.fault.OpenFault.TheVariants.{NotAnOffice, Store, Memory}
-use Rattle.book_opening.proofs.BroughtLemmas.{brought_after, clean_before, ends_after, ends_brought, ends_unbrought, survives_after, told_format}
+use Rattle.book_opening.proofs.BroughtLemmas.{brought_after, clean_before, ends_after, ends_brought, ends_unbrought, leaves_told, risks_told, survives_after, told_format}
 use Rattle.book_opening.proofs.OpeningLemmas.{clean_between, format_after, left_after, survives_both}
 
 -- ---- the audit
@@ -59,24 +59,35 @@ module _ (old mid new : State) (same : HasCleanDisk mid → IsUnchanged old mid)
 
 -- ---- the office of an audited file
 
-module _ (from : ℕ) (old mid new : State) (shut : mid.is_clean ≡ false → mid.is_open ≡ false) (has : IsSoundOfFormat from old) (same : HasCleanDisk mid → IsUnchanged old mid) (one : Survives old mid (λ _. ⊥))
-    (survives : (HasCleanDisk mid → IsTrue mid.is_open) → IsSoundOfFormat from mid → Survives mid new (LeavesBrought mid)) where
+module _ (from next : ℕ) (old mid new : State) (known : from < present_format) (shut : mid.is_clean ≡ false → mid.is_open ≡ false) (has : IsSoundOfFormat from old) (same : HasCleanDisk mid → IsUnchanged old mid) (one : Survives old mid (λ _. ⊥))
+    (is : HasCleanDisk mid → HasFormat old.now from × IsNextSale old next) (audited : HasCleanDisk mid → IsAnOffices old.now)
+    (survives : (HasCleanDisk mid → IsTrue mid.is_open) → IsSoundOfFormat from mid → Survives mid new (LeavesPresent from mid)) where
   there : IsSoundOfFormat from mid
   there = format_after from old mid shut same has
 
   opens : HasCleanDisk mid → IsTrue mid.is_open
   opens clean = (same clean).0.is_open
 
+  -- the tables had told their format, and were an office's
+  told_here : HasCleanDisk mid → TellsFormat from mid.now
+  told_here clean = subst (TellsFormat from) (sym (same clean).0.now_is) (told_format from old.now (is clean).0)
+
+  audited_here : HasCleanDisk mid → IsAnOffices mid.now
+  audited_here clean = subst IsAnOffices (sym (same clean).0.now_is) (audited clean)
+
   two : Survives mid new (LeavesBrought mid)
-  two = survives opens there
+  two = leaves_told from mid new known told_here audited_here (survives opens there)
+
+  early : HasCleanDisk new → HasCleanDisk mid
+  early = clean_before old mid new same one two
 
   -- its office is brought to the present format
-  pub ends_older : (next : ℕ) → from < present_format → (HasCleanDisk mid → HasFormat old.now from × IsNextSale old next) → (HasCleanDisk mid → IsAnOffices old.now) → (HasCleanDisk new → IsSoundOfFormat from mid → IsBrought from mid new) → EndsOpening old new (Ok next)
-  ends_older next known is audited brought =
-      ends_brought old new from next known (λ clean. told_format from old.now (is (clean_before old mid new same one two clean)).0) (λ clean. audited (clean_before old mid new same one two clean)) (λ clean. (is (clean_before old mid new same one two clean)).1) (λ clean. brought_after old mid new same one two from clean (brought clean there)) (survives_after old mid new same one two)
+  pub ends_older : (HasCleanDisk new → IsSoundOfFormat from mid → IsBrought from mid new) → EndsOpening old new (Ok next)
+  ends_older brought =
+      ends_brought old new from next known (λ clean. told_format from old.now (is (early clean)).0) (λ clean. audited (early clean)) (λ clean. (is (early clean)).1) (λ clean. brought_after old mid new same one two from clean (brought clean there)) (survives_after old mid new same one two)
 
   -- it is not
   pub ends_not_brought : (fault : OpenFault) (r : Result ℕ OpenFault) → IsErrAnd r (λ x. x ≡ fault) → (HasCleanDisk new → IsTrue mid.is_open → IsSoundOfFormat from mid → FaultFitsDatabase mid fault) → (HasCleanDisk new → IsSame mid new)
-      → ((HasCleanDisk mid → IsTrue mid.is_open) → IsSoundOfFormat from mid → Survives mid new (LeavesRefused mid fault)) → EndsOpening old new r
-  ends_not_brought fault r is told undone risks =
-      ends_after old mid new r same one (ends_unbrought mid new fault r is (λ clean. told clean (opens (clean_before old mid new same one two clean)) there) undone two (risks opens there))
+      → ((HasCleanDisk mid → IsTrue mid.is_open) → IsSoundOfFormat from mid → Survives mid new (AfterStore (LeavesPresent from mid) fault)) → EndsOpening old new r
+  ends_not_brought fault r is_fault told undone risks =
+      ends_after old mid new r same one (ends_unbrought mid new fault r is_fault (λ clean. told clean (opens (early clean)) there) undone two (risks_told from mid new known told_here audited_here fault (risks opens there)))

@@ -24,17 +24,13 @@ use Rattle.book_states.specs.Same.{IsSame}
 use Rattle.book_opening.specs.declared.fault.OpenFault.{OpenFault}
 use Rattle.book_opening.specs.declared.fault.OpenFault.TheVariants.{NotAnOffice, Store, Memory}
 
--- The tables of a format were brought to the present one, in place of none or of those of an older
--- format.
-abbrev pub BringsOlder : Database → Database → Type 0
-BringsOlder old new = (from : ℕ) × (from < present_format) × BringsOffice from old new
-
 -- The database is an office's: it stands for one, where its rows are in the order of their numbers
 -- and no row of a shift lacks a column, neither of which a statement can see.
 abbrev pub IsAnOffices : Database → Type 0
 IsAnOffices db = HasTablesInOrder db → HaveWholeShifts db → (o : Office) × StandsFor db o
 
--- they were brought to it, had told their format, and were an office's
+-- The tables of a format were brought to the present one, in place of none or of those of an older
+-- format; they had told their format, and were an office's.
 abbrev pub BringsTold : Database → Database → Type 0
 BringsTold old new = (from : ℕ) × (from < present_format) × BringsOffice from old new
     × TellsFormat from old × IsAnOffices old
@@ -122,14 +118,22 @@ pub record Refuses (old new : State) (fault : OpenFault) : Type 0 where
   pub same : IsSame old new
   pub kept : (o : Office) → StoreStandsFor old o → StoreStandsFor new o
 
--- what a crash may leave of an opening, beside what it left before
+-- what a crash may leave where the tables of a format are brought to the present one, beside what
+-- it left before
+abbrev pub LeavesPresent : ℕ → State → Trees → Type 0
+LeavesPresent from old trees = IsTrue old.is_open × LeavesMade (BringsOffice from) old.now trees
+
+-- of an opening: an office in the present format, of tables that were an office's before
 abbrev pub LeavesBrought : State → Trees → Type 0
-LeavesBrought old trees = IsTrue old.is_open × LeavesMade BringsOlder old.now trees
+LeavesBrought old trees = IsTrue old.is_open × LeavesMade BringsTold old.now trees
 
 -- a refusal leaves nothing new but after Store, where the commit may have been carried out
+abbrev pub AfterStore : (Trees → Type 0) → OpenFault → Trees → Type 0
+AfterStore Leaves Store trees = Leaves trees
+AfterStore Leaves fault trees = ⊥
+
 abbrev pub LeavesRefused : State → OpenFault → Trees → Type 0
-LeavesRefused old Store trees = LeavesBrought old trees
-LeavesRefused old fault trees = ⊥
+LeavesRefused old fault trees = AfterStore (LeavesBrought old) fault trees
 
 -- How an opening ends. The office that the store stood for is held, and what is opened was there or
 -- was brought to the present format; or it is refused. A crash leaves what it left before, or the

@@ -5,7 +5,7 @@ ghost use Rattle.sqlite.specs.State.{HasCleanDisk, Survives};
 ghost use Rattle.one_table.specs.Over.{Over};
 ghost use Rattle.book_tables.specs.format.Making.{IsSoundOfFormat, TellsOf};
 ghost use Rattle.book_tables.specs.row.Rows.{present_format};
-ghost use Rattle.book_opening.specs.Opening.{BringsSound, IsBrought, LeavesBrought, LeavesRefused, FaultFitsDatabase};
+ghost use Rattle.book_opening.specs.Opening.{AfterStore, BringsSound, FaultFitsDatabase, IsBrought, LeavesPresent};
 ghost use Rattle.book_states.specs.Same.{IsSame};
 
 use crate::fault::OpenFault;
@@ -54,10 +54,10 @@ pub(crate) fn bring_office<S: Alter>(
     ensures undone { Over S.Store conn (λ old new. HasCleanDisk new
         → OnErr result (IsSame old new)) }
     ensures survives { Over S.Store conn (λ old new. (HasCleanDisk old → IsTrue old.is_open)
-        → IsSoundOfFormat from old → Survives old new (LeavesBrought old)) }
+        → IsSoundOfFormat from old → Survives old new (LeavesPresent from old)) }
     ensures risks { Over S.Store conn (λ old new. (HasCleanDisk old → IsTrue old.is_open)
         → IsSoundOfFormat from old
-        → IfErr result (λ fault. Survives old new (LeavesRefused old fault))) }
+        → IfErr result (λ fault. Survives old new (AfterStore (LeavesPresent from old) fault))) }
     ensures mode { conn.new.in_transaction ≡ false }
 {
     // Outside a transaction a connection has what is committed.

@@ -1,5 +1,5 @@
 use Rattle.sqlite.specs.Held.{state}
-use Rattle.book_opening.proofs.BringingLemmas.{leaves_brought, tells_no_office}
+use Rattle.book_opening.proofs.BringingLemmas.{leaves_present, tells_no_office}
 use Rattle.book_opening.proofs.bringing.bring_office.Goals as goal
 
 pub returns-in-Err-Unmade-clause-told : goal.returns-in-Err-Unmade-clause-told
@@ -9,8 +9,8 @@ returns-in-Err-Unmade-clause-told g c = λ clean is_open has.
 
 pub returns-in-Err-InDoubt-clause-survives : goal.returns-in-Err-InDoubt-clause-survives
 returns-in-Err-InDoubt-clause-survives g c = λ opens has.
-    leaves_brought c.args.from (state g.S.Store c.args.conn.now) (state g.S.Store c.change_once.new.conn) c.requires.older opens has c.change_once.ensures.crash
+    leaves_present c.args.from (state g.S.Store c.args.conn.now) (state g.S.Store c.change_once.new.conn) opens has c.change_once.ensures.crash
 
 pub returns-in-Err-InDoubt-clause-risks : goal.returns-in-Err-InDoubt-clause-risks
 returns-in-Err-InDoubt-clause-risks g c = λ opens has.
-    leaves_brought c.args.from (state g.S.Store c.args.conn.now) (state g.S.Store c.change_once.new.conn) c.requires.older opens has c.change_once.ensures.crash
+    leaves_present c.args.from (state g.S.Store c.args.conn.now) (state g.S.Store c.change_once.new.conn) opens has c.change_once.ensures.crash

@@ -17,9 +17,9 @@ returns-clause-ends g c = λ opens has.
     let tables : HasTablesOfFormat c.args.from old = λ is_open. (has is_open).1 in
     let same : HasCleanDisk mid → IsUnchanged old mid = λ clean. looks.same clean tables in
     let one : Survives old mid (λ _. ⊥) = looks.survives tables in
-    ends_older c.args.from old after (state g.S.Store c.bring_office.new.conn) (g.met.S.Store.shut_if_dirty c.test_rows.new.conn.store) has
-    (audited_same old mid after same one audits.survives audits.reads.same) (survives_both old mid after same one audits.survives) c.bring_office.ensures.survives c.in_ok-next.next c.requires.older
-    (λ clean. looks.finds (clean_between old mid after same one audits.survives clean) tables (λ is_open. (has is_open).0)) (audited_offices old mid after same one audits.survives audits.given) c.in_ok-bring_office.ensures.brought
+    ends_older c.args.from c.in_ok-next.next old after (state g.S.Store c.bring_office.new.conn) c.requires.older (g.met.S.Store.shut_if_dirty c.test_rows.new.conn.store) has
+    (audited_same old mid after same one audits.survives audits.reads.same) (survives_both old mid after same one audits.survives)
+    (λ clean. looks.finds (clean_between old mid after same one audits.survives clean) tables (λ is_open. (has is_open).0)) (audited_offices old mid after same one audits.survives audits.given) c.bring_office.ensures.survives c.in_ok-bring_office.ensures.brought
 
 pub returns-in_err-bring_office-clause-ends : goal.returns-in_err-bring_office-clause-ends
 returns-in_err-bring_office-clause-ends g c = λ opens has.
@@ -32,8 +32,9 @@ returns-in_err-bring_office-clause-ends g c = λ opens has.
     let tables : HasTablesOfFormat c.args.from old = λ is_open. (has is_open).1 in
     let same : HasCleanDisk mid → IsUnchanged old mid = λ clean. looks.same clean tables in
     let one : Survives old mid (λ _. ⊥) = looks.survives tables in
-    ends_not_brought c.args.from old after (state g.S.Store c.bring_office.new.conn) (g.met.S.Store.shut_if_dirty c.test_rows.new.conn.store) has
-    (audited_same old mid after same one audits.survives audits.reads.same) (survives_both old mid after same one audits.survives) c.bring_office.ensures.survives
+    ends_not_brought c.args.from c.in_ok-next.next old after (state g.S.Store c.bring_office.new.conn) c.requires.older (g.met.S.Store.shut_if_dirty c.test_rows.new.conn.store) has
+    (audited_same old mid after same one audits.survives audits.reads.same) (survives_both old mid after same one audits.survives)
+    (λ clean. looks.finds (clean_between old mid after same one audits.survives clean) tables (λ is_open. (has is_open).0)) (audited_offices old mid after same one audits.survives audits.given) c.bring_office.ensures.survives
     c.in_err-bring_office.field-0.0 c.from_residual-in_err-bring_office.result c.from_residual-in_err-bring_office.ensures.1 told.told told.undone told.risks
 
 pub returns-in_err-test_rows-clause-ends : goal.returns-in_err-test_rows-clause-ends
