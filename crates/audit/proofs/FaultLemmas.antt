@@ -1,7 +1,8 @@
 -- Why an audit stops, from why the reading does.
-use Rattle.std.proofs.Common.{◌≡◌, ◌≤◌, ℕ, IsTrue, Result, Ok, Err, inl, refl, sym, subst}
+use Rattle.std.proofs.Common.{◌≡◌, ◌≤◌, ℕ, IsTrue, Result, Ok, Err, inl, inr, refl, sym, subst, arith}
 use Rattle.sqlite.specs.Effect.{Database}
-use Rattle.sqlite.specs.State.{HasCleanDisk, IsUnchanged, State}
+use Rattle.sqlite.specs.State.{HasCleanDisk, IsUnchanged, State, Survives}
+use Rattle.sqlite_schema.specs.declared.schema.Schema.{Schema}
 use Rattle.one_table.specs.ReadsOnly.{ReadsOnly}
 use Rattle.vend_core.specs.Office.{Office}
 use Rattle.book_tables.specs.Holds.{HasOfficeOf, StandsFor}
@@ -17,9 +18,9 @@ use Rattle.audit_stored.specs.AllRows.{IsReadAs}
 use Rattle.audit_stored.specs.Entries.{rows_of}
 use Rattle.audit_stored.specs.declared.office_rows.OfficeRows.{OfficeRows}
 use Rattle.audit.specs.Audited.{IsToldAs}
-use Rattle.audit.specs.Fails.{FailsToAudit, IsNoOffices, IsSoundOf, by_office, by_row, read_fault}
+use Rattle.audit.specs.Fails.{FailsToAudit, FailsToKnow, IsNoOffices, IsSoundOf, by_office, by_row, read_fault}
 use Rattle.audit.specs.declared.fault.AuditFault.{AuditFault}
-use Rattle.audit.specs.declared.fault.AuditFault.TheVariants.{Found}
+use Rattle.audit.specs.declared.fault.AuditFault.TheVariants.{Failed, Found, NoOffice}
 
 as_read : (old new : State) (e : ReadFault) → FailsToRead old new e → FailsToAudit old new (read_fault e)
 as_read old new (read.Found g) why = (by_row g why.0 refl, why.1)
@@ -59,6 +60,28 @@ when_open Known r known this = record {
   mode = this.mode;
   faults = λ clean _. this.faults clean known;
   survives = λ _. this.survives known;
+}
+
+-- it is not known of which format the tables are
+unchanged : (s : State) → IsTrue s.is_open → IsUnchanged s s
+unchanged s runs = search
+
+untold : (s : State) → IsTrue s.is_open → (schema : Schema) → schema ≡ s.now.schema → (fault : AuditFault) → FailsToKnow schema fault → FailsToAudit s s fault
+untold s runs schema is (Found f) why = absurd why
+untold s runs schema is NoOffice why = (λ n known has tells. why n known (subst (HasOfficeOf n) (sym is) has), unchanged s runs)
+untold s runs schema is (Failed e) why = inr (why, unchanged s runs)
+
+-- a crash leaves what it left before
+survives_none : (s : State) → Survives s s (λ _. ⊥)
+survives_none s = record { clean = omega arith; shield = λ k. k; counts = omega arith; limit = refl; closes = λ _ k. inl k; crash = λ _ db k. inl k }
+
+pub unknown : {T : Type 0} (s : State) (schema : Schema) → schema ≡ s.now.schema → (fault : AuditFault) → FailsToKnow schema fault → ReadsOnly {T = T} (λ (s : State). IsTrue s.is_open) IsUnchanged FailsToAudit s s (Err fault)
+unknown s schema is fault why = record {
+  same = λ _ _. tt;
+  kept = λ _ runs. inl (unchanged s runs);
+  mode = λ rests. rests;
+  faults = λ _ runs. untold s runs schema is fault why;
+  survives = λ _. survives_none s;
 }
 
 -- ---- what a finding says

@@ -1,13 +1,12 @@
 -- The format that is told, and what an audit makes of it.
 use Rattle.std.proofs.Common.{◌≡◌, ◌≢◌, ◌≤◌, ℕ, zero, suc, true, false, IsTrue, Option, None, Some, Result, Ok, Err, nat_eq, inl, inr, refl, sym, ap, subst, arith}
-use Rattle.std.specs.Prelude.{◌↔◌, IfOk, IfSome}
+use Rattle.std.specs.Prelude.{IfOk, IfSome}
 use Rattle.std.specs.Option.{option_eq}
 use Rattle.std.proofs.lemmas.Bool.{le-leb}
 use Rattle.std.proofs.lemmas.Bool.Decides.{nat_tests}
 use Rattle.sqlite.specs.Effect.{Database}
 use Rattle.sqlite.specs.State.{HasCleanDisk, IsUnchanged, State}
 use Rattle.sqlite_rules.specs.Lists.{Has as Member}
-use Rattle.sqlite_schema.specs.declared.schema.Schema.{Schema}
 use Rattle.one_table.specs.ReadsOnly.{ReadsOnly}
 use Rattle.book_tables.specs.format.Format.{HasFormat, IsFormatOf, TellsFormat}
 use Rattle.book_tables.specs.Holds.{HasOfficeOf, IsKept}
@@ -85,9 +84,6 @@ module _ (n : ℕ) (some : 1 ≤ n) (known : n ≤ present_format) where
     }
 
 -- ---- the tables that are there
-
-pub here_so : (db : Database) (s : Schema) → s ≡ db.schema → (found : Option ℕ) → ((m : ℕ) → m ≤ present_format → (found ≡ Some m) ↔ HasOfficeOf m s) → (n : ℕ) → n ≤ present_format → found ≡ Some n → HasOfficeOf n db.schema
-here_so db s is found here n known so = subst (HasOfficeOf n) is ((here n known).0 so)
 
 pub known_so : (found : Option ℕ) (n : ℕ) → IfSome found (λ m. m ≤ present_format) → found ≡ Some n → n ≤ present_format
 known_so found n known so = subst (λ (o : Option ℕ). IfSome o (λ m. m ≤ present_format)) so known

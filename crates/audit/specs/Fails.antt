@@ -4,6 +4,7 @@ use Rattle.sqlite.specs.Effect.{Database, IsDatabase}
 use Rattle.sqlite.specs.State.{IsUnchanged, State}
 use Rattle.sqlite.specs.declared.error.Error.TheVariants.{SqliteFailure}
 use Rattle.sqlite.specs.declared.error.ErrorCode.TheVariants.{OutOfMemory}
+use Rattle.sqlite_schema.specs.declared.schema.Schema.{Schema}
 use Rattle.book_tables.specs.Holds.{HasOfficeOf}
 use Rattle.book_tables.specs.row.Rows.{present_format}
 use Rattle.book_tables.specs.declared.error.TableError.{TableError}
@@ -59,6 +60,12 @@ read_fault (read.Failed e) = Failed e
 abbrev pub failed : TableError → ReadFault
 failed (table.Database e) = read.Failed e
 failed table.RowOfNoOffice = read.Failed (SqliteFailure OutOfMemory)
+
+-- the tables are those of no format, or there was no memory
+abbrev pub FailsToKnow : Schema → AuditFault → Type 0
+FailsToKnow schema (Found f) = ⊥
+FailsToKnow schema NoOffice = (n : ℕ) → n ≤ present_format → ¬ HasOfficeOf n schema
+FailsToKnow schema (Failed e) = e ≡ SqliteFailure OutOfMemory
 
 -- ---- a finding
 

@@ -1,15 +1,16 @@
 //! The audit of a database: all rows of all its tables.
 
-ghost use Rattle.std.specs.Prelude.{◌≡◌, ◌≤◌, IfOk, IsTrue, OnOk};
+ghost use Rattle.std.specs.Prelude.{◌≡◌, ◌≤◌, IfErr, IfOk, IsTrue, OnOk};
 ghost use Rattle.sqlite.specs.State.{HasCleanDisk, IsUnchanged, Survives};
 ghost use Rattle.one_table.specs.Over.{Over};
 ghost use Rattle.one_table.specs.ReadsOnly.{ReadsOnly};
 ghost use Rattle.kept_order.specs.InOrder.{HasTablesInOrder};
+ghost use Rattle.book_tables.specs.Holds.{HasOfficeOf};
 ghost use Rattle.book_tables.specs.format.Format.{HasFormat};
 ghost use Rattle.book_tables.specs.row.Rows.{present_format};
 ghost use Rattle.audit_rows.specs.Fails.{FailsToAudit as FailsToRead, IsKnown};
 ghost use Rattle.audit.specs.Audited.{HaveWholeShifts, IsTested, IsToldAs, Passes};
-ghost use Rattle.audit.specs.Fails.{FailsToAudit, IsSoundOf, failed};
+ghost use Rattle.audit.specs.Fails.{FailsToAudit, FailsToKnow, IsSoundOf, failed};
 ghost use Rattle.audit.specs.Looked.{AreOfficeRows};
 
 use crate::audited::{Audited, counted, no_tables};
@@ -22,6 +23,7 @@ use book_tables::format::number::format_number;
 use book_tables::format::presence::format_here;
 use kept_order::order_law;
 use sqlite::{Alter, Connection, Error, ErrorCode, MemStore};
+use sqlite_schema::schema::Schema;
 use std::alloc::Global;
 
 fn failed(error: TableError) -> ReadFault
@@ -32,6 +34,19 @@ fn failed(error: TableError) -> ReadFault
         TableError::RowOfNoOffice => {
             ReadFault::Failed(Error::SqliteFailure(ErrorCode::OutOfMemory))
         }
+    }
+}
+
+// The format whose tables are there; it is 0 where there is nothing of an office.
+pub(crate) fn known_format(alloc: Global, schema: &Schema) -> Result<u32, AuditFault>
+    ensures known { IfOk result (λ format. format ≤ present_format) }
+    ensures has { IfOk result (λ format. HasOfficeOf format schema.now) }
+    ensures fails { IfErr result (FailsToKnow schema.now) }
+{
+    match format_here(alloc, schema) {
+        Ok(Some(format)) => Ok(format),
+        Ok(None) => Err(AuditFault::NoOffice),
+        Err(_) => Err(AuditFault::Failed(Error::SqliteFailure(ErrorCode::OutOfMemory))),
     }
 }
 
@@ -142,14 +157,9 @@ pub fn audit_tables<S: Alter>(
     stored_law();
     // What the law says of a database in order holds of it in any store.
     order_law::<MemStore>();
-    let found = match format_here(alloc, conn.schema()) {
-        Ok(found) => found,
-        Err(_) => {
-            return Err(AuditFault::Failed(Error::SqliteFailure(ErrorCode::OutOfMemory)));
-        }
-    };
-    let Some(format) = found else {
-        return Err(AuditFault::NoOffice);
+    let format = match known_format(alloc, conn.schema()) {
+        Ok(format) => format,
+        Err(fault) => return Err(fault),
     };
     if format == 0 {
         return Ok(no_tables());

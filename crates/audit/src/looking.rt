@@ -12,13 +12,12 @@ ghost use Rattle.audit.specs.Fails.{IsSoundOf};
 ghost use Rattle.audit.specs.Looked.{FailsToLook, IsLooked, IsSound, sale_rule_of, told_of};
 
 use crate::audited::{Audited, counted, no_tables};
-use crate::auditing::office_rows;
+use crate::auditing::{known_format, office_rows};
 use crate::fault::AuditFault;
 use audit_office::{Finding, RowKey, Rule};
 use audit_reached::{honest_law, test_reached};
 use audit_rows::TableName;
 use audit_stored::stored_law;
-use book_tables::format::presence::format_here;
 use kept_order::{KeepsOrder, connection_order_law, order_law};
 use sqlite::{Alter, Connection, Error, ErrorCode, MemStore};
 use std::alloc::Global;
@@ -92,14 +91,9 @@ fn look_at_tables<S: Alter>(alloc: Global, conn: &mut Connection<S>) -> Result<A
     stored_law();
     // What the law says of a database in order holds of it in any store.
     order_law::<MemStore>();
-    let found = match format_here(alloc, conn.schema()) {
-        Ok(found) => found,
-        Err(_) => {
-            return Err(AuditFault::Failed(Error::SqliteFailure(ErrorCode::OutOfMemory)));
-        }
-    };
-    let Some(format) = found else {
-        return Err(AuditFault::NoOffice);
+    let format = match known_format(alloc, conn.schema()) {
+        Ok(format) => format,
+        Err(fault) => return Err(fault),
     };
     if format == 0 {
         return Ok(no_tables());
@@ -110,8 +104,8 @@ fn look_at_tables<S: Alter>(alloc: Global, conn: &mut Connection<S>) -> Result<A
 /// The audit of a database over a store that keeps the rows of each table in the order of their
 /// numbers. Where it passes outside a transaction, nothing of their order has to be promised.
 ///
-/// It looks too whether requests lead to the office (`IsSound`): a file that a sound one was forged
-/// from may stand for an office, and for one that no requests lead to.
+/// It looks too whether requests lead to the office (`IsSound`): a file that was forged from a
+/// sound one may stand for an office, and for one that no requests lead to.
 ///
 /// # Errors
 /// A row that is no office's, or that of no office that requests lead to (`look_law`); tables of no

@@ -6,7 +6,7 @@ use Rattle.book_tables.specs.Stands.{AreMembersOf, AreTotalsOf}
 use Rattle.book_tables.specs.row.Rows.{Rows}
 use Rattle.audit_rules.specs.Members.{AreMembersButTotals, AreMembersOfLists, KeepValues, TotalRows}
 use Rattle.audit_rules.specs.Members as listed
-use Rattle.audit_rules.specs.Rules.{Breaks, Tells}
+use Rattle.audit_rules.specs.Rules.{BreaksFirst, Tells}
 use Rattle.audit_rules.specs.Rules.{KeepRules as KeepListRules}
 use Rattle.audit_rules.specs.declared.finding.Finding.{Finding as Told}
 use Rattle.audit_rules.specs.declared.finding.RulesFault.TheVariants as fault
@@ -38,12 +38,12 @@ values_kept rows totals keep = record {
   dated_steps = keep.dated_steps;
 }
 
--- the row that the rules tell breaks the rule that they tell
-pub told_so : (l : Lists) (f : Told) → Tells l (fault.Found f) → Breaks l f.table f.rule f.row
+-- the row that the rules tell is the first that breaks a rule
+pub told_so : (l : Lists) (f : Told) → Tells l (fault.Found f) → BreaksFirst l f.table f.rule f.row
 told_so l f (inl none) = absurd (cc)
 told_so l f (inr (t, r, i, same, breaks)) =
     let e : f ≡ record { table = t; rule = r; row = i } = cc in
-    subst (λ (g : Told). Breaks l g.table g.rule g.row) (sym e) breaks
+    subst (λ (g : Told). BreaksFirst l g.table g.rule g.row) (sym e) breaks
 
 module _ (passed : (l : Lists) (totals : TotalRows) → KeepListRules l → KeepValues (listed.rows_of l totals) → (o : Office) × AreMembersOfLists l totals o)
     (whole : (rows : Rows) (o : Office) → AreMembersButTotals rows o → AreTotalsOf o.sales rows → AreMembersOf rows o)

@@ -3,7 +3,7 @@ use Rattle.std.specs.Prelude.{◌≡◌, ◌≤◌, ⊤, ℕ}
 use Rattle.vend_core.specs.Office.{IsOffice, Office}
 use Rattle.book_tables.specs.Stands.{AreMembersOf}
 use Rattle.book_tables.specs.row.Rows.{Rows}
-use Rattle.audit_rules.specs.Rules.{Breaks}
+use Rattle.audit_rules.specs.Rules.{BreaksFirst, KeepRules}
 use Rattle.audit_rules.specs.declared.finding.Rule as ruled
 use Rattle.audit_rules.specs.declared.finding.TableName as listed
 use Rattle.audit_rules.specs.declared.lists.Lists.{Lists}
@@ -36,13 +36,13 @@ pub record ShowOffice (n : ℕ) (rows : Rows) : Type 0 where
   pub is : IsOffice office
   pub members : AreMembersOf (with_totals rows totals) office
 
--- a row breaks one of the rules of whole lists; or, where there are tables of totals, a row of
--- these is not what the sales say
+-- a row is the first that breaks one of the rules of whole lists; or these are kept, and where
+-- there are tables of totals, a row of these is not what the sales say
 pub data IsBroken (n : ℕ) (r : OfficeRows) (f : Finding) : Type 0 where
   by_rules : (l : Lists) → ShowsLists r l → (t : listed.TableName) (b : ruled.Rule) (i : ℕ)
-      → Breaks l t b i → f ≡ found_by_rules r t b i → IsBroken n r f
-  by_totals : 2 ≤ n → (t : TotalsFinding) → BreaksTotals r.sales.items (rows_of r) t
-      → f ≡ found_by_totals t → IsBroken n r f
+      → BreaksFirst l t b i → f ≡ found_by_rules r t b i → IsBroken n r f
+  by_totals : 2 ≤ n → (l : Lists) → ShowsLists r l → KeepRules l → (t : TotalsFinding)
+      → BreaksTotals r.sales.items (rows_of r) t → f ≡ found_by_totals t → IsBroken n r f
 
 -- that, or there was no memory
 abbrev pub TellsFault : ℕ → OfficeRows → OfficeFault → Type 0

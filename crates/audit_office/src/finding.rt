@@ -28,8 +28,8 @@ pub enum Rule {
     Total,
     /// The sale's operator is not that of its shift.
     Operator,
-    /// The shift was opened while an earlier one of its operator was open; or a sale before this one
-    /// was made in the operator's next shift, or in one that was opened after that.
+    /// The shift was opened while an earlier one of its operator was open; or a sale before this
+    /// one was made in the operator's next shift, or in one that was opened after that.
     Order,
     /// The sale's identifier is not the fresh one of its moment, after those before it.
     Identifier,

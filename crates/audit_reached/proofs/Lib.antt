@@ -1,5 +1,6 @@
 pub mod BaseLemmas
 pub mod ClassLemmas
+pub mod LastLemmas
 pub mod OwnLemmas
 pub mod PlausibleLemmas
 pub mod ShiftLemmas

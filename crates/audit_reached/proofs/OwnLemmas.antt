@@ -1,13 +1,15 @@
 -- The shift of a sale, and the later ones of its operator.
-use Rattle.std.proofs.Common.{◌≡◌, ◌≢◌, ◌+◌, ◌-◌, ℕ, Bool, true, false, List, length, Some, inl, inr, refl, sym, ap, subst, ◌∙◌, arith}
-use Rattle.std.specs.Prelude.{Contains, ◌↔◌, IsTrue, min, not, slice_get}
-use Rattle.std.proofs.lemmas.Bool.{cases_lt, false≢true}
+use Rattle.std.proofs.Common.{◌≡◌, ◌+◌, ◌≤◌, ℕ, List, length, Some, inl, inr, sym, ap, subst, ◌∙◌, arith}
+use Rattle.std.specs.Prelude.{Contains, ◌↔◌, IsTrue, min, slice_get}
+use Rattle.std.proofs.Math.Dec.{ltb}
+use Rattle.std.proofs.lemmas.Bool.{cases_lt, lt-ltb, ltb-true}
 use Rattle.std.proofs.lemmas.Option.{get_or_from_slice_get, slice_get-get_or, slice_get_within}
 use Rattle.vend_core.specs.Law.Reached.{IsInOpenShift}
 use Rattle.vend_core.specs.Office.{AreNumbered, IsOffice, Office}
 use Rattle.vend_core.specs.declared.office.sale.Sale.{Sale}
 use Rattle.vend_core.specs.declared.office.shift.Shift.{Shift}
-use Rattle.audit_reached.specs.Walk.{IsLatest, NoneBetween, SomeBetween}
+use Rattle.audit_reached.specs.Lasts.{IsLastOf}
+use Rattle.audit_reached.specs.Walk.{IsLatest, NoneBetween}
 
 -- a shift that stands somewhere, at its place
 at_place : (shifts : List Shift) (x : Shift) → Contains shifts x → (i : ℕ) × (slice_get shifts i ≡ Some x)
@@ -33,14 +35,24 @@ module _ (o : Office) (office : IsOffice o) (shifts : List Shift) (same : o.shif
           | inr past ↦ (is next.number (omega (arith, number))).1 (omega (arith, past, number))
         ]
 
-    pub not_open : SomeBetween shifts s.shift (min (length shifts) latest) s.operator → ¬ IsInOpenShift o earlier s
-    not_open (i, next, from, below, at, operator) was =
-        let number : next.number ≡ i + 1 = numbered i next at in
-        let all = was next (subst (λ (l : List Shift). Contains l next) (sym same) (stands_at shifts i next at)) operator (omega (arith, number, from)) in
-        let less = (is next.number (omega (arith, number))).0 all in
+    not_open : (i : ℕ) → IsLastOf shifts (min (length shifts) latest) s.operator i → s.shift ≤ i → ¬ IsInOpenShift o earlier s
+    not_open i last from was =
+        let number : last.shift.number ≡ i + 1 = numbered i last.shift last.there in
+        let all = was last.shift (subst (λ (l : List Shift). Contains l last.shift) (sym same) (stands_at shifts i last.shift last.there)) last.operator_is (omega (arith, number, from)) in
+        let less = (is last.shift.number (omega (arith, number))).0 all in
+        let below = last.before in
         omega (arith, less, number, below)
 
-    -- by what was found of the shifts between
-    pub open_or : (end : ℕ) → end ≡ min (length shifts) latest → (b : Bool) → (b ≡ true → SomeBetween shifts s.shift end s.operator) → (b ≡ false → NoneBetween shifts s.shift end s.operator) → IsTrue (not b) ↔ IsInOpenShift o earlier s
-    open_or end is_end true some none = (λ e. absurd (false≢true e), λ was. absurd (not_open (subst (λ (n : ℕ). SomeBetween shifts s.shift n s.operator) is_end (some refl)) was))
-    open_or end is_end false some none = (λ e. open_where (subst (λ (n : ℕ). NoneBetween shifts s.shift n s.operator) is_end (none refl)), λ was. refl)
+    -- by the place of the operator's last one of them
+    pub open_some : (i : ℕ) → IsLastOf shifts (min (length shifts) latest) s.operator i → IsTrue (ltb i s.shift) ↔ IsInOpenShift o earlier s
+    open_some i last = (
+      λ e. let less = ltb-true i s.shift e in open_where (λ j x from below. last.after j x (omega (arith, from, less)) below),
+      λ was. elim (cases_lt i s.shift) [
+        | inl less ↦ lt-ltb i s.shift less
+        | inr from ↦ absurd (not_open i last from was)
+      ],
+    )
+
+    -- or where there is none
+    pub open_none : NoneBetween shifts 0 (min (length shifts) latest) s.operator → IsInOpenShift o earlier s
+    open_none none = open_where (λ j x from below. none j x (omega arith) below)

@@ -1,3 +1,4 @@
 pub mod Finds
+pub mod Lasts
 pub mod Walk
 pub mod Walked

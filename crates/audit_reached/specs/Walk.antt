@@ -15,12 +15,7 @@ use Rattle.audit_reached.specs.declared.finding.Rule.{Rule}
 abbrev pub IsLatest : List Sale → ℕ → Type 0
 IsLatest sales latest = (n : ℕ) → 1 ≤ n → (All (λ s. s.shift < n) sales ↔ (latest < n))
 
--- a shift from one place up to another is of the operator; none is
-abbrev pub SomeBetween : List Shift → ℕ → ℕ → List ℕ → Type 0
-SomeBetween shifts from end operator =
-    (i : ℕ) × (s : Shift) × (from ≤ i) × (i < end) × (slice_get shifts i ≡ Some s)
-    × (s.operator ≡ operator)
-
+-- no shift from one place up to another is of the operator
 abbrev pub NoneBetween : List Shift → ℕ → ℕ → List ℕ → Type 0
 NoneBetween shifts from end operator =
     (i : ℕ) (s : Shift) → from ≤ i → i < end → slice_get shifts i ≡ Some s

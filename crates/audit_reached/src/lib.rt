@@ -8,6 +8,7 @@ pub use laws::honest_law;
 pub use test::test_reached;
 
 mod finding;
+mod lasts;
 mod laws;
 mod operators;
 mod sales;

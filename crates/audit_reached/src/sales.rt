@@ -1,14 +1,17 @@
 //! The rules of a sale.
 
-ghost use Rattle.std.specs.Prelude.{◌≡◌, ◌↔◌, ◌<◌, ◌≤◌, ℕ, List, IfSome, IsTrue, Ok, false, length, true};
+ghost use Rattle.std.specs.Prelude.{◌≡◌, ◌↔◌, ◌≤◌, ℕ, List, IfSome, IsTrue, Ok, false, length, min, true};
 ghost use Rattle.sts_token.specs.Reading.{IsOfClassZero};
 ghost use Rattle.std.specs.Option.{ForSome};
 ghost use Rattle.sts_fields.specs.Tid.{fresh_after, last_tid};
 ghost use Rattle.vend_core.specs.Law.Reached.{IsInOpenShift, IsInOwnShift};
 ghost use Rattle.vend_core.specs.Office.{IsOffice, Office};
 ghost use Rattle.vend_core.specs.declared.office.sale.Sale.{Sale};
-ghost use Rattle.audit_reached.specs.Walk.{IsLatest, NoneBetween, SomeBetween};
+ghost use Rattle.vend_core.specs.declared.office.shift.Shift.{Shift};
+ghost use Rattle.audit_reached.specs.Lasts.{AreLasts};
+ghost use Rattle.audit_reached.specs.Walk.{IsLatest};
 
+use crate::lasts::{LastShifts, last_of};
 use crate::operators::is_same;
 use sts_fields::{LAST_TID, next_tid};
 use sts_token::{Plain, TokenFault, read};
@@ -33,27 +36,18 @@ pub(crate) fn is_in_own_shift(shifts: &[Shift], sale: &Sale) -> bool
     }
 }
 
-// Whether no shift of a sale's operator was opened after its own and up to the latest one.
-pub(crate) fn is_in_open_shift(shifts: &[Shift], latest: u32, sale: &Sale) -> bool
-    ensures { (o : Office) (earlier : List Sale) → IsOffice o → o.shifts ≡ shifts.now
-        → IsLatest earlier latest → (IsTrue result ↔ IsInOpenShift o earlier sale.now) }
+// Whether no shift of a sale's operator was opened after its own and up to the latest one, which
+// is the last of those of which the map has each operator's last one.
+pub(crate) fn is_in_open_shift<'a>(lasts: &LastShifts<'a>, sale: &'a Sale) -> bool
+    ensures { (o : Office) (shifts : List Shift) (earlier : List Sale) (latest : ℕ) → IsOffice o
+        → o.shifts ≡ shifts → IsLatest earlier latest
+        → AreLasts lasts.now shifts (min (length shifts) latest)
+        → (IsTrue result ↔ IsInOpenShift o earlier sale.now) }
 {
-    let end = shifts.len().min(latest as usize);
-    !has_operator(shifts, sale.shift as usize, end, sale)
-}
-
-// Whether a shift from one place up to another is of the sale's operator.
-fn has_operator(shifts: &[Shift], from: usize, end: usize, sale: &Sale) -> bool
-    requires { end ≤ length shifts.now }
-    ensures yes { result ≡ true → SomeBetween shifts.now from end sale.now.operator }
-    ensures no { result ≡ false → NoneBetween shifts.now from end sale.now.operator }
-{
-    'shifts: for at in from..end {
-        if is_same(&shifts[at].operator, &sale.operator) {
-            return true;
-        }
+    match last_of(lasts, sale.operator.as_bytes()) {
+        Some(place) => place < sale.shift as usize,
+        None => true,
     }
-    false
 }
 
 // Whether some digits are those of a token of class 0.

@@ -1,6 +1,6 @@
 //! The rules of a sale that look at what was sold to its meter before.
 
-ghost use Rattle.std.specs.Prelude.{◌≡◌, ◌↔◌, ◌≤◌, ℕ, List, All, IfOk, IsTrue, OnErr, length};
+ghost use Rattle.std.specs.Prelude.{◌≡◌, ◌↔◌, ◌≤◌, List, All, IfOk, IsTrue, OnErr, length};
 ghost use Rattle.sts_fields.specs.Base.{year_of};
 ghost use Rattle.sts_fields.specs.Tid.{last_tid};
 ghost use Rattle.vend_core.specs.Law.Reached.{HasFreshTid, IsUnderPresentBase};
@@ -11,9 +11,11 @@ ghost use Rattle.audit_reached.specs.Walk.{FindsRule, FindsSale, IsNotAfter};
 ghost use Rattle.audit_reached.specs.Walked.{IsWalked};
 
 use crate::finding::{Finding, Rule};
+use crate::lasts::{LastShifts, add_shifts};
 use crate::sales::{is_in_open_shift, is_in_own_shift, is_next, is_of_class_zero};
 use book_tables::Gathered;
 use std::alloc::{AllocError, Global};
+use std::collections::BTreeMap;
 use sts_fields::{Base, fresh_law, minute};
 use vend_core::{Sale, Shift};
 
@@ -52,14 +54,20 @@ fn has_fresh_tid(gathered: &Gathered, sale: &Sale) -> bool
 }
 
 // The first rule that a sale breaks, after those that were looked at.
-fn broken_rule(shifts: &[Shift], gathered: &Gathered, latest: u32, sale: &Sale) -> Option<Rule>
-    ensures { (o : Office) (earlier : List Sale) → IsWalked o shifts.now earlier gathered.now latest
+fn broken_rule<'a>(
+    shifts: &[Shift],
+    gathered: &Gathered,
+    lasts: &LastShifts<'a>,
+    sale: &'a Sale,
+) -> Option<Rule>
+    ensures { (o : Office) (earlier : List Sale)
+        → IsWalked o shifts.now earlier gathered.now lasts.now
         → FindsRule o earlier sale.now result }
 {
     if !is_in_own_shift(shifts, sale) {
         return Some(Rule::Operator);
     }
-    if !is_in_open_shift(shifts, latest, sale) {
+    if !is_in_open_shift(lasts, sale) {
         return Some(Rule::Order);
     }
     if !is_under_present_base(gathered, sale) {
@@ -78,23 +86,25 @@ fn broken_rule(shifts: &[Shift], gathered: &Gathered, latest: u32, sale: &Sale) 
 ///
 /// # Errors
 /// Want of memory.
-pub(crate) fn first_false_sale(
+pub(crate) fn first_false_sale<'a>(
     alloc: Global,
-    shifts: &[Shift],
-    sales: &[Sale],
+    shifts: &'a [Shift],
+    sales: &'a [Sale],
 ) -> Result<Option<Finding>, AllocError>
     ensures finds { IfOk result (λ found. (o : Office) → IsOffice o → o.shifts ≡ shifts.now
         → o.sales ≡ sales.now → FindsSale o found) }
     ensures memory { OnErr result (1 ≤ length sales.now) }
 {
     let mut gathered = Gathered::new(alloc);
+    let mut lasts = BTreeMap::new(alloc);
     let mut latest = 0;
     'sales: for at in 0..sales.len() {
         let sale = &sales[at];
-        if let Some(rule) = broken_rule(shifts, &gathered, latest, sale) {
+        if let Some(rule) = broken_rule(shifts, &gathered, &lasts, sale) {
             return Ok(Some(Finding::Sale(sale.number, rule)));
         }
         gathered.add(sale)?;
+        add_shifts(&mut lasts, shifts, latest, sale.shift)?;
         latest = latest.max(sale.shift);
     }
     Ok(None)

@@ -107,11 +107,17 @@ module _ {X : Type 0} (k : Kept) (is_numbered : k.is_numbered ≡ true) (shown :
   one_number : (m n : ℕ) → number m ≡ number n → m ≡ n
   one_number m n e = cc
 
+  kept_there : (xs : List X) (i : ℕ) (row : Row) (s : Option X) → slice_get xs i ≡ s → slice_get (map shown xs) i ≡ Some row → ((y : X) → slice_get xs i ≡ Some y → number_of y ≡ i + 1) → column row 0 ≡ number (i + 1)
+  kept_there xs i row None none there kept = absurd (let e : None ≡ Some row = ap (option_map shown) (sym none) ∙ sym (slice_get-map shown xs i) ∙ there in cc)
+  kept_there xs i row (Some y) some there kept =
+      let shown_is : shown y ≡ row = same_Some (shown y) row (ap (option_map shown) (sym some) ∙ sym (slice_get-map shown xs i) ∙ there) in
+      ap (λ (r : Row). column r 0) (sym shown_is) ∙ numbered_by y ∙ ap number (kept y some)
+
   pub gap_there : (db : Database) (xs : List X) → AreListed shown keeps (rising 0) k db xs → (n : ℕ) → IsGapIn number_of xs n → IsGap k db n
-  gap_there db xs are n (x, before, at, there, other) = (
+  gap_there db xs are n (x, before, at, there, other, kept) = (
     map shown xs,
     record { same = IsPermutation-sym (map shown xs) (all_columns k db) are.records.rows; rises = are.rises refl is_numbered },
-    (shown x, before, at, slice_get-map shown xs before ∙ ap (option_map shown) there, λ same. other (one_number (number_of x) n (sym (numbered_by x) ∙ same))),
+    (shown x, before, at, slice_get-map shown xs before ∙ ap (option_map shown) there, λ same. other (one_number (number_of x) n (sym (numbered_by x) ∙ same)), λ i row low row_there. kept_there xs i row (slice_get xs i) refl row_there (λ y y_there. kept i y low y_there)),
   )
 
 -- where the rows are those of records that are numbered, there is no gap
@@ -128,7 +134,7 @@ module _ {X : Type 0} (k : Kept) (columns : X → Row) (number_of : X → ℕ) (
       (ascending_weaker _ _ (λ (a b : X) h. ap₂ value_cmp (numbered_by a) (numbered_by b) ∙ value_cmp-Int (pos (number_of a)) (pos (number_of b)) ∙ Less-from_lt (pos (number_of a)) (pos (number_of b)) h) xs up)
 
   pub no_gap : (db : Database) (xs : List X) → all_columns k db ≡ map columns xs → AreNumbered number_of xs → (n : ℕ) → ¬ IsGap k db n
-  no_gap db xs are numbered n (ordered, in_order, (row, before, at, there, other)) =
+  no_gap db xs are numbered n (ordered, in_order, (row, before, at, there, other, kept)) =
       let by_first = λ (a b : Row). value_cmp (column a 0) (column b 0) in
       let is : ordered ≡ map columns xs =
       sorted_unique by_first (on_total (λ (r : Row). column r 0) value_cmp_total) (map columns xs) ordered (rise_keyed xs (numbers_rise number_of xs numbered)) (subst (λ (l : List Row). IsPermutation l ordered) are in_order.same) in_order.rises in

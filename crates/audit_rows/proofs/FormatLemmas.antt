@@ -1,5 +1,5 @@
 -- The tables of an office tell their format.
-use Rattle.std.proofs.Common.{◌≡◌, ℕ, zero, suc, inl, refl, arith}
+use Rattle.std.proofs.Common.{ℕ, zero, suc, inl, refl, arith}
 use Rattle.std.proofs.lemmas.Bool.{le-leb}
 use Rattle.sqlite.specs.Effect.{Database}
 use Rattle.sqlite_rules.specs.Lists.{Has as Member}

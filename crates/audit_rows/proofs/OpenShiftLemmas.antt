@@ -1,14 +1,13 @@
 -- Shifts of which two of one operator are open.
-use Rattle.std.proofs.Common.{◌≡◌, ◌<◌, ◌+◌, ◌∙◌, ℕ, zero, suc, true, List, [], ◌∷◌, length, take, get_or, option_map, inl, inr, refl, sym, ap, subst, arith, map}
+use Rattle.std.proofs.Common.{◌≡◌, ◌<◌, ◌+◌, ◌∙◌, ℕ, true, List, Some, length, take, get_or, inl, inr, refl, sym, ap, subst, arith, map}
 use Rattle.std.specs.Prelude.{AllPairs, Any, Contains, bytes_eq}
 use Rattle.std.proofs.lemmas.Bool.{cases_lt}
 use Rattle.std.proofs.lemmas.Slice.Eq.{bytes_eq-Decides}
-use Rattle.std.proofs.lemmas.List.{get_or_default}
-use Rattle.std.proofs.lemmas.List.Sorted.{Contains-permutation, IsPermutation-sym}
-use Rattle.std.proofs.lemmas.Option.{slice_get-get_or, slice_get-map}
+use Rattle.std.proofs.lemmas.List.{get_or-take, get_or_default, length-take}
+use Rattle.std.proofs.lemmas.List.Sorted.{Contains-permutation}
+use Rattle.std.proofs.lemmas.Option.{get_or_from_slice_get, slice_get-get_or, slice_get_within}
 use Rattle.sqlite.specs.Effect.{Database}
 use Rattle.sqlite.specs.Order.{Row}
-use Rattle.sqlite_rules.specs.Lists.{Has as Member}
 use Rattle.sqlite_rules.proofs.ListLemmas.{any_has, contains_had}
 use Rattle.vend_core.specs.Office.{AreNumbered, NotBothOpen}
 use Rattle.vend_core.specs.declared.office.shift.Shift.{Shift}
@@ -37,15 +36,29 @@ text_other xs ys same = (bytes_eq-Decides xs ys).1 same
 
 -- ---- what is read of the shifts is what the table has
 
-pub two_of_table : (db : Database) (shifts : List Shift) → AreRecords shown_shift AreShiftValues shifts_kept db shifts → (n : ℕ) → IsSecond shifts n → HasTwoOpen db n
-two_of_table db shifts are n second = record {
-  other = second.other;
-  shift = second.shift;
-  number = second.number;
-  both = second.both;
-  other_there = Contains-permutation (map shown_shift shifts) (all_columns shifts_kept db) (shown_shift second.other) are.rows (contains_map shown_shift shifts second.other second.other_there);
-  there = Contains-permutation (map shown_shift shifts) (all_columns shifts_kept db) (shown_shift second.shift) are.rows (contains_map shown_shift shifts second.shift second.there);
-}
+number_at : (shifts : List Shift) → AreNumbered (λ (s : Shift). s.number) shifts → (i : ℕ) (d : Shift) → i < length shifts → (get_or shifts i d).number ≡ i + 1
+number_at shifts numbered i d low = numbered i (get_or shifts i d) (slice_get-get_or shifts i d low)
+
+pub two_of_table : (db : Database) (shifts : List Shift) → AreRecords shown_shift AreShiftValues shifts_kept db shifts → (n : ℕ) → AreNumbered (λ (s : Shift). s.number) shifts → IsSecond shifts n → HasTwoOpen db n
+two_of_table db shifts are n numbered second =
+    let place = second.place in
+    let other = second.other in
+    let k = second.other_before.0 in
+    let within = slice_get_within shifts place second.shift second.there in
+    let low : second.other_before.0 < second.place = (let below = second.other_before.1 in omega (arith, below, length-take second.place shifts)) in
+    let is : get_or shifts k other ≡ other = sym (get_or-take place shifts k other low) ∙ second.other_before.2 in
+    let inside : second.other_before.0 < length shifts = omega (arith, low, within) in
+    let first : other.number ≡ k + 1 = ap (λ (s : Shift). s.number) (sym is) ∙ number_at shifts numbered k other inside in
+    let last : second.shift.number ≡ place + 1 = numbered place second.shift second.there in
+    record {
+      other = other;
+      shift = second.shift;
+      number = second.number;
+      both = second.both;
+      later = omega (arith, low, first, last);
+      other_there = Contains-permutation (map shown_shift shifts) (all_columns shifts_kept db) (shown_shift other) are.rows (contains_map shown_shift shifts other (k, inside, is));
+      there = Contains-permutation (map shown_shift shifts) (all_columns shifts_kept db) (shown_shift second.shift) are.rows (contains_map shown_shift shifts second.shift (place, within, get_or_from_slice_get shifts place second.shift second.shift second.there));
+    }
 
 -- what breaks a rule of the shifts breaks it in the table
 gap_of_table : (db : Database) (shifts : List Shift) → AreListed shown_shift AreShiftValues (rising 0) shifts_kept db shifts → (n : ℕ) → IsGapIn (λ (s : Shift). s.number) shifts n → IsGap shifts_kept db n
@@ -53,23 +66,14 @@ gap_of_table = gap_there shifts_kept refl shown_shift AreShiftValues (λ (s : Sh
 
 pub shifts_break : (db : Database) (shifts : List Shift) → AreListed shown_shift AreShiftValues (rising 0) shifts_kept db shifts → (f : Finding) → BreaksShifts shifts f → (f.table ≡ table.Shifts) × BreaksRule f.rule f.row f.table db
 shifts_break db shifts are f (n, inl (is, gap)) = subst (λ (g : Finding). (g.table ≡ table.Shifts) × BreaksRule g.rule g.row g.table db) (sym is) (refl, gap_of_table db shifts are n gap)
-shifts_break db shifts are f (n, inr (is, second)) = subst (λ (g : Finding). (g.table ≡ table.Shifts) × BreaksRule g.rule g.row g.table db) (sym is) (refl, two_of_table db shifts are.records n second)
+shifts_break db shifts are f (n, inr (is, numbered, second)) = subst (λ (g : Finding). (g.table ≡ table.Shifts) × BreaksRule g.rule g.row g.table db) (sym is) (refl, two_of_table db shifts are.records n numbered second)
 
 pub shifts_broken : (db : Database) (shifts : List Shift) → AreListed shown_shift AreShiftValues (rising 0) shifts_kept db shifts → (f : Finding) → BreaksShifts shifts f → IsKept db.schema shifts_kept → Breaks f db
 shifts_broken db shifts are f broken there =
     let said = shifts_break db shifts are f broken in
     record { there = subst (λ (t : TableName). IsKept db.schema (kept_of t)) (sym said.0) there; breaks = said.1 }
 
-has_taken : (at : ℕ) (xs : List Shift) (x : Shift) → Member (take at xs) x → Member xs x
-has_taken zero xs x there = absurd there
-has_taken (suc at) [] x there = absurd there
-has_taken (suc at) (y ∷ ys) x (inl is) = inl is
-has_taken (suc at) (y ∷ ys) x (inr more) = inr (has_taken at ys x more)
-
 -- shifts that are numbered and of which no two of other numbers are both open
-number_at : (shifts : List Shift) → AreNumbered (λ (s : Shift). s.number) shifts → (i : ℕ) (d : Shift) → i < length shifts → (get_or shifts i d).number ≡ i + 1
-number_at shifts numbered i d low = numbered i (get_or shifts i d) (slice_get-get_or shifts i d low)
-
 pub none_both : (shifts : List Shift) → AreNumbered (λ (s : Shift). s.number) shifts → AllPairs (λ a b. ¬ AreBothOpen a b) shifts → AllPairs NotBothOpen shifts
 none_both shifts numbered none i j d below within first second operator =
     let i_is = number_at shifts numbered i d (omega (arith, below, within)) in
@@ -77,10 +81,10 @@ none_both shifts numbered none i j d below within first second operator =
     none i j d below within (record { first = first; second = second; operator = operator; numbers = λ same. omega (arith, same, i_is, j_is, below) })
 
 -- one of some first shifts is open beside a further one
-pub second_here : (shifts : List Shift) (at : ℕ) (shift : Shift) → Contains shifts shift → Any (λ other. AreBothOpen other shift) (take at shifts) → IsSecond shifts shift.number
-second_here shifts at shift there any =
+pub second_here : (shifts : List Shift) (at : ℕ) (shift : Shift) → at < length shifts → shift ≡ get_or shifts at shift → Any (λ other. AreBothOpen other shift) (take at shifts) → ((i j : ℕ) (d : Shift) → i < j → j < at → ¬ AreBothOpen (get_or shifts i d) (get_or shifts j d)) → IsSecond shifts shift.number
+second_here shifts at shift within is any before =
     let one = any_has (λ (o : Shift). AreBothOpen o shift) (take at shifts) any in
-    record { other = one.0; shift = shift; number = refl; both = one.2; other_there = contains_had shifts one.0 (has_taken at shifts one.0 one.1); there = there }
+    record { other = one.0; shift = shift; number = refl; both = one.2; place = at; there = slice_get-get_or shifts at shift within ∙ ap Some (sym is); other_before = contains_had (take at shifts) one.0 one.1; before = before }
 
 -- ---- no two such stand in an office
 

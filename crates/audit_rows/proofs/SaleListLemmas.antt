@@ -1,6 +1,5 @@
 -- What sales break is what the rows of their table break.
 use Rattle.std.proofs.Common.{◌≡◌, ℕ, List, inl, inr, map, refl, sym, subst}
-use Rattle.std.specs.Prelude.{Contains}
 use Rattle.std.proofs.lemmas.List.Sorted.{Contains-permutation}
 use Rattle.sqlite.specs.Effect.{Database}
 use Rattle.one_table.specs.Listed.{rising}

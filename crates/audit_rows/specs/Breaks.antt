@@ -1,5 +1,5 @@
 -- A row that breaks a rule, so that the database stands for no office.
-use Rattle.std.specs.Prelude.{◌≡◌, ◌≢◌, ◌+◌, ℕ, List, Contains, IsPermutation, IsSorted, Some, slice_get}
+use Rattle.std.specs.Prelude.{◌≡◌, ◌<◌, ◌≢◌, ◌+◌, ℕ, List, Contains, IsPermutation, IsSorted, Some, slice_get}
 use Rattle.sqlite.specs.Effect.{Database}
 use Rattle.sqlite.specs.Order.{Row, column}
 use Rattle.sqlite_value.specs.Order.{value_cmp}
@@ -53,12 +53,14 @@ pub record AreByNumber (rows ordered : List Row) : Type 0 where
   pub same : IsPermutation rows ordered
   pub rises : IsSorted (λ a b. value_cmp (column a 0) (column b 0)) ordered
 
--- of the rows in the order of their numbers, the nth from 1 has another number
+-- of the rows in the order of their numbers, the nth from 1 is the first that has another number
 abbrev pub IsGap : Kept → Database → ℕ → Type 0
 IsGap k db n =
     (ordered : List Row) × AreByNumber (all_columns k db) ordered
     × ((row : Row) × (before : ℕ) × (n ≡ before + 1) × (slice_get ordered before ≡ Some row)
-    × (column row 0 ≢ number n))
+    × (column row 0 ≢ number n)
+    × ((i : ℕ) (other : Row) → i < before → slice_get ordered i ≡ Some other
+    → column other 0 ≡ number (i + 1)))
 
 -- what the row breaks
 abbrev pub BreaksRule : Rule → RowKey → TableName → Database → Type 0

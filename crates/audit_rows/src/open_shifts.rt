@@ -66,7 +66,6 @@ fn is_second(before: &[Shift], shift: &Shift) -> bool
 }
 
 // The number of a shift that is open beside one of its operator.
-#[tactic(auto, using(crate::proofs::OpenShiftLemmas::second_here))]
 fn second_open(shifts: &[Shift]) -> Option<u32>
     ensures none { IsNone result → AllPairs (λ a b. ¬ AreBothOpen a b) shifts.now }
     ensures some { IfSome result (IsSecond shifts.now) }

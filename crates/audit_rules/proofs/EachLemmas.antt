@@ -3,11 +3,9 @@ use Rattle.std.proofs.Common.{◌≡◌, ◌<◌, ◌+◌, ℕ, zero, suc, List,
 use Rattle.std.specs.Prelude.{◌⊎◌, length}
 use Rattle.std.proofs.lemmas.Bool.{cases_lt}
 use Rattle.std.proofs.lemmas.Option.{none-some, same_Some, slice_get_read}
+use Rattle.audit_rules.specs.Keys.{EachBelow}
 
--- what is said of each of the first rows and its place
-abbrev pub EachBelow : {T : Type 0} → (ℕ → T → Type 0) → List T → ℕ → Type 0
-EachBelow {T} said rows n = (i : ℕ) (row : T) → i < n → slice_get rows i ≡ Some row → said i row
-
+-- one row more of which it is said
 pub each_more : {T : Type 0} (said : ℕ → T → Type 0) (rows : List T) (at : ℕ) (row : T) → slice_get rows at ≡ Some row → said at row → EachBelow said rows at → EachBelow said rows (at + 1)
 each_more said rows at row there here before i r low there_r = elim (cases_lt i at) [
   | inl below ↦ before i r below there_r

@@ -1,6 +1,7 @@
 pub mod BrokenLemmas
 pub mod EachLemmas
 pub mod FindLemmas
+pub mod FirstLemmas
 pub mod KeyLemmas
 pub mod ListLemmas
 pub mod OfficeLemmas

@@ -56,6 +56,10 @@ abbrev pub IsTwice : {T : Type 0} → (T → Key) → List T → ℕ → Type 0
 IsTwice {T} key rows i =
     (row : T) × (slice_get rows i ≡ Some row) × (j : ℕ) × (j < i) × HasKeyAt key rows (key row) j
 
+-- what is said of each of the first rows and its place
+abbrev pub EachBelow : {T : Type 0} → (ℕ → T → Type 0) → List T → ℕ → Type 0
+EachBelow {T} said rows n = (i : ℕ) (row : T) → i < n → slice_get rows i ≡ Some row → said i row
+
 -- each row names one of the others
 abbrev pub AreNamed : {T U : Type 0} → (T → Key) → List T → (U → Key) → List U → Type 0
 AreNamed {T} names rows key others =
@@ -65,3 +69,14 @@ AreNamed {T} names rows key others =
 abbrev pub IsAstray : {T U : Type 0} → (T → Key) → List T → ℕ → (U → Key) → List U → Type 0
 IsAstray {T} names rows i key others =
     (row : T) × (slice_get rows i ≡ Some row) × ¬ HasKey key others (names row)
+
+-- ---- the first row that is so
+
+-- no two rows before this place have one key, and the row at it has that of one before
+abbrev pub IsFirstTwice : {T : Type 0} → (T → Key) → List T → ℕ → Type 0
+IsFirstTwice key rows i = AreApart key rows i × IsTwice key rows i
+
+-- each row before this place names one of the others, and the row at it names none
+abbrev pub IsFirstAstray : {T U : Type 0} → (T → Key) → List T → ℕ → (U → Key) → List U → Type 0
+IsFirstAstray names rows i key others =
+    EachBelow (λ _ row. HasKey key others (names row)) rows i × IsAstray names rows i key others

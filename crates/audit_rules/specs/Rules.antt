@@ -7,7 +7,7 @@ use Rattle.vend_core.specs.Office.{AreNumbered, greatest_count}
 use Rattle.vend_core.specs.declared.office.sale.Sale.{Sale}
 use Rattle.vend_core.specs.declared.office.shift.Shift.{Shift}
 use Rattle.audit_rules.specs.Faults.{found_at}
-use Rattle.audit_rules.specs.Keys.{AreApart, AreNamed, IsAstray, IsTwice, Key}
+use Rattle.audit_rules.specs.Keys.{AreApart, AreNamed, EachBelow, IsAstray, IsFirstAstray, IsFirstTwice, IsTwice, Key}
 use Rattle.audit_rules.specs.RowKeys.{base_key, dated_before_key, dated_first_key, dated_key, dated_tariff_key, meter_base_key, meter_key, meter_tariff_key, name_key, open_key, ref_key, sale_base_key, step_before_key, step_key, step_tariff_key, tid_key}
 use Rattle.audit_rules.specs.Steps.{AreNoSteps, AreSteps}
 use Rattle.audit_rules.specs.declared.finding.Rule.{Rule}
@@ -141,8 +141,112 @@ Breaks l table.Sales rule.Missing i = At (λ s. ¬ IsInShift (length l.shifts.no
 Breaks l table.Sales rule.Base i = IsAstray sale_base_key l.sales.now i base_key l.bases.now
 Breaks l _ _ i = ⊥
 
--- there was no memory, or the row that is found breaks the rule
+-- ---- the first row that breaks a rule: which tables and rules are looked at before
+
+-- each row before this place keeps a rule, and the row at it breaks it
+abbrev pub FirstAt : {T : Type 0} → (T → Type 0) → (T → Type 0) → List T → ℕ → Type 0
+FirstAt keeps breaks rows i = EachBelow (λ _ row. keeps row) rows i × At breaks rows i
+
+-- the same of rows that are numbered
+abbrev pub IsFirstGap : {T : Type 0} → (T → ℕ) → List T → ℕ → Type 0
+IsFirstGap number rows i =
+    EachBelow (λ before row. number row ≡ before + 1) rows i × At (λ row. number row ≢ i + 1) rows i
+
+-- one row more than an office holds
+abbrev pub IsFirstSurplus : {T : Type 0} → List T → ℕ → Type 0
+IsFirstSurplus rows i = (i ≡ greatest_count) × (i < length rows)
+
+-- what is known once the tables up to one were looked at
+abbrev pub KeepTariffs : Lists → Type 0
+KeepTariffs l = AreTariffs l.tariffs.now l.steps.now
+
+abbrev pub KeepDated : Lists → Type 0
+KeepDated l = KeepTariffs l × AreDated l.tariffs.now l.dated_steps.now
+
+abbrev pub KeepMeters : Lists → Type 0
+KeepMeters l = KeepDated l × AreMeters l.tariffs.now l.meters.now l.bases.now
+
+abbrev pub KeepShifts : Lists → Type 0
+KeepShifts l = KeepMeters l × AreShifts l.shifts.now
+
+-- the row at a place of a table is the first that breaks a rule: the tables and the rules before
+-- were kept, and the rows before it keep this one
+abbrev pub BreaksFirst : Lists → TableName → Rule → ℕ → Type 0
+BreaksFirst l table.Tariffs rule.Twice i = IsFirstTwice name_key l.tariffs.now i
+BreaksFirst l table.TariffSteps rule.Twice i =
+    AreAllApart name_key l.tariffs.now × IsFirstTwice step_key l.steps.now i
+BreaksFirst l table.TariffSteps rule.Missing i =
+    AreAllApart name_key l.tariffs.now × AreAllApart step_key l.steps.now
+    × IsFirstAstray step_tariff_key l.steps.now i name_key l.tariffs.now
+BreaksFirst l table.TariffSteps rule.Steps i =
+    AreAllApart name_key l.tariffs.now × AreAllApart step_key l.steps.now
+    × AreNamed step_tariff_key l.steps.now name_key l.tariffs.now
+    × IsFirstAstray step_before_key l.steps.now i step_key l.steps.now
+BreaksFirst l table.Tariffs rule.Steps i =
+    AreAllApart name_key l.tariffs.now × AreAllApart step_key l.steps.now
+    × AreNamed step_tariff_key l.steps.now name_key l.tariffs.now
+    × AreNamed step_before_key l.steps.now step_key l.steps.now
+    × FirstAt (λ name. AreSteps step_of step_key l.steps.now (name_key name))
+    (λ name. AreNoSteps step_of step_key l.steps.now (name_key name)) l.tariffs.now i
+BreaksFirst l table.DatedSteps rule.Twice i =
+    KeepTariffs l × IsFirstTwice dated_key l.dated_steps.now i
+BreaksFirst l table.DatedSteps rule.Missing i =
+    KeepTariffs l × AreAllApart dated_key l.dated_steps.now
+    × IsFirstAstray dated_tariff_key l.dated_steps.now i name_key l.tariffs.now
+BreaksFirst l table.DatedSteps rule.Steps i =
+    KeepTariffs l × AreAllApart dated_key l.dated_steps.now
+    × AreNamed dated_tariff_key l.dated_steps.now name_key l.tariffs.now
+    × (IsFirstAstray dated_before_key l.dated_steps.now i dated_key l.dated_steps.now
+    ⊎ (AreNamed dated_before_key l.dated_steps.now dated_key l.dated_steps.now
+    × FirstAt (λ row. AreSteps dated_step_of dated_key l.dated_steps.now (dated_first_key row))
+    (λ row. AreNoSteps dated_step_of dated_key l.dated_steps.now (dated_first_key row))
+    l.dated_steps.now i))
+BreaksFirst l table.Meters rule.Twice i = KeepDated l × IsFirstTwice meter_key l.meters.now i
+BreaksFirst l table.MeterBases rule.Twice i =
+    KeepDated l × AreAllApart meter_key l.meters.now × IsFirstTwice base_key l.bases.now i
+BreaksFirst l table.Meters rule.Missing i =
+    KeepDated l × AreAllApart meter_key l.meters.now × AreAllApart base_key l.bases.now
+    × IsFirstAstray meter_tariff_key l.meters.now i name_key l.tariffs.now
+BreaksFirst l table.Meters rule.Base i =
+    KeepDated l × AreAllApart meter_key l.meters.now × AreAllApart base_key l.bases.now
+    × AreNamed meter_tariff_key l.meters.now name_key l.tariffs.now
+    × IsFirstAstray meter_base_key l.meters.now i base_key l.bases.now
+BreaksFirst l table.MeterBases rule.Base i =
+    KeepDated l × AreAllApart meter_key l.meters.now × AreAllApart base_key l.bases.now
+    × AreNamed meter_tariff_key l.meters.now name_key l.tariffs.now
+    × AreNamed meter_base_key l.meters.now base_key l.bases.now
+    × FirstAt (IsOfMeter l.meters.now) (IsOfNone l.meters.now) l.bases.now i
+BreaksFirst l table.Shifts rule.Surplus i = KeepMeters l × IsFirstSurplus l.shifts.now i
+BreaksFirst l table.Shifts rule.Gap i =
+    KeepMeters l × (length l.shifts.now ≤ greatest_count)
+    × IsFirstGap (λ s. s.number) l.shifts.now i
+BreaksFirst l table.Shifts rule.TwoOpen i =
+    KeepMeters l × (length l.shifts.now ≤ greatest_count)
+    × AreNumbered (λ s. s.number) l.shifts.now × IsFirstTwice open_key l.shifts.now i
+BreaksFirst l table.Sales rule.Surplus i = KeepShifts l × IsFirstSurplus l.sales.now i
+BreaksFirst l table.Sales rule.Gap i =
+    KeepShifts l × (length l.sales.now ≤ greatest_count) × IsFirstGap (λ s. s.number) l.sales.now i
+BreaksFirst l table.Sales rule.Twice i =
+    KeepShifts l × (length l.sales.now ≤ greatest_count)
+    × AreNumbered (λ s. s.number) l.sales.now
+    × (IsFirstTwice tid_key l.sales.now i
+    ⊎ (AreAllApart tid_key l.sales.now × IsFirstTwice ref_key l.sales.now i))
+BreaksFirst l table.Sales rule.Missing i =
+    KeepShifts l × (length l.sales.now ≤ greatest_count)
+    × AreNumbered (λ s. s.number) l.sales.now
+    × AreAllApart tid_key l.sales.now × AreAllApart ref_key l.sales.now
+    × FirstAt (IsInShift (length l.shifts.now)) (λ s. ¬ IsInShift (length l.shifts.now) s)
+    l.sales.now i
+BreaksFirst l table.Sales rule.Base i =
+    KeepShifts l × (length l.sales.now ≤ greatest_count)
+    × AreNumbered (λ s. s.number) l.sales.now
+    × AreAllApart tid_key l.sales.now × AreAllApart ref_key l.sales.now
+    × Each (IsInShift (length l.shifts.now)) l.sales.now
+    × IsFirstAstray sale_base_key l.sales.now i base_key l.bases.now
+BreaksFirst l _ _ i = ⊥
+
+-- there was no memory, or the row that is found is the first that breaks a rule
 abbrev pub Tells : Lists → RulesFault → Type 0
 Tells l f =
     (f ≡ fault.Memory)
-    ⊎ ((t : TableName) × (r : Rule) × (i : ℕ) × (f ≡ found_at t r i) × Breaks l t r i)
+    ⊎ ((t : TableName) × (r : Rule) × (i : ℕ) × (f ≡ found_at t r i) × BreaksFirst l t r i)

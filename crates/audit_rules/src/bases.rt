@@ -4,7 +4,7 @@ ghost use Rattle.std.specs.Prelude.{◌≡◌, ℕ, IfErr, OnOk, Some, false, le
 ghost use Rattle.audit_rules.specs.Faults.{IsFault};
 ghost use Rattle.audit_rules.specs.Keys.{ArePlaces};
 ghost use Rattle.audit_rules.specs.RowKeys.{meter_key};
-ghost use Rattle.audit_rules.specs.Rules.{At, Each, IsOfMeter, IsOfNone};
+ghost use Rattle.audit_rules.specs.Rules.{Each, FirstAt, IsOfMeter, IsOfNone};
 ghost use Rattle.audit_rules.specs.declared.finding.Rule.TheVariants as rule;
 ghost use Rattle.audit_rules.specs.declared.finding.TableName.TheVariants as table;
 
@@ -36,7 +36,7 @@ pub(crate) fn test_bases<'a>(
     requires { ArePlaces meter_key places.now meters.now (length meters.now) }
     ensures passes { OnOk result (Each (IsOfMeter meters.now) bases.now) }
     ensures found { IfErr result (IsFault table.MeterBases rule.Base
-        (At (IsOfNone meters.now) bases.now)) }
+        (FirstAt (IsOfMeter meters.now) (IsOfNone meters.now) bases.now)) }
 {
     'bases: for at in 0..bases.len() {
         if !is_of_meter(&bases[at], meters, places) {

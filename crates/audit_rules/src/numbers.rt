@@ -1,8 +1,9 @@
 //! Rows that are numbered 1, 2, 3 and on.
 
-ghost use Rattle.std.specs.Prelude.{◌≡◌, ◌≢◌, ◌+◌, ◌<◌, ◌≤◌, ℕ, IfErr, OnOk, Some, slice_get};
+ghost use Rattle.std.specs.Prelude.{◌≡◌, ◌<◌, ◌≤◌, ℕ, IfErr, OnOk};
 ghost use Rattle.vend_core.specs.Office.{AreNumbered, greatest_count};
 ghost use Rattle.audit_rules.specs.Faults.{IsFault};
+ghost use Rattle.audit_rules.specs.Rules.{IsFirstGap};
 ghost use Rattle.audit_rules.specs.declared.finding.Rule.TheVariants as rule;
 
 use crate::finding::{Rule, RulesFault, TableName, found_at};
@@ -40,8 +41,7 @@ impl Numbered for Sale {
 /// A finding.
 pub(crate) fn test_numbers<T: Numbered>(rows: &[T], table: TableName) -> Result<(), RulesFault>
     ensures passes { OnOk result (AreNumbered T.number rows.now) }
-    ensures found { IfErr result (IsFault table rule.Gap (λ i. (row : T)
-        × (slice_get rows.now i ≡ Some row) × (T.number row ≢ i + 1))) }
+    ensures found { IfErr result (IsFault table rule.Gap (IsFirstGap T.number rows.now)) }
 {
     'rows: for at in 0..rows.len() {
         if u64::from(rows[at].number()) != at as u64 + 1 {

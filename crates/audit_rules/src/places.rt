@@ -2,7 +2,7 @@
 
 ghost use Rattle.std.specs.Prelude.{◌≡◌, IfErr, IfOk, OnOk, length};
 ghost use Rattle.audit_rules.specs.Faults.{IsFault};
-ghost use Rattle.audit_rules.specs.Keys.{AreApart, AreNamed, ArePlaces, IsAstray, IsTwice, told, under};
+ghost use Rattle.audit_rules.specs.Keys.{AreApart, AreNamed, ArePlaces, IsFirstAstray, IsFirstTwice, told, under};
 
 use crate::finding::{Rule, RulesFault, TableName, found_at};
 use crate::key::{KeyOf, LentKey};
@@ -32,7 +32,7 @@ pub(crate) fn places_of<'a, T, K: KeyOf<T>>(
 ) -> Result<Places<'a>, RulesFault>
     ensures apart { OnOk result (AreApart K.key rows.now (length rows.now)) }
     ensures places { IfOk result (λ places. ArePlaces K.key places rows.now (length rows.now)) }
-    ensures found { IfErr result (IsFault table rule (IsTwice K.key rows.now)) }
+    ensures found { IfErr result (IsFault table rule (IsFirstTwice K.key rows.now)) }
 {
     let mut places = BTreeMap::new(alloc);
     'rows: for at in 0..rows.len() {
@@ -62,7 +62,7 @@ pub(crate) fn test_names<'a, T, K: KeyOf<T>, U, N: KeyOf<U>>(
     requires { ArePlaces N.key places.now others.now (length others.now) }
     ensures passes { OnOk result (AreNamed K.key rows.now N.key others.now) }
     ensures found { IfErr result (IsFault table rule
-        (λ i. IsAstray K.key rows.now i N.key others.now)) }
+        (λ i. IsFirstAstray K.key rows.now i N.key others.now)) }
 {
     'rows: for at in 0..rows.len() {
         match place_of(places, K::of(&rows[at])) {

@@ -4,7 +4,7 @@ ghost use Rattle.std.specs.Prelude.{◌≡◌, ℕ, IfErr, IfOk, OnOk, length};
 ghost use Rattle.audit_rules.specs.Faults.{IsFault};
 ghost use Rattle.audit_rules.specs.Keys.{ArePlaces};
 ghost use Rattle.audit_rules.specs.RowKeys.{base_key, name_key};
-ghost use Rattle.audit_rules.specs.Rules.{AreDated, AreMeters, AreSales, AreShifts, AreTariffs, At, Each, IsInShift, KeepRules, Tells};
+ghost use Rattle.audit_rules.specs.Rules.{AreDated, AreMeters, AreSales, AreShifts, AreTariffs, Each, FirstAt, IsInShift, KeepDated, KeepMeters, KeepRules, KeepShifts, KeepTariffs, Tells};
 ghost use Rattle.audit_rules.specs.declared.finding.Rule.TheVariants as rule;
 ghost use Rattle.audit_rules.specs.declared.finding.TableName.TheVariants as table;
 
@@ -41,7 +41,7 @@ fn test_tariffs<'a>(alloc: Global, lists: Lists<'a>) -> Result<Places<'a>, Rules
 fn test_dated<'a>(alloc: Global, lists: Lists<'a>, names: &Places<'a>) -> Result<(), RulesFault>
     requires { ArePlaces name_key names.now lists.tariffs.now (length lists.tariffs.now) }
     ensures passes { OnOk result (AreDated lists.entry.tariffs.now lists.entry.dated_steps.now) }
-    ensures found { IfErr result (Tells lists.entry) }
+    ensures found { KeepTariffs lists.entry → IfErr result (Tells lists.entry) }
 {
     let (tariffs, rows, table) = (lists.tariffs, lists.dated_steps, TableName::DatedSteps);
     let steps = places_of::<DatedStepRow, Place>(alloc, rows, table, Rule::Twice)?;
@@ -73,7 +73,7 @@ fn test_meters<'a>(
         (AreMeters lists.entry.tariffs.now lists.entry.meters.now lists.entry.bases.now) }
     ensures places { IfOk result (λ bases.
         ArePlaces base_key bases lists.entry.bases.now (length lists.entry.bases.now)) }
-    ensures found { IfErr result (Tells lists.entry) }
+    ensures found { KeepDated lists.entry → IfErr result (Tells lists.entry) }
 {
     let rows = lists.meters;
     let meters = places_of::<MeterRow, Number>(alloc, rows, TableName::Meters, Rule::Twice)?;
@@ -94,7 +94,7 @@ fn test_meters<'a>(
 // Nothing where shifts keep the rules.
 fn test_shifts<'a>(alloc: Global, lists: Lists<'a>) -> Result<(), RulesFault>
     ensures passes { OnOk result (AreShifts lists.entry.shifts.now) }
-    ensures found { IfErr result (Tells lists.entry) }
+    ensures found { KeepMeters lists.entry → IfErr result (Tells lists.entry) }
 {
     test_count(lists.shifts.len(), TableName::Shifts)?;
     test_numbers(lists.shifts, TableName::Shifts)?;
@@ -106,7 +106,7 @@ fn test_shifts<'a>(alloc: Global, lists: Lists<'a>) -> Result<(), RulesFault>
 fn test_in_shifts(sales: &[Sale], shifts: usize) -> Result<(), RulesFault>
     ensures passes { OnOk result (Each (IsInShift shifts) sales.now) }
     ensures found { IfErr result (IsFault table.Sales rule.Missing
-        (At (λ s. ¬ IsInShift shifts s) sales.now)) }
+        (FirstAt (IsInShift shifts) (λ s. ¬ IsInShift shifts s) sales.now)) }
 {
     'sales: for at in 0..sales.len() {
         let shift = sales[at].shift as usize;
@@ -122,7 +122,7 @@ fn test_sales<'a>(alloc: Global, lists: Lists<'a>, bases: &Places<'a>) -> Result
     requires { ArePlaces base_key bases.now lists.bases.now (length lists.bases.now) }
     ensures passes { OnOk result
         (AreSales (length lists.entry.shifts.now) lists.entry.bases.now lists.entry.sales.now) }
-    ensures found { IfErr result (Tells lists.entry) }
+    ensures found { KeepShifts lists.entry → IfErr result (Tells lists.entry) }
 {
     let sales = lists.sales;
     test_count(sales.len(), TableName::Sales)?;

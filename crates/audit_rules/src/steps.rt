@@ -4,6 +4,7 @@ ghost use Rattle.std.specs.Prelude.{◌≡◌, ℕ, IfErr, IfOk, Ok, OnOk, Some,
 ghost use Rattle.tariff.specs.declared.step.Step.{Step};
 ghost use Rattle.audit_rules.specs.Faults.{IsFault};
 ghost use Rattle.audit_rules.specs.Keys.{ArePlaces, told};
+ghost use Rattle.audit_rules.specs.Rules.{FirstAt};
 ghost use Rattle.audit_rules.specs.Steps.{AreFirst, AreNoSteps, AreSteps};
 ghost use Rattle.audit_rules.specs.declared.finding.Rule.TheVariants as rule;
 
@@ -95,9 +96,9 @@ pub(crate) fn test_steps<'a, T: HasStep, K: KeyOf<T>, U, G: KeyOf<U>>(
     requires { ArePlaces K.key places.now rows.now (length rows.now) }
     ensures passes { OnOk result ((i : ℕ) (other : U) → slice_get others.now i ≡ Some other
         → AreSteps T.step K.key rows.now (G.key other)) }
-    ensures found { IfErr result (IsFault table rule.Steps (λ i. (other : U)
-        × (slice_get others.now i ≡ Some other)
-        × AreNoSteps T.step K.key rows.now (G.key other))) }
+    ensures found { IfErr result (IsFault table rule.Steps
+        (FirstAt (λ other. AreSteps T.step K.key rows.now (G.key other))
+        (λ other. AreNoSteps T.step K.key rows.now (G.key other)) others.now)) }
 {
     'others: for at in 0..others.len() {
         match are_steps::<T, K>(alloc, rows, places, G::of(&others[at])) {

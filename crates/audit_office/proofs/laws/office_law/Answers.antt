@@ -19,8 +19,8 @@ pub returns : goal.returns
 returns c n db rows f o some known has read (by_rules l shows t b i breaks named) stands =
     let only = c.stored_law.ensures.only n db (rows_of rows) o some known has read.has read.keep stands in
     let members = c.totals_law.ensures.part (with_totals (rows_of rows) only.0.0) o only.0.1 in
-    c.broken_law.ensures l (totals_in only.0.0) t b i breaks o (subst (λ (all : Rows). AreMembersButTotals all o) (sym (same_rows rows l only.0.0 shows)) members, stands.office)
-returns c n db rows f o some known has read (by_totals two t breaks named) stands =
+    c.broken_law.ensures.breaks l (totals_in only.0.0) t b i (c.broken_law.ensures.first l t b i breaks) o (subst (λ (all : Rows). AreMembersButTotals all o) (sym (same_rows rows l only.0.0 shows)) members, stands.office)
+returns c n db rows f o some known has read (by_totals two l shows keep t breaks named) stands =
     let only = c.stored_law.ensures.only n db (rows_of rows) o some known has read.has read.keep stands in
     let members = only.1 two in
     c.sums_law.ensures.found rows.sales.items (rows_of rows) t breaks (subst (λ (sales : List Sale). AreTotalsOf sales (rows_of rows)) (sym members.sales) members.totals)

@@ -33,4 +33,4 @@ returns-in-Err-Found-test_totals-clause-found c =
     let rows = rows_of c.args.rows.now in
     let told = c.in-Err-Found-test_totals.ensures.found rows (record { last_ids_are = ap (map id_row) (sym c.deref-2.ensures.value); months_are = ap (map month_row) (sym c.deref-3.ensures.value); shifts_are = ap (map shift_row) (sym c.deref-4.ensures.value) }) in
     let found = subst (λ (f : TotalsFault). IsTold (BreaksTotals c.deref.result.now rows) f) c.in-Err-Found-test_totals.field-0-is told in
-    by_totals (omega (arith, c.if-format-lt2.false)) c.in-Err-Found-test_totals.found (subst (λ (sales : List Sale). BreaksTotals sales rows c.in-Err-Found-test_totals.found) c.deref.ensures.value found) c.found_by_totals.ensures
+    by_totals (omega (arith, c.if-format-lt2.false)) c.lists_of.result c.lists_of.ensures c.in-Ok.ensures.passes c.in-Err-Found-test_totals.found (subst (λ (sales : List Sale). BreaksTotals sales rows c.in-Err-Found-test_totals.found) c.deref.ensures.value found) c.found_by_totals.ensures

@@ -1,5 +1,5 @@
 use Rattle.std.proofs.Common.{◌≡◌, ◌+◌}
-use Rattle.audit_rules.proofs.EachLemmas.{EachBelow}
+use Rattle.audit_rules.specs.Keys.{EachBelow}
 use Rattle.audit_rules.proofs.numbers.test_numbers.Given as goal
 
 abbrev pub invariant-rows : goal.invariant-rows

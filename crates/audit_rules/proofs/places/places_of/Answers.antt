@@ -7,7 +7,7 @@ pub returns-in-Ok-Some-clause-found : goal.returns-in-Ok-Some-clause-found
 returns-in-Ok-Some-clause-found g c =
     let low : c.rows.at < length c.args.rows.now = omega arith in
     let there = row_at c.args.rows.now c.rows.at c.index-rows-at.result low c.index-rows-at.is in
-    inr (c.rows.at, c.found_at.ensures, is_twice g.K.KeyOf.key c.args.rows.now c.rows.places c.rows.at c.index-rows-at.result there c.of.result c.of.ensures c.rows.invariant.places c.in-Ok-Some._earlier (sym c.in-Ok-Some.ensures.old ∙ c.in-Ok-Some.field-0-is))
+    inr (c.rows.at, c.found_at.ensures, (c.rows.invariant.apart, is_twice g.K.KeyOf.key c.args.rows.now c.rows.places c.rows.at c.index-rows-at.result there c.of.result c.of.ensures c.rows.invariant.places c.in-Ok-Some._earlier (sym c.in-Ok-Some.ensures.old ∙ c.in-Ok-Some.field-0-is)))
 
 pub rows-preserved : goal.rows-preserved
 rows-preserved g c =

@@ -23,10 +23,13 @@ returns-in-None-clause-found g c =
       c.rows.at,
       c.found_at.ensures,
       (
-        row,
-        there,
-        λ has.
-            none_under g.N.KeyOf.key c.args.places.now c.args.others.now (length c.args.others.now) c.requires (told c.of.result) (sym c.place_of.ensures ∙ c.in-None.is) has.0 has.1.0
-            (slice_get_within c.args.others.now has.0 has.1.0 has.1.1) has.1.1 (has.1.2 ∙ sym c.of.ensures),
+        c.rows.invariant,
+        (
+          row,
+          there,
+          λ has.
+              none_under g.N.KeyOf.key c.args.places.now c.args.others.now (length c.args.others.now) c.requires (told c.of.result) (sym c.place_of.ensures ∙ c.in-None.is) has.0 has.1.0
+              (slice_get_within c.args.others.now has.0 has.1.0 has.1.1) has.1.1 (has.1.2 ∙ sym c.of.ensures),
+        ),
       ),
     )

@@ -1,5 +1,5 @@
 use Rattle.audit_rules.specs.Keys.{HasKey}
-use Rattle.audit_rules.proofs.EachLemmas.{EachBelow}
+use Rattle.audit_rules.specs.Keys.{EachBelow}
 use Rattle.audit_rules.proofs.places.test_names.Given as goal
 
 abbrev pub invariant-rows : goal.invariant-rows

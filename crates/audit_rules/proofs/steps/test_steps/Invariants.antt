@@ -1,5 +1,5 @@
 use Rattle.audit_rules.specs.Steps.{AreSteps}
-use Rattle.audit_rules.proofs.EachLemmas.{EachBelow}
+use Rattle.audit_rules.specs.Keys.{EachBelow}
 use Rattle.audit_rules.proofs.steps.test_steps.Given as goal
 
 abbrev pub invariant-others : goal.invariant-others
