@@ -1,0 +1,10 @@
+pub mod ListTexts
+pub mod OrderLemmas
+pub mod OrderedLemmas
+pub mod PageLemmas
+pub mod TextLemmas
+pub mod TariffListLemmas
+pub mod MeterListLemmas
+pub mod ShiftListLemmas
+pub mod LeastLemmas
+pub mod DayLemmas

@@ -1,0 +1,20 @@
+use Rattle.sqlite.specs.Held.{state}
+use Rattle.sqlite.specs.Values.{bound}
+use Rattle.one_table.proofs.ChangeLemmas.{if_ok}
+use Rattle.book_tables.proofs.ReadingLemmas.FindLemmas.{gives, only_asks, reads}
+use Rattle.book_lists.proofs.DayLemmas.{next_day, next_day_is}
+use Rattle.book_lists.proofs.days.first_day_after.Goals as goal
+
+pub returns-clause-given : goal.returns-clause-given
+returns-clause-given g c clean rows o has office are =
+    let finds = next_day c.args.name.now c.args.day in
+    let old = state g.S.Store c.args.conn.now in
+    let only = only_asks finds old (λ runs. (has runs).0) in
+    let found = gives finds old (state g.S.Store c.first_record.new.conn) rows has (o, office, are) c.first_record.result
+    (bound c.day_values.result) c.day_values.ensures (c.first_record.ensures.reads.same clean only) (c.first_record.ensures.given clean only) in
+    if_ok c.first_record.result (next_day_is c.args.name.now c.args.day rows o office are) found
+
+pub returns-clause-reads : goal.returns-clause-reads
+returns-clause-reads g c =
+    reads (next_day c.args.name.now c.args.day) (state g.S.Store c.args.conn.now) (state g.S.Store c.first_record.new.conn) c.first_record.result (bound c.day_values.result) c.day_values.ensures
+    c.first_record.ensures.reads

@@ -1,0 +1,36 @@
+//! The statement that looks for the next day from which a tariff has other steps.
+
+ghost use Rattle.std.specs.Prelude.{IfOk};
+ghost use Rattle.sqlite.specs.State.{HasCleanDisk};
+ghost use Rattle.one_table.specs.Over.{Over};
+ghost use Rattle.vend_core.specs.Office.{IsOffice, Office};
+ghost use Rattle.book_tables.specs.Kept.{dated_steps_kept};
+ghost use Rattle.book_tables.specs.reading.Reading.{HasTableRows, ReadsTable};
+ghost use Rattle.book_tables.specs.row.Rows.{Rows};
+ghost use Rattle.book_tables.specs.Stands.{AreMembersOf};
+ghost use Rattle.book_lists.specs.Days.{IsNextDay};
+
+use crate::texts::FIRST_DAY_AFTER;
+use crate::values::day_values;
+use book_tables::{TableError, first_record};
+use sqlite::{Alter, Connection};
+use sts_fields::Day;
+use vend_core::TariffName;
+
+/// The first day after a day on which steps of the tariff of a name begin; `None` where none begin
+/// later.
+///
+/// # Errors
+/// What the database refuses, and a row that is no office's.
+pub fn first_day_after<S: Alter>(
+    conn: &mut Connection<S>,
+    name: &TariffName,
+    day: Day,
+) -> Result<Option<Day>, TableError>
+    ensures given { Over S.Store conn (λ old new. HasCleanDisk new → (rows : Rows) (o : Office)
+        → HasTableRows dated_steps_kept old rows → IsOffice o → AreMembersOf rows o
+        → IfOk result (IsNextDay (o.dated_steps name.now) day)) }
+    ensures reads { Over S.Store conn (λ old new. ReadsTable dated_steps_kept old new result) }
+{
+    first_record(conn, FIRST_DAY_AFTER, &day_values(name, day))
+}

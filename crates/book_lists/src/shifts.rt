@@ -1,0 +1,31 @@
+//! The statement that lists shifts, by number.
+
+ghost use Rattle.std.specs.Prelude.{◌≡◌, filter, nat_lt, take};
+ghost use Rattle.one_table.specs.Over.{Over};
+ghost use Rattle.book_tables.specs.Kept.{shifts_kept};
+ghost use Rattle.book_tables.specs.reading.Reading.{ReadsTable, SaysOfTable};
+ghost use Rattle.book_lists.specs.Pages.{page_size};
+
+use crate::texts::SHIFTS_AFTER;
+use crate::values::number_values;
+use book_tables::{TableError, all_records};
+use sqlite::{Alter, Connection};
+use std::alloc::Global;
+use vend_core::Shift;
+
+/// A page: the first shifts after a number, at most [`PAGE`](crate::PAGE).
+///
+/// # Errors
+/// What the database refuses, want of memory, and a row that is no office's.
+pub fn shifts_after<S: Alter>(
+    alloc: Global,
+    conn: &mut Connection<S>,
+    number: u32,
+) -> Result<Vec<Shift>, TableError>
+    ensures given { Over S.Store conn (λ old new. SaysOfTable shifts_kept (λ rows found.
+        found.items ≡ take page_size (filter (λ s. nat_lt number s.number) rows.shifts)) old new
+        result) }
+    ensures reads { Over S.Store conn (λ old new. ReadsTable shifts_kept old new result) }
+{
+    all_records(alloc, conn, SHIFTS_AFTER, &number_values(number))
+}
