@@ -108,11 +108,15 @@ module _ {T : Type 0} {value : T} {o : Office} {old mid new : State} (office : I
       let it = told meters_in (λ rows. found ≡ option_map (λ r. r.1) (find (λ r. bytes_eq r.0 number) rows.meters)) given in
       it.2 ∙ first_of_one (λ (r : List ℕ × Meter). r.1) (λ r. bytes_eq r.0 number) it.0.meters (o.meters number) (law it.0 o number it.1)
 
+  -- what a read says of whichever office the rows are, it says of this one
+  pub office_says : {k : Kept} (in_office : IsInOffice k) (Says : Office → Type 0) → ((rows : Rows) (o : Office) → HasTableRows k mid rows → IsOffice o → AreMembersOf rows o → Says o) → Says o
+  office_says in_office Says given =
+      let it = told in_office (λ rows. (o : Office) → IsOffice o → AreMembersOf rows o → Says o) (λ rows has _ p office_p members_p. given rows p has office_p members_p) in
+      it.2 o office it.1
+
   -- what a read gives of whichever office the rows are, it gives of this one
   pub office_told : {k : Kept} (in_office : IsInOffice k) {X : Type 0} (f : Office → X) (x : X) → ((rows : Rows) (o : Office) → HasTableRows k mid rows → IsOffice o → AreMembersOf rows o → x ≡ f o) → x ≡ f o
-  office_told in_office f x given =
-      let it = told in_office (λ rows. (o : Office) → IsOffice o → AreMembersOf rows o → x ≡ f o) (λ rows has _ p office_p members_p. given rows p has office_p members_p) in
-      it.2 o office it.1
+  office_told in_office f x given = office_says in_office (λ o. x ≡ f o) given
 
 -- the same of the last read, whatever it answers
 pub office_told_of : {T : Type 0} (r : Result T TableError) (o : Office) {old mid new : State} → IsOffice o → HasMembers old o → HasPassed old mid → OnlyReads IsUnchanged mid new r → HasCleanDisk new → {k : Kept} (in_office : IsInOffice k) (f : Office → T)

@@ -1,4 +1,6 @@
 pub mod FactsLemmas
+pub mod LaterLemmas
+pub mod ListedLemmas
 pub mod LookupLemmas
 pub mod PageLemmas
 pub mod PassedLemmas

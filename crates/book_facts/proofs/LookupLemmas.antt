@@ -61,12 +61,6 @@ meter_is_told number m there tenths sold last is_last last_number number_is tent
 pub no_meter : IsOfRules refusals.NoMeter
 no_meter = record { not_memory = λ is. absurd cc; not_store = λ is. absurd cc; not_stopped = λ is. absurd cc }
 
-pub no_sale : IsOfRules refusals.NoSale
-no_sale = record { not_memory = λ is. absurd cc; not_store = λ is. absurd cc; not_stopped = λ is. absurd cc }
-
-pub no_shift : IsOfRules refusals.NoSuchShift
-no_shift = record { not_memory = λ is. absurd cc; not_store = λ is. absurd cc; not_stopped = λ is. absurd cc }
-
 too_little : IsOfRules refusals.TooLittle
 too_little = record { not_memory = λ is. absurd cc; not_store = λ is. absurd cc; not_stopped = λ is. absurd cc }
 

@@ -144,6 +144,15 @@ passed_after {T} {x} {old} {mid} {new} before this shut = record {
   shut = shut;
 }
 
+-- reads after others
+pub passed_then : {old mid new : State} → HasPassed old mid → HasPassed mid new → HasPassed old new
+passed_then {old} {mid} {new} before after = record {
+  survives = survives_after old mid new before after.survives;
+  same = λ clean has. untouched_after old mid new (earlier old mid new before after.survives has clean) (after.same clean (tables_after before has));
+  mode = λ outside. after.mode (before.mode outside);
+  shut = after.shut;
+}
+
 -- a read after others
 pub read_after : {T : Type 0} {r : Result T TableError} {old mid new : State} → HasPassed old mid → OnlyReads IsUnchanged mid new r → OnlyReads IsUnchanged old new r
 read_after {T} {r = Ok x} {old} {mid} {new} before this = record {

@@ -1,3 +1,4 @@
 pub mod Deciding
+pub mod Listing
 pub mod Lookups
 pub mod Totals

@@ -1,14 +1,16 @@
 -- What is found of an office where something is looked up.
-use Rattle.std.specs.Prelude.{◌≡◌, ◌≢◌, ◌⊎◌, ℕ, ◌&&◌, ◌==◌, List, length, find, Option, Some, None, option_map, Result, Ok, Err, bytes_eq}
+use Rattle.std.specs.Prelude.{◌≡◌, ◌≢◌, ◌⊎◌, ◌↔◌, ◌<◌, ℕ, ◌&&◌, ◌==◌, List, [], All, AllPairs, Contains, filter, find, length, map, nat_lt, take, Option, Some, None, IsSome, option_map, unwrap_or, Result, Ok, Err, bytes_eq}
 use Rattle.std.specs.Option.{ok_or, option_or}
 use Rattle.sts_fields.specs.Base.{base_eq}
 use Rattle.sts_fields.specs.Calendar.{month_at}
 use Rattle.sts_fields.specs.Tid.{fresh_after, minute_of}
 use Rattle.sts_fields.specs.declared.base.Base.{Base}
 use Rattle.sts_fields.specs.declared.base.Base.TheVariants.{Y1993, Y2014, Y2035}
+use Rattle.sts_fields.specs.Day.{day_at}
 use Rattle.tariff.specs.Purchase.{purchase_of}
+use Rattle.tariff.specs.declared.step.Step.{Step}
 use Rattle.vend_core.specs.Decision.{◌>>=◌, MeterAccount, account_of, next_number, or_refusal}
-use Rattle.vend_core.specs.Office.Lookup.{greatest_of, prior, sale_of_ref, used}
+use Rattle.vend_core.specs.Office.Lookup.{greatest_of, prior, sale_of_ref, sales_of_shift, steps_on, used}
 use Rattle.vend_core.specs.Office.{Office}
 use Rattle.vend_core.specs.declared.decision.change.Change.{Change}
 use Rattle.vend_core.specs.declared.decision.change.Edit.TheVariants as edits
@@ -16,8 +18,15 @@ use Rattle.vend_core.specs.declared.decision.refusal.Refusal.{Refusal}
 use Rattle.vend_core.specs.declared.decision.refusal.Refusal.TheVariants as refusals
 use Rattle.vend_core.specs.declared.office.meter.Meter.{Meter}
 use Rattle.vend_core.specs.declared.office.sale.Sale.{Sale}
+use Rattle.vend_core.specs.declared.office.shift.Shift.{Shift}
+use Rattle.book_lists.specs.Pages.{AreFirstAfter, page_size}
+use Rattle.book_tables.specs.Stands.{all_totals}
 use Rattle.book_tables.specs.declared.row.totals.Totals.{Totals}
 use Rattle.book_facts.specs.Totals.{shift_totals}
+use Rattle.book_facts.specs.declared.lookup.LaterSteps.{LaterSteps}
+use Rattle.book_facts.specs.declared.lookup.ListedMeter.{ListedMeter}
+use Rattle.book_facts.specs.declared.lookup.ListedShift.{ListedShift}
+use Rattle.book_facts.specs.declared.lookup.ListedTariff.{ListedTariff}
 use Rattle.book_facts.specs.declared.lookup.Found.{Found}
 use Rattle.book_facts.specs.declared.lookup.Found.TheVariants as found
 use Rattle.book_facts.specs.declared.lookup.Lookup.{Lookup}
@@ -104,21 +113,95 @@ IsQuoted (Ok (found.Quote q)) (Ok change) =
 IsQuoted (Err why) (Err other) = why ≡ other
 IsQuoted quoted decided = ⊥
 
--- what is found at a moment, or why nothing is
-abbrev pub found_in : Office → ℕ → Lookup → Result Found Refusal
-found_in o moment lookups.SaleCount = Ok (found.SaleCount (length o.sales))
-found_in o moment (lookups.Meter number) =
-    meter_found number (o.meters number) (prior o number (month_at moment)) (last_sale o number)
-found_in o moment (lookups.LastSale number) = last_found (o.meters number) (last_sale o number)
-found_in o moment (lookups.SaleOfRef operator order_ref) =
-    sale_found (sale_of_ref o operator order_ref)
-found_in o moment (lookups.Quote number tender) = quote o moment number tender
-found_in o moment (lookups.ShiftTotals number) = totals_found number (shift_totals o number)
+-- ---- lists
+
+-- The steps that a tariff has from each day after a day on, by day: each of them once, and no
+-- others.
+pub record AreLaterSteps (dated : ℕ → Option (List Step)) (day : ℕ)
+    (later : List LaterSteps) : Type 0 where
+  pub are : (from : ℕ) (steps : List Step) → (day < from) × (dated from ≡ Some steps)
+      ↔ Contains later (record { from = from; steps = steps })
+  pub by_day : AllPairs (λ a b. a.from < b.from) later
+
+-- a tariff is told with its steps on a day, and with those that begin later
+pub record IsListedTariff (o : Office) (day : ℕ) (t : ListedTariff) : Type 0 where
+  pub there : IsSome (o.tariffs t.name)
+  pub steps : t.steps ≡ steps_on o t.name day
+  pub later : AreLaterSteps (o.dated_steps t.name) day t.later.items
+
+-- a page of the tariffs after a name
+pub record AreTariffsAfter (o : Office) (day : ℕ) (after : List ℕ) (page : List ListedTariff)
+    : Type 0 where
+  pub each : All (IsListedTariff o day) page
+  pub first : AreFirstAfter (λ name. IsSome (o.tariffs name)) after (map (λ t. t.name) page)
+
+-- a meter is told with its base and its tariff
+abbrev pub IsListedMeter : Office → ListedMeter → Type 0
+IsListedMeter o listed =
+    (m : Meter) × (o.meters listed.number ≡ Some m) × (listed.base ≡ m.base)
+    × (listed.tariff ≡ m.tariff)
+
+-- a page of the meters after a number
+pub record AreMetersAfter (o : Office) (after : List ℕ) (page : List ListedMeter)
+    : Type 0 where
+  pub each : All (IsListedMeter o) page
+  pub first : AreFirstAfter (λ number. IsSome (o.meters number)) after
+      (map (λ m. m.number) page)
+
+-- a shift with its totals
+abbrev pub listed_shift : Office → Shift → ListedShift
+listed_shift o s = record { shift = s; totals = all_totals (sales_of_shift o s.number) }
+
+-- a page of the shifts and of the sales after a number
+abbrev pub shifts_after : Office → ℕ → List ListedShift
+shifts_after o number =
+    map (listed_shift o) (take page_size (filter (λ s. nat_lt number s.number) o.shifts))
+
+abbrev pub sales_after : Office → ℕ → List Sale
+sales_after o number = take page_size (filter (λ s. nat_lt number s.number) o.sales)
+
+-- what is found of such a page
+abbrev pub FindsTariffs : Office → ℕ → Option (List ℕ) → Result Found Refusal → Type 0
+FindsTariffs o day after (Ok (found.Tariffs page)) =
+    AreTariffsAfter o day (unwrap_or after []) page.items
+FindsTariffs o day after result = ⊥
+
+abbrev pub FindsMeters : Office → Option (List ℕ) → Result Found Refusal → Type 0
+FindsMeters o after (Ok (found.Meters page)) = AreMetersAfter o (unwrap_or after []) page.items
+FindsMeters o after result = ⊥
+
+abbrev pub FindsShifts : Office → ℕ → Result Found Refusal → Type 0
+FindsShifts o after (Ok (found.Shifts page)) = page.items ≡ shifts_after o after
+FindsShifts o after result = ⊥
+
+abbrev pub FindsSales : Office → ℕ → Result Found Refusal → Type 0
+FindsSales o after (Ok (found.Sales page)) = page.items ≡ sales_after o after
+FindsSales o after result = ⊥
+
+-- ---- what is looked up
+
+-- this is found at a moment, or nothing is for this reason
+abbrev pub Finds : Office → ℕ → Lookup → Result Found Refusal → Type 0
+Finds o moment lookups.SaleCount result = result ≡ Ok (found.SaleCount (length o.sales))
+Finds o moment (lookups.Meter number) result =
+    result ≡ meter_found number (o.meters number) (prior o number (month_at moment))
+    (last_sale o number)
+Finds o moment (lookups.LastSale number) result =
+    result ≡ last_found (o.meters number) (last_sale o number)
+Finds o moment (lookups.SaleOfRef operator order_ref) result =
+    result ≡ sale_found (sale_of_ref o operator order_ref)
+Finds o moment (lookups.Quote number tender) result = result ≡ quote o moment number tender
+Finds o moment (lookups.ShiftTotals number) result =
+    result ≡ totals_found number (shift_totals o number)
+Finds o moment (lookups.Tariffs after) result = FindsTariffs o (day_at moment) after result
+Finds o moment (lookups.Meters after) result = FindsMeters o after result
+Finds o moment (lookups.Shifts after) result = FindsShifts o after result
+Finds o moment (lookups.Sales after) result = FindsSales o after result
 
 -- that was found in the office, or there was no memory, or the store failed
 abbrev pub IsFoundIn : Office → ℕ → Lookup → Result Found Refusal → Type 0
 IsFoundIn o moment lookup result =
-    (result ≡ found_in o moment lookup)
+    Finds o moment lookup result
     ⊎ ((result ≡ Err refusals.Memory) ⊎ (result ≡ Err refusals.Store))
 
 -- a refusal of the rules, and not of the store

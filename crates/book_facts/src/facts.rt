@@ -17,7 +17,7 @@ mod imports;
 mod meters;
 mod sales;
 pub(crate) mod shifts;
-mod steps;
+pub(crate) mod steps;
 
 /// What the tests of a request look at, as far as they do and no further. The count of sales is the
 /// caller's.

@@ -9,7 +9,7 @@ ghost use Rattle.book_states.specs.Failing.{IsToldOfRead};
 ghost use Rattle.book_states.specs.Members.{SaysOfOffice};
 ghost use Rattle.book_states.specs.Stores.{Stores};
 ghost use Rattle.book_states.specs.Same.{ChangesNothing, IsSame};
-ghost use Rattle.book_facts.specs.Lookups.{IsFoundIn, IsOfRules, found_in};
+ghost use Rattle.book_facts.specs.Lookups.{Finds, IsFoundIn, IsOfRules};
 
 use crate::lookup::{Found, Lookup};
 use book_states::refusal_of;
@@ -19,10 +19,15 @@ use std::alloc::Global;
 use vend_core::{Moment, Refusal};
 
 mod last_sales;
+mod later_steps;
+mod meter_page;
 mod meters;
 mod quotes;
+mod sale_page;
 mod sales;
+mod shift_page;
 mod shifts;
+mod tariff_page;
 
 pub use quotes::quote_law;
 
@@ -69,7 +74,7 @@ fn found_of<S: Alter>(
     lookup: &Lookup,
 ) -> Result<Result<Found, Refusal>, TableError>
     ensures facts { Over S.Store conn (λ old new. SaysOfOffice (λ o found. sale_count ≡ length
-        o.sales → found ≡ found_in o moment lookup.now) old new result) }
+        o.sales → Finds o moment lookup.now found) old new result) }
     ensures reads { Over S.Store conn (λ old new. OnlyReads IsSame old new result) }
     ensures rules { IfOk result (λ found. IfErr found IsOfRules) }
 {
@@ -82,5 +87,9 @@ fn found_of<S: Alter>(
             quotes::quote_of(alloc, conn, moment, number, *tender, sale_count)
         },
         Lookup::ShiftTotals(number) => shifts::totals_under(conn, *number),
+        Lookup::Tariffs(after) => tariff_page::tariff_page(alloc, conn, moment, after),
+        Lookup::Meters(after) => meter_page::meter_page(alloc, conn, after),
+        Lookup::Shifts(after) => shift_page::shift_page(alloc, conn, *after),
+        Lookup::Sales(after) => sale_page::sale_page(alloc, conn, *after),
     }
 }

@@ -1,9 +1,9 @@
 //! What is looked up in an office, and what is found. No key of a meter is.
 
 use book_tables::Totals;
-use sts_fields::{Amount, Base};
-use tariff::Tender;
-use vend_core::{MeterNo, Operator, Ref, Sale, TariffName};
+use sts_fields::{Amount, Base, Day};
+use tariff::{Steps, Tender};
+use vend_core::{MeterNo, Operator, Ref, Sale, Shift, TariffName};
 
 /// What is looked up in an office. Nothing is changed by it (`docs/OFFICE.md`, "Look-ups").
 #[derive(Clone, Copy, Debug, PartialEq, Eq)]
@@ -20,10 +20,19 @@ pub enum Lookup {
     Quote(MeterNo, Tender),
     /// The running totals of the shift of a number (1 to 10^9).
     ShiftTotals(u32),
+    /// A page of the tariffs whose names come after this one in the order of their bytes, or of all.
+    Tariffs(Option<TariffName>),
+    /// A page of the meters whose numbers come after this one, or of all.
+    Meters(Option<MeterNo>),
+    /// A page of the shifts after a number.
+    Shifts(u32),
+    /// A page of the sales after a number.
+    Sales(u32),
 }
 
-/// What is found where something is looked up.
-#[derive(Clone, Copy, Debug, PartialEq, Eq)]
+/// What is found where something is looked up. A page has at most `book_lists::PAGE` members, and one
+/// that has fewer is the last one.
+#[derive(Debug, Drop)]
 pub enum Found {
     /// At most 10^9.
     SaleCount(u64),
@@ -32,6 +41,10 @@ pub enum Found {
     Quote(Quote),
     /// The number of the shift, and its totals.
     ShiftTotals(u32, Totals),
+    Tariffs(Vec<ListedTariff>),
+    Meters(Vec<ListedMeter>),
+    Shifts(Vec<ListedShift>),
+    Sales(Vec<Sale>),
 }
 
 /// What is told of a meter.
@@ -56,4 +69,36 @@ pub struct Quote {
     pub tenths: Amount,
     /// What the amount costs, in whole cents, at most the tender.
     pub price: u32,
+}
+
+/// A tariff of a list.
+#[derive(Debug, Drop)]
+pub struct ListedTariff {
+    pub name: TariffName,
+    /// Its steps on the day of the moment.
+    pub steps: Steps,
+    /// Those that begin on later days, by day.
+    pub later: Vec<LaterSteps>,
+}
+
+/// The steps that a tariff has from a later day on.
+#[derive(Debug, Drop)]
+pub struct LaterSteps {
+    pub from: Day,
+    pub steps: Steps,
+}
+
+/// A meter of a list.
+#[derive(Clone, Copy, Debug, PartialEq, Eq)]
+pub struct ListedMeter {
+    pub number: MeterNo,
+    pub base: Base,
+    pub tariff: TariffName,
+}
+
+/// A shift of a list, with its running totals.
+#[derive(Clone, Copy, Debug, PartialEq, Eq)]
+pub struct ListedShift {
+    pub shift: Shift,
+    pub totals: Totals,
 }

@@ -8,7 +8,7 @@ use Rattle.vend_core.specs.Office.{Office}
 use Rattle.vend_core.specs.declared.decision.refusal.Refusal.{Refusal}
 use Rattle.vend_core.specs.declared.decision.refusal.Refusal.TheVariants.{Memory, Store, Stopped}
 use Rattle.book_tables.specs.reading.Reading.{HasAllTables}
-use Rattle.book_facts.specs.Lookups.{IsFoundIn, found_in}
+use Rattle.book_facts.specs.Lookups.{Finds, IsFoundIn}
 use Rattle.book_facts.specs.declared.lookup.Found.{Found}
 use Rattle.book_facts.specs.declared.lookup.Lookup.{Lookup}
 use Rattle.book_states.specs.Failing.{IsToldOfRead}
@@ -82,7 +82,7 @@ pub found_here : (life : Life) (books : Seen) (moment : ℕ) (lookup : Lookup) (
     → ((o : Office) → Stores books.state o → books.next_number ≡ length o.sales + 1 → IsFoundIn o moment lookup given) → IsFoundAt life moment lookup given
 found_here life books moment lookup given here found =
     elim (found here.present here.at here.next) [
-      | inl told ↦ inl (told ∙ ap (λ (o : Office). found_in o moment lookup) (sym here.running.present))
+      | inl told ↦ inl (subst (λ (o : Office). Finds o moment lookup given) (sym here.running.present) told)
       | inr (inl memory) ↦ inr (inl memory)
       | inr (inr failed) ↦ inr (inr (inl failed))
     ]

@@ -5,7 +5,7 @@ use Rattle.vend_core.specs.Office.{Office}
 use Rattle.vend_core.specs.declared.decision.refusal.Refusal.{Refusal}
 use Rattle.vend_core.specs.declared.decision.refusal.Refusal.TheVariants.{Memory, Store, Stopped}
 use Rattle.vend_core.specs.declared.office.sale.Sale.{Sale}
-use Rattle.book_facts.specs.Lookups.{found_in}
+use Rattle.book_facts.specs.Lookups.{Finds}
 use Rattle.book_facts.specs.declared.lookup.Found.{Found}
 use Rattle.book_facts.specs.declared.lookup.Lookup.{Lookup}
 
@@ -13,7 +13,7 @@ use Rattle.book_facts.specs.declared.lookup.Lookup.{Lookup}
 -- store failed, or the books were stopped
 abbrev pub IsFoundAt : Life → ℕ → Lookup → Result Found Refusal → Type 0
 IsFoundAt life moment lookup result =
-    (result ≡ found_in (present life) moment lookup)
+    Finds (present life) moment lookup result
     ⊎ ((result ≡ Err Memory) ⊎ ((result ≡ Err Store) ⊎ (result ≡ Err Stopped)))
 
 -- the sale is the last one to a meter, by number

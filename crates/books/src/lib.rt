@@ -5,7 +5,9 @@
 //! and a life that the contracts speak of.
 #![tactic(auto)]
 
-pub use book_facts::{Found, Lookup, MeterSummary, Quote};
+pub use book_facts::{
+    Found, LaterSteps, ListedMeter, ListedShift, ListedTariff, Lookup, MeterSummary, Quote,
+};
 pub use book_opening::OpenFault;
 pub use book_tables::Totals;
 pub use books::Books;

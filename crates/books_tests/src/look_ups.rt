@@ -1,7 +1,7 @@
 //! What is looked up in the books, before sales and after them.
 
 use crate::pages::Office;
-use books::{Found, Lookup, MeterSummary, Quote};
+use books::{Found, Lookup, MeterSummary, Quote, Totals};
 use office_testing::both::{agree, office, sold};
 use office_testing::values::{
     FIRST_DAY, METER, NO_METER, OTHER_METER, flat, meter_no, moment, operator, order, tariff_name,
@@ -12,16 +12,44 @@ use sts_fields::Base;
 use tariff::Tender;
 use vend_core::{Ref, Refusal, Sale};
 
-fn look_up(both: &mut Office, lookup: &Lookup) -> Result<Result<Found, Refusal>, Fail> {
+// What is found of one thing, or how many members a page has.
+#[derive(Clone, Copy, Debug, PartialEq, Eq)]
+enum Seen {
+    SaleCount(u64),
+    Meter(MeterSummary),
+    Sale(Sale),
+    Quote(Quote),
+    ShiftTotals(u32, Totals),
+    Members(usize),
+}
+
+fn value_of(found: &Found) -> Seen {
+    match found {
+        Found::SaleCount(count) => Seen::SaleCount(*count),
+        Found::Meter(meter) => Seen::Meter(*meter),
+        Found::Sale(sale) => Seen::Sale(*sale),
+        Found::Quote(quote) => Seen::Quote(*quote),
+        Found::ShiftTotals(number, totals) => Seen::ShiftTotals(*number, *totals),
+        Found::Tariffs(page) => Seen::Members(page.len()),
+        Found::Meters(page) => Seen::Members(page.len()),
+        Found::Shifts(page) => Seen::Members(page.len()),
+        Found::Sales(page) => Seen::Members(page.len()),
+    }
+}
+
+fn look_up(both: &mut Office, lookup: &Lookup) -> Result<Result<Seen, Refusal>, Fail> {
     let now = moment(FIRST_DAY)?;
-    Ok(both.books.look_up(now, lookup))
+    match both.books.look_up(now, lookup) {
+        Ok(found) => Ok(Ok(value_of(&found))),
+        Err(refusal) => Ok(Err(refusal)),
+    }
 }
 
 fn finds(
     rt: &impl Abort,
     both: &mut Office,
     lookup: Lookup,
-    expected: Result<Found, Refusal>,
+    expected: Result<Seen, Refusal>,
 ) -> Result<(), Fail> {
     let found = look_up(both, &lookup)?;
     assert!(rt; found == expected, "{found:?}, not {expected:?}");
@@ -50,7 +78,7 @@ fn quoted_and_sold(rt: &impl Abort, both: &mut Office, order_ref: &[u8]) -> Resu
         price: sale.price,
     };
     assert_eq!(rt; sale.price, 20);
-    assert!(rt; found == Ok(Found::Quote(quote)), "{found:?}");
+    assert!(rt; found == Ok(Seen::Quote(quote)), "{found:?}");
     Ok(sale)
 }
 
@@ -60,7 +88,7 @@ fn nothing_was_sold_yet(rt: HostRuntime) -> Result<(), Fail> {
     let mut both = office(alloc, Base::Y2014, flat(alloc, 100)?)?;
     let meter = meter_no(METER)?;
     let no_meter = meter_no(NO_METER)?;
-    finds(&rt, &mut both, Lookup::SaleCount, Ok(Found::SaleCount(0)))?;
+    finds(&rt, &mut both, Lookup::SaleCount, Ok(Seen::SaleCount(0)))?;
     finds(
         &rt,
         &mut both,
@@ -117,26 +145,29 @@ fn what_was_sold(rt: HostRuntime) -> Result<(), Fail> {
         last_sale: Some(2),
     };
     let totals = both.books.shift_totals(1)?;
-    finds(&rt, &mut both, Lookup::SaleCount, Ok(Found::SaleCount(3)))?;
+    finds(&rt, &mut both, Lookup::SaleCount, Ok(Seen::SaleCount(3)))?;
+    finds(&rt, &mut both, Lookup::Sales(0), Ok(Seen::Members(3)))?;
+    finds(&rt, &mut both, Lookup::Sales(2), Ok(Seen::Members(1)))?;
+    finds(&rt, &mut both, Lookup::Shifts(0), Ok(Seen::Members(1)))?;
     finds(
         &rt,
         &mut both,
         Lookup::Meter(meter),
-        Ok(Found::Meter(summary)),
+        Ok(Seen::Meter(summary)),
     )?;
     finds(
         &rt,
         &mut both,
         Lookup::LastSale(meter),
-        Ok(Found::Sale(last)),
+        Ok(Seen::Sale(last)),
     )?;
-    finds(&rt, &mut both, of_ref(b"A-1")?, Ok(Found::Sale(first)))?;
-    finds(&rt, &mut both, of_ref(b"A-3")?, Ok(Found::Sale(other)))?;
+    finds(&rt, &mut both, of_ref(b"A-1")?, Ok(Seen::Sale(first)))?;
+    finds(&rt, &mut both, of_ref(b"A-3")?, Ok(Seen::Sale(other)))?;
     finds(
         &rt,
         &mut both,
         Lookup::ShiftTotals(1),
-        Ok(Found::ShiftTotals(1, totals)),
+        Ok(Seen::ShiftTotals(1, totals)),
     )?;
     agree(&mut both)
 }

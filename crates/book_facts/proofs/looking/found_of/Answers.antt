@@ -19,3 +19,15 @@ returns-in-Quote-clause-reads g c = same_on c.quote_of.ensures.reads
 
 pub returns-in-ShiftTotals-clause-reads : goal.returns-in-ShiftTotals-clause-reads
 returns-in-ShiftTotals-clause-reads g c = same_on c.totals_under.ensures.reads
+
+pub returns-in-Tariffs-clause-reads : goal.returns-in-Tariffs-clause-reads
+returns-in-Tariffs-clause-reads g c = c.tariff_page.ensures.reads
+
+pub returns-in-Meters-clause-reads : goal.returns-in-Meters-clause-reads
+returns-in-Meters-clause-reads g c = same_on c.meter_page.ensures.reads
+
+pub returns-in-Shifts-clause-reads : goal.returns-in-Shifts-clause-reads
+returns-in-Shifts-clause-reads g c = c.shift_page.ensures.reads
+
+pub returns-in-Sales-clause-reads : goal.returns-in-Sales-clause-reads
+returns-in-Sales-clause-reads g c = same_on c.sale_page.ensures.reads

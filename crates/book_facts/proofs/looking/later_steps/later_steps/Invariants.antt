@@ -1,0 +1,20 @@
+use Rattle.std.proofs.Common.{◌-◌}
+use Rattle.sqlite.specs.Held.{state}
+use Rattle.sqlite.specs.State.{HasCleanDisk}
+use Rattle.sts_fields.specs.Day.{last_day}
+use Rattle.vend_core.specs.Office.{IsOffice, Office}
+use Rattle.book_states.specs.Members.{HasMembers}
+use Rattle.book_facts.proofs.LaterLemmas.{AreUntil}
+use Rattle.book_facts.proofs.PassedLemmas.{HasPassed}
+use Rattle.book_facts.proofs.looking.later_steps.later_steps.Given as goal
+
+-- nothing was changed, and the steps until the last day are told
+abbrev pub invariant-loop-later : goal.invariant-loop-later
+invariant-loop-later g l = record {
+  passed : HasPassed (state g.S.Store l.fn.conn) (state g.S.Store l.conn);
+  until : HasCleanDisk (state g.S.Store l.conn) → (o : Office) → IsOffice o → HasMembers (state g.S.Store l.fn.conn) o
+      → AreUntil (o.dated_steps l.name) l.fn.day l.last l.later.items;
+}
+
+abbrev pub decreases-loop-later : goal.decreases-loop-later
+decreases-loop-later g l = last_day - l.last

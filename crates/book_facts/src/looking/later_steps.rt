@@ -1,0 +1,46 @@
+//! The steps that a tariff has from later days on.
+
+ghost use Rattle.sqlite.specs.State.{IsUnchanged};
+ghost use Rattle.one_table.specs.Over.{Over};
+ghost use Rattle.book_tables.specs.reading.Reading.{OnlyReads};
+ghost use Rattle.book_states.specs.Members.{SaysOfOffice};
+ghost use Rattle.book_facts.specs.Lookups.{AreLaterSteps};
+
+use crate::lookup::LaterSteps;
+use book_lists::first_day_after;
+use book_tables::TableError;
+use book_tables::reading::dated_steps::steps_from;
+use sqlite::{Alter, Connection};
+use std::alloc::{AllocError, Global};
+use sts_fields::Day;
+use vend_core::TariffName;
+
+/// The steps that the tariff of a name has from each day after a day on, by day.
+pub(crate) fn later_steps<S: Alter>(
+    alloc: Global,
+    conn: &mut Connection<S>,
+    name: &TariffName,
+    day: Day,
+) -> Result<Vec<LaterSteps>, TableError>
+    ensures facts { Over S.Store conn (λ old new. SaysOfOffice (λ o later. AreLaterSteps
+        (o.dated_steps name.now) day later.items) old new result) }
+    ensures reads { Over S.Store conn (λ old new. OnlyReads IsUnchanged old new result) }
+{
+    let mut later = Vec::new(alloc);
+    let mut last = day;
+    while let Some(from) = first_day_after(conn, name, last)? {
+        let found = steps_from(alloc, conn, name, from)?;
+        let Some(steps) = found else {
+            return Err(TableError::RowOfNoOffice);
+        };
+        // The rows of an office have a later day here. By this test the loop ends over others too.
+        if from <= last {
+            return Err(TableError::RowOfNoOffice);
+        }
+        later
+            .push(LaterSteps { from, steps })
+            .map_err(AllocError::from)?;
+        last = from;
+    }
+    Ok(later)
+}

@@ -1,0 +1,55 @@
+//! A page of the meters.
+
+ghost use Rattle.std.specs.Prelude.{◌≡◌, [], IfErr, IfOk, map, unwrap_or};
+ghost use Rattle.sqlite.specs.State.{IsUnchanged};
+ghost use Rattle.one_table.specs.Over.{Over};
+ghost use Rattle.book_tables.specs.reading.Reading.{OnlyReads};
+ghost use Rattle.book_states.specs.Members.{SaysOfOffice};
+ghost use Rattle.book_facts.specs.Listing.{listed_meter};
+ghost use Rattle.book_facts.specs.Lookups.{FindsMeters, IsOfRules};
+
+use crate::lookup::{Found, ListedMeter};
+use book_lists::meters_after;
+use book_tables::TableError;
+use book_tables::reading::pages::MeterRow;
+use sqlite::{Alter, Connection};
+use std::alloc::{AllocError, Global};
+use vend_core::{MeterNo, Refusal};
+
+/// A page of the meters after a number, or of all. No key goes out.
+pub(crate) fn meter_page<S: Alter>(
+    alloc: Global,
+    conn: &mut Connection<S>,
+    after: &Option<MeterNo>,
+) -> Result<Result<Found, Refusal>, TableError>
+    ensures facts { Over S.Store conn (λ old new. SaysOfOffice (λ o. FindsMeters o after.now) old
+        new result) }
+    ensures reads { Over S.Store conn (λ old new. OnlyReads IsUnchanged old new result) }
+    ensures rules { IfOk result (λ found. IfErr found IsOfRules) }
+{
+    let rows = meters_after(alloc, conn, number_or_none(after))?;
+    let listed = listed_meters(alloc, rows)?;
+    Ok(Ok(Found::Meters(listed)))
+}
+
+// The text of the number, or the empty one, which comes before all.
+fn number_or_none(after: &Option<MeterNo>) -> &[u8]
+    ensures { result.now ≡ unwrap_or after.now [] }
+{
+    match after {
+        Some(number) => number.as_bytes(),
+        None => &[],
+    }
+}
+
+fn listed_meters(alloc: Global, rows: Vec<MeterRow>) -> Result<Vec<ListedMeter>, AllocError>
+    ensures { IfOk result (λ listed. listed.items ≡ map listed_meter rows.items) }
+{
+    rows.into_iter()
+        .map(|row| ListedMeter {
+            number: row.number,
+            base: row.meter.base,
+            tariff: row.meter.tariff,
+        })
+        .collect(alloc)
+}
