@@ -1,5 +1,5 @@
 -- The numbers that targets name, and what is read between a front and an end.
-use Rattle.std.proofs.Common.{◌≡◌, ◌≢◌, ℕ, zero, suc, ◌^◌, ◌<◌, ◌≤◌, Bool, true, false, true≢false, List, ◌∷◌, ◌++◌, length, get_or, eqb, Option, Some, None, Result, Ok, Err, refl, ap, sym, subst, ◌∙◌, arith}
+use Rattle.std.proofs.Common.{◌≡◌, ◌≢◌, ℕ, zero, suc, ◌^◌, ◌<◌, ◌≤◌, Bool, true, false, true≢false, List, [], ◌∷◌, ◌++◌, length, get_or, eqb, Option, Some, None, Result, Ok, Err, refl, ap, sym, subst, ◌∙◌, arith}
 use Rattle.std.specs.Prelude.{◌↔◌, IfSome, IsSome, IsUtf8, MatchOption, decimal}
 use Rattle.std.specs.Borrow.{Bor}
 use Rattle.std.specs.Char.{is_ascii_alphanumeric, is_ascii_digit}
@@ -14,7 +14,7 @@ use Rattle.std.proofs.lemmas.Str.Parse.{IsNumeralModel, digit_at, numerals_by_va
 use Rattle.tariff.specs.Tender.{IsTender}
 use Rattle.desk.specs.Reads.{ReadsWritten}
 use Rattle.desk.specs.route.Endpoint.{LacksSlash}
-use Rattle.desk.specs.route.Route.{IsTargetNumber}
+use Rattle.desk.specs.route.Route.{IsPageStart, IsTargetNumber}
 
 -- ---- between a front and an end
 
@@ -183,6 +183,25 @@ not_parsed digits error parsed number is same =
 -- one number is written by its digits
 pub same_number : (a b : ℕ) → a < 2 ^ 32 → IsTargetNumber b → decimal a ≡ decimal b → a ≡ b
 same_number a b small is same = decimal_injective a b (omega arith) (omega (arith, is.most)) same
+
+-- the number that a page begins after is one, too
+pub same_start : (a b : ℕ) → IsPageStart a → IsPageStart b → decimal a ≡ decimal b → a ≡ b
+same_start a b is also same = decimal_injective a b (omega (arith, is.most)) (omega (arith, also.most)) same
+
+-- one digit writes 0
+pub reads_zero : (digits : List ℕ) → digits ≡ 48 ∷ [] → ReadsWritten IsPageStart decimal digits (Some 0)
+reads_zero digits e = (record { most = omega arith }, e ∙ sym (decimal_digit 0 (omega arith)))
+
+no_start : (digits : List ℕ) (number : ℕ) → digits ≢ 48 ∷ [] → ((other : ℕ) → IsTargetNumber other → digits ≢ decimal other)
+    → IsPageStart number → digits ≢ decimal number
+no_start digits zero other none is e = other (e ∙ decimal_digit 0 (omega arith))
+no_start digits (suc number) other none is e = none (suc number) (record { from_one = omega arith; most = is.most }) e
+
+-- and other digits the numbers from 1 on
+pub reads_start : (digits : List ℕ) (r : Option ℕ) → digits ≢ 48 ∷ [] → ReadsWritten IsTargetNumber decimal digits r
+    → ReadsWritten IsPageStart decimal digits r
+reads_start digits (Some number) other (is, same) = (record { most = is.most }, same)
+reads_start digits None other none = λ number is. no_start digits number other none is
 
 -- what is no text writes no number
 pub not_text : (digits : List ℕ) → ¬ IsUtf8 digits → (number : ℕ) → IsTargetNumber number

@@ -18,15 +18,15 @@ use Rattle.desk.proofs.SaleLemmas.{digits-kept}
 use Rattle.vend_core.specs.Name.{is_name_byte}
 use Rattle.vend_core.specs.declared.office.sale.Sale.{Sale}
 
-plain_digit : (b : ℕ) → is_ascii_digit b ≡ true → escape_byte b ≡ b ∷ []
+pub plain_digit : (b : ℕ) → is_ascii_digit b ≡ true → escape_byte b ≡ b ∷ []
 unfolding escape_byte
 plain_digit b e = grind (arith, nat_tests)
 
-plain_letter : (b : ℕ) → is_ascii_alphanumeric b ≡ true → escape_byte b ≡ b ∷ []
+pub plain_letter : (b : ℕ) → is_ascii_alphanumeric b ≡ true → escape_byte b ≡ b ∷ []
 unfolding escape_byte
 plain_letter b e = grind (arith, nat_tests)
 
-plain_name : (b : ℕ) → is_name_byte b ≡ true → escape_byte b ≡ b ∷ []
+pub plain_name : (b : ℕ) → is_name_byte b ≡ true → escape_byte b ≡ b ∷ []
 unfolding escape_byte
 plain_name b e = grind (arith, nat_tests)
 
@@ -36,7 +36,7 @@ unescaped test plain [] passes = refl
 unescaped test plain (b ∷ text) passes = rw (plain b passes.0, unescaped test plain text passes.1) refl
 
 -- bytes that need no escape stand as they are
-as_it_is : (test : ℕ → Bool) → ((b : ℕ) → test b ≡ true → escape_byte b ≡ b ∷ []) → (text : List ℕ) → AllPass test text
+pub as_it_is : (test : ℕ → Bool) → ((b : ℕ) → test b ≡ true → escape_byte b ≡ b ∷ []) → (text : List ℕ) → AllPass test text
     → flat_map escape_byte text ≡ text
 as_it_is test plain text passes = unescaped test plain text (recursion_from_All (λ b. test b ≡ true) text passes)
 
@@ -55,7 +55,7 @@ unfolding json_text serde_json_on_literals
 object-text base change moment number price shift tender tenths tid meter operator order_ref token = refl
 
 -- a text in quotes, before what follows
-closed : (text rest : List ℕ) → (34 ∷ (text ++ 34 ∷ [])) ++ rest ≡ 34 ∷ (text ++ 34 ∷ rest)
+pub closed : (text rest : List ℕ) → (34 ∷ (text ++ 34 ∷ [])) ++ rest ≡ 34 ∷ (text ++ 34 ∷ rest)
 closed text rest = ap (λ (all : List ℕ). 34 ∷ all) (append_assoc text (34 ∷ []) rest)
 
 pub sale_text-is : (s : Sale) → IsTellableSale s → json_text (sale_members s) ≡ sale_text s

@@ -6,7 +6,7 @@ use Rattle.matchit.specs.Router.{RouteOf}
 use Rattle.matchit.specs.Seek.{first}
 use Rattle.matchit.proofs.OnLiterals.{matchit_on_literals}
 use Rattle.desk.specs.declared.route.endpoint.Endpoint.{Endpoint}
-use Rattle.desk.specs.declared.route.endpoint.Endpoint.TheVariants.{Tariffs, TariffSteps, Meters, MeterTariff, MeterBase, Shifts, ShiftClosing, Shift, Sales, Sale, SaleReceipt, MeterImports, TariffImports, Health, Meter, LastSale, Quote, SaleOfRef, ShiftTotals}
+use Rattle.desk.specs.declared.route.endpoint.Endpoint.TheVariants.{Tariffs, TariffSteps, Meters, MeterTariff, MeterBase, Shifts, ShiftClosing, Shift, Sales, Sale, SaleReceipt, MeterImports, TariffImports, Health, Meter, LastSale, Quote, SaleOfRef, ShiftTotals, FirstTariffs, TariffsAfter, FirstMeters, MetersAfter, ShiftsAfter, SalesAfter}
 use Rattle.desk.specs.route.Endpoint.{table}
 use Rattle.desk.specs.route.Route.{Finds}
 
@@ -31,6 +31,12 @@ target_of LastSale = codes "/meters/0/last"
 target_of Quote = codes "/meters/0/quote?tender=1"
 target_of SaleOfRef = codes "/operators/a/sales/a"
 target_of ShiftTotals = codes "/shifts/1/totals"
+target_of FirstTariffs = codes "/tariffs?after="
+target_of TariffsAfter = codes "/tariffs?after=a"
+target_of FirstMeters = codes "/meters?after="
+target_of MetersAfter = codes "/meters?after=0"
+target_of ShiftsAfter = codes "/shifts?after=0"
+target_of SalesAfter = codes "/sales?after=0"
 
 found : (e : Endpoint) → option_map (λ (row : RouteOf Endpoint). row.value) (first table (target_of e)) ≡ Some e
 unfolding matchit_on_literals table
@@ -53,6 +59,12 @@ found LastSale = refl
 found Quote = refl
 found SaleOfRef = refl
 found ShiftTotals = refl
+found FirstTariffs = refl
+found TariffsAfter = refl
+found FirstMeters = refl
+found MetersAfter = refl
+found ShiftsAfter = refl
+found SalesAfter = refl
 
 text : (e : Endpoint) → IsUtf8 (target_of e)
 unfolding encode
@@ -75,6 +87,12 @@ text LastSale = (target_of LastSale, (refl, refl))
 text Quote = (target_of Quote, (refl, refl))
 text SaleOfRef = (target_of SaleOfRef, (refl, refl))
 text ShiftTotals = (target_of ShiftTotals, (refl, refl))
+text FirstTariffs = (target_of FirstTariffs, (refl, refl))
+text TariffsAfter = (target_of TariffsAfter, (refl, refl))
+text FirstMeters = (target_of FirstMeters, (refl, refl))
+text MetersAfter = (target_of MetersAfter, (refl, refl))
+text ShiftsAfter = (target_of ShiftsAfter, (refl, refl))
+text SalesAfter = (target_of SalesAfter, (refl, refl))
 
 -- each endpoint is found for a target
 pub each_found : (endpoint : Endpoint) → (target : List ℕ) × Finds target endpoint

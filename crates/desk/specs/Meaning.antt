@@ -31,6 +31,10 @@ lookup_form (lookups.LastSale meter) = Paper
 lookup_form (lookups.SaleOfRef operator order_ref) = Json
 lookup_form (lookups.Quote meter tender) = Json
 lookup_form (lookups.ShiftTotals number) = Json
+lookup_form (lookups.Tariffs after) = Json
+lookup_form (lookups.Meters after) = Json
+lookup_form (lookups.Shifts number) = Json
+lookup_form (lookups.Sales number) = Json
 
 -- the form in which a route tells a sale: a receipt is a paper
 abbrev pub sale_form_of : Route → Form

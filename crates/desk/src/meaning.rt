@@ -87,7 +87,11 @@ fn lookup_form(lookup: &Lookup) -> Form
         | Lookup::Meter(_)
         | Lookup::SaleOfRef(..)
         | Lookup::Quote(..)
-        | Lookup::ShiftTotals(_) => Form::Json,
+        | Lookup::ShiftTotals(_)
+        | Lookup::Tariffs(_)
+        | Lookup::Meters(_)
+        | Lookup::Shifts(_)
+        | Lookup::Sales(_) => Form::Json,
     }
 }
 

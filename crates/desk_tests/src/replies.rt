@@ -1,8 +1,10 @@
 //! Replies, byte for byte.
 
+use crate::listed::{listed_meters, listed_shifts, listed_tariffs};
 use crate::texts::reply;
 use desk::{
-    DeskFault, Form, Found, MessageFault, MeterSummary, Method, Outcome, Quote, Totals, reply_bytes,
+    DeskFault, Form, Found, MessageFault, MeterSummary, Method, Outcome, Quote, Totals, found_json,
+    reply_bytes,
 };
 use std::alloc::Global;
 use std::test::Fail;
@@ -103,7 +105,27 @@ fn findings(alloc: Global) -> Result<Vec<Found>, Fail> {
         cash: 500,
     };
     findings.push(Found::ShiftTotals(2, totals))?;
+    findings.push(Found::Tariffs(Vec::new(alloc)))?;
+    findings.push(Found::Tariffs(listed_tariffs(alloc)?))?;
+    findings.push(Found::Meters(Vec::new(alloc)))?;
+    findings.push(Found::Meters(listed_meters(alloc)?))?;
+    findings.push(Found::Shifts(Vec::new(alloc)))?;
+    findings.push(Found::Shifts(listed_shifts(alloc, shift()?, totals)?))?;
+    findings.push(Found::Sales(Vec::new(alloc)))?;
+    findings.push(Found::Sales(listed_sales(alloc)?))?;
     Ok(findings)
+}
+
+// Two, and one whose token is not all digits.
+fn listed_sales(alloc: Global) -> Result<Vec<Sale>, Fail> {
+    let mut sales = Vec::new(alloc);
+    sales.push(first_sale()?)?;
+    sales.push(large_sale()?)?;
+    sales.push(Sale {
+        digits: *b"0007205760262798169x",
+        ..first_sale()?
+    })?;
+    Ok(sales)
 }
 
 static REFUSALS: [Refusal; 21] = [
@@ -230,6 +252,26 @@ fn replies() -> &'static str {
 200 OK, 110 = {'change':98179837,'meter':'12345678903','price':1820163,'tariff':'flat','tender':100\
     000000,'tenths':18201624}
 200 OK, 44 = {'cash':500,'sales':3,'shift':2,'tenths':40}
+200 OK, 14 = {'tariffs':[]}
+200 OK, 196 = {'tariffs':[{'later':[{'from':'2014-02-01','steps':'500:100;:250'},{'from':'2099-12-3\
+    1','steps':':1'}],'name':'flat','steps':':100'},{'later':[],'name':'z-9','steps':'1:1;429496729\
+    5:1000000;:7'}]}
+200 OK, 13 = {'meters':[]}
+200 OK, 115 = {'meters':[{'base':2014,'meter':'12345678903','tariff':'flat'},{'base':1993,'meter':'\
+    79927398713','tariff':'z-9'}]}
+200 OK, 13 = {'shifts':[]}
+200 OK, 237 = {'shifts':[{'cash':500,'closed':1388592000,'number':1,'opened':1388563200,'operator':\
+    'ann','sales':3,'tenths':40},{'cash':18446744073709551615,'closed':null,'number':1000000000,'op\
+    ened':1388563200,'operator':'ann','sales':0,'tenths':0}]}
+200 OK, 12 = {'sales':[]}
+200 OK, 674 = {'sales':[{'base':2014,'change':0,'meter':'12345678903','moment':1388534430,'number':\
+    1,'operator':'ann','price':10,'ref':'A-1','shift':1,'tender':10,'tenths':1,'tid':2,'token':'000\
+    72057602627981690'},{'base':2035,'change':98179837,'meter':'12345678903','moment':4102444799,'n\
+    umber':1000000000,'operator':'abcdefghijKLMN09','price':1820163,'ref':'abcdefghijklmnopqrstuvwx\
+    yz-01234','shift':1000000000,'tender':100000000,'tenths':18201624,'tid':16777215,'token':'00072\
+    057602627981690'},{'base':2014,'change':0,'meter':'12345678903','moment':1388534430,'number':1,\
+    'operator':'ann','price':10,'ref':'A-1','shift':1,'tender':10,'tenths':1,'tid':2,'token':'00072\
+    05760262798169x'}]}
 404 Not Found, 31 = {'error':'NoMeter','refusal':4}
 404 Not Found, 31 = {'error':'NoSale','refusal':12}
 404 Not Found, 36 = {'error':'NoSuchShift','refusal':13}
@@ -291,6 +333,19 @@ fn each_outcome(rt: HostRuntime) -> Result<(), Fail> {
         assert_eq!(rt; found, reply(alloc, line)?, "{line}");
     }
     assert!(rt; lines.next().is_none());
+    Ok(())
+}
+
+// The body alone ends the reply.
+#[test]
+fn each_body(rt: HostRuntime) -> Result<(), Fail> {
+    let alloc = rt.alloc();
+    for found in findings(alloc)? {
+        let body = found_json(alloc, &found)?;
+        let reply = reply_bytes(alloc, &Outcome::Found(Form::Json, Ok(found)), false)?;
+        assert!(rt; reply.as_slice().ends_with(&body));
+        assert!(rt; body.as_slice().starts_with(b"{"));
+    }
     Ok(())
 }
 

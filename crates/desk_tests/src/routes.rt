@@ -37,6 +37,16 @@ GET /operators/abcdefghijKLMN09/sales/abcdefghijklmnopqrstuvwxyz-01234 = \
     sale-of-ref abcdefghijKLMN09 abcdefghijklmnopqrstuvwxyz-01234
 GET /shifts/1/totals = totals 1
 GET /shifts/1000000000/totals = totals 1000000000
+GET /tariffs?after= = tariffs
+GET /tariffs?after=flat = tariffs flat
+GET /tariffs?after=abcdefghijklmnopqrstuvwxyz-01234 = tariffs abcdefghijklmnopqrstuvwxyz-01234
+GET /meters?after= = meters
+GET /meters?after=12345678903 = meters 12345678903
+GET /shifts?after=0 = shifts 0
+GET /shifts?after=1000000000 = shifts 1000000000
+GET /sales?after=0 = sales 0
+GET /sales?after=10 = sales 10
+GET /sales?after=1000000000 = sales 1000000000
 "
 }
 
@@ -75,6 +85,14 @@ fn lookup(word: &str, value: &str) -> Result<Lookup, Fail> {
             Ref::read(second.as_bytes()).ok_or("a ref")?,
         ),
         "totals" => Lookup::ShiftTotals(first.parse()?),
+        "tariffs" if first.is_empty() => Lookup::Tariffs(None),
+        "tariffs" => {
+            Lookup::Tariffs(Some(TariffName::read(first.as_bytes()).ok_or("a tariff")?))
+        }
+        "meters" if first.is_empty() => Lookup::Meters(None),
+        "meters" => Lookup::Meters(Some(meter(first)?)),
+        "shifts" => Lookup::Shifts(first.parse()?),
+        "sales" => Lookup::Sales(first.parse()?),
         _ => return Err(Fail::new(format_args!("no route: {word} {value}"))),
     })
 }
@@ -111,7 +129,16 @@ fn no_targets() -> &'static str {
     >/operators/ann/sales/abcdefghijklmnopqrstuvwxyz-012345>/operators/ann/sales/A-1/receipt\
     >/operators/ann/sales/A-1?>/operators/ann/sale/A-1>/operators/a/b/sales/A-1\
     >/shifts/0/totals>/shifts/01/totals>/shifts//totals>/shifts/close/totals>/shifts/1/total\
-    >/shifts/1/totals/>/shifts/1/totals?>/shifts/1000000001/totals"
+    >/shifts/1/totals/>/shifts/1/totals?>/shifts/1000000001/totals\
+    >/tariffs?after>/tariffs?after=flat&>/tariffs?after=a_b>/tariffs?after=fl%61t\
+    >/tariffs?after=flat/>/tariffs?After=flat>/tariffs?before=flat>/tariffs?after=a&after=b\
+    >/tariffs?limit=1&after=>/tariffs?after=abcdefghijklmnopqrstuvwxyz-012345>/tariffs/?after=\
+    >/meters?after>/meters?after=1>/meters?after=12345678904>/meters?after=12345678903&\
+    >/meters?after=12345678903/>/meters?after=012345678903>/shifts?after>/shifts?after=\
+    >/shifts?after=00>/shifts?after=01>/shifts?after=+1>/shifts?after=-1>/shifts?after=1000000001\
+    >/shifts?after=0&>/sales?after>/sales?after=>/sales?after=00>/sales?after=1.0>/sales?after=%30\
+    >/sales?after=1000000001>/sales?after=4294967296>/sales?after=18446744073709551616\
+    >/sales/?after=0>/health?after=0"
 }
 
 #[test]
@@ -130,7 +157,7 @@ fn each_route(rt: HostRuntime) -> Result<(), Fail> {
         let fault = Err(DeskFault::Method(own));
         assert_eq!(rt; routes.route_of(target, other), fault, "{line}");
     }
-    assert_eq!(rt; targets().lines().count(), 28);
+    assert_eq!(rt; targets().lines().count(), 38);
     Ok(())
 }
 
@@ -144,7 +171,7 @@ fn no_route(rt: HostRuntime) -> Result<(), Fail> {
             assert_eq!(rt; found, Err(DeskFault::NoRoute), "{text}");
         }
     }
-    assert_eq!(rt; no_targets().split('>').count(), 99);
+    assert_eq!(rt; no_targets().split('>').count(), 134);
     Ok(())
 }
 
@@ -159,6 +186,8 @@ fn patterns(rt: HostRuntime) {
         "/meters/{meter}/quote?tender={tender}"
     );
     assert_eq!(rt; Endpoint::Quote.method(), Method::Get);
+    assert_eq!(rt; Endpoint::MetersAfter.pattern(), "/meters?after={meter}");
+    assert_eq!(rt; Endpoint::FirstMeters.method(), Method::Get);
     assert_eq!(rt;
         Endpoint::SaleOfRef.pattern(),
         "/operators/{operator}/sales/{ref}"

@@ -1,7 +1,7 @@
 -- The bodies of replies.
-use Rattle.std.specs.Prelude.{ℕ, ◌-◌, true, List, [], ◌∷◌, codes, Ok, Err}
+use Rattle.std.specs.Prelude.{ℕ, ◌-◌, true, List, [], ◌∷◌, codes, map, Ok, Err}
 use Rattle.std.specs.Str.Lossy.{utf8_lossy}
-use Rattle.serde_json.specs.Data.{boolean, string}
+use Rattle.serde_json.specs.Data.{Data, boolean, string}
 use Rattle.conversation.specs.message.MessageFault.{message_fault_word}
 use Rattle.desk.specs.declared.reply.form.Form.{Form}
 use Rattle.desk.specs.declared.reply.form.Form.TheVariants.{Json, Paper}
@@ -9,7 +9,8 @@ use Rattle.desk.specs.declared.reply.outcome.Outcome.{Outcome}
 use Rattle.desk.specs.declared.reply.outcome.Outcome.TheVariants.{Refused, Faulty, Replied}
 use Rattle.desk.specs.declared.reply.outcome.Outcome.TheVariants as outcomes
 use Rattle.desk.specs.DeskFault.{desk_fault_word}
-use Rattle.desk.specs.reply.Members.{Pair, json_text, some_number, whole_number}
+use Rattle.desk.specs.reply.Lists.{list_members, listed_meter_data, listed_shift_data, tariff_data}
+use Rattle.desk.specs.reply.Members.{Pair, json_text, object_of, some_number, whole_number}
 use Rattle.book_tables.specs.row.Rows.{present_format}
 use Rattle.book_tables.specs.declared.row.totals.Totals.{Totals}
 use Rattle.book_facts.specs.declared.lookup.Found.{Found}
@@ -79,6 +80,9 @@ sale_members s =
     ∷ (codes "token", string (utf8_lossy s.digits))
     ∷ []
 
+abbrev pub sale_data : Sale → Data
+sale_data s = object_of (sale_members s)
+
 -- a sale in a form: itself, or its receipt
 abbrev pub sale_body : Form → Sale → List ℕ
 sale_body Json sale = json_text (sale_members sale)
@@ -139,6 +143,14 @@ found_body form (found.Meter summary) = json_text (meter_members summary)
 found_body form (found.Sale sale) = sale_body form sale
 found_body form (found.Quote quote) = json_text (quote_members quote)
 found_body form (found.ShiftTotals number totals) = json_text (totals_members number totals)
+found_body form (found.Tariffs page) =
+    json_text (list_members (codes "tariffs") (map tariff_data page.items))
+found_body form (found.Meters page) =
+    json_text (list_members (codes "meters") (map listed_meter_data page.items))
+found_body form (found.Shifts page) =
+    json_text (list_members (codes "shifts") (map listed_shift_data page.items))
+found_body form (found.Sales page) =
+    json_text (list_members (codes "sales") (map sale_data page.items))
 
 -- the body for what came of a message
 abbrev pub body_of : Outcome → List ℕ

@@ -56,6 +56,10 @@ found_form form (found.Meter summary) = Json
 found_form form (found.Sale sale) = form
 found_form form (found.Quote quote) = Json
 found_form form (found.ShiftTotals number totals) = Json
+found_form form (found.Tariffs page) = Json
+found_form form (found.Meters page) = Json
+found_form form (found.Shifts page) = Json
+found_form form (found.Sales page) = Json
 
 -- the head for what came of a message, after which the conversation ends or not; a message that is
 -- refused always ends it

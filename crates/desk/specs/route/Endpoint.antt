@@ -10,7 +10,7 @@ use Rattle.matchit.specs.declared.error.InsertError.{InsertError}
 use Rattle.conversation.specs.declared.message.method.Method.{Method}
 use Rattle.conversation.specs.declared.message.method.Method.TheVariants.{Get, Post}
 use Rattle.desk.specs.declared.route.endpoint.Endpoint.{Endpoint}
-use Rattle.desk.specs.declared.route.endpoint.Endpoint.TheVariants.{Tariffs, TariffSteps, Meters, MeterTariff, MeterBase, Shifts, ShiftClosing, Shift, Sales, Sale, SaleReceipt, MeterImports, TariffImports, Health, Meter, LastSale, Quote, SaleOfRef, ShiftTotals}
+use Rattle.desk.specs.declared.route.endpoint.Endpoint.TheVariants.{Tariffs, TariffSteps, Meters, MeterTariff, MeterBase, Shifts, ShiftClosing, Shift, Sales, Sale, SaleReceipt, MeterImports, TariffImports, Health, Meter, LastSale, Quote, SaleOfRef, ShiftTotals, FirstTariffs, TariffsAfter, FirstMeters, MetersAfter, ShiftsAfter, SalesAfter}
 
 -- the method that an endpoint is asked by
 abbrev pub endpoint_method : Endpoint → Method
@@ -33,6 +33,12 @@ endpoint_method LastSale = Get
 endpoint_method Quote = Get
 endpoint_method SaleOfRef = Get
 endpoint_method ShiftTotals = Get
+endpoint_method FirstTariffs = Get
+endpoint_method TariffsAfter = Get
+endpoint_method FirstMeters = Get
+endpoint_method MetersAfter = Get
+endpoint_method ShiftsAfter = Get
+endpoint_method SalesAfter = Get
 
 -- the pattern of its targets
 abbrev pub pattern_of : Endpoint → List ℕ
@@ -55,6 +61,12 @@ pattern_of LastSale = codes "/meters/{meter}/last"
 pattern_of Quote = codes "/meters/{meter}/quote?tender={tender}"
 pattern_of SaleOfRef = codes "/operators/{operator}/sales/{ref}"
 pattern_of ShiftTotals = codes "/shifts/{number}/totals"
+pattern_of FirstTariffs = codes "/tariffs?after="
+pattern_of TariffsAfter = codes "/tariffs?after={tariff}"
+pattern_of FirstMeters = codes "/meters?after="
+pattern_of MetersAfter = codes "/meters?after={meter}"
+pattern_of ShiftsAfter = codes "/shifts?after={number}"
+pattern_of SalesAfter = codes "/sales?after={number}"
 
 -- the braces around the name of a parameter
 abbrev pub opens : ℕ → Bool
@@ -90,7 +102,8 @@ abbrev pub endpoints : List Endpoint
 endpoints =
     Tariffs ∷ TariffSteps ∷ Meters ∷ MeterTariff ∷ MeterBase ∷ Shifts ∷ ShiftClosing ∷ Shift ∷ Sales
     ∷ Sale ∷ SaleReceipt ∷ MeterImports ∷ TariffImports ∷ Health ∷ Meter ∷ LastSale ∷ Quote
-    ∷ SaleOfRef ∷ ShiftTotals ∷ []
+    ∷ SaleOfRef ∷ ShiftTotals ∷ FirstTariffs ∷ TariffsAfter ∷ FirstMeters ∷ MetersAfter
+    ∷ ShiftsAfter ∷ SalesAfter ∷ []
 
 -- the rows of a router, as `matchit` keeps them
 abbrev pub Table : Type 0

@@ -1,5 +1,5 @@
 -- The routes that targets lead to.
-use Rattle.std.specs.Prelude.{◌≡◌, ◌≢◌, ℕ, ◌≤◌, List, Some, option_map, Result, Ok, Err, IsUtf8, decimal, ⊤}
+use Rattle.std.specs.Prelude.{◌≡◌, ◌≢◌, ℕ, ◌≤◌, List, Some, None, option_map, Result, Ok, Err, IsUtf8, decimal, ⊤}
 use Rattle.matchit.specs.Router.{RouteOf}
 use Rattle.matchit.specs.Seek.{first}
 use Rattle.tariff.specs.Tender.{IsTender}
@@ -10,7 +10,7 @@ use Rattle.conversation.specs.declared.message.method.Method.{Method}
 use Rattle.desk.specs.declared.desk_fault.DeskFault.{DeskFault}
 use Rattle.desk.specs.declared.desk_fault.DeskFault.TheVariants as faults
 use Rattle.desk.specs.declared.route.endpoint.Endpoint.{Endpoint}
-use Rattle.desk.specs.declared.route.endpoint.Endpoint.TheVariants.{Tariffs, TariffSteps, Meters, MeterTariff, MeterBase, Shifts, ShiftClosing, Shift, Sales, Sale, SaleReceipt, MeterImports, TariffImports, Health, Meter, LastSale, Quote, SaleOfRef, ShiftTotals}
+use Rattle.desk.specs.declared.route.endpoint.Endpoint.TheVariants.{Tariffs, TariffSteps, Meters, MeterTariff, MeterBase, Shifts, ShiftClosing, Shift, Sales, Sale, SaleReceipt, MeterImports, TariffImports, Health, Meter, LastSale, Quote, SaleOfRef, ShiftTotals, FirstTariffs, TariffsAfter, FirstMeters, MetersAfter, ShiftsAfter, SalesAfter}
 use Rattle.desk.specs.declared.route.Route.{Route}
 use Rattle.desk.specs.declared.route.Route.TheVariants.{AddTariff, AddSteps, AddMeter, SetTariff, MoveBase, OpenShift, CloseShift, ShiftReport, Sell, Reprint, Receipt, ImportMeters, ImportTariffs, LookUp}
 use Rattle.desk.specs.route.Endpoint.{endpoint_method, filled, pattern_of, quote_target, sale_target, table}
@@ -23,6 +23,12 @@ lookup_endpoint (lookups.LastSale meter) = LastSale
 lookup_endpoint (lookups.SaleOfRef operator order_ref) = SaleOfRef
 lookup_endpoint (lookups.Quote meter tender) = Quote
 lookup_endpoint (lookups.ShiftTotals number) = ShiftTotals
+lookup_endpoint (lookups.Tariffs None) = FirstTariffs
+lookup_endpoint (lookups.Tariffs (Some name)) = TariffsAfter
+lookup_endpoint (lookups.Meters None) = FirstMeters
+lookup_endpoint (lookups.Meters (Some meter)) = MetersAfter
+lookup_endpoint (lookups.Shifts number) = ShiftsAfter
+lookup_endpoint (lookups.Sales number) = SalesAfter
 
 -- the endpoint that a route is asked at
 abbrev pub endpoint_of : Route → Endpoint
@@ -46,6 +52,10 @@ pub record IsTargetNumber (number : ℕ) : Type 0 where
   pub from_one : 1 ≤ number
   pub most : number ≤ 1000000000
 
+-- a number after which a page begins; nothing has the number 0
+pub record IsPageStart (number : ℕ) : Type 0 where
+  pub most : number ≤ 1000000000
+
 -- the target is text, and `matchit` finds the endpoint for it
 pub record Finds (target : List ℕ) (endpoint : Endpoint) : Type 0 where
   pub text : IsUtf8 target
@@ -53,7 +63,8 @@ pub record Finds (target : List ℕ) (endpoint : Endpoint) : Type 0 where
       ≡ Some endpoint
 
 -- The target names what is looked up: nothing; a meter's number; a shift's; an operator and a ref;
--- or a meter's number and, as its query, a tender in decimal digits without leading zeros.
+-- or a meter's number and, as its query, a tender in decimal digits without leading zeros. Of a page
+-- its query names what the page begins after: a tariff, a meter, or a number; or nothing.
 abbrev pub NamesLookup : List ℕ → Lookup → Type 0
 NamesLookup target lookups.SaleCount = ⊤
 NamesLookup target (lookups.Meter meter) =
@@ -66,6 +77,16 @@ NamesLookup target (lookups.Quote meter tender) =
     (target ≡ quote_target meter tender) × IsMeterNo meter × IsTender tender
 NamesLookup target (lookups.ShiftTotals number) =
     (target ≡ filled (pattern_of ShiftTotals) (decimal number)) × IsTargetNumber number
+NamesLookup target (lookups.Tariffs None) = ⊤
+NamesLookup target (lookups.Tariffs (Some name)) =
+    (target ≡ filled (pattern_of TariffsAfter) name) × IsName name
+NamesLookup target (lookups.Meters None) = ⊤
+NamesLookup target (lookups.Meters (Some meter)) =
+    (target ≡ filled (pattern_of MetersAfter) meter) × IsMeterNo meter
+NamesLookup target (lookups.Shifts number) =
+    (target ≡ filled (pattern_of ShiftsAfter) (decimal number)) × IsPageStart number
+NamesLookup target (lookups.Sales number) =
+    (target ≡ filled (pattern_of SalesAfter) (decimal number)) × IsPageStart number
 
 -- The target names what the route is for, where the pattern has its parameter: a tariff's name, a
 -- meter's number, or a number without leading zeros. A route whose pattern has none names nothing.

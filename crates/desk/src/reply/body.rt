@@ -7,6 +7,7 @@ use crate::reply::form::Form;
 use crate::reply::found::{health_body, meter_body, quote_body, totals_body};
 use crate::reply::members::{Member, object_text};
 use crate::reply::outcome::Outcome;
+use crate::reply::pages::{meters_body, sales_body, shifts_body, tariffs_body};
 use crate::reply::sale_text::{change, seconds};
 use books::Found;
 use papers::{receipt, shift_report};
@@ -108,7 +109,21 @@ fn found_body(alloc: Global, form: Form, found: &Found) -> Result<Vec<u8>, Alloc
         Found::Sale(sale) => sale_body(alloc, form, sale),
         Found::Quote(quote) => quote_body(alloc, quote),
         Found::ShiftTotals(shift, totals) => totals_body(alloc, *shift, totals),
+        Found::Tariffs(page) => tariffs_body(alloc, page),
+        Found::Meters(page) => meters_body(alloc, page),
+        Found::Shifts(page) => shifts_body(alloc, page),
+        Found::Sales(page) => sales_body(alloc, page),
     }
+}
+
+/// What was found as JSON, a sale too: the body of the reply that tells it so.
+///
+/// # Errors
+/// Want of memory.
+pub fn found_json(alloc: Global, found: &Found) -> Result<Vec<u8>, AllocError>
+    ensures { IfOk result (λ body. body.items ≡ found_body Form.Json found.now) }
+{
+    found_body(alloc, Form::Json, found)
 }
 
 // A sale in a form: itself, or its receipt.
@@ -137,7 +152,7 @@ pub(crate) fn plain_sale(outcome: &Outcome) -> Option<&Sale>
 }
 
 // Whether each byte is a digit. None is left out, so that the processor looks at many at once.
-fn are_digits(text: &[u8; 20]) -> bool
+pub(crate) fn are_digits(text: &[u8; 20]) -> bool
     ensures { IsTrue result ↔ AreTwentyDigits text.now }
 {
     let mut all = true;
@@ -150,7 +165,7 @@ fn are_digits(text: &[u8; 20]) -> bool
 // A sale as JSON, by an object of its members.
 #[cold]
 #[inline(never)]
-fn sale_object(alloc: Global, sale: &Sale) -> Result<Vec<u8>, AllocError>
+pub(crate) fn sale_object(alloc: Global, sale: &Sale) -> Result<Vec<u8>, AllocError>
     ensures { IfOk result (λ body. body.items ≡ json_text (sale_members sale.now)) }
 {
     let members = [

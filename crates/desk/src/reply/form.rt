@@ -35,6 +35,7 @@ impl Form {
             Found::Sale(_) => self,
             Found::SaleCount(_) | Found::Meter(_) | Found::Quote(_) | Found::ShiftTotals(..) =>
                 Form::Json,
+            Found::Tariffs(_) | Found::Meters(_) | Found::Shifts(_) | Found::Sales(_) => Form::Json,
         }
     }
 

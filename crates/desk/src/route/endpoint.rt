@@ -25,6 +25,12 @@ pub enum Endpoint {
     Quote,
     SaleOfRef,
     ShiftTotals,
+    FirstTariffs,
+    TariffsAfter,
+    FirstMeters,
+    MetersAfter,
+    ShiftsAfter,
+    SalesAfter,
 }
 
 impl Endpoint {
@@ -40,6 +46,12 @@ impl Endpoint {
             | Endpoint::Quote
             | Endpoint::SaleOfRef
             | Endpoint::ShiftTotals => Method::Get,
+            Endpoint::FirstTariffs
+            | Endpoint::TariffsAfter
+            | Endpoint::FirstMeters
+            | Endpoint::MetersAfter
+            | Endpoint::ShiftsAfter
+            | Endpoint::SalesAfter => Method::Get,
             Endpoint::Tariffs
             | Endpoint::TariffSteps
             | Endpoint::Meters
@@ -77,6 +89,12 @@ impl Endpoint {
             Endpoint::Quote => "/meters/{meter}/quote?tender={tender}",
             Endpoint::SaleOfRef => "/operators/{operator}/sales/{ref}",
             Endpoint::ShiftTotals => "/shifts/{number}/totals",
+            Endpoint::FirstTariffs => "/tariffs?after=",
+            Endpoint::TariffsAfter => "/tariffs?after={tariff}",
+            Endpoint::FirstMeters => "/meters?after=",
+            Endpoint::MetersAfter => "/meters?after={meter}",
+            Endpoint::ShiftsAfter => "/shifts?after={number}",
+            Endpoint::SalesAfter => "/sales?after={number}",
         }
     }
 }

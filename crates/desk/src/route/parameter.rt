@@ -1,7 +1,7 @@
 ghost use Rattle.std.specs.Prelude.{◌≡◌, ◌≢◌, ◌++◌, ◌∷◌, ◌<◌, ◌≤◌, ◌↔◌, ℕ, List, IsTrue, MatchOption, decimal, length, slice_index, take};
 ghost use Rattle.desk.specs.Reads.{IsFound, ReadsWritten};
 ghost use Rattle.desk.specs.route.Endpoint.{HasParameter, LacksSlash, filled, pattern_of, quote_target, sale_target};
-ghost use Rattle.desk.specs.route.Route.{IsTargetNumber};
+ghost use Rattle.desk.specs.route.Route.{IsPageStart, IsTargetNumber};
 ghost use Rattle.tariff.specs.Tender.{IsTender};
 ghost use Rattle.vend_core.specs.Name.{IsMeterNo, IsName, IsOperator};
 
@@ -19,6 +19,17 @@ pub(crate) fn number_at(endpoint: Endpoint, target: &[u8]) -> Option<u32>
 {
     match parameter_at(endpoint, target) {
         Some(digits) => read_number(digits),
+        None => None,
+    }
+}
+
+// The number that a target has for the parameter of an endpoint, where it may be 0.
+pub(crate) fn start_at(endpoint: Endpoint, target: &[u8]) -> Option<u32>
+    ensures { HasParameter (pattern_of endpoint) → ReadsWritten IsPageStart
+        (λ number. filled (pattern_of endpoint) (decimal number)) target.now result }
+{
+    match parameter_at(endpoint, target) {
+        Some(digits) => read_start(digits),
         None => None,
     }
 }
@@ -156,6 +167,16 @@ fn read_tender(digits: &[u8]) -> Option<Tender>
         Some(cents) => Tender::read(u64::from(cents)),
         None => None,
     }
+}
+
+// The number that digits without leading zeros write, 0 too.
+fn read_start(digits: &[u8]) -> Option<u32>
+    ensures { ReadsWritten IsPageStart decimal digits.now result }
+{
+    if digits == b"0".as_slice() {
+        return Some(0);
+    }
+    read_number(digits)
 }
 
 // The number that digits without leading zeros write.

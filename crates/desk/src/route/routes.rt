@@ -10,7 +10,7 @@ ghost use Rattle.desk.specs.declared.route.Route.{Route};
 use crate::desk_fault::DeskFault;
 use crate::route::Route;
 use crate::route::endpoint::Endpoint;
-use crate::route::parameter::{meter_at, number_at, quote_at, sale_of_ref_at, tariff_at};
+use crate::route::parameter::{meter_at, number_at, quote_at, sale_of_ref_at, start_at, tariff_at};
 use books::Lookup;
 use conversation::Method;
 use matchit::Router;
@@ -18,7 +18,7 @@ use std::alloc::{AllocError, Global};
 use std::str;
 
 // The endpoints, in the order in which their patterns are inserted.
-const ENDPOINTS: [Endpoint; 19] = [
+const ENDPOINTS: [Endpoint; 25] = [
     Endpoint::Tariffs,
     Endpoint::TariffSteps,
     Endpoint::Meters,
@@ -38,6 +38,12 @@ const ENDPOINTS: [Endpoint; 19] = [
     Endpoint::Quote,
     Endpoint::SaleOfRef,
     Endpoint::ShiftTotals,
+    Endpoint::FirstTariffs,
+    Endpoint::TariffsAfter,
+    Endpoint::FirstMeters,
+    Endpoint::MetersAfter,
+    Endpoint::ShiftsAfter,
+    Endpoint::SalesAfter,
 ];
 
 /// The routes of the desk. Memory is taken once, where they are made.
@@ -127,7 +133,16 @@ fn read_route(endpoint: Endpoint, target: &[u8]) -> Option<Route>
         | Endpoint::LastSale
         | Endpoint::Quote
         | Endpoint::SaleOfRef
-        | Endpoint::ShiftTotals => read_lookup(endpoint, target).map(Route::LookUp),
+        | Endpoint::ShiftTotals
+        | Endpoint::FirstTariffs
+        | Endpoint::TariffsAfter
+        | Endpoint::FirstMeters
+        | Endpoint::MetersAfter
+        | Endpoint::ShiftsAfter
+        | Endpoint::SalesAfter => match read_lookup(endpoint, target) {
+            Some(lookup) => Some(Route::LookUp(lookup)),
+            None => None,
+        },
     }
 }
 
@@ -149,6 +164,18 @@ fn read_lookup(endpoint: Endpoint, target: &[u8]) -> Option<Lookup>
             None => None,
         },
         Endpoint::ShiftTotals => number_at(endpoint, target).map(Lookup::ShiftTotals),
+        Endpoint::FirstTariffs => Some(Lookup::Tariffs(None)),
+        Endpoint::TariffsAfter => match tariff_at(endpoint, target) {
+            Some(name) => Some(Lookup::Tariffs(Some(name))),
+            None => None,
+        },
+        Endpoint::FirstMeters => Some(Lookup::Meters(None)),
+        Endpoint::MetersAfter => match meter_at(endpoint, target) {
+            Some(meter) => Some(Lookup::Meters(Some(meter))),
+            None => None,
+        },
+        Endpoint::ShiftsAfter => start_at(endpoint, target).map(Lookup::Shifts),
+        Endpoint::SalesAfter => start_at(endpoint, target).map(Lookup::Sales),
         _ => None,
     }
 }

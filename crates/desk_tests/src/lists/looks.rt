@@ -152,6 +152,99 @@ GET /shifts/01/totals HTTP/1.1~Host: d~~
 > Closed 1388534430
 GET /health? HTTP/1.1~Host: d~~
 404 Not Found, 19 = {'error':'NoRoute'}
+> Closed 1388534430
+GET /tariffs?after= HTTP/1.1~Host: d~~
+200 OK, 148 = {'tariffs':[{'later':[],'name':'block','steps':'500:100;:200'},{'later':[],'name':'fl\
+    at','steps':':100'},{'later':[],'name':'night','steps':':50'}]}
+> Closed 1388534430
+GET /tariffs?after=block HTTP/1.1~Host: d~~
+200 OK, 97 = {'tariffs':[{'later':[],'name':'flat','steps':':100'},{'later':[],'name':'night','step\
+    s':':50'}]}
+> Closed 1388534430
+GET /tariffs?after=c HTTP/1.1~Host: d~~
+200 OK, 97 = {'tariffs':[{'later':[],'name':'flat','steps':':100'},{'later':[],'name':'night','step\
+    s':':50'}]}
+> Closed 1388534430
+GET /tariffs?after=night HTTP/1.1~Host: d~~
+200 OK, 14 = {'tariffs':[]}
+> Closed 1388534430
+GET /meters?after= HTTP/1.1~Host: d~~
+200 OK, 170 = {'meters':[{'base':1993,'meter':'10000000009','tariff':'flat'},{'base':2014,'meter':'\
+    12345678903','tariff':'block'},{'base':2035,'meter':'79927398713','tariff':'night'}]}
+> Closed 1388534430
+GET /meters?after=12345678903 HTTP/1.1~Host: d~~
+200 OK, 65 = {'meters':[{'base':2035,'meter':'79927398713','tariff':'night'}]}
+> Closed 1388534430
+GET /meters?after=00000000000 HTTP/1.1~Host: d~~
+200 OK, 170 = {'meters':[{'base':1993,'meter':'10000000009','tariff':'flat'},{'base':2014,'meter':'\
+    12345678903','tariff':'block'},{'base':2035,'meter':'79927398713','tariff':'night'}]}
+> Closed 1388534430
+GET /meters?after=79927398713 HTTP/1.1~Host: d~~
+200 OK, 13 = {'meters':[]}
+> Closed 1388534430
+GET /shifts?after=0 HTTP/1.1~Host: d~~
+200 OK, 217 = {'shifts':[{'cash':5310,'closed':1388534430,'number':1,'opened':1388534430,'operator'\
+    :'ann','sales':5,'tenths':526},{'cash':0,'closed':1388534430,'number':2,'opened':1388534430,'op\
+    erator':'bob','sales':0,'tenths':0}]}
+> Closed 1388534430
+GET /shifts?after=1 HTTP/1.1~Host: d~~
+200 OK, 112 = {'shifts':[{'cash':0,'closed':1388534430,'number':2,'opened':1388534430,'operator':'b\
+    ob','sales':0,'tenths':0}]}
+> Closed 1388534430
+GET /shifts?after=1000000000 HTTP/1.1~Host: d~~
+200 OK, 13 = {'shifts':[]}
+> Closed 1388534430
+GET /sales?after=3 HTTP/1.1~Host: d~~
+200 OK, 412 = {'sales':[{'base':2014,'change':0,'meter':'12345678903','moment':1591009200,'number':\
+    4,'operator':'ann','price':5000,'ref':'A-4','shift':1,'tender':5000,'tenths':495,'tid':3374641,\
+    'token':'00302724348914924311'},{'base':2014,'change':0,'meter':'12345678903','moment':15909265\
+    20,'number':5,'operator':'ann','price':100,'ref':'A-5','shift':1,'tender':100,'tenths':10,'tid'\
+    :3374642,'token':'00374781947216048422'}]}
+> Closed 1388534430
+GET /sales?after=5 HTTP/1.1~Host: d~~
+200 OK, 12 = {'sales':[]}
+> Closed 725846399
+GET /tariffs?after= HTTP/1.1~Host: d~~
+503 Service Unavailable, 17 = {'error':'Clock'}
+> Closed 1388534430
+POST /tariffs?after= HTTP/1.1~Host: d~~
+405 Method Not Allowed, 18, Allow: GET~ = {'error':'Method'}
+> Closed 1388534430
+POST /tariffs?after=flat HTTP/1.1~Host: d~~
+405 Method Not Allowed, 18, Allow: GET~ = {'error':'Method'}
+> Closed 1388534430
+POST /meters?after= HTTP/1.1~Host: d~~
+405 Method Not Allowed, 18, Allow: GET~ = {'error':'Method'}
+> Closed 1388534430
+POST /meters?after=12345678903 HTTP/1.1~Host: d~~
+405 Method Not Allowed, 18, Allow: GET~ = {'error':'Method'}
+> Closed 1388534430
+POST /shifts?after=0 HTTP/1.1~Host: d~~
+405 Method Not Allowed, 18, Allow: GET~ = {'error':'Method'}
+> Closed 1388534430
+POST /sales?after=0 HTTP/1.1~Host: d~~
+405 Method Not Allowed, 18, Allow: GET~ = {'error':'Method'}
+> Closed 1388534430
+GET /tariffs HTTP/1.1~Host: d~~
+405 Method Not Allowed, 18, Allow: POST~ = {'error':'Method'}
+> Closed 1388534430
+GET /sales HTTP/1.1~Host: d~~
+405 Method Not Allowed, 18, Allow: POST~ = {'error':'Method'}
+> Closed 1388534430
+GET /tariffs?after=a_b HTTP/1.1~Host: d~~
+404 Not Found, 19 = {'error':'NoRoute'}
+> Closed 1388534430
+GET /meters?after=12345678904 HTTP/1.1~Host: d~~
+404 Not Found, 19 = {'error':'NoRoute'}
+> Closed 1388534430
+GET /shifts?after= HTTP/1.1~Host: d~~
+404 Not Found, 19 = {'error':'NoRoute'}
+> Closed 1388534430
+GET /shifts?after=01 HTTP/1.1~Host: d~~
+404 Not Found, 19 = {'error':'NoRoute'}
+> Closed 1388534430
+GET /sales?after=1000000001 HTTP/1.1~Host: d~~
+404 Not Found, 19 = {'error':'NoRoute'}
 "
 }
 
@@ -192,5 +285,40 @@ GET /operators/ann/sales/B-2 HTTP/1.1~Host: d~~
 > Closed 1388534430
 GET /shifts/1/totals HTTP/1.1~Host: d~~
 200 OK, 44 = {'cash':600,'sales':6,'shift':1,'tenths':45}
+> Closed 1388534430
+GET /tariffs?after= HTTP/1.1~Host: d~~
+200 OK, 136 = {'tariffs':[{'later':[{'from':'2014-02-01','steps':':200'},{'from':'2099-12-31','step\
+    s':'1:1;:1000000'}],'name':'flat','steps':':100'}]}
+> Closed 1391212799
+GET /tariffs?after= HTTP/1.1~Host: d~~
+200 OK, 136 = {'tariffs':[{'later':[{'from':'2014-02-01','steps':':200'},{'from':'2099-12-31','step\
+    s':'1:1;:1000000'}],'name':'flat','steps':':100'}]}
+> Closed 1391212800
+GET /tariffs?after= HTTP/1.1~Host: d~~
+200 OK, 99 = {'tariffs':[{'later':[{'from':'2099-12-31','steps':'1:1;:1000000'}],'name':'flat','ste\
+    ps':':200'}]}
+> Closed 4102358399
+GET /tariffs?after= HTTP/1.1~Host: d~~
+200 OK, 99 = {'tariffs':[{'later':[{'from':'2099-12-31','steps':'1:1;:1000000'}],'name':'flat','ste\
+    ps':':200'}]}
+> Closed 4102358400
+GET /tariffs?after= HTTP/1.1~Host: d~~
+200 OK, 63 = {'tariffs':[{'later':[],'name':'flat','steps':'1:1;:1000000'}]}
+> Closed 1388534430
+GET /meters?after= HTTP/1.1~Host: d~~
+200 OK, 116 = {'meters':[{'base':2014,'meter':'10000000009','tariff':'flat'},{'base':2014,'meter':'\
+    12345678903','tariff':'flat'}]}
+> Closed 1388534430
+GET /meters?after=10000000009 HTTP/1.1~Host: d~~
+200 OK, 64 = {'meters':[{'base':2014,'meter':'12345678903','tariff':'flat'}]}
+> Closed 1388534430
+GET /shifts?after=0 HTTP/1.1~Host: d~~
+200 OK, 109 = {'shifts':[{'cash':600,'closed':null,'number':1,'opened':1388534430,'operator':'ann',\
+    'sales':6,'tenths':45}]}
+> Closed 1388534430
+GET /sales?after=5 HTTP/1.1~Host: d~~
+200 OK, 209 = {'sales':[{'base':2014,'change':0,'meter':'10000000009','moment':1732479359,'number':\
+    6,'operator':'ann','price':100,'ref':'A-3','shift':1,'tender':100,'tenths':5,'tid':5732416,'tok\
+    en':'00456966103475019191'}]}
 "
 }

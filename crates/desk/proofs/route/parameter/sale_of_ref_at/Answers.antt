@@ -1,4 +1,4 @@
-use Rattle.std.proofs.Common.{codes, None, Some}
+use Rattle.std.proofs.Common.{codes, None}
 use Rattle.vend_core.specs.Name.{IsName, IsOperator}
 use Rattle.desk.proofs.ParameterLemmas.{letters_lack, no_first, no_second, reads_name}
 use Rattle.desk.proofs.route.parameter.sale_of_ref_at.Goals as goal
