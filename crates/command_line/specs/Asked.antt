@@ -2,10 +2,11 @@
 use Rattle.std.specs.Prelude.{◌≡◌, List, [], Option, Some, None, codes}
 use Rattle.clap.specs.Walk.{Row}
 use Rattle.sts_fields.specs.Text.{Text}
-use Rattle.command_line.specs.Commands.{SaysAudit, SaysImport, SaysMeterCommand, SaysOffer, SaysQuote, SaysReport, SaysRequestWords, SaysSelfcheck, SaysServe, SaysShow, SaysTrial}
+use Rattle.command_line.specs.Commands.{SaysAudit, SaysImport, SaysList, SaysMeterCommand, SaysOffer, SaysQuote, SaysReport, SaysRequestWords, SaysSelfcheck, SaysServe, SaysShow, SaysTrial}
 use Rattle.command_line.specs.Line.{command_in, faults_in}
 use Rattle.command_line.specs.declared.asked.Asked.{Asked}
 use Rattle.command_line.specs.declared.asked.Asked.TheVariants.{Trial, Import, Request, Report, Show, Meter, Quote, Offer, Serve, Selfcheck, Audit}
+use Rattle.command_line.specs.declared.asked.Asked.TheVariants as variants
 
 -- the command of this name asks for this, as its rows say
 abbrev pub ArgumentsSay : (name : Text) → List Row → Asked → Type 0
@@ -14,6 +15,7 @@ ArgumentsSay name rows (Import words) = (name ≡ codes "import") × SaysImport 
 ArgumentsSay name rows (Request words) = SaysRequestWords name rows words
 ArgumentsSay name rows (Report words) = (name ≡ codes "report") × SaysReport rows words
 ArgumentsSay name rows (Show words) = (name ≡ codes "show") × SaysShow rows words
+ArgumentsSay name rows (variants.List words) = (name ≡ codes "list") × SaysList rows words
 ArgumentsSay name rows (Meter words) = (name ≡ codes "meter") × SaysMeterCommand rows words
 ArgumentsSay name rows (Quote words) = (name ≡ codes "quote") × SaysQuote rows words
 ArgumentsSay name rows (Offer words) = (name ≡ codes "offer") × SaysOffer rows words

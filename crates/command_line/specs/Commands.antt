@@ -1,14 +1,17 @@
 -- What the words of each command say, by its rows.
-use Rattle.std.specs.Prelude.{◌≡◌, List, Option, Some, codes}
+use Rattle.std.specs.Prelude.{◌≡◌, ℕ, false, List, Option, Some, None, codes}
 use Rattle.clap.specs.Walk.{Row}
 use Rattle.papers.specs.declared.file_kind.FileKind.{FileKind}
 use Rattle.papers.specs.declared.file_kind.FileKind.TheVariants.{Meters, Tariffs}
 use Rattle.sts_fields.specs.Text.{Text}
 use Rattle.command_line.specs.Address.{SaysAddress}
 use Rattle.command_line.specs.Said.{IsArgument, IsOptionalArgument, parsed_arguments, parsed_argument}
-use Rattle.command_line.specs.Values.{SayEach, SaysAmount, SaysBase, SaysConnections, SaysItem, SaysKey, SaysMeterNo, SaysMoment, SaysOperator, SaysPrior, SaysRef, SaysSteps, SaysTender, SaysText, SaysTransform, SaysWait}
+use Rattle.command_line.specs.Values.{SayEach, SaysAfter, SaysAmount, SaysBase, SaysConnections, SaysFlag, SaysItem, SaysKey, SaysMeterNo, SaysMoment, SaysOperator, SaysPrior, SaysRef, SaysSteps, SaysTariff, SaysTender, SaysText, SaysTransform, SaysWait}
 use Rattle.command_line.specs.declared.commands.audit.AuditWords.{AuditWords}
 use Rattle.command_line.specs.declared.commands.import.ImportWords.{ImportWords}
+use Rattle.command_line.specs.declared.commands.list.ListWords.{ListWords}
+use Rattle.command_line.specs.declared.commands.list.Listed.{Listed}
+use Rattle.command_line.specs.declared.commands.list.Listed.TheVariants as listed
 use Rattle.command_line.specs.declared.commands.meter.MeterWords.{MeterWords}
 use Rattle.command_line.specs.declared.commands.offer.OfferWords.{OfferWords}
 use Rattle.command_line.specs.declared.commands.quote.QuoteWords.{QuoteWords}
@@ -117,11 +120,13 @@ pub record SaysReport (rows : List Row) (words : ReportWords) : Type 0 where
   pub paper : SaysPaper (parsed_argument (codes "kind") rows)
       (parsed_argument (codes "number") rows) words.paper
 
--- a meter, or its last sale, by its number; a sale by its operator and ref
+-- a meter, or its last sale, by its number; a sale by its operator and ref. The last sale is shown
+-- by its receipt, which is no JSON.
 abbrev pub SaysShown : List Row → Shown → Type 0
 SaysShown rows (shown.Meter meter) = (parsed_argument (codes "what") rows ≡ Some (codes "meter"))
     × IsArgument SaysMeterNo (parsed_argument (codes "meter") rows) meter
 SaysShown rows (shown.Last meter) = (parsed_argument (codes "what") rows ≡ Some (codes "last"))
+    × IsArgument SaysFlag (parsed_argument (codes "json") rows) false
     × IsArgument SaysMeterNo (parsed_argument (codes "meter") rows) meter
 SaysShown rows (shown.Sale operator order_ref) =
     (parsed_argument (codes "what") rows ≡ Some (codes "sale"))
@@ -133,6 +138,34 @@ pub record SaysShow (rows : List Row) (words : ShowWords) : Type 0 where
   pub wait : IsArgument SaysWait (parsed_argument (codes "wait") rows) words.wait
   pub at : IsOptionalArgument SaysMoment (parsed_argument (codes "at") rows) words.at
   pub shown : SaysShown rows words.shown
+  pub json : IsArgument SaysFlag (parsed_argument (codes "json") rows) words.json
+
+-- the number of the member after which a list begins, or 0 where it is left out
+abbrev pub IsNumberOrNone : Option Text → ℕ → Type 0
+IsNumberOrNone None number = number ≡ 0
+IsNumberOrNone (Some text) number = SaysAfter text number
+
+-- the members after one of them, or all where none is given
+abbrev pub SaysListed : List Row → Listed → Type 0
+SaysListed rows (listed.Tariffs after) =
+    (parsed_argument (codes "what") rows ≡ Some (codes "tariffs"))
+    × IsOptionalArgument SaysTariff (parsed_argument (codes "after") rows) after
+SaysListed rows (listed.Meters after) =
+    (parsed_argument (codes "what") rows ≡ Some (codes "meters"))
+    × IsOptionalArgument SaysMeterNo (parsed_argument (codes "after") rows) after
+SaysListed rows (listed.Shifts after) =
+    (parsed_argument (codes "what") rows ≡ Some (codes "shifts"))
+    × IsNumberOrNone (parsed_argument (codes "after") rows) after
+SaysListed rows (listed.Sales after) =
+    (parsed_argument (codes "what") rows ≡ Some (codes "sales"))
+    × IsNumberOrNone (parsed_argument (codes "after") rows) after
+
+pub record SaysList (rows : List Row) (words : ListWords) : Type 0 where
+  pub file : IsArgument SaysText (parsed_argument (codes "file") rows) words.file
+  pub wait : IsArgument SaysWait (parsed_argument (codes "wait") rows) words.wait
+  pub at : IsOptionalArgument SaysMoment (parsed_argument (codes "at") rows) words.at
+  pub listed : SaysListed rows words.listed
+  pub json : IsArgument SaysFlag (parsed_argument (codes "json") rows) words.json
 
 pub record SaysOffer (rows : List Row) (words : OfferWords) : Type 0 where
   pub file : IsArgument SaysText (parsed_argument (codes "file") rows) words.file
@@ -140,6 +173,7 @@ pub record SaysOffer (rows : List Row) (words : OfferWords) : Type 0 where
   pub at : IsOptionalArgument SaysMoment (parsed_argument (codes "at") rows) words.at
   pub meter : IsArgument SaysMeterNo (parsed_argument (codes "meter") rows) words.meter
   pub tender : IsArgument SaysTender (parsed_argument (codes "tender") rows) words.tender
+  pub json : IsArgument SaysFlag (parsed_argument (codes "json") rows) words.json
 
 pub record SaysServe (rows : List Row) (words : ServeWords) : Type 0 where
   pub transform : IsArgument SaysTransform

@@ -7,6 +7,7 @@ use Rattle.clap.specs.Walk.{Row, Rule}
 use Rattle.clap.specs.Simple.{App, Shape, app_of, new_rule, new_shape, subcommand_of}
 use Rattle.clap.specs.Faults.{fault_of}
 use Rattle.clap.specs.Kinds.{Kinds}
+use Rattle.clap.specs.declared.builder.action.ArgAction.TheVariants.{SetTrue}
 use Rattle.clap.specs.declared.builder.command.Command.{Command}
 use Rattle.clap.specs.declared.builder.command.Command.TheViews.{out-Command as fields_of}
 use Rattle.sts_fields.specs.Text.{Text}
@@ -24,6 +25,10 @@ needed name = record (option_named name) { required = true }
 -- the same, where it has this value if it is left out
 abbrev pub with_default : Text → Text → Rule
 with_default name text = record (option_named name) { defaults = text ∷ [] }
+
+-- --NAME, which may be left out
+abbrev pub flag_named : Text → Rule
+flag_named name = record (new_rule name) { long = Some name; action = Some SetTrue }
 
 -- a word at its place
 abbrev pub word_named : Text → Rule
@@ -44,6 +49,9 @@ at_option = option_named (codes "at")
 -- where it is left out a command waits for the file for five seconds
 abbrev pub wait_option : Rule
 wait_option = with_default (codes "wait") (codes "5")
+
+abbrev pub json_option : Rule
+json_option = flag_named (codes "json")
 
 -- ---- commands
 
@@ -78,11 +86,15 @@ report_command = command_named (codes "report") (needed (codes "file") ∷ wait_
 abbrev pub show_command : Shape
 show_command = command_named (codes "show") (needed (codes "file") ∷ wait_option ∷ at_option
     ∷ option_named (codes "meter") ∷ option_named (codes "operator") ∷ option_named (codes "ref")
-    ∷ word_named (codes "what") ∷ [])
+    ∷ json_option ∷ word_named (codes "what") ∷ [])
+
+abbrev pub list_command : Shape
+list_command = command_named (codes "list") (needed (codes "file") ∷ wait_option ∷ at_option
+    ∷ option_named (codes "after") ∷ json_option ∷ word_named (codes "what") ∷ [])
 
 abbrev pub offer_command : Shape
 offer_command = command_named (codes "offer") (needed (codes "file") ∷ wait_option ∷ at_option
-    ∷ needed (codes "meter") ∷ word_named (codes "tender") ∷ [])
+    ∷ needed (codes "meter") ∷ json_option ∷ word_named (codes "tender") ∷ [])
 
 abbrev pub meter_command : Shape
 meter_command = command_named (codes "meter")
@@ -107,8 +119,8 @@ audit_command = command_named (codes "audit") (needed (codes "file") ∷ wait_op
 -- the commands, each of which has one level of words
 abbrev pub commands : List Shape
 commands = import_command ∷ shift_command ∷ sell_command ∷ report_command ∷ show_command
-    ∷ offer_command ∷ base_command ∷ audit_command ∷ serve_command ∷ quote_command
-    ∷ meter_command ∷ trial_command ∷ selfcheck_command ∷ []
+    ∷ list_command ∷ offer_command ∷ base_command ∷ audit_command ∷ serve_command
+    ∷ quote_command ∷ meter_command ∷ trial_command ∷ selfcheck_command ∷ []
 
 abbrev pub has_none : List Shape → Bool
 has_none [] = true

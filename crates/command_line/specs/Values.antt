@@ -1,5 +1,5 @@
 -- What a word says: each kind of value with the texts that stand for it.
-use Rattle.std.specs.Prelude.{◌≡◌, ℕ, ◌<◌, ◌≤◌, ◌^◌, ⊤, List, [], ◌∷◌, Option, Some, None, codes}
+use Rattle.std.specs.Prelude.{◌≡◌, ℕ, ◌<◌, ◌≤◌, ◌^◌, ⊤, Bool, true, false, List, [], ◌∷◌, Option, Some, None, codes}
 use Rattle.std.specs.Borrow.{Bor}
 use Rattle.std.specs.Str.Parse.{IsNumeral, digits_value}
 use Rattle.sts_fields.specs.Base.{year_of}
@@ -79,6 +79,21 @@ SaysRef text order_ref = (text ≡ order_ref) × IsName order_ref
 
 abbrev pub SaysMeterNo : Text → Text → Type 0
 SaysMeterNo text meter = (text ≡ meter) × IsMeterNo meter
+
+-- the number after which a list begins: 0 for all of them
+abbrev pub SaysAfter : Text → ℕ → Type 0
+SaysAfter text number = SaysNumber text number × (number ≤ 10 ^ 9)
+
+abbrev pub SaysTariff : Text → Text → Type 0
+SaysTariff text tariff = (text ≡ tariff) × IsName tariff
+
+-- whether a flag is among the words, as `clap` says it
+abbrev pub flag_text : Bool → Text
+flag_text true = codes "true"
+flag_text false = codes "false"
+
+abbrev pub SaysFlag : Text → Bool → Type 0
+SaysFlag text flag = text ≡ flag_text flag
 
 -- a path, or another text that has no rule
 abbrev pub SaysText : Text → Bor Text → Type 0

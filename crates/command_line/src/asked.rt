@@ -4,6 +4,7 @@ ghost use Rattle.command_line.specs.Said.{ReadsOrFull};
 
 use crate::commands::audit::AuditWords;
 use crate::commands::import::ImportWords;
+use crate::commands::list::ListWords;
 use crate::commands::meter::MeterWords;
 use crate::commands::offer::OfferWords;
 use crate::commands::quote::QuoteWords;
@@ -26,6 +27,7 @@ pub enum Asked<'m, 'a> {
     Request(RequestWords<'a>),
     Report(ReportWords<'a>),
     Show(ShowWords<'a>),
+    List(ListWords<'a>),
     Meter(MeterWords<'m, 'a>),
     Quote(QuoteWords),
     Offer(OfferWords<'a>),
@@ -51,6 +53,10 @@ impl<'m, 'a> Asked<'m, 'a> {
             },
             Some(("show", words)) => match ShowWords::read(words) {
                 Some(words) => Ok(Asked::Show(words)),
+                None => Err(BadWords::Value),
+            },
+            Some(("list", words)) => match ListWords::read(words) {
+                Some(words) => Ok(Asked::List(words)),
                 None => Err(BadWords::Value),
             },
             Some(("meter", words)) => match MeterWords::read(words) {

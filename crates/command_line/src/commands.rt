@@ -2,6 +2,7 @@
 pub mod audit;
 pub mod base;
 pub mod import;
+pub mod list;
 pub mod meter;
 pub mod offer;
 pub mod quote;

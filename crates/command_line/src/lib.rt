@@ -8,6 +8,7 @@ pub use address::Address;
 pub use asked::Asked;
 pub use commands::audit::AuditWords;
 pub use commands::import::ImportWords;
+pub use commands::list::{ListWords, Listed};
 pub use commands::meter::MeterWords;
 pub use commands::offer::OfferWords;
 pub use commands::quote::QuoteWords;

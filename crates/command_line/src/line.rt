@@ -7,7 +7,8 @@ ghost use Rattle.command_line.specs.Line.{quotes_by_file, sells_by_base};
 ghost use Rattle.sts_fields.specs.Text.{Text};
 
 use crate::commands::{
-    audit, base, import, meter, offer, quote, report, selfcheck, sell, serve, shift, show, trial,
+    audit, base, import, list, meter, offer, quote, report, selfcheck, sell, serve, shift, show,
+    trial,
 };
 use clap::{ArgMatches, Command, Error};
 use std::alloc::{AllocError, Global};
@@ -91,6 +92,7 @@ fn describe<'a>(alloc: Global) -> Result<Command<'a>, AllocError>
     let line = with(line, sell::describe(alloc)?)?;
     let line = with(line, report::describe(alloc)?)?;
     let line = with(line, show::describe(alloc)?)?;
+    let line = with(line, list::describe(alloc)?)?;
     let line = with(line, offer::describe(alloc)?)?;
     let line = with(line, base::describe(alloc)?)?;
     let line = with(line, audit::describe(alloc)?)?;

@@ -3,16 +3,17 @@ ghost use Rattle.std.specs.Prelude.{◌≡◌, ◌∷◌, ◌++◌, [], false, c
 ghost use Rattle.clap.specs.Walk.{Rule, rule_of};
 ghost use Rattle.clap.specs.Simple.{Shape};
 ghost use Rattle.command_line.specs.Line.{IsDescribed, command_named};
-ghost use Rattle.command_line.specs.Line.{at_option, needed, option_named, transform_option, wait_option};
+ghost use Rattle.command_line.specs.Line.{at_option, json_option, needed, option_named};
+ghost use Rattle.command_line.specs.Line.{transform_option, wait_option};
 ghost use Rattle.command_line.specs.Line.{word_named, words_named};
 ghost use Rattle.command_line.specs.Said.{IsArgument, IsOptionalArgument, ReadsWhat, argument_rows, parsed_argument};
-ghost use Rattle.command_line.specs.Values.{SaysBase, SaysKey, SaysMeterNo, SaysMoment, SaysOperator};
-ghost use Rattle.command_line.specs.Values.{SaysRef};
+ghost use Rattle.command_line.specs.Values.{SaysBase, SaysFlag, SaysKey, SaysMeterNo, SaysMoment};
+ghost use Rattle.command_line.specs.Values.{SaysOperator, SaysRef};
 ghost use Rattle.command_line.specs.Values.{SaysTender, SaysText, SaysTransform, SaysWait};
 
 use crate::transform::Shipped;
 use crate::{said, values};
-use clap::{Arg, ArgMatches, Command};
+use clap::{Arg, ArgAction, ArgMatches, Command};
 use std::alloc::{AllocError, Global};
 use sts_fields::{Base, Moment};
 use sts_token::read_key;
@@ -180,6 +181,24 @@ pub(crate) fn read_ref(matches: &ArgMatches) -> Option<Ref>
         (parsed_argument (codes "ref") (argument_rows matches.now))) }
 {
     Ref::read(said::text(matches, "ref")?.as_bytes())
+}
+
+/// `--json`, of a command that prints what it looks up as lines where this is left out.
+pub(crate) fn json<'a>(alloc: Global, help: &'a str) -> Arg<'a>
+    ensures rule { rule_of result ≡ json_option }
+    ensures own { result.global ≡ false }
+{
+    Arg::new(alloc, "json")
+        .long("json")
+        .action(ArgAction::SetTrue)
+        .help(help)
+}
+
+pub(crate) fn read_json(matches: &ArgMatches) -> Option<bool>
+    ensures { ReadsWhat result (IsArgument SaysFlag
+        (parsed_argument (codes "json") (argument_rows matches.now))) }
+{
+    values::flag(said::text(matches, "json")?)
 }
 
 /// `--meter`.

@@ -1,8 +1,9 @@
 //! The values that words say, each read exactly by its rule.
 ghost use Rattle.std.specs.Prelude.{map};
 ghost use Rattle.command_line.specs.Said.{ReadsOrFull};
-ghost use Rattle.command_line.specs.Values.{ReadsBy, SayEach, SaysAmount, SaysBase, SaysConnections};
-ghost use Rattle.command_line.specs.Values.{SaysCount, SaysItem, SaysMoment, SaysOctet, SaysPort};
+ghost use Rattle.command_line.specs.Values.{ReadsBy, SayEach, SaysAfter, SaysAmount, SaysBase};
+ghost use Rattle.command_line.specs.Values.{SaysConnections, SaysCount, SaysFlag, SaysItem};
+ghost use Rattle.command_line.specs.Values.{SaysMoment, SaysOctet, SaysPort};
 ghost use Rattle.command_line.specs.Values.{SaysPrior, SaysTender, SaysWait};
 
 use crate::words::BadWords;
@@ -71,6 +72,29 @@ pub(crate) fn item(word: &str) -> Option<u32>
         Some(number)
     } else {
         None
+    }
+}
+
+/// The number after which a list begins, 0 to 10^9.
+pub(crate) fn after(word: &str) -> Option<u32>
+    ensures { ReadsBy SaysAfter word.now result }
+{
+    let number = u32::try_from(number(word)?).ok()?;
+    if number <= GREATEST_COUNT as u32 {
+        Some(number)
+    } else {
+        None
+    }
+}
+
+/// Whether a flag is among the words.
+pub(crate) fn flag(word: &str) -> Option<bool>
+    ensures { ReadsBy SaysFlag word.now result }
+{
+    match word {
+        "true" => Some(true),
+        "false" => Some(false),
+        _ => None,
     }
 }
 

@@ -21,14 +21,17 @@ pub struct OfferWords<'a> {
     pub at: Option<Moment>,
     pub meter: MeterNo,
     pub tender: Tender,
+    /// As JSON and not as lines.
+    pub json: bool,
 }
 
-/// `offer --file F [--wait S] [--at S] --meter M TENDER`.
+/// `offer --file F [--wait S] [--at S] --meter M [--json] TENDER`.
 pub(crate) fn describe<'a>(alloc: Global) -> Result<Command<'a>, AllocError>
     ensures { IfOk result (IsDescribed offer_command) }
 {
     let about = "Prints what a tender would buy for a meter of a file now, as 'quote' does, and \
         sells nothing; 'quote --file ..' means the same";
+    let json = "Print the JSON that 'vend serve' replies";
     let tender = "The money in whole cents, 1 to 100000000";
     let example = "Example: vend quote --file office.db --meter 12345678903 1000";
     let command = options::command(alloc, "offer", about, example);
@@ -36,6 +39,7 @@ pub(crate) fn describe<'a>(alloc: Global) -> Result<Command<'a>, AllocError>
     let command = with(command, options::wait(alloc))?;
     let command = with(command, options::at(alloc))?;
     let command = with(command, options::meter(alloc))?;
+    let command = with(command, options::json(alloc, json))?;
     with(command, options::word(alloc, "tender", "TENDER", tender))
 }
 
@@ -49,6 +53,7 @@ impl<'a> OfferWords<'a> {
             at: options::read_at(matches)?,
             meter: options::read_meter(matches)?,
             tender: options::read_tender(matches)?,
+            json: options::read_json(matches)?,
         })
     }
 }

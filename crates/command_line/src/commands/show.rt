@@ -31,19 +31,22 @@ pub struct ShowWords<'a> {
     /// The machine's clock where it is left out.
     pub at: Option<Moment>,
     pub shown: Shown,
+    /// As JSON and not as lines; false with `Last`.
+    pub json: bool,
 }
 
-/// `show --file F [--wait S] [--at S] meter|last --meter M`, and
-/// `show --file F [--wait S] [--at S] sale --operator O --ref R`.
+/// `show --file F [--wait S] [--at S] [--json] meter --meter M`, the same with
+/// `sale --operator O --ref R`, and `show --file F [--wait S] [--at S] last --meter M`.
 pub(crate) fn describe<'a>(alloc: Global) -> Result<Command<'a>, AllocError>
     ensures { IfOk result (IsDescribed show_command) }
 {
     let about = "Prints a meter and what it bought this month, a sale by its ref, or the receipt \
-        of a meter's last sale; changes nothing";
+        of a meter's last sale";
     let meter = "With meter and last: the meter's number, eleven digits of which the last is a \
         Luhn check";
     let operator = "With sale: the cashier who sold, 1 to 16 ASCII letters or digits";
     let order_ref = "With sale: your name for the order, 1 to 32 ASCII letters, digits or hyphens";
+    let json = "With meter and sale: print the JSON that 'vend serve' replies";
     let what = "What to print: meter, sale or last";
     let example = "Example: vend show --file office.db meter --meter 12345678903";
     let command = options::command(alloc, "show", about, example);
@@ -53,6 +56,7 @@ pub(crate) fn describe<'a>(alloc: Global) -> Result<Command<'a>, AllocError>
     let command = with(command, option(alloc, "meter", "NUMBER", meter))?;
     let command = with(command, option(alloc, "operator", "NAME", operator))?;
     let command = with(command, option(alloc, "ref", "REF", order_ref))?;
+    let command = with(command, options::json(alloc, json))?;
     with(command, options::word(alloc, "what", "WHAT", what))
 }
 
@@ -65,6 +69,7 @@ impl<'a> ShowWords<'a> {
             wait: options::read_wait(matches)?,
             at: options::read_at(matches)?,
             shown: read_shown(matches)?,
+            json: options::read_json(matches)?,
         })
     }
 }
@@ -74,7 +79,11 @@ fn read_shown(matches: &ArgMatches) -> Option<Shown>
 {
     match said::text(matches, "what")? {
         "meter" => Some(Shown::Meter(options::read_meter(matches)?)),
-        "last" => Some(Shown::Last(options::read_meter(matches)?)),
+        // A receipt is a text, and no JSON.
+        "last" => match options::read_json(matches)? {
+            true => None,
+            false => Some(Shown::Last(options::read_meter(matches)?)),
+        },
         "sale" => {
             let operator = options::read_operator(matches)?;
             Some(Shown::Sale(operator, options::read_ref(matches)?))

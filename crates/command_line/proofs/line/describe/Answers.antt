@@ -15,4 +15,5 @@ returns c =
     let after10 = c.in_ok-line-11.ensures _ _ after9 c.in_ok-describe-10.ensures in
     let after11 = c.in_ok-line-12.ensures _ _ after10 c.in_ok-describe-11.ensures in
     let after12 = c.in_ok-line-13.ensures _ _ after11 c.in_ok-describe-12.ensures in
-    c.with-13.ensures _ _ after12 c.in_ok-describe-13.ensures
+    let after13 = c.in_ok-line-14.ensures _ _ after12 c.in_ok-describe-13.ensures in
+    c.with-14.ensures _ _ after13 c.in_ok-describe-14.ensures

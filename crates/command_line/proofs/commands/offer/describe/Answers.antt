@@ -6,4 +6,5 @@ returns c =
     let after2 = c.in_ok-command-2.ensures _ _ after1 c.wait.ensures.rule in
     let after3 = c.in_ok-command-3.ensures _ _ after2 c.at.ensures.rule in
     let after4 = c.in_ok-command-4.ensures _ _ after3 c.meter.ensures.rule in
-    c.with-5.ensures _ _ after4 c.word.ensures.rule
+    let after5 = c.in_ok-command-5.ensures _ _ after4 c.json.ensures.rule in
+    c.with-6.ensures _ _ after5 c.word.ensures.rule

@@ -8,4 +8,5 @@ returns c =
     let after4 = c.in_ok-command-4.ensures _ _ after3 c.option.ensures.rule in
     let after5 = c.in_ok-command-5.ensures _ _ after4 c.option-2.ensures.rule in
     let after6 = c.in_ok-command-6.ensures _ _ after5 c.option-3.ensures.rule in
-    c.with-7.ensures _ _ after6 c.word.ensures.rule
+    let after7 = c.in_ok-command-7.ensures _ _ after6 c.json.ensures.rule in
+    c.with-8.ensures _ _ after7 c.word.ensures.rule

@@ -1,0 +1,119 @@
+ghost use Rattle.std.specs.Prelude.{codes, IfOk};
+ghost use Rattle.command_line.specs.Commands.{IsNumberOrNone, SaysList, SaysListed};
+ghost use Rattle.command_line.specs.Line.{IsDescribed, list_command};
+ghost use Rattle.command_line.specs.Said.{IsOptionalArgument, ReadsWhat, argument_rows, parsed_argument};
+ghost use Rattle.command_line.specs.Values.{SaysMeterNo, SaysTariff};
+
+use crate::options::{self, option, with};
+use crate::{said, values};
+use clap::{ArgMatches, Command};
+use std::alloc::{AllocError, Global};
+use sts_fields::Moment;
+use vend_core::{MeterNo, TariffName};
+
+/// What is listed of an office: all members of a kind, or those after one, in the order of their
+/// keys. It need not be there.
+#[derive(Clone, Copy, Debug, PartialEq, Eq)]
+pub enum Listed {
+    /// The tariffs, after a name in the order of its bytes.
+    Tariffs(Option<TariffName>),
+    /// The meters after a number, without their keys.
+    Meters(Option<MeterNo>),
+    /// The shifts after a number, 0 to 10^9.
+    Shifts(u32),
+    /// The sales after a number, 0 to 10^9.
+    Sales(u32),
+}
+
+/// What `list` is asked for: the members of an office.
+#[derive(Clone, Copy)]
+pub struct ListWords<'a> {
+    /// The file that keeps the office. It is not made.
+    pub file: &'a str,
+    /// For how many seconds it waits while another program has the file, 0 to 3600.
+    pub wait: u32,
+    /// The machine's clock where it is left out.
+    pub at: Option<Moment>,
+    pub listed: Listed,
+    /// As JSON, a line for each page, and not as a line for each member.
+    pub json: bool,
+}
+
+/// `list --file F [--wait S] [--at S] [--after KEY] [--json] tariffs|meters|shifts|sales`.
+pub(crate) fn describe<'a>(alloc: Global) -> Result<Command<'a>, AllocError>
+    ensures { IfOk result (IsDescribed list_command) }
+{
+    let about = "Prints the tariffs with their steps, the meters without their keys, the shifts \
+        with their totals, or the sales";
+    let after = "Print only what comes after this: with tariffs a name, with meters a number of \
+        eleven digits, with shifts and sales a number from 0 to 1000000000";
+    let json = "Print the JSON that 'vend serve' replies, a line for each page of at most 100";
+    let what = "What to print: tariffs, meters, shifts or sales";
+    let example = "Example: vend list --file office.db meters";
+    let command = options::command(alloc, "list", about, example);
+    let command = with(command, options::present_file(alloc))?;
+    let command = with(command, options::wait(alloc))?;
+    let command = with(command, options::at(alloc))?;
+    let command = with(command, option(alloc, "after", "KEY", after))?;
+    let command = with(command, options::json(alloc, json))?;
+    with(command, options::word(alloc, "what", "WHAT", what))
+}
+
+impl<'a> ListWords<'a> {
+    pub(crate) fn read(matches: &ArgMatches<'a>) -> Option<ListWords<'a>>
+        ensures { ReadsWhat result (SaysList (argument_rows matches.now)) }
+    {
+        Some(ListWords {
+            file: options::read_file(matches)?,
+            wait: options::read_wait(matches)?,
+            at: options::read_at(matches)?,
+            listed: read_listed(matches)?,
+            json: options::read_json(matches)?,
+        })
+    }
+}
+
+fn read_listed(matches: &ArgMatches) -> Option<Listed>
+    ensures { ReadsWhat result (SaysListed (argument_rows matches.now)) }
+{
+    match said::text(matches, "what")? {
+        "tariffs" => Some(Listed::Tariffs(tariff_after(matches)?)),
+        "meters" => Some(Listed::Meters(meter_after(matches)?)),
+        "shifts" => Some(Listed::Shifts(number_after(matches)?)),
+        "sales" => Some(Listed::Sales(number_after(matches)?)),
+        _ => None,
+    }
+}
+
+// The name that is given, or `None` within where none is.
+fn tariff_after(matches: &ArgMatches) -> Option<Option<TariffName>>
+    ensures { ReadsWhat result (IsOptionalArgument SaysTariff
+        (parsed_argument (codes "after") (argument_rows matches.now))) }
+{
+    match said::text(matches, "after") {
+        Some(word) => Some(Some(TariffName::read(word.as_bytes())?)),
+        None => Some(None),
+    }
+}
+
+// The same of the number of a meter.
+fn meter_after(matches: &ArgMatches) -> Option<Option<MeterNo>>
+    ensures { ReadsWhat result (IsOptionalArgument SaysMeterNo
+        (parsed_argument (codes "after") (argument_rows matches.now))) }
+{
+    match said::text(matches, "after") {
+        Some(word) => Some(Some(MeterNo::read(word.as_bytes())?)),
+        None => Some(None),
+    }
+}
+
+// The number that is given, or 0 where none is.
+fn number_after(matches: &ArgMatches) -> Option<u32>
+    ensures { ReadsWhat result (IsNumberOrNone
+        (parsed_argument (codes "after") (argument_rows matches.now))) }
+{
+    match said::text(matches, "after") {
+        Some(word) => values::after(word),
+        None => Some(0),
+    }
+}
