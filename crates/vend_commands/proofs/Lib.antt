@@ -2,7 +2,11 @@ pub mod AgainLemmas
 pub mod AuditLemmas
 pub mod ConnectionLemmas
 pub mod CourseLemmas
+pub mod DeskLemmas
 pub mod ExportLemmas
+pub mod FoundLemmas
+pub mod KeyedLemmas
+pub mod ListingLemmas
 pub mod MeteringLemmas
 pub mod OfferLemmas
 pub mod ReceiptLemmas
@@ -12,10 +16,12 @@ pub mod RunsLemmas
 pub mod SameLemmas
 pub mod SelfcheckLemmas
 pub mod SellLemmas
+pub mod TableLemmas
 pub mod TakeLemmas
 pub mod TimedLemmas
 pub mod ToldLemmas
 pub mod TrialLemmas
 pub mod UntoldLemmas
 pub mod UnwatchedLemmas
+pub mod WholeLemmas
 pub mod WordLemmas

@@ -28,10 +28,10 @@ use Rattle.vend_commands.specs.commands.Audited.{IsAudited, TellsAudit}
 use Rattle.vend_commands.specs.commands.Audited.IsAudited.{absent, looked, unopened as audits_unopened}
 use Rattle.vend_commands.specs.print.Exported.{export_stop_end}
 use Rattle.vend_commands.specs.commands.Imported.{AreAdded, IsFileImported}
-use Rattle.vend_commands.specs.commands.LookedUp.{IsShownAt, TellsFound}
+use Rattle.vend_commands.specs.commands.LookedUp.{IsRead, IsShownAt, TellsFound}
 use Rattle.vend_commands.specs.commands.LookedUp.IsShownAt.{absent as shown_absent, present as shown_present}
 use Rattle.command_line.specs.Line.{faults_in}
-use Rattle.vend_commands.specs.serving.Listening.{IsServedTo, IsServing, serving_end}
+use Rattle.vend_commands.specs.serving.Listening.{IsServing, serving_end}
 use Rattle.vend_commands.specs.serving.Listening.IsServing.{unheard, unopened as serves_unopened, was_open}
 use Rattle.vend_commands.specs.commands.Quoted.{quote_end}
 use Rattle.vend_commands.specs.port.Places.{Machine, Place, Places, Way, IsIdle}
@@ -61,6 +61,8 @@ use Rattle.vend_commands.specs.declared.command_end.CommandEnd.TheVariants as ho
 use Rattle.command_line.specs.declared.transform.Shipped.{Shipped}
 use Rattle.vend_commands.specs.declared.selfcheck.fault.SelfcheckFault.{SelfcheckFault}
 use Rattle.vend_commands.specs.declared.trials.TrialFault.{TrialFault}
+use Rattle.vend_commands.specs.declared.office.wanted.Wanted.{Wanted}
+use Rattle.vend_commands.specs.declared.office.wanted.Wanted.TheVariants.{One, Listing}
 use Rattle.vend_commands.specs.declared.command_end.CommandEnd.{CommandEnd}
 
 -- what was asked for by another name
@@ -156,14 +158,18 @@ report_ends : {S : Type 0} (store : Ghosts S) (at : Places) (words : ReportWords
 report_ends store at words o end (no_file misses told) = told_ends o _ _ how.Refused end (omega arith) told
 report_ends store at words o end (present printed) = visit_ends store _ _ _ o end (λ old new prints. paper_ends words.paper old new o end prints) printed
 
-found_ends : (lookup : Lookup) (found : Result WhatIsFound Refusal) (o : Outputs) (end : CommandEnd) → TellsFound lookup found o end → exit_status_of end ≤ 1
-found_ends lookup (Ok what) o end (inl told) = told_ends o _ _ how.Done end (omega arith) told
-found_ends lookup (Ok what) o end (inr (room, told)) = told_ends o _ _ how.Refused end (omega arith) told
-found_ends lookup (Err refusal) o end told = told_ends o _ _ how.Refused end (omega arith) told
+found_ends : (json : Bool) (lookup : Lookup) (found : Result WhatIsFound Refusal) (o : Outputs) (end : CommandEnd) → TellsFound json lookup found o end → exit_status_of end ≤ 1
+found_ends json lookup (Ok what) o end (inl told) = told_ends o _ _ how.Done end (omega arith) told
+found_ends json lookup (Ok what) o end (inr (room, told)) = told_ends o _ _ how.Refused end (omega arith) told
+found_ends json lookup (Err refusal) o end told = told_ends o _ _ how.Refused end (omega arith) told
 
-shown_ends : {S : Type 0} (store : Ghosts S) (at : Places) (file : Text) (wait moment : ℕ) (lookup : Lookup) (o : Outputs) (end : CommandEnd) → IsShownAt store at file wait moment lookup o end → exit_status_of end ≤ 1
-shown_ends store at file wait moment lookup o end (shown_absent misses told) = told_ends o _ _ how.Refused end (omega arith) told
-shown_ends store at file wait moment lookup o end (shown_present visit) = visit_ends store _ _ _ o end (λ old new done. found_ends lookup done.found o end done.told) visit
+read_ends : (moment : ℕ) (wanted : Wanted) (old new : Seen) (o : Outputs) (end : CommandEnd) → IsRead moment wanted old new o end → exit_status_of end ≤ 1
+read_ends moment (One lookup json) old new o end done = found_ends json lookup done.found o end done.told
+read_ends moment (Listing list json) old new o end done = told_ends o _ _ (export_stop_end done.stop) end (stop_low done.stop) done.told
+
+shown_ends : {S : Type 0} (store : Ghosts S) (at : Places) (file : Text) (wait moment : ℕ) (wanted : Wanted) (o : Outputs) (end : CommandEnd) → IsShownAt store at file wait moment wanted o end → exit_status_of end ≤ 1
+shown_ends store at file wait moment wanted o end (shown_absent misses told) = told_ends o _ _ how.Refused end (omega arith) told
+shown_ends store at file wait moment wanted o end (shown_present visit) = visit_ends store _ _ _ o end (λ old new done. read_ends moment wanted old new o end done) visit
 
 done_ends : (Idle : Type 0) (At : ℕ → Type 0) (o : Outputs) (end : CommandEnd) (moment : Option ℕ) → ((moment : ℕ) → At moment → exit_status_of end ≤ 1) → IsDoneAt Idle At o end moment → exit_status_of end ≤ 1
 done_ends Idle At o end (Some moment) ends done = ends moment done
@@ -178,6 +184,7 @@ answer_ends store m (asks.Import words) o end (shut, done) = timed_ends m.untouc
 answer_ends store m (asks.Request words) o end (shut, done) = timed_ends m.untouched words.at m.answers _ o end (λ moment asked. asked_at_ends store m.at words.transform words.file.now words.wait moment words.request o end asked) done
 answer_ends store m (asks.Report words) o end (shut, done) = report_ends store m.at words o end done
 answer_ends store m (asks.Show words) o end (shut, done) = timed_ends m.untouched words.at m.answers _ o end (λ moment shown. shown_ends store m.at words.file.now words.wait moment _ o end shown) done
+answer_ends store m (asks.List words) o end (shut, done) = timed_ends m.untouched words.at m.answers _ o end (λ moment shown. shown_ends store m.at words.file.now words.wait moment _ o end shown) done
 answer_ends store m (asks.Offer words) o end (shut, done) = timed_ends m.untouched words.at m.answers _ o end (λ moment shown. shown_ends store m.at words.file.now words.wait moment _ o end shown) done
 answer_ends store m (asks.Meter words) o end (idle, done) = told_ends o _ _ how.Done end (omega arith) done
 answer_ends store m (asks.Quote words) o end (idle, done) =

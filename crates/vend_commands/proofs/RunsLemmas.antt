@@ -19,7 +19,6 @@ use Rattle.vend_core.specs.declared.decision.request.Request.{Request}
 use Rattle.vend_core.specs.declared.decision.request.Request.TheVariants as requests
 use Rattle.vend_core.specs.declared.office.row.Row.{Row}
 use Rattle.papers.specs.declared.row_fault.RowFault.{RowFault}
-use Rattle.book_facts.specs.declared.lookup.Lookup.{Lookup}
 use Rattle.book_facts.specs.declared.lookup.Lookup.TheVariants as lookups
 use Rattle.book_opening.specs.declared.fault.OpenFault.{OpenFault}
 use Rattle.books.specs.Found.{FindsOffice}
@@ -45,7 +44,7 @@ use Rattle.vend_commands.specs.commands.Asked.{IsAskedAt}
 use Rattle.vend_commands.specs.commands.Audited.{IsAudited}
 use Rattle.vend_commands.specs.commands.Audited.IsAudited.{absent as audit_absent, looked as audit_looked, unopened as audit_unopened}
 use Rattle.vend_commands.specs.commands.Imported.{AreAdded, IsFileImported}
-use Rattle.vend_commands.specs.commands.LookedUp.{IsLookedUp, IsShownAt, lookup_of}
+use Rattle.vend_commands.specs.commands.LookedUp.{IsRead, IsShownAt, lookup_of}
 use Rattle.vend_commands.specs.commands.LookedUp.IsShownAt.{absent as shown_absent, present as shown_present}
 use Rattle.vend_commands.specs.commands.Reported.{IsReported, PrintsPaper}
 use Rattle.vend_commands.specs.commands.Reported.IsReported.{absent as report_absent, present as report_present}
@@ -59,11 +58,14 @@ use Rattle.vend_commands.specs.port.Places.IsUnopenedIn.{refused, unsalted}
 use Rattle.vend_commands.specs.print.Told.{Outputs, Sink}
 use Rattle.vend_commands.specs.runs.Follow.{AreRuns, Finds, Follow, Here, IsClean, LeftAfter, MayHold, ProgramRun, use_of}
 use Rattle.vend_commands.specs.runs.OneOffice.{AreLivedBy, AreOneOffice, LivesIn}
-use Rattle.vend_commands.specs.runs.Uses.{Living, AreCoursed, Use, connected, idle_life, many_lives, unseen, lives_asking, lives_printing, use_added, use_asked, use_audited, use_carried, use_imported, use_refused, use_reported, use_run, use_served, use_serving, use_shown, use_timed, use_visited, with_file}
+use Rattle.vend_commands.specs.runs.Readings.{IsReadIn, reading_of}
+use Rattle.vend_commands.specs.runs.Uses.{Living, AreCoursed, Use, connected, idle_life, many_lives, reading_life, unseen, lives_asking, lives_printing, use_added, use_asked, use_audited, use_carried, use_imported, use_refused, use_reported, use_run, use_served, use_serving, use_shown, use_timed, use_visited, with_file}
 use Rattle.vend_commands.specs.serving.Connections.{AreHeld, AreReady, AreServed, Service, service}
 use Rattle.vend_commands.specs.serving.Courses.{AreLived, Course, IsNext, course}
 use Rattle.vend_commands.specs.serving.Listening.{IsServing}
 use Rattle.vend_commands.specs.serving.Listening.IsServing.{unheard as serve_unheard, unopened as serve_unopened, was_open as serve_open}
+use Rattle.vend_commands.specs.declared.office.wanted.Wanted.{Wanted}
+use Rattle.vend_commands.specs.declared.office.wanted.Wanted.TheVariants.{One, Listing}
 use Rattle.vend_commands.specs.declared.command_end.CommandEnd.{CommandEnd}
 use Rattle.vend_commands.specs.declared.port.ports.OfficeFile as file
 use Rattle.vend_commands.specs.declared.port.ports.SaltSource as source
@@ -143,7 +145,7 @@ module _ {D R W B : Type 0} (way : Way D R W) (forward : BlockFunction) (see : B
       → AreHeld way forward see count old last printed → HasCleanDisk (see last.books).state
       → ((c : Course) → RepresentTheLast c.over c.life (see last.books) → ∥ ((next : Course) × IsNext forward c next × RepresentTheLast next.over next.life (see books)) ∥₁)
       → (office : Office) → AreLives lives office → Represents (opened forward office) (see old.books)
-      → ∥ ((own : List Life) × AreCoursed way forward count old.door old.answers last.door last.answers lives own × Kept (MayHold (connected image (many_lives (AreCoursed way forward count old.door old.answers last.door last.answers)) (see books).state) Before) (lives ++ own)) ∥₁
+      → ∥ ((own : List Life) × AreCoursed way forward count old.door old.answers last.door last.answers lives own × Kept (MayHold (connected image (many_lives way forward count old.door old.answers last.door last.answers) (see books).state) Before) (lives ++ own)) ∥₁
   coursed_on Before lives count old last printed books image held clean follows office led begins =
       let start : Course = course lives (opened forward office) in
       ∥∥₁_elim (live_on way forward see laws.goes_on count old last printed held clean start (record { led = led; kept = begins; clean = held_clean count old last printed held clean })) squash₁ (λ lived.
@@ -237,6 +239,15 @@ module _ (laws : Laws) (Before : Image → Type 0) (lives : List Life) where
         let here = kept.left place.image found in
         done_goes old new begins does clean here.0 here.1 here.2
 
+  -- what was read was so in the present office of each life, which the books keep
+  is_read : (life : Life) (moment : ℕ) (wanted : Wanted) (o : Outputs) (end : CommandEnd) (old new : Seen) (done : IsRead moment wanted old new o end) → HasCleanDisk new.state → Represents life old → IsReadIn life moment (reading_of moment wanted old new o end done)
+  is_read life moment (One lookup json) o end old new done clean kept = done.is_found clean life kept
+  is_read life moment (Listing list json) o end old new done clean kept = done.are clean life kept
+
+  read_keeps : (moment : ℕ) (wanted : Wanted) (o : Outputs) (end : CommandEnd) (old new : Seen) → IsRead moment wanted old new o end → (life : Life) → Represents life old → Represents life new
+  read_keeps moment (One lookup json) o end old new done = done.reads.keeps
+  read_keeps moment (Listing list json) o end old new done = done.keeps
+
   module _ {S : Type 0} {store : Ghosts S} (place : Place) where
     -- a paper was printed
     printed_on : (paper : Paper) (o : Outputs) (end : CommandEnd) (old new : Books S Shipped store shipped) (begins : IsOpenedAt place Plain old) (done : PrintsPaper paper (seen_in old) (seen_in new) o end)
@@ -247,11 +258,17 @@ module _ (laws : Laws) (Before : Image → Type 0) (lives : List Life) where
     printed_on (Totals number) o end old new begins done clean office stands led = idle_on place old new begins done.keeps clean office stands led
     printed_on Sales o end old new begins done clean office stands led = idle_on place old new begins done.keeps clean office stands led
 
-    -- something was looked up
-    looked_on : (moment : ℕ) (lookup : Lookup) (o : Outputs) (end : CommandEnd) (old new : Books S Shipped store shipped) (begins : IsOpenedAt place Plain old) (done : IsLookedUp moment lookup (seen_in old) (seen_in new) o end)
+    -- something was looked up, or listed
+    looked_on : (moment : ℕ) (wanted : Wanted) (o : Outputs) (end : CommandEnd) (old new : Books S Shipped store shipped) (begins : IsOpenedAt place Plain old) (done : IsRead moment wanted (seen_in old) (seen_in new) o end)
         → HasCleanDisk (seen_in new).state → (office : Office) → StandsIn place.image office → AreLives lives office
-        → GoesOn (connected place.image (idle_life Plain) (seen_in new).state) Before lives
-    looked_on moment lookup o end old new begins done clean office stands led = idle_on place old new begins done.reads.keeps clean office stands led
+        → GoesOn (connected place.image (reading_life moment (reading_of moment wanted (seen_in old) (seen_in new) o end done)) (seen_in new).state) Before lives
+    looked_on moment wanted o end old new begins done clean office stands led =
+        let life : Life = opened (forward_of Plain) office in
+        let kept = begins.opens office stands in (
+          life ∷ [],
+          (office, is_read life moment wanted o end (seen_in old) (seen_in new) done clean kept, refl),
+          one_more laws lives (seen_in new) office led life refl (read_keeps moment wanted o end (seen_in old) (seen_in new) done life kept clean),
+        )
 
   module _ {M S H D R W : Type 0} (disk : disk.Ghosts M) (salts : source.Ghosts S) (of : file.Ghosts H M S) (office : H) (m : Machine D R W) where
     abbrev here : Machine D R W
@@ -282,13 +299,13 @@ module _ (laws : Laws) (Before : Image → Type 0) (lives : List Life) where
     reporting_on words o end (report_present visit) found clean kept =
         visited_on (where_present (here.at words.file.now words.wait)) _ o end use_refused (lives_printing words.paper o end) refused_on (printed_on (where_present (here.at words.file.now words.wait)) words.paper o end) visit found clean kept
 
-    showing_on : (path : Text) (wait moment : ℕ) (lookup : Lookup) (o : Outputs) (end : CommandEnd) (shown : IsShownAt (over_files {g = disk}) here.at path wait moment lookup o end)
-        → Finds (use_shown disk salts of office m path wait moment lookup o end shown) Before → IsClean (use_shown disk salts of office m path wait moment lookup o end shown) → Kept Before lives
-        → GoesOn (use_shown disk salts of office m path wait moment lookup o end shown) Before lives
-    showing_on path wait moment lookup o end (shown_absent misses told) found clean kept = unseen_on kept
-    showing_on path wait moment lookup o end (shown_present visit) found clean kept =
-        visited_on (where_present (here.at path wait)) _ o end use_refused (λ old new done. idle_life Plain) refused_on
-        (looked_on (where_present (here.at path wait)) moment lookup o end) visit found clean kept
+    showing_on : (path : Text) (wait moment : ℕ) (wanted : Wanted) (o : Outputs) (end : CommandEnd) (shown : IsShownAt (over_files {g = disk}) here.at path wait moment wanted o end)
+        → Finds (use_shown disk salts of office m path wait moment wanted o end shown) Before → IsClean (use_shown disk salts of office m path wait moment wanted o end shown) → Kept Before lives
+        → GoesOn (use_shown disk salts of office m path wait moment wanted o end shown) Before lives
+    showing_on path wait moment wanted o end (shown_absent misses told) found clean kept = unseen_on kept
+    showing_on path wait moment wanted o end (shown_present visit) found clean kept =
+        visited_on (where_present (here.at path wait)) _ o end use_refused (λ old new done. reading_life moment (reading_of moment wanted old new o end done)) refused_on
+        (looked_on (where_present (here.at path wait)) moment wanted o end) visit found clean kept
 
     timed_on : (Idle : Type 0) (At : ℕ → Type 0) (o : Outputs) (end : CommandEnd) (made : (moment : ℕ) → At moment → Use)
         → ((moment : ℕ) (it : At moment) → Finds (made moment it) Before → IsClean (made moment it) → Kept Before lives → GoesOn (made moment it) Before lives)
@@ -338,10 +355,14 @@ module _ (laws : Laws) (Before : Image → Type 0) (lives : List Life) where
           ∣ timed_on m.untouched _ o end (λ at it. use_asked disk salts of office m words.transform words.file.now words.wait at words.request o end it) (λ at it. asking_on words.transform words.file.now words.wait at words.request o end it) moment done found clean kept ∣₁
       carried_on (asks.Report words) o end (shut, done) found clean kept = ∣ reporting_on words o end done found clean kept ∣₁
       carried_on (asks.Show words) o end (shut, (moment, taken, done)) found clean kept =
-          ∣ timed_on m.untouched _ o end (λ at it. use_shown disk salts of office m words.file.now words.wait at (lookup_of words.shown) o end it) (λ at it. showing_on words.file.now words.wait at (lookup_of words.shown) o end it) moment done found clean kept ∣₁
+          let wanted = One (lookup_of words.shown) words.json in
+          ∣ timed_on m.untouched _ o end (λ at it. use_shown disk salts of office m words.file.now words.wait at wanted o end it) (λ at it. showing_on words.file.now words.wait at wanted o end it) moment done found clean kept ∣₁
+      carried_on (asks.List words) o end (shut, (moment, taken, done)) found clean kept =
+          let wanted = Listing words.listed words.json in
+          ∣ timed_on m.untouched _ o end (λ at it. use_shown disk salts of office m words.file.now words.wait at wanted o end it) (λ at it. showing_on words.file.now words.wait at wanted o end it) moment done found clean kept ∣₁
       carried_on (asks.Offer words) o end (shut, (moment, taken, done)) found clean kept =
-          let lookup = lookups.Quote words.meter words.tender in
-          ∣ timed_on m.untouched _ o end (λ at it. use_shown disk salts of office m words.file.now words.wait at lookup o end it) (λ at it. showing_on words.file.now words.wait at lookup o end it) moment done found clean kept ∣₁
+          let wanted = One (lookups.Quote words.meter words.tender) words.json in
+          ∣ timed_on m.untouched _ o end (λ at it. use_shown disk salts of office m words.file.now words.wait at wanted o end it) (λ at it. showing_on words.file.now words.wait at wanted o end it) moment done found clean kept ∣₁
       carried_on (asks.Meter words) o end done found clean kept = ∣ unseen_on kept ∣₁
       carried_on (asks.Quote words) o end done found clean kept = ∣ unseen_on kept ∣₁
       carried_on (asks.Serve words) o end (left, (silent, done)) found clean kept = serving_on words o.err_old o.err_new end done found clean kept

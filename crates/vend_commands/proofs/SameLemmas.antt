@@ -1,5 +1,5 @@
 -- A run ends with the writers that it began with.
-use Rattle.std.proofs.Common.{◌≡◌, ◌∙◌, ℕ, ℤ, List, [], Option, Some, None, Result, Ok, Err, ap, inl, inr}
+use Rattle.std.proofs.Common.{◌≡◌, ◌∙◌, ℕ, ℤ, Bool, List, [], Option, Some, None, Result, Ok, Err, ap, inl, inr}
 use Rattle.std.specs.Prelude.{⊤}
 use Rattle.clap.specs.declared.error.kind.ErrorKind.{ErrorKind}
 use Rattle.clap.specs.declared.error.kind.ErrorKind.TheVariants.{DisplayHelp, DisplayVersion, OutOfMemory}
@@ -30,7 +30,7 @@ use Rattle.vend_commands.specs.commands.Asked.{IsAskedAt}
 use Rattle.vend_commands.specs.commands.Audited.{IsAudited, TellsAudit}
 use Rattle.vend_commands.specs.commands.Audited.IsAudited.{absent, looked, unopened as audits_unopened}
 use Rattle.vend_commands.specs.commands.Imported.{AreAdded, IsFileImported}
-use Rattle.vend_commands.specs.commands.LookedUp.{IsShownAt, TellsFound}
+use Rattle.vend_commands.specs.commands.LookedUp.{IsRead, IsShownAt, TellsFound}
 use Rattle.vend_commands.specs.commands.LookedUp.IsShownAt.{absent as shown_absent, present as shown_present}
 use Rattle.vend_commands.specs.serving.Listening.{IsDeaf, IsServing}
 use Rattle.vend_commands.specs.serving.Listening.IsDeaf.{no_listener, no_room as deaf_for_room, no_text, not_told}
@@ -47,6 +47,8 @@ use Rattle.vend_commands.specs.print.Told.{IsTold, Outputs, Sink}
 use Rattle.vend_commands.specs.print.Totalled.{TellsTotals}
 use Rattle.vend_commands.specs.office.Visited.{IsVisited, seen_in}
 use Rattle.vend_commands.specs.office.Visited.IsVisited.{unopened, visited}
+use Rattle.vend_commands.specs.declared.office.wanted.Wanted.{Wanted}
+use Rattle.vend_commands.specs.declared.office.wanted.Wanted.TheVariants.{One, Listing}
 use Rattle.vend_commands.specs.declared.command_end.CommandEnd.{CommandEnd}
 use Rattle.vend_commands.specs.declared.command_end.CommandEnd.TheVariants as how
 
@@ -115,14 +117,18 @@ report_same : {S : Type 0} (store : Ghosts S) (at : Places) (words : ReportWords
 report_same store at words o end (no_file misses told) = told_same o _ _ _ end told
 report_same store at words o end (present printed) = visit_same store _ _ _ o end (λ old new prints. paper_same words.paper old new o end prints) printed
 
-found_same : (lookup : Lookup) (found : Result WhatIsFound Refusal) (o : Outputs) (end : CommandEnd) → TellsFound lookup found o end → AreSame o
-found_same lookup (Ok what) o end (inl told) = told_same o _ _ _ end told
-found_same lookup (Ok what) o end (inr (room, told)) = told_same o _ _ _ end told
-found_same lookup (Err refusal) o end told = told_same o _ _ _ end told
+found_same : (json : Bool) (lookup : Lookup) (found : Result WhatIsFound Refusal) (o : Outputs) (end : CommandEnd) → TellsFound json lookup found o end → AreSame o
+found_same json lookup (Ok what) o end (inl told) = told_same o _ _ _ end told
+found_same json lookup (Ok what) o end (inr (room, told)) = told_same o _ _ _ end told
+found_same json lookup (Err refusal) o end told = told_same o _ _ _ end told
 
-shown_same : {S : Type 0} (store : Ghosts S) (at : Places) (file : Text) (wait moment : ℕ) (lookup : Lookup) (o : Outputs) (end : CommandEnd) → IsShownAt store at file wait moment lookup o end → AreSame o
-shown_same store at file wait moment lookup o end (shown_absent misses told) = told_same o _ _ _ end told
-shown_same store at file wait moment lookup o end (shown_present visit) = visit_same store _ _ _ o end (λ old new done. found_same lookup done.found o end done.told) visit
+read_same : (moment : ℕ) (wanted : Wanted) (old new : Seen) (o : Outputs) (end : CommandEnd) → IsRead moment wanted old new o end → AreSame o
+read_same moment (One lookup json) old new o end done = found_same json lookup done.found o end done.told
+read_same moment (Listing list json) old new o end done = told_same o _ _ _ end done.told
+
+shown_same : {S : Type 0} (store : Ghosts S) (at : Places) (file : Text) (wait moment : ℕ) (wanted : Wanted) (o : Outputs) (end : CommandEnd) → IsShownAt store at file wait moment wanted o end → AreSame o
+shown_same store at file wait moment wanted o end (shown_absent misses told) = told_same o _ _ _ end told
+shown_same store at file wait moment wanted o end (shown_present visit) = visit_same store _ _ _ o end (λ old new done. read_same moment wanted old new o end done) visit
 
 done_same : (Idle : Type 0) (At : ℕ → Type 0) (o : Outputs) (end : CommandEnd) (moment : Option ℕ) → ((moment : ℕ) → At moment → AreSame o) → IsDoneAt Idle At o end moment → AreSame o
 done_same Idle At o end (Some moment) same done = same moment done
@@ -137,6 +143,7 @@ answer_same store m (asks.Import words) o end (shut, done) = timed_same m.untouc
 answer_same store m (asks.Request words) o end (shut, done) = timed_same m.untouched words.at m.answers _ o end (λ moment asked. asked_at_same store m.at words.transform words.file.now words.wait moment words.request o end asked) done
 answer_same store m (asks.Report words) o end (shut, done) = report_same store m.at words o end done
 answer_same store m (asks.Show words) o end (shut, done) = timed_same m.untouched words.at m.answers _ o end (λ moment shown. shown_same store m.at words.file.now words.wait moment _ o end shown) done
+answer_same store m (asks.List words) o end (shut, done) = timed_same m.untouched words.at m.answers _ o end (λ moment shown. shown_same store m.at words.file.now words.wait moment _ o end shown) done
 answer_same store m (asks.Offer words) o end (shut, done) = timed_same m.untouched words.at m.answers _ o end (λ moment shown. shown_same store m.at words.file.now words.wait moment _ o end shown) done
 answer_same store m (asks.Meter words) o end (idle, done) = told_same o _ _ _ end done
 answer_same store m (asks.Quote words) o end (idle, done) = told_same o _ _ _ end done

@@ -1,5 +1,5 @@
 -- What the runs on one file told of sales.
-use Rattle.std.proofs.Common.{◌≡◌, ◌⊎◌, ◌∙◌, ℕ, ℤ, Bool, true, false, List, [], ◌∷◌, ◌++◌, Option, Some, None, Result, Ok, Err, inl, inr, refl, sym, ap, subst, append_assoc, append-nil, arith}
+use Rattle.std.proofs.Common.{◌≡◌, ◌∙◌, ℕ, ℤ, Bool, true, false, List, [], ◌∷◌, ◌++◌, Option, Some, None, Result, Ok, Err, inl, inr, refl, sym, ap, subst, append_assoc, append-nil, arith}
 use Rattle.std.specs.Prelude.{Contains}
 use Rattle.std.proofs.lemmas.List.Elements.{Contains-append_left, Contains-append_right}
 use Rattle.sqlite.specs.Files.{over_files}
@@ -22,7 +22,6 @@ use Rattle.vend_core.specs.declared.decision.request.Request.TheVariants as requ
 use Rattle.vend_core.specs.declared.office.row.Row.{Row}
 use Rattle.vend_core.specs.declared.office.sale.Sale.{Sale}
 use Rattle.papers.specs.declared.row_fault.RowFault.{RowFault}
-use Rattle.book_facts.specs.declared.lookup.Lookup.{Lookup}
 use Rattle.book_facts.specs.declared.lookup.Lookup.TheVariants as lookups
 use Rattle.book_opening.specs.declared.fault.OpenFault.{OpenFault}
 use Rattle.books.specs.Keeps.{Seen}
@@ -57,15 +56,19 @@ use Rattle.vend_commands.specs.port.Places.IsUnopened.{unfound, unopened as foun
 use Rattle.vend_commands.specs.port.Places.IsUnopenedIn.{refused, unsalted}
 use Rattle.vend_commands.specs.print.Told.{Outputs, Sink}
 use Rattle.vend_commands.specs.runs.Follow.{Here, ProgramRun, use_of}
-use Rattle.vend_commands.specs.runs.OneOffice.{AreLivedBy, AreOneOffice, Asks, AsksIn, AsksSo, Gets, IsAmong, IsUnlessFailed, LivesIn}
-use Rattle.vend_commands.specs.runs.Uses.{IsAskedLife, Living, Question, Use, asking_life, connected, idle_life, lives_asking, lives_printing, many_lives, no_life, unseen, use_added, use_asked, use_audited, use_carried, use_imported, use_refused, use_reported, use_run, use_served, use_serving, use_shown, use_timed, use_visited, with_file}
+use Rattle.vend_commands.specs.runs.OneOffice.{AreLivedBy, AreOneOffice, Asks, AsksIn, AsksSo, TellAlong, Gets, IsAmong, IsToldIn, IsUnlessFailed, LivesIn, TellsIn}
+use Rattle.vend_commands.specs.runs.Readings.{reading_of}
+use Rattle.vend_commands.specs.runs.Uses.{IsAskedLife, Living, Question, Use, asking_life, connected, idle_life, lives_asking, lives_printing, many_lives, no_life, reading_life, unseen, use_added, use_asked, use_audited, use_carried, use_imported, use_refused, use_reported, use_run, use_served, use_serving, use_shown, use_timed, use_visited, with_file}
 use Rattle.vend_commands.specs.serving.Connections.{AreServed, Service, service}
 use Rattle.vend_commands.specs.serving.Listening.{IsServing}
 use Rattle.vend_commands.specs.serving.Listening.IsServing.{unheard as serve_unheard, unopened as serve_unopened, was_open as serve_open}
+use Rattle.vend_commands.specs.declared.office.wanted.Wanted.{Wanted}
+use Rattle.vend_commands.specs.declared.office.wanted.Wanted.TheVariants.{One, Listing}
 use Rattle.vend_commands.specs.declared.command_end.CommandEnd.{CommandEnd}
 use Rattle.vend_commands.specs.declared.port.ports.OfficeFile as file
 use Rattle.vend_commands.specs.declared.port.ports.SaltSource as source
 use Rattle.vend_commands.proofs.AgainLemmas.{IsSaleOf, OrderLaws, life_opens, replied, sold_by, sold_for}
+use Rattle.vend_commands.proofs.DeskLemmas.{HandingLaws, handed_more, use_hands}
 
 -- ---- a run tells the reply that it got
 
@@ -130,11 +133,11 @@ module _ {M S H D R W : Type 0} (disk : disk.Ghosts M) (salts : source.Ghosts S)
   reporting_tells words o end (report_present visit) q is =
       visited_tells (where_present (here.at words.file.now words.wait)) _ o end use_refused (lives_printing words.paper o end) (λ fault why. refused_tells fault why o end) (printed_tells words.paper o end) visit q is
 
-  showing_tells : (path : Text) (wait moment : ℕ) (lookup : Lookup) (o : Outputs) (end : CommandEnd) (shown : IsShownAt (over_files {g = disk}) here.at path wait moment lookup o end)
-      → Tells (use_shown disk salts of office m path wait moment lookup o end shown) o end
-  showing_tells path wait moment lookup o end (shown_absent misses told) q is = absurd is
-  showing_tells path wait moment lookup o end (shown_present visit) q is =
-      visited_tells (where_present (here.at path wait)) _ o end use_refused (λ old new done. idle_life Plain) (λ fault why. refused_tells fault why o end) (λ old new done asked none. absurd none) visit q is
+  showing_tells : (path : Text) (wait moment : ℕ) (wanted : Wanted) (o : Outputs) (end : CommandEnd) (shown : IsShownAt (over_files {g = disk}) here.at path wait moment wanted o end)
+      → Tells (use_shown disk salts of office m path wait moment wanted o end shown) o end
+  showing_tells path wait moment wanted o end (shown_absent misses told) q is = absurd is
+  showing_tells path wait moment wanted o end (shown_present visit) q is =
+      visited_tells (where_present (here.at path wait)) _ o end use_refused (λ old new done. reading_life moment (reading_of moment wanted old new o end done)) (λ fault why. refused_tells fault why o end) (λ old new done asked none. absurd none) visit q is
 
   audited_tells : (words : AuditWords) (o : Outputs) (end : CommandEnd) (audited : IsAudited (here.at words.file.now words.wait) o end) → Tells (use_audited disk salts of office m words o end audited) o end
   audited_tells words o end (audit_absent misses told) q is = absurd is
@@ -155,10 +158,14 @@ module _ {M S H D R W : Type 0} (disk : disk.Ghosts M) (salts : source.Ghosts S)
       timed_tells m.untouched _ o end (λ at it. use_asked disk salts of office m words.transform words.file.now words.wait at words.request o end it) (λ at it. asking_tells words.transform words.file.now words.wait at words.request o end it) moment done q is
   carried_tells (asks.Report words) o end (shut, done) q is = reporting_tells words o end done q is
   carried_tells (asks.Show words) o end (shut, (moment, taken, done)) q is =
-      timed_tells m.untouched _ o end (λ at it. use_shown disk salts of office m words.file.now words.wait at (lookup_of words.shown) o end it) (λ at it. showing_tells words.file.now words.wait at (lookup_of words.shown) o end it) moment done q is
+      let wanted = One (lookup_of words.shown) words.json in
+      timed_tells m.untouched _ o end (λ at it. use_shown disk salts of office m words.file.now words.wait at wanted o end it) (λ at it. showing_tells words.file.now words.wait at wanted o end it) moment done q is
+  carried_tells (asks.List words) o end (shut, (moment, taken, done)) q is =
+      let wanted = Listing words.listed words.json in
+      timed_tells m.untouched _ o end (λ at it. use_shown disk salts of office m words.file.now words.wait at wanted o end it) (λ at it. showing_tells words.file.now words.wait at wanted o end it) moment done q is
   carried_tells (asks.Offer words) o end (shut, (moment, taken, done)) q is =
-      let lookup = lookups.Quote words.meter words.tender in
-      timed_tells m.untouched _ o end (λ at it. use_shown disk salts of office m words.file.now words.wait at lookup o end it) (λ at it. showing_tells words.file.now words.wait at lookup o end it) moment done q is
+      let wanted = One (lookups.Quote words.meter words.tender) words.json in
+      timed_tells m.untouched _ o end (λ at it. use_shown disk salts of office m words.file.now words.wait at wanted o end it) (λ at it. showing_tells words.file.now words.wait at wanted o end it) moment done q is
   carried_tells (asks.Meter words) o end done q is = absurd is
   carried_tells (asks.Quote words) o end done q is = absurd is
   carried_tells (asks.Serve words) o end (left, (silent, done)) q is = serving_tells words o.err_old o.err_new o end done q is
@@ -178,8 +185,18 @@ asked_life : (made : Use) (q : Question) (before own : List Life) → AsksIn mad
 asked_life unseen q before own asks lives = absurd asks
 asked_life (connected image no_life last) q before own asks lives = absurd asks
 asked_life (connected image (idle_life transform) last) q before own asks lives = absurd asks
+asked_life (connected image (reading_life moment reading) last) q before own asks lives = absurd asks
 asked_life (connected image (asking_life asked) last) q before own asks (life, is, one) = (life, subst (λ (p : Question). IsAskedLife p life) (sym asks) is, one)
-asked_life (connected image (many_lives Lives) last) q before own asks lives = absurd asks
+asked_life (connected image (many_lives way forward count door answers last_door left) last) q before own asks lives = absurd asks
+
+-- where something was asked nothing was read, or told at a desk
+asks_alone : (made : Use) (q : Question) (before own : List Life) (lived : LivesIn made before own) (s : Sale) → AsksIn made q → ¬ TellsIn made before own lived s
+asks_alone unseen q before own lived s asks told = absurd asks
+asks_alone (connected image no_life last) q before own lived s asks told = absurd asks
+asks_alone (connected image (idle_life transform) last) q before own lived s asks told = absurd asks
+asks_alone (connected image (reading_life moment reading) last) q before own lived s asks told = absurd asks
+asks_alone (connected image (asking_life asked) last) q before own lived s asks told = absurd told
+asks_alone (connected image (many_lives way forward count door answers last_door left) last) q before own lived s asks told = absurd asks
 
 -- what the laws of lives say
 pub record HistoryLaws : Type 0 where
@@ -192,9 +209,8 @@ hands q life s is gives =
     let P : Life → Type 0 = λ l. HandsOut l s in
     subst P (sym is.life_is) (inl (q.reply, (0, omega arith, refl), gives))
 
-gives_sale : (r : Result Answer Refusal) (s : Sale) → (r ≡ Ok (Sold s)) ⊎ (r ≡ Ok (Reprinted s)) → Contains (sales_of r) s
-gives_sale r s (inl sold) = subst (λ (x : Result Answer Refusal). Contains (sales_of x) s) (sym sold) (0, omega arith, refl)
-gives_sale r s (inr printed) = subst (λ (x : Result Answer Refusal). Contains (sales_of x) s) (sym printed) (0, omega arith, refl)
+gives_sold : (r : Result Answer Refusal) (s : Sale) → r ≡ Ok (Sold s) → Contains (sales_of r) s
+gives_sold r s sold = subst (λ (x : Result Answer Refusal). Contains (sales_of x) s) (sym sold) (0, omega arith, refl)
 
 module _ {P D R W : Type 0} (here : Here P D R W) where
   pub tells : (run : ProgramRun here) (q : Question) → Asks here run q → TellsReply q.reply run.o run.end
@@ -233,36 +249,63 @@ module _ {P D R W : Type 0} (here : Here P D R W) where
       }
 
   -- a sale that a run got was handed out in the lives
-  pub handed : (runs : List (ProgramRun here)) (lives : List Life) (run : ProgramRun here) (s : Sale) → AreLivedBy here runs [] lives → IsAmong here runs run → Gets here run s → IsHanded lives s
-  handed runs lives run s lived (earlier, later, are) (q, asks, gives) =
+  got_handed : (runs : List (ProgramRun here)) (lives : List Life) (run : ProgramRun here) (s : Sale) → AreLivedBy here runs [] lives → IsAmong here runs run → Gets here run s → IsHanded lives s
+  got_handed runs lives run s lived (earlier, later, are) (q, asks, gives) =
       let it = split earlier later run [] lives (subst (λ r. AreLivedBy here r [] lives) are lived) in
       let mine = asked_life (use_of here run) q ([] ++ it.first) it.own asks it.here_lived in
       let there : Contains (it.own ++ it.last) mine.0 = Contains-append_left it.own it.last mine.0 (subst (λ l. Contains l mine.0) (sym mine.2) (0, omega arith, refl)) in (
         mine.0,
         subst (λ l. Contains l mine.0) (sym it.all) (Contains-append_right it.first (it.own ++ it.last) mine.0 there),
-        hands q mine.0 s mine.1 (gives_sale q.reply s gives),
+        hands q mine.0 s mine.1 gives,
       )
 
-  module _ (history : HistoryLaws) where
-    pub gotten_stands : (runs : List (ProgramRun here)) (lives : List Life) (run : ProgramRun here) (s : Sale) (o : Office) → AreOneOffice here runs lives → IsAmong here runs run → Gets here run s → AreLives lives o → Contains o.sales s
-    gotten_stands runs lives run s o one among gets are = history.stands lives o s are (handed runs lives run s one.lived among gets)
+  module _ (handing : HandingLaws) where
+    -- a sale that was read, or told at a desk, was handed out in the lives
+    told_handed : (runs : List (ProgramRun here)) (before lives : List Life) (lived : AreLivedBy here runs before lives) (s : Sale) → TellAlong here runs before lives lived s → IsHanded (before ++ lives) s
+    told_handed [] before lives none s told = absurd told
+    told_handed (run ∷ later) before lives (own, others, is, rest, all) s told =
+        let together : (before ++ own) ++ others ≡ before ++ lives = append_assoc before own others ∙ ap (λ l. before ++ l) (sym all) in
+        elim told [
+          | inl here_told ↦ subst (λ l. IsHanded l s) together (handed_more (before ++ own) others s (use_hands handing s (use_of here run) before own is here_told))
+          | inr later_told ↦ subst (λ l. IsHanded l s) together (told_handed later (before ++ own) others rest s later_told)
+        ]
 
+    -- before a run that asked something, it was so in the lives before that run
+    handed_before : (earlier : List (ProgramRun here)) (again : ProgramRun here) (q : Question) → Asks here again q → (before lives : List Life) (lived : AreLivedBy here (earlier ++ again ∷ []) before lives) (s : Sale)
+        → TellAlong here (earlier ++ again ∷ []) before lives lived s → IsHanded (before ++ (split earlier [] again before lives lived).first) s
+    unfolding split
+    handed_before [] again q asks before lives (own, others, is, rest, all) s told = elim told [
+      | inl here_told ↦ absurd (asks_alone (use_of here again) q before own is s asks here_told)
+      | inr later_told ↦ absurd later_told
+    ]
+    handed_before (one ∷ earlier) again q asks before lives (own, others, is, rest, all) s told =
+        let first = (split earlier [] again (before ++ own) others rest).first in
+        elim told [
+          | inl here_told ↦ subst (λ l. IsHanded l s) (append_assoc before own first) (handed_more (before ++ own) first s (use_hands handing s (use_of here one) before own is here_told))
+          | inr later_told ↦ subst (λ l. IsHanded l s) (append_assoc before own first) (handed_before earlier again q asks (before ++ own) others rest s later_told)
+        ]
+
+    -- a sale that was told in the runs was handed out in the lives
+    pub handed : (runs : List (ProgramRun here)) (lives : List Life) (one : AreOneOffice here runs lives) (s : Sale) → IsToldIn here runs runs lives one s → IsHanded lives s
+    handed runs lives one s (inl (run, among, gets)) = got_handed runs lives run s one.lived among gets
+    handed runs lives one s (inr told) = told_handed runs [] lives one.lived s told
+
+  module _ (history : HistoryLaws) where
     -- the life of a run that asked one request, and the lives before it
-    record IsAsking (q : Question) (lives : List Life) : Type 0 where
+    record IsAsking (q : Question) (before : List Life) : Type 0 where
       life : Life
       asked : IsAskedLife q life
       is_life : IsLife life
-      before : List Life
       lead : AreLives before life.opening
 
-    asking : (earlier later : List (ProgramRun here)) (lives : List Life) (run : ProgramRun here) (q : Question) → AreOneOffice here (earlier ++ run ∷ later) lives → Asks here run q → (it : IsAsking q lives) × AreLivedBy here earlier [] it.before
+    asking : (earlier later : List (ProgramRun here)) (lives : List Life) (run : ProgramRun here) (q : Question) (one : AreOneOffice here (earlier ++ run ∷ later) lives) → Asks here run q → IsAsking q (split earlier later run [] lives one.lived).first
     asking earlier later lives run q one asks =
         let it = split earlier later run [] lives one.lived in
         let mine = asked_life (use_of here run) q ([] ++ it.first) it.own asks it.here_lived in
         let life = mine.0 in
         let all : lives ≡ it.first ++ life ∷ it.last = it.all ∙ ap (λ l. it.first ++ (l ++ it.last)) mine.2 in
         let opens = life_opens _ it.first life it.last one.lead.0 (subst (λ l. AreLives l one.lead.0) all one.lead.1) in
-        (record { life = life; asked = mine.1; is_life = opens.1; before = it.first; lead = opens.0 }, it.lived)
+        record { life = life; asked = mine.1; is_life = opens.1; lead = opens.0 }
 
     -- it opened an office in which this sale stands
     record IsLastAsking (s : Sale) (q : Question) : Type 0 where
@@ -272,17 +315,24 @@ module _ {P D R W : Type 0} (here : Here P D R W) where
       office : IsOffice life.opening
       stands : Contains life.opening.sales s
 
-    last_asking : (earlier : List (ProgramRun here)) (lives : List Life) (first again : ProgramRun here) (s : Sale) (q : Question) → AreOneOffice here (earlier ++ again ∷ []) lives → IsAmong here earlier first → Gets here first s → Asks here again q → IsLastAsking s q
-    last_asking earlier lives first again s q one among gets asks =
-        let found = asking earlier [] lives again q one asks in
-        let it = found.0 in
+    last_asking : (earlier : List (ProgramRun here)) (lives : List Life) (again : ProgramRun here) (s : Sale) (q : Question) (one : AreOneOffice here (earlier ++ again ∷ []) lives)
+        → IsHanded (split earlier [] again [] lives one.lived).first s → Asks here again q → IsLastAsking s q
+    last_asking earlier lives again s q one there asks =
+        let before = (split earlier [] again [] lives one.lived).first in
+        let it = asking earlier [] lives again q one asks in
         record {
           life = it.life;
           asked = it.asked;
           is_life = it.is_life;
-          office = history.offices it.before it.life.opening it.lead;
-          stands = history.stands it.before it.life.opening s it.lead (handed earlier it.before first s found.1 among gets);
+          office = history.offices before it.life.opening it.lead;
+          stands = history.stands before it.life.opening s it.lead there;
         }
+
+    -- a sale that an earlier run got was handed out before
+    got_before : (earlier : List (ProgramRun here)) (lives : List Life) (first again : ProgramRun here) (s : Sale) (one : AreOneOffice here (earlier ++ again ∷ []) lives) → IsAmong here earlier first → Gets here first s → IsHanded (split earlier [] again [] lives one.lived).first s
+    got_before earlier lives first again s one among gets =
+        let it = split earlier [] again [] lives one.lived in
+        got_handed earlier it.first first s it.lived among gets
 
     -- its reply is that of the rules, or it failed
     asked_reply : (s : Sale) (q : Question) (it : IsLastAsking s q) (answer : Answer) → reply (forward_of q.transform) it.life.opening it.asked.at ≡ Ok answer → IsUnlessFailed q.reply answer
@@ -296,22 +346,27 @@ module _ {P D R W : Type 0} (here : Here P D R W) where
         ]
 
     module _ (orders : OrderLaws) where
-      pub printed_again : (earlier : List (ProgramRun here)) (lives : List Life) (first again : ProgramRun here) (s : Sale) (q : Question) → AreOneOffice here (earlier ++ again ∷ []) lives → IsAmong here earlier first → Gets here first s → Asks here again q → q.request ≡ requests.Reprint s.number → IsUnlessFailed q.reply (Reprinted s)
-      printed_again earlier lives first again s q one among gets asks request =
-          let it = last_asking earlier lives first again s q one among gets asks in
+      pub printed_again : (handing : HandingLaws) (earlier : List (ProgramRun here)) (lives : List Life) (again : ProgramRun here) (one : AreOneOffice here (earlier ++ again ∷ []) lives) (s : Sale) (q : Question) → IsToldIn here earlier (earlier ++ again ∷ []) lives one s → Asks here again q → q.request ≡ requests.Reprint s.number → IsUnlessFailed q.reply (Reprinted s)
+      printed_again handing earlier lives again one s q told asks request =
+          let before : IsHanded (split earlier [] again [] lives one.lived).first s = elim told [
+            | inl (first, among, gets) ↦ got_before earlier lives first again s one among gets
+            | inr along ↦ handed_before handing earlier again q asks [] lives one.lived s along
+          ] in
+          let it = last_asking earlier lives again s q one before asks in
           asked_reply s q it (Reprinted s) (orders.reprinted (forward_of q.transform) it.life.opening it.asked.at s it.office it.stands (it.asked.for_request ∙ request))
 
       -- the order of a sale that was sold is the sale's
       pub sold_again : (earlier : List (ProgramRun here)) (lives : List Life) (first again : ProgramRun here) (order : Order) (s : Sale) (p q : Question) → AreOneOffice here (earlier ++ again ∷ []) lives → IsAmong here earlier first
           → Asks here first p → p.request ≡ requests.Sell order → p.reply ≡ Ok (Sold s) → Asks here again q → q.request ≡ requests.Sell order → IsUnlessFailed q.reply (Sold s)
       sold_again earlier lives first again order s p q one among first_asks first_request sold asks request =
-          let it = last_asking earlier lives first again s q one among (p, first_asks, inl sold) asks in
+          let it = last_asking earlier lives again s q one (got_before earlier lives first again s one among (p, first_asks, gives_sold p.reply s sold)) asks in
           let runs = ap (λ r. r ++ again ∷ []) among.2 ∙ append_assoc among.0 (first ∷ among.1) (again ∷ []) in
-          let found = asking among.0 (among.1 ++ again ∷ []) lives first p (subst (λ r. AreOneOffice here r lives) runs one) first_asks in
-          let was = found.0 in
+          let same_one = subst (λ r. AreOneOffice here r lives) runs one in
+          let was = asking among.0 (among.1 ++ again ∷ []) lives first p same_one first_asks in
+          let before = (split among.0 (among.1 ++ again ∷ []) first [] lives same_one.lived).first in
           let forward = forward_of p.transform in
           let is = subst IsLife was.asked.life_is was.is_life in
           let granted = sold_by forward was.life.opening was.asked.at p.reply s is sold in
-          let its : IsSaleOf order s = sold_for orders forward was.life.opening was.asked.at order s (history.offices was.before was.life.opening was.lead) is.range (was.asked.for_request ∙ first_request) granted in
+          let its : IsSaleOf order s = sold_for orders forward was.life.opening was.asked.at order s (history.offices before was.life.opening was.lead) is.range (was.asked.for_request ∙ first_request) granted in
           let same = orders.again (forward_of q.transform) it.life.opening it.asked.at order s it.office (it.asked.for_request ∙ request) (record { stands = it.stands; operator = its.operator; order_ref = its.order_ref }) in
           asked_reply s q it (Sold s) (same.1 its.same)

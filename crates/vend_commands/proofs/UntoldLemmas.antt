@@ -2,7 +2,6 @@
 use Rattle.std.proofs.Common.{ℕ, ℤ, zero, suc, Bool, true, false, List, Option, None, Some, Result, Ok, Err, inl, inr, ap, refl}
 use Rattle.std.specs.Prelude.{⊤}
 use Rattle.sqlite_trees.specs.declared.store.Store.{Ghosts}
-use Rattle.book_facts.specs.declared.lookup.Lookup.{Lookup}
 use Rattle.books.specs.Keeps.{Seen}
 use Rattle.book_opening.specs.declared.fault.OpenFault.{OpenFault}
 use Rattle.sts_fields.specs.Text.{Text}
@@ -32,6 +31,7 @@ use Rattle.vend_commands.specs.commands.Reported.IsReported.{absent as no_file, 
 use Rattle.vend_commands.specs.commands.Timed.{IsTimed}
 use Rattle.vend_commands.specs.office.Visited.{IsVisited}
 use Rattle.vend_commands.specs.office.Visited.IsVisited.{unopened as unvisited, visited}
+use Rattle.vend_commands.specs.declared.office.wanted.Wanted.{Wanted}
 use Rattle.vend_commands.specs.declared.command_end.CommandEnd.{CommandEnd}
 use Rattle.command_line.specs.declared.commands.import.ImportWords.{ImportWords}
 use Rattle.command_line.specs.declared.transform.Shipped.{Shipped}
@@ -56,9 +56,9 @@ reported_bare : {S : Type 0} (store : Ghosts S) (at : Places) (words : ReportWor
 reported_bare store at words o end (no_file misses told) = no_file tt told
 reported_bare store at words o end (present printed) = present (visited_bare store (where_present (at words.file.now words.wait)) Plain _ o end printed)
 
-shown_bare : {S : Type 0} (store : Ghosts S) (at : Places) (file : Text) (wait moment : ℕ) (lookup : Lookup) (o : Outputs) (end : CommandEnd) → IsShownAt store at file wait moment lookup o end → IsShownAt store (λ path wait. bare_place (at path wait)) file wait moment lookup o end
-shown_bare store at file wait moment lookup o end (shown_absent misses told) = shown_absent tt told
-shown_bare store at file wait moment lookup o end (shown_present visit) = shown_present (visited_bare store (where_present (at file wait)) Plain _ o end visit)
+shown_bare : {S : Type 0} (store : Ghosts S) (at : Places) (file : Text) (wait moment : ℕ) (wanted : Wanted) (o : Outputs) (end : CommandEnd) → IsShownAt store at file wait moment wanted o end → IsShownAt store (λ path wait. bare_place (at path wait)) file wait moment wanted o end
+shown_bare store at file wait moment wanted o end (shown_absent misses told) = shown_absent tt told
+shown_bare store at file wait moment wanted o end (shown_present visit) = shown_present (visited_bare store (where_present (at file wait)) Plain _ o end visit)
 
 added_bare : {S : Type 0} (store : Ghosts S) (at : Places) (untouched : Type 0) (words : ImportWords) (moment : ℕ) (rows : Result (List Row) RowFault) (o : Outputs) (end : CommandEnd)
     → AreAdded store at untouched words moment rows o end → AreAdded store (λ path wait. bare_place (at path wait)) ⊤ words moment rows o end
@@ -161,6 +161,7 @@ module _ {S D R W : Type 0} (store : Ghosts S) (way : Way D R W) (at : Places) (
     carried_bare (asks.Request words) o end (left, done) = ((tt, tt), timed_bare untouched words.at answers _ _ o end (λ moment asked. visited_bare store (at words.file.now words.wait) words.transform _ o end asked) done)
     carried_bare (asks.Report words) o end (left, done) = ((tt, tt), reported_bare store at words o end done)
     carried_bare (asks.Show words) o end (left, done) = ((tt, tt), timed_bare untouched words.at answers _ _ o end (λ moment shown. shown_bare store at words.file.now words.wait moment _ o end shown) done)
+    carried_bare (asks.List words) o end (left, done) = ((tt, tt), timed_bare untouched words.at answers _ _ o end (λ moment shown. shown_bare store at words.file.now words.wait moment _ o end shown) done)
     carried_bare (asks.Offer words) o end (left, done) = ((tt, tt), timed_bare untouched words.at answers _ _ o end (λ moment shown. shown_bare store at words.file.now words.wait moment _ o end shown) done)
     carried_bare (asks.Meter words) o end (idle, done) = ((tt, (tt, tt)), done)
     carried_bare (asks.Quote words) o end (idle, done) = ((tt, (tt, tt)), done)

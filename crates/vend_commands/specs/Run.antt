@@ -24,7 +24,9 @@ use Rattle.vend_commands.specs.commands.Timed.{IsTimed}
 use Rattle.vend_commands.specs.print.Told.{Outputs, IsTold}
 use Rattle.vend_commands.specs.commands.Tried.{IsTried}
 use Rattle.command_line.specs.declared.asked.Asked.{Asked}
+use Rattle.command_line.specs.declared.asked.Asked.TheVariants as asks
 use Rattle.command_line.specs.declared.asked.Asked.TheVariants.{Trial, Import, Request, Report, Show, Offer, Meter, Quote, Serve, Selfcheck, Audit}
+use Rattle.vend_commands.specs.declared.office.wanted.Wanted.TheVariants.{One, Listing}
 use Rattle.vend_commands.specs.declared.command_end.CommandEnd.{CommandEnd}
 use Rattle.vend_commands.specs.declared.command_end.CommandEnd.TheVariants.{Done, Refused, BadWords}
 
@@ -41,9 +43,12 @@ IsCarriedOut store m (Request words) o end = IsOffline m × IsTimed m.untouched 
     words.request o end) o end
 IsCarriedOut store m (Report words) o end = IsOffline m × IsReported store m.at words o end
 IsCarriedOut store m (Show words) o end = IsOffline m × IsShown store m.at m.untouched m.answers
-    words.at words.file.now words.wait (lookup_of words.shown) o end
+    words.at words.file.now words.wait (One (lookup_of words.shown) words.json) o end
+IsCarriedOut store m (asks.List words) o end = IsOffline m × IsShown store m.at m.untouched
+    m.answers words.at words.file.now words.wait (Listing words.listed words.json) o end
 IsCarriedOut store m (Offer words) o end = IsOffline m × IsShown store m.at m.untouched m.answers
-    words.at words.file.now words.wait (lookups.Quote words.meter words.tender) o end
+    words.at words.file.now words.wait
+    (One (lookups.Quote words.meter words.tender) words.json) o end
 IsCarriedOut store m (Meter words) o end = IsIdle m × IsMetered words o end
 IsCarriedOut store m (Quote words) o end = IsIdle m × IsQuoted words o end
 IsCarriedOut store m (Serve words) o end =

@@ -1,3 +1,4 @@
 pub mod Connections
 pub mod Courses
 pub mod Listening
+pub mod SalesTold

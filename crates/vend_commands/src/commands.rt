@@ -1,6 +1,7 @@
 //! The commands: what each does.
 pub mod file_audit;
 pub mod import;
+pub mod list;
 mod look_up;
 pub mod meter;
 pub mod offer;

@@ -1,20 +1,27 @@
-ghost use Rattle.std.specs.Prelude.{◌≡◌, ℕ, List, Ok, Err, Contains};
+ghost use Rattle.std.specs.Prelude.{◌≡◌, ℕ, List, [], Option, Some, None, Ok, Err, Contains};
+ghost use Rattle.std.specs.Prelude.{false, true, filter, map, nat_lt, unwrap_or};
 ghost use Rattle.sqlite.specs.Files.{file_state};
 ghost use Rattle.sqlite.specs.State.{HasCleanDisk};
 ghost use Rattle.sqlite_wal.specs.Recovery.{Image};
 ghost use Rattle.audit.specs.declared.fault.AuditFault.TheVariants.{Found};
 ghost use Rattle.audit_office.specs.declared.finding.Finding.{Finding};
+ghost use Rattle.sts_fields.specs.Day.{day_at};
 ghost use Rattle.sts_fields.specs.Text.{Text};
 ghost use Rattle.sts_token.specs.Token.{BlockFunction};
+ghost use Rattle.book_facts.specs.Lookups.{listed_shift};
+ghost use Rattle.book_facts.specs.declared.lookup.Found.{Found as WhatIsFound};
 ghost use Rattle.book_facts.specs.declared.lookup.Found.TheVariants.{Quote as Quoted};
+ghost use Rattle.book_facts.specs.declared.lookup.ListedMeter.{ListedMeter};
+ghost use Rattle.book_facts.specs.declared.lookup.ListedTariff.{ListedTariff};
 ghost use Rattle.book_facts.specs.declared.lookup.Quote.{Quote};
 ghost use Rattle.books.specs.Headline.{RepresentTheLast};
-ghost use Rattle.books.specs.Lookups.{found_in};
+ghost use Rattle.books.specs.Lookups.{quote};
 ghost use Rattle.books.specs.Path.{StandsIn};
 ghost use Rattle.books.specs.declared.books.Books.{Books};
 ghost use Rattle.sqlite_store.specs.declared.store.FileStore.{FileStore as Files};
 ghost use Rattle.command_line.specs.Transform.{shipped};
 ghost use Rattle.command_line.specs.declared.transform.Shipped.{Shipped};
+ghost use Rattle.papers.specs.Export.{export_of};
 ghost use Rattle.papers.specs.Receipt.{receipt_of};
 ghost use Rattle.desk.specs.reply.Body.{sale_members};
 ghost use Rattle.desk.specs.reply.Members.{json_text};
@@ -37,6 +44,9 @@ ghost use Rattle.vend_commands.specs.runs.Follow.{here_of};
 ghost use Rattle.vend_commands.specs.runs.OneOffice.{KeepsPromise};
 ghost use Rattle.vend_commands.specs.Selling.{EndsSold, TellsSale};
 ghost use Rattle.vend_commands.specs.office.Served.{TellsReply};
+ghost use Rattle.vend_commands.specs.print.Listing.{ArePages};
+ghost use Rattle.vend_commands.specs.print.ListTexts.{pages_text, shifts_text};
+ghost use Rattle.vend_commands.specs.print.WholeLists.{AreAllMeters, AreAllTariffs, meters_text, tariffs_text};
 ghost use Rattle.vend_commands.specs.print.Told.{Outputs};
 ghost use Rattle.vend_commands.specs.office.Visited.{seen_in};
 ghost use Rattle.vend_commands.specs.declared.command_end.CommandEnd.{CommandEnd};
@@ -46,12 +56,42 @@ use crate::port::door::Door;
 use crate::port::loopback::Loopback;
 use crate::port::ports::{OfficeFile, TextFiles};
 use audit::look_law;
-use books::{Lookup, found_law, opening_law};
+use books::{found_law, opening_law};
+use command_line::Listed;
 use desk::{Clock, reply_law};
-use papers::export_fields_law;
+use papers::{export_fields_law, export_law};
 use sqlite::FileStore;
 use sqlite_trees::store::Store;
-use vend_core::{history_law, office_law, store_law};
+use vend_core::{history_law, life_law, office_law, store_law};
+
+/// What the pages of a list print together where the last one is not full: the lines of all
+/// tariffs after a name and of all meters after a number, each once, in the order of their bytes;
+/// of all shifts after a number; and all sales after a number, as the export has them.
+pub fn list_law()
+    ensures tariffs { (office : Office) (moment : ℕ) (after : Option Text)
+        (pages : List WhatIsFound)
+        → ArePages office moment (Some (Listed.Tariffs after)) pages None
+        → (tariffs : List ListedTariff)
+        × AreAllTariffs office (day_at moment) (unwrap_or after []) tariffs
+        × (pages_text false pages ≡ tariffs_text true tariffs) }
+    ensures meters { (office : Office) (moment : ℕ) (after : Option Text)
+        (pages : List WhatIsFound)
+        → ArePages office moment (Some (Listed.Meters after)) pages None
+        → (meters : List ListedMeter) × AreAllMeters office (unwrap_or after []) meters
+        × (pages_text false pages ≡ meters_text true meters) }
+    ensures shifts { (office : Office) (moment after : ℕ) (pages : List WhatIsFound)
+        → IsOffice office
+        → ArePages office moment (Some (Listed.Shifts after)) pages None
+        → pages_text false pages ≡ shifts_text true
+        (map (listed_shift office) (filter (λ s. nat_lt after s.number) office.shifts)) }
+    ensures sales { (office : Office) (moment after : ℕ) (pages : List WhatIsFound)
+        → IsOffice office
+        → ArePages office moment (Some (Listed.Sales after)) pages None
+        → pages_text false pages
+        ≡ export_of true (filter (λ s. nat_lt after s.number) office.sales) }
+{
+    export_law();
+}
 
 /// What `sell` has done where it ends as done: where the files stood for an office, it printed the
 /// receipt of the sale that the office's rules give for the order, and the sale stands in all that
@@ -78,7 +118,7 @@ pub fn sell_law<H: OfficeFile>()
 /// meter on the day, after the tenths that its month has before.
 pub fn offer_law()
     ensures { (office : Office) (moment : ℕ) (meter : Text) (tender : ℕ) (quoted : Quote)
-        → found_in office moment (Lookup.Quote meter tender) ≡ Ok (Quoted quoted)
+        → quote office moment meter tender ≡ Ok (Quoted quoted)
         → IsPurchaseFor office moment meter tender quoted }
 {}
 
@@ -129,12 +169,16 @@ pub fn serve_law<H: OfficeFile, D: Door>()
 ///
 /// While the disk returns what was written and nobody else writes the file, what these runs lived
 /// are lives of one office; so what `headline_law` of `books` says of lives holds of them.
+///
+/// Each sale that one of them got in a reply, or read, or told a connection of `serve` whole stands
+/// for ever, and no two of them differ under one identifier, number or reference.
 pub fn program_law<H: OfficeFile, F: TextFiles, C: Clock, D: Door, L: Loopback>()
     ensures { KeepsPromise (here_of H.Medium.Disk H.Salts.SaltSource H.OfficeFile F.TextFiles
         C.answers (way D.Door D.Reader.remaining D.Writer.contents)
         (loop_of L.Loopback L.Stream.remaining L.Stream.contents)) }
 {
     history_law();
+    life_law();
     office_law();
     store_law();
     opening_law::<FileStore<H::Medium>>();

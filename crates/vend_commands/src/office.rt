@@ -1,7 +1,9 @@
-//! An office in a file: opened, asked, looked up in, opened again, and audited.
+//! An office in a file: opened, asked, looked up in, listed, opened again, and audited.
 
 pub(crate) mod asking;
 pub(crate) mod auditing;
+pub(crate) mod listing;
 pub(crate) mod looking;
 pub(crate) mod opening;
 pub(crate) mod reopening;
+pub(crate) mod wanted;

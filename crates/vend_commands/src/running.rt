@@ -205,6 +205,10 @@ fn answer<
             go_offline(ports.door, ports.loopback);
             commands::show::run(&words, alloc, ports.office, &mut clock, out, err)
         }
+        Asked::List(words) => {
+            go_offline(ports.door, ports.loopback);
+            commands::list::run(&words, alloc, ports.office, &mut clock, out, err)
+        }
         Asked::Offer(words) => {
             go_offline(ports.door, ports.loopback);
             commands::offer::run(&words, alloc, ports.office, &mut clock, out, err)

@@ -1,5 +1,5 @@
-//! Look-ups in a new office, at the moment that is given or else at the clock's; and where a call
-//! of its store fails once, which is told, and nothing is printed.
+//! Look-ups and lists in a new office, at the moment that is given or else at the clock's; and
+//! where a call of its store fails once, which is told, and nothing is printed.
 use crate::lapses::calls_fail;
 use crate::lapses::ports::{LapsingOffice, NoTexts, Texts, Trouble, Unseen};
 use crate::support::words_of;
@@ -31,10 +31,61 @@ const LOOK_UPS: [(&str, &str); 5] = [
     ),
 ];
 
+// Its lists have no members.
+const LISTS: [(&str, &str); 7] = [
+    ("list --file office.db tariffs", "tariff\tfrom\tsteps\n"),
+    (
+        "list --file office.db --after flat tariffs",
+        "tariff\tfrom\tsteps\n",
+    ),
+    ("list --file office.db meters", "meter\tbase\ttariff\n"),
+    (
+        "list --file office.db shifts",
+        "shift\toperator\topened\tclosed\tsales\ttenths\tcash\n",
+    ),
+    (
+        "list --file office.db --after 7 sales",
+        "number,moment,shift,operator,ref,meter,base,tid,tenths,price,tender,change,token\n",
+    ),
+    ("list --file office.db --json tariffs", "{\"tariffs\":[]}\n"),
+    ("list --file office.db --json sales", "{\"sales\":[]}\n"),
+];
+
 const MOMENT: i64 = 1388534430;
+
+// What a command left on its output and its error output.
+#[derive(Drop)]
+struct Left {
+    out: String,
+    err: String,
+}
 
 // What a look-up tells with this clock; it prints nothing, and ends as refused.
 fn told(rt: &HostRuntime, trouble: Trouble, line: &str, clock: i64) -> Result<String, Fail> {
+    let (end, left) = ran(rt, trouble, line, clock)?;
+    if end != CommandEnd::Refused || !left.out.is_empty() {
+        return Err(Fail::new(format_args!("{line}: {end:?}")));
+    }
+    Ok(left.err)
+}
+
+// What a list prints; or what it tells where it ends as refused, and it prints nothing.
+fn listed(rt: &HostRuntime, trouble: Trouble, line: &str, clock: i64) -> Result<String, Fail> {
+    let (end, left) = ran(rt, trouble, line, clock)?;
+    match end {
+        CommandEnd::Done if left.err.is_empty() => Ok(left.out),
+        CommandEnd::Refused if left.out.is_empty() => Ok(left.err),
+        _ => Err(Fail::new(format_args!("{line}: {end:?}"))),
+    }
+}
+
+// How a command ends with this clock, and what it leaves.
+fn ran(
+    rt: &HostRuntime,
+    trouble: Trouble,
+    line: &str,
+    clock: i64,
+) -> Result<(CommandEnd, Left), Fail> {
     let ports = Ports {
         office: LapsingOffice {
             alloc: rt.alloc(),
@@ -59,10 +110,11 @@ fn told(rt: &HostRuntime, trouble: Trouble, line: &str, clock: i64) -> Result<St
         &mut Watched::new(&mut out),
         &mut Watched::new(&mut err),
     );
-    if end != CommandEnd::Refused || !out.is_empty() {
-        return Err(Fail::new(format_args!("{line}: {end:?}")));
-    }
-    Ok(String::from_utf8(err)?)
+    let left = Left {
+        out: String::from_utf8(out)?,
+        err: String::from_utf8(err)?,
+    };
+    Ok((end, left))
 }
 
 #[test]
@@ -74,6 +126,16 @@ fn the_clock_decides_where_no_moment_is_given(rt: HostRuntime) -> Result<(), Fai
         assert_eq!(rt; told(&rt, trouble, line, -1)?.as_str(), "refused clock\n");
         let given = format!(in rt.alloc(); "{line} --at {MOMENT}")?;
         assert_eq!(rt; told(&rt, trouble, given.as_str(), -1)?.as_str(), found);
+    }
+    Ok(())
+}
+
+#[test]
+fn lists_of_a_new_office(rt: HostRuntime) -> Result<(), Fail> {
+    let trouble = calls_fail(true, 0, 0);
+    for (line, header) in LISTS {
+        assert_eq!(rt; listed(&rt, trouble, line, MOMENT)?.as_str(), header);
+        assert_eq!(rt; listed(&rt, trouble, line, -1)?.as_str(), "refused clock\n");
     }
     Ok(())
 }
@@ -90,6 +152,16 @@ fn sweep(rt: &HostRuntime, is_log: bool) -> Result<u64, Fail> {
             if told.as_str() == "open 3 Store\n" || told.as_str() == "refused 16 Store\n" {
                 failures = failures.saturating_add(1);
             } else if told.as_str() != found {
+                return Err(Fail::new(format_args!("{line}: {told}")));
+            }
+        }
+    }
+    for (line, header) in LISTS {
+        for before in 0..CALLS {
+            let told = listed(rt, calls_fail(is_log, before, 1), line, MOMENT)?;
+            if told.as_str() == "open 3 Store\n" || told.as_str() == "refused 16 Store\n" {
+                failures = failures.saturating_add(1);
+            } else if told.as_str() != header {
                 return Err(Fail::new(format_args!("{line}: {told}")));
             }
         }

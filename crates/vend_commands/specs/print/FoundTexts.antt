@@ -1,19 +1,20 @@
 -- What is printed of what was looked up.
-use Rattle.std.specs.Prelude.{⊤, ℕ, ◌-◌, true, List, [], ◌∷◌, ◌++◌, Option, Some, None, codes, decimal}
+use Rattle.std.specs.Prelude.{⊤, ℕ, ◌-◌, Bool, true, false, List, [], ◌∷◌, ◌++◌, Option, Some, None, codes, decimal}
 use Rattle.book_facts.specs.declared.lookup.Found.{Found}
 use Rattle.book_facts.specs.declared.lookup.Found.TheVariants as found
 use Rattle.book_facts.specs.declared.lookup.Lookup.{Lookup}
 use Rattle.book_facts.specs.declared.lookup.Lookup.TheVariants as lookups
 use Rattle.book_facts.specs.declared.lookup.MeterSummary.{MeterSummary}
 use Rattle.book_facts.specs.declared.lookup.Quote.{Quote}
+use Rattle.desk.specs.declared.reply.form.Form.TheVariants.{Json}
+use Rattle.desk.specs.reply.Body.{found_body}
 use Rattle.papers.specs.Export.{export_of}
 use Rattle.papers.specs.Receipt.{receipt_of}
 use Rattle.sts_fields.specs.Base.{year_of}
 use Rattle.sts_fields.specs.Text.{Text}
 use Rattle.tariff.specs.declared.bought.Buy.{Buy}
 use Rattle.vend_core.specs.declared.office.sale.Sale.{Sale}
-use Rattle.vend_commands.specs.print.Printed.{joined_line, line_of, quote_line}
-use Rattle.vend_commands.specs.print.Totalled.{totals_line}
+use Rattle.vend_commands.specs.print.Printed.{joined_line, quote_line}
 
 -- fields with a tab between them, and the end of the line
 abbrev pub row_of : List Text → Text
@@ -42,16 +43,22 @@ abbrev pub sale_text : Lookup → Sale → Text
 sale_text (lookups.LastSale number) s = receipt_of s
 sale_text lookup s = export_of true (s ∷ [])
 
--- the text of what was found
-abbrev pub found_text : Lookup → Found → Text
-found_text lookup (found.SaleCount count) = line_of (codes "sales" ∷ decimal count ∷ [])
-found_text lookup (found.Meter m) = meter_header ++ meter_row m
-found_text lookup (found.Sale s) = sale_text lookup s
-found_text lookup (found.Quote q) = quote_line (purchase_in q)
-found_text lookup (found.ShiftTotals number totals) = totals_line number totals
+-- as JSON on a line: the body that a desk replies
+abbrev pub json_line : Found → Text
+json_line what = found_body Json what ++ 10 ∷ []
 
--- an export is made whole in memory before it is printed
-abbrev pub IsExportedSale : Lookup → Found → Type 0
-IsExportedSale (lookups.LastSale number) (found.Sale s) = ⊥
-IsExportedSale lookup (found.Sale s) = ⊤
-IsExportedSale lookup what = ⊥
+-- The text of what was found, as JSON or as lines. A meter, a sale and a quote are what is looked
+-- up alone.
+abbrev pub found_text : (json : Bool) → Lookup → Found → Text
+found_text true lookup what = json_line what
+found_text false lookup (found.Meter m) = meter_header ++ meter_row m
+found_text false lookup (found.Sale s) = sale_text lookup s
+found_text false lookup (found.Quote q) = quote_line (purchase_in q)
+found_text false lookup what = []
+
+-- JSON and an export are made whole in memory before they are printed
+abbrev pub IsMadeWhole : (json : Bool) → Lookup → Found → Type 0
+IsMadeWhole true lookup what = ⊤
+IsMadeWhole false (lookups.LastSale number) (found.Sale s) = ⊥
+IsMadeWhole false lookup (found.Sale s) = ⊤
+IsMadeWhole false lookup what = ⊥

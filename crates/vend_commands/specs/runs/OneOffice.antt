@@ -1,6 +1,7 @@
 -- Several runs are lives of one office.
 use Rattle.std.specs.Prelude.{◌≡◌, ◌⊎◌, List, [], ◌∷◌, ◌++◌, Result, Ok, Err, Contains}
 use Rattle.sqlite_wal.specs.Recovery.{Image}
+use Rattle.vend_core.specs.Law.Handed.{sales_of}
 use Rattle.vend_core.specs.Law.Life.{AreLives, Life}
 use Rattle.vend_core.specs.Office.{Office}
 use Rattle.vend_core.specs.declared.decision.answer.Answer.{Answer}
@@ -13,7 +14,7 @@ use Rattle.vend_core.specs.declared.office.sale.Sale.{Sale}
 use Rattle.books.specs.Path.{StandsIn}
 use Rattle.vend_commands.specs.office.Served.{TellsReply}
 use Rattle.vend_commands.specs.runs.Follow.{AreRuns, Here, MayBeLeft, ProgramRun, use_of}
-use Rattle.vend_commands.specs.runs.Uses.{Living, LivesSo, Question, Use, asking_life, connected, idle_life, many_lives, no_life, unseen}
+use Rattle.vend_commands.specs.runs.Uses.{Living, LivesSo, Question, TellsSo, Use, asking_life, connected, idle_life, many_lives, no_life, reading_life, unseen}
 
 -- these are the lives of what a run made of the file, after those before
 abbrev pub LivesIn : Use → (before lives : List Life) → Type 0
@@ -24,12 +25,19 @@ LivesIn (connected image living last) before lives = LivesSo living before lives
 abbrev pub AsksSo : Living → Question → Type 0
 AsksSo no_life q = ⊥
 AsksSo (idle_life transform) q = ⊥
+AsksSo (reading_life moment reading) q = ⊥
 AsksSo (asking_life asked) q = q ≡ asked
-AsksSo (many_lives Lives) q = ⊥
+AsksSo (many_lives way forward count door answers last left) q = ⊥
 
 abbrev pub AsksIn : Use → Question → Type 0
 AsksIn unseen q = ⊥
 AsksIn (connected image living last) q = AsksSo living q
+
+-- this sale was read in it, or a connection was told it, along these lives
+abbrev pub TellsIn : (made : Use) → (before lives : List Life) → LivesIn made before lives → Sale
+    → Type 0
+TellsIn unseen before lives is s = ⊥
+TellsIn (connected image living last) before lives is s = TellsSo living before lives is s
 
 module _ {P D R W : Type 0} (here : Here P D R W) where
   -- the lives of each, one run after another, after those before
@@ -56,11 +64,25 @@ module _ {P D R W : Type 0} (here : Here P D R W) where
   abbrev pub Asks : ProgramRun here → Question → Type 0
   Asks run q = AsksIn (use_of here run) q
 
-  -- The run got this sale to tell: a new one, the one that its order had made before, or one that
-  -- was asked for again by its number.
+  -- The run got this sale to tell, in the reply to what it asked: a new one, the one that its order
+  -- had made before, one that was asked for again by its number, or one of a shift's report.
   abbrev pub Gets : ProgramRun here → Sale → Type 0
-  Gets run sale = (q : Question) × Asks run q
-      × ((q.reply ≡ Ok (Sold sale)) ⊎ (q.reply ≡ Ok (Reprinted sale)))
+  Gets run sale = (q : Question) × Asks run q × Contains (sales_of q.reply) sale
+
+  -- one of these runs told this sale along these lives: it read it, or its desk told a connection
+  abbrev pub TellAlong : (runs : List (ProgramRun here)) → (before lives : List Life)
+      → AreLivedBy runs before lives → Sale → Type 0
+  TellAlong [] before lives none s = ⊥
+  TellAlong (run ∷ later) before lives (own, others, is, rest, all) s =
+      TellsIn (use_of here run) before own is s ⊎ TellAlong later (before ++ own) others rest s
+
+  -- This sale was told in these runs, along these lives: one of the first got it, or any of them
+  -- read it, or told it at its desk.
+  abbrev pub IsToldIn : (first runs : List (ProgramRun here)) → (lives : List Life)
+      → AreOneOffice runs lives → Sale → Type 0
+  IsToldIn first runs lives one s =
+      ((run : ProgramRun here) × IsAmong first run × Gets run s)
+      ⊎ TellAlong runs [] lives one.lived s
 
 -- it is that answer, or there was no memory, or the store failed
 abbrev pub IsUnlessFailed : Result Answer Refusal → Answer → Type 0
@@ -75,33 +97,35 @@ pub record KeepsPromise {P D R W : Type 0} (here : Here P D R W) : Type 0 where
   -- a run tells the reply that it got, and nothing else
   pub told : (run : ProgramRun here) (q : Question) → Asks here run q
       → TellsReply q.reply run.o run.end
-  -- a sale that one of them got to tell stands, unchanged, in whatever the file may hold after the
-  -- last of them
-  pub stands : (runs : List (ProgramRun here)) (lives : List Life) (run : ProgramRun here)
-      (s : Sale) (image : Image)
-      → AreOneOffice here runs lives → IsAmong here runs run → Gets here run s
-      → MayBeLeft here runs image
+  -- a sale that one of them got to tell, read or told at its desk stands, unchanged, in whatever
+  -- the file may hold after the last of them
+  pub stands : (runs : List (ProgramRun here)) (lives : List Life)
+      (one : AreOneOffice here runs lives) (s : Sale) (image : Image)
+      → IsToldIn here runs runs lives one s → MayBeLeft here runs image
       → (o : Office) × StandsIn image o × Contains o.sales s
-  -- no two of them got different sales to a meter under one base date with one identifier, nor with
-  -- one number
+  -- no two different sales to a meter under one base date that they told have one identifier, nor
+  -- any two one number, nor any two of one operator one reference
   pub one_identifier : (runs : List (ProgramRun here)) (lives : List Life)
-      (first second : ProgramRun here) (a b : Sale)
-      → AreOneOffice here runs lives → IsAmong here runs first → IsAmong here runs second
-      → Gets here first a → Gets here second b
+      (one : AreOneOffice here runs lives) (a b : Sale)
+      → IsToldIn here runs runs lives one a → IsToldIn here runs runs lives one b
       → a.meter ≡ b.meter → a.base ≡ b.base → a.tid ≡ b.tid → a ≡ b
   pub one_number : (runs : List (ProgramRun here)) (lives : List Life)
-      (first second : ProgramRun here) (a b : Sale)
-      → AreOneOffice here runs lives → IsAmong here runs first → IsAmong here runs second
-      → Gets here first a → Gets here second b → a.number ≡ b.number → a ≡ b
-  -- the same `sell` again, at whatever moment and with whatever transform, gets the same sale; and
-  -- so does a report of its receipt
+      (one : AreOneOffice here runs lives) (a b : Sale)
+      → IsToldIn here runs runs lives one a → IsToldIn here runs runs lives one b
+      → a.number ≡ b.number → a ≡ b
+  pub one_ref : (runs : List (ProgramRun here)) (lives : List Life)
+      (one : AreOneOffice here runs lives) (a b : Sale)
+      → IsToldIn here runs runs lives one a → IsToldIn here runs runs lives one b
+      → a.operator ≡ b.operator → a.order_ref ≡ b.order_ref → a ≡ b
+  -- the same `sell` again, at whatever moment and with whatever transform, gets the same sale
   pub sold_again : (earlier : List (ProgramRun here)) (lives : List Life)
       (first again : ProgramRun here) (order : Order) (s : Sale) (p q : Question)
       → AreOneOffice here (earlier ++ again ∷ []) lives → IsAmong here earlier first
       → Asks here first p → p.request ≡ Sell order → p.reply ≡ Ok (Sold s)
       → Asks here again q → q.request ≡ Sell order → IsUnlessFailed q.reply (Sold s)
+  -- a report of the receipt of a sale that was told before gets that sale
   pub printed_again : (earlier : List (ProgramRun here)) (lives : List Life)
-      (first again : ProgramRun here) (s : Sale) (q : Question)
-      → AreOneOffice here (earlier ++ again ∷ []) lives → IsAmong here earlier first
-      → Gets here first s → Asks here again q → q.request ≡ Reprint s.number
-      → IsUnlessFailed q.reply (Reprinted s)
+      (again : ProgramRun here) (one : AreOneOffice here (earlier ++ again ∷ []) lives) (s : Sale)
+      (q : Question)
+      → IsToldIn here earlier (earlier ++ again ∷ []) lives one s
+      → Asks here again q → q.request ≡ Reprint s.number → IsUnlessFailed q.reply (Reprinted s)

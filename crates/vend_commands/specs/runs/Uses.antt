@@ -1,6 +1,6 @@
 -- What a run of the program made of the file that its words name.
 use Rattle.std.proofs.Common.{inl, inr}
-use Rattle.std.specs.Prelude.{◌≡◌, ◌≢◌, ℕ, ℤ, ◌+◌, ◌%◌, Bool, true, false, List, [], ◌∷◌, ◌++◌, length, Option, Some, None, Result, Ok, Err}
+use Rattle.std.specs.Prelude.{◌≡◌, ◌≢◌, ℕ, ℤ, ◌+◌, ◌%◌, Bool, true, false, List, [], ◌∷◌, ◌++◌, length, Option, Some, None, Result, Ok, Err, Contains}
 use Rattle.sqlite.specs.Files.{file_state, image_of, over_files}
 use Rattle.sqlite.specs.State.{State}
 use Rattle.sqlite_disk.specs.declared.Disk as disk
@@ -19,8 +19,8 @@ use Rattle.vend_core.specs.declared.decision.request.Request.{Request}
 use Rattle.vend_core.specs.declared.decision.request.Request.TheVariants as requests
 use Rattle.vend_core.specs.declared.decision.request.Stamped.{Stamped}
 use Rattle.vend_core.specs.declared.office.row.Row.{Row}
+use Rattle.vend_core.specs.declared.office.sale.Sale.{Sale}
 use Rattle.papers.specs.declared.row_fault.RowFault.{RowFault}
-use Rattle.book_facts.specs.declared.lookup.Lookup.{Lookup}
 use Rattle.book_facts.specs.declared.lookup.Lookup.TheVariants as lookups
 use Rattle.book_opening.specs.declared.fault.OpenFault.{OpenFault}
 use Rattle.books.specs.Headline.{with_last}
@@ -55,10 +55,14 @@ use Rattle.vend_commands.specs.port.Places.{IsUnopened, Machine, Place, Way, pla
 use Rattle.vend_commands.specs.port.Places.IsUnopened.{unfound, unopened as found_unopened}
 use Rattle.vend_commands.specs.port.Places.IsUnopenedIn.{refused, unsalted}
 use Rattle.vend_commands.specs.print.Told.{Outputs, Sink}
+use Rattle.vend_commands.specs.runs.Readings.{IsReadIn, Reading, reading_of, sales_read}
 use Rattle.vend_commands.specs.serving.Connections.{AreServed, Service, service}
 use Rattle.vend_commands.specs.serving.Courses.{AreLived, Course, IsNext, course}
 use Rattle.vend_commands.specs.serving.Listening.{IsServing}
 use Rattle.vend_commands.specs.serving.Listening.IsServing.{unheard as serve_unheard, unopened as serve_unopened, was_open as serve_open}
+use Rattle.vend_commands.specs.serving.SalesTold.{ConnectionsTell}
+use Rattle.vend_commands.specs.declared.office.wanted.Wanted.{Wanted}
+use Rattle.vend_commands.specs.declared.office.wanted.Wanted.TheVariants.{One, Listing}
 use Rattle.vend_commands.specs.declared.command_end.CommandEnd.{CommandEnd}
 use Rattle.vend_commands.specs.declared.port.ports.OfficeFile as file
 use Rattle.vend_commands.specs.declared.port.ports.SaltSource as source
@@ -72,13 +76,16 @@ pub record Question : Type 0 where
   pub request : Request
   pub reply : Result Answer Refusal
 
--- how an office lived in a run: it was not opened, or nothing was asked of it, or one request was,
--- or many along connections, whose lives follow those before
+-- how an office lived in a run: it was not opened, or nothing was asked of it, or something was
+-- read at a moment, or one request was asked, or many along connections, whose lives follow those
+-- before
 pub data Living : Type 1 where
   no_life : Living
   idle_life : Shipped → Living
+  reading_life : (moment : ℕ) → Reading → Living
   asking_life : Question → Living
-  many_lives : ((before lives : List Life) → Type 0) → Living
+  many_lives : {D R W : Type 0} → Way D R W → BlockFunction → (count : ℕ) → (door : D)
+      → (answers : Option (List ℤ)) → (last : D) → (left : Option (List ℤ)) → Living
 
 -- the life of one request, with the nibble of the next sale's number, in an office that runs
 pub record IsAskedLife (q : Question) (life : Life) : Type 0 where
@@ -89,14 +96,6 @@ pub record IsAskedLife (q : Question) (life : Life) : Type 0 where
   pub life_is : life ≡ extended_by (opened (forward_of q.transform) life.opening) at q.reply
   pub running : q.reply ≢ Err Stopped
 
--- these are the lives that it lived so, after those before
-abbrev pub LivesSo : Living → (before lives : List Life) → Type 0
-LivesSo no_life before lives = lives ≡ []
-LivesSo (idle_life transform) before lives =
-    (office : Office) × (lives ≡ opened (forward_of transform) office ∷ [])
-LivesSo (asking_life q) before lives = (life : Life) × IsAskedLife q life × (lives ≡ life ∷ [])
-LivesSo (many_lives Lives) before lives = Lives before lives
-
 -- Lives went on along so many connections, after those before, from one that just opened an office.
 -- Behind the last connection the same life goes on, or the next one was opened.
 abbrev pub AreCoursed : {D R W : Type 0} → Way D R W → BlockFunction → ℕ → D → Option (List ℤ) → D
@@ -106,6 +105,31 @@ AreCoursed way forward count door answers last_door left before lives =
     × AreLived way forward count (service door (course before (opened forward office)) answers)
     (service last_door last left)
     × IsNext forward last next × (before ++ lives ≡ with_last next.over next.life)
+
+-- these are the lives that it lived so, after those before
+abbrev pub LivesSo : Living → (before lives : List Life) → Type 0
+LivesSo no_life before lives = lives ≡ []
+LivesSo (idle_life transform) before lives =
+    (office : Office) × (lives ≡ opened (forward_of transform) office ∷ [])
+LivesSo (reading_life moment reading) before lives =
+    (office : Office) × IsReadIn (opened (forward_of Plain) office) moment reading
+    × (lives ≡ opened (forward_of Plain) office ∷ [])
+LivesSo (asking_life q) before lives = (life : Life) × IsAskedLife q life × (lives ≡ life ∷ [])
+LivesSo (many_lives way forward count door answers last left) before lives =
+    AreCoursed way forward count door answers last left before lives
+
+-- this sale was read in them, or a connection was told it along them
+abbrev pub TellsSo : (living : Living) → (before lives : List Life) → LivesSo living before lives
+    → Sale → Type 0
+TellsSo no_life before lives is s = ⊥
+TellsSo (idle_life transform) before lives is s = ⊥
+TellsSo (reading_life moment reading) before lives is s = Contains (sales_read reading) s
+TellsSo (asking_life q) before lives is s = ⊥
+TellsSo (many_lives way forward count door answers last_door left) before lives
+    (office, last, next, lived, follows, all) s =
+    ConnectionsTell way forward count
+    (service door (course before (opened forward office)) answers)
+    (service last_door last left) lived s
 
 -- ---- what a run made of the file
 
@@ -172,17 +196,15 @@ abbrev pub use_served : {D R W B : Type 0} → (way : Way D R W) → (forward : 
     → (served : Result (B × Bool) OpenFault)
     → AreServed way forward see loses wanted old door answers served printed → Use
 use_served way forward see loses wanted old door answers printed image (Ok (books, true)) held =
-    connected image (many_lives (AreCoursed way forward wanted old.door old.answers door answers))
+    connected image (many_lives way forward wanted old.door old.answers door answers)
     (see books).state
 use_served way forward see loses wanted old door answers printed image (Ok (books, false)) none =
     connected image
-    (many_lives (AreCoursed way forward none.count old.door old.answers
-    none.last.door none.last.answers))
+    (many_lives way forward none.count old.door old.answers none.last.door none.last.answers)
     (see books).state
 use_served way forward see loses wanted old door answers printed image (Err fault) lost =
     connected image
-    (many_lives (AreCoursed way forward lost.count old.door old.answers
-    lost.last.door lost.last.answers))
+    (many_lives way forward lost.count old.door old.answers lost.last.door lost.last.answers)
     (see lost.last.books).state
 
 module _ {M S H D R W : Type 0} (disk : disk.Ghosts M) (salts : source.Ghosts S)
@@ -222,14 +244,14 @@ module _ {M S H D R W : Type 0} (disk : disk.Ghosts M) (salts : source.Ghosts S)
       use_visited {place = where_present (with_file.at words.file.now words.wait)} use_refused
       (lives_printing words.paper o end) visit
 
-  -- a look-up
-  abbrev pub use_shown : (path : Text) → (wait moment : ℕ) → (lookup : Lookup) → (o : Outputs)
+  -- a look-up, or a list
+  abbrev pub use_shown : (path : Text) → (wait moment : ℕ) → (wanted : Wanted) → (o : Outputs)
       → (end : CommandEnd)
-      → IsShownAt (over_files {g = disk}) with_file.at path wait moment lookup o end → Use
-  use_shown path wait moment lookup o end (shown_absent misses told) = unseen
-  use_shown path wait moment lookup o end (shown_present visit) =
+      → IsShownAt (over_files {g = disk}) with_file.at path wait moment wanted o end → Use
+  use_shown path wait moment wanted o end (shown_absent misses told) = unseen
+  use_shown path wait moment wanted o end (shown_present visit) =
       use_visited {place = where_present (with_file.at path wait)} use_refused
-      (λ old new done. idle_life Plain) visit
+      (λ old new done. reading_life moment (reading_of moment wanted old new o end done)) visit
 
   abbrev pub use_serving : (words : ServeWords) → (err_old err_new : Sink) → (end : CommandEnd)
       → IsServing (over_files {g = disk}) m.way with_file.at m.door m.answers words err_old
@@ -264,10 +286,13 @@ module _ {M S H D R W : Type 0} (disk : disk.Ghosts M) (salts : source.Ghosts S)
   use_carried (asks.Report words) o end (shut, done) = use_reported words o end done
   use_carried (asks.Show words) o end (shut, (moment, taken, done)) =
       use_timed m.untouched _ o end (λ at it. use_shown words.file.now words.wait at
-      (lookup_of words.shown) o end it) moment done
+      (One (lookup_of words.shown) words.json) o end it) moment done
+  use_carried (asks.List words) o end (shut, (moment, taken, done)) =
+      use_timed m.untouched _ o end (λ at it. use_shown words.file.now words.wait at
+      (Listing words.listed words.json) o end it) moment done
   use_carried (asks.Offer words) o end (shut, (moment, taken, done)) =
       use_timed m.untouched _ o end (λ at it. use_shown words.file.now words.wait at
-      (lookups.Quote words.meter words.tender) o end it) moment done
+      (One (lookups.Quote words.meter words.tender) words.json) o end it) moment done
   use_carried (asks.Meter words) o end done = unseen
   use_carried (asks.Quote words) o end done = unseen
   use_carried (asks.Serve words) o end (left, (silent, done)) =

@@ -1,4 +1,4 @@
-//! Something that is looked up in the office of a file: `show`, and `quote` of a file.
+//! Something that is looked up in the office of a file: `show`, `list`, and `quote` of a file.
 
 ghost use Rattle.vend_commands.specs.commands.LookedUp.{IsShown, IsShownAt};
 ghost use Rattle.vend_commands.specs.port.Places.{places_of};
@@ -6,12 +6,12 @@ ghost use Rattle.vend_commands.specs.print.Told.{outputs, sink};
 
 use crate::clock::moment_or_now;
 use crate::command_end::CommandEnd;
-use crate::office::looking::look_up;
+use crate::office::looking::read;
 use crate::office::opening::{close_office, open_present_office};
+use crate::office::wanted::Wanted;
 use crate::port::ports::OfficeFile;
 use crate::print::lines::{put_line, put_no_moment, put_opening};
 use crate::print::watched::Watched;
-use books::Lookup;
 use command_line::Shipped;
 use desk::Clock;
 use sqlite::FileStore;
@@ -20,7 +20,7 @@ use std::alloc::Global;
 use std::io::Write;
 use sts_fields::Moment;
 
-/// What is looked up in which file.
+/// What is wanted of the office in which file.
 #[derive(Clone, Copy)]
 pub(crate) struct FileLookup<'a> {
     /// The file that keeps the office. It is not made.
@@ -29,7 +29,7 @@ pub(crate) struct FileLookup<'a> {
     pub(crate) wait: u32,
     /// The machine's clock where it is left out.
     pub(crate) at: Option<Moment>,
-    pub(crate) lookup: Lookup,
+    pub(crate) wanted: Wanted,
 }
 
 /// Looks something up at the moment that is given or else at the clock's, and prints what is found.
@@ -44,7 +44,7 @@ pub(crate) fn run<H: OfficeFile, C: Clock, O: Write, E: Write>(
     ensures { IsShown ⟦<FileStore<H::Medium> as Store>⟧
         (places_of H.Medium.Disk H.Salts.SaltSource H.OfficeFile office)
         (H.leaves office) (C.answers clock.old)
-        asked.now.at asked.now.file.now asked.now.wait asked.now.lookup
+        asked.now.at asked.now.file.now asked.now.wait asked.now.wanted
         (outputs (sink O.contents out.old) (sink O.contents out.new)
         (sink E.contents err.old) (sink E.contents err.new)) result }
 {
@@ -70,7 +70,7 @@ fn run_at<H: OfficeFile, O: Write, E: Write>(
 ) -> CommandEnd
     ensures { IsShownAt ⟦<FileStore<H::Medium> as Store>⟧
         (places_of H.Medium.Disk H.Salts.SaltSource H.OfficeFile office)
-        asked.now.file.now asked.now.wait moment asked.now.lookup
+        asked.now.file.now asked.now.wait moment asked.now.wanted
         (outputs (sink O.contents out.old) (sink O.contents out.new)
         (sink E.contents err.old) (sink E.contents err.new)) result }
 {
@@ -84,7 +84,7 @@ fn run_at<H: OfficeFile, O: Write, E: Write>(
         Shipped::Plain,
     ) {
         Ok(Some(mut books)) => {
-            let end = look_up(alloc, &mut books, moment, &asked.lookup, out, err);
+            let end = read(alloc, &mut books, moment, &asked.wanted, out, err);
             close_office::<H>(books);
             end
         }

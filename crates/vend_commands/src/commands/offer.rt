@@ -4,6 +4,7 @@ ghost use Rattle.vend_commands.specs.print.Told.{outputs, sink};
 
 use crate::command_end::CommandEnd;
 use crate::commands::look_up::{self, FileLookup};
+use crate::office::wanted::Wanted;
 use crate::port::ports::OfficeFile;
 use crate::print::watched::Watched;
 use books::Lookup;
@@ -27,7 +28,7 @@ pub(crate) fn run<H: OfficeFile, C: Clock, O: Write, E: Write>(
         (places_of H.Medium.Disk H.Salts.SaltSource H.OfficeFile office)
         (H.leaves office) (C.answers clock.old)
         words.now.at words.now.file.now words.now.wait
-        (Lookup.Quote words.now.meter words.now.tender)
+        (Wanted.One (Lookup.Quote words.now.meter words.now.tender) words.now.json)
         (outputs (sink O.contents out.old) (sink O.contents out.new)
         (sink E.contents err.old) (sink E.contents err.new)) result }
 {
@@ -35,7 +36,7 @@ pub(crate) fn run<H: OfficeFile, C: Clock, O: Write, E: Write>(
         file: words.file,
         wait: words.wait,
         at: words.at,
-        lookup: Lookup::Quote(words.meter, words.tender),
+        wanted: Wanted::One(Lookup::Quote(words.meter, words.tender), words.json),
     };
     look_up::run(&asked, alloc, office, clock, out, err)
 }

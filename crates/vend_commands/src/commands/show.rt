@@ -5,6 +5,7 @@ ghost use Rattle.vend_commands.specs.print.Told.{outputs, sink};
 
 use crate::command_end::CommandEnd;
 use crate::commands::look_up::{self, FileLookup};
+use crate::office::wanted::Wanted;
 use crate::port::ports::OfficeFile;
 use crate::print::watched::Watched;
 use books::Lookup;
@@ -27,7 +28,8 @@ pub(crate) fn run<H: OfficeFile, C: Clock, O: Write, E: Write>(
     ensures { IsShown ⟦<FileStore<H::Medium> as Store>⟧
         (places_of H.Medium.Disk H.Salts.SaltSource H.OfficeFile office)
         (H.leaves office) (C.answers clock.old)
-        words.now.at words.now.file.now words.now.wait (lookup_of words.now.shown)
+        words.now.at words.now.file.now words.now.wait
+        (Wanted.One (lookup_of words.now.shown) words.now.json)
         (outputs (sink O.contents out.old) (sink O.contents out.new)
         (sink E.contents err.old) (sink E.contents err.new)) result }
 {
@@ -35,7 +37,7 @@ pub(crate) fn run<H: OfficeFile, C: Clock, O: Write, E: Write>(
         file: words.file,
         wait: words.wait,
         at: words.at,
-        lookup: lookup_of(words.shown),
+        wanted: Wanted::One(lookup_of(words.shown), words.json),
     };
     look_up::run(&asked, alloc, office, clock, out, err)
 }

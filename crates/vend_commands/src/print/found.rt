@@ -1,14 +1,14 @@
 //! What was looked up, printed.
 
-ghost use Rattle.std.specs.Prelude.{◌≡◌, ◌++◌, [], MatchResult};
-ghost use Rattle.vend_commands.specs.print.FoundTexts.{IsExportedSale, found_text, meter_header};
+ghost use Rattle.std.specs.Prelude.{◌≡◌, ◌++◌, [], false, MatchResult};
+ghost use Rattle.vend_commands.specs.print.FoundTexts.{IsMadeWhole, found_text, meter_header};
 ghost use Rattle.vend_commands.specs.print.FoundTexts.{meter_row, number_or_none, purchase_in};
 ghost use Rattle.vend_commands.specs.print.FoundTexts.{sale_text};
 ghost use Rattle.vend_commands.specs.print.Told.{Takes, sink};
 ghost use Rattle.book_facts.specs.declared.lookup.Found.TheVariants.{Sale as FoundSale};
 
-use crate::print::lines::{put_line, put_quote, put_row};
-use crate::print::totals::put_totals;
+use crate::print::lines::{put_quote, put_row};
+use crate::print::page::json_line;
 use crate::print::watched::Watched;
 use books::{Found, Lookup, MeterSummary, Quote};
 use itoa::Buffer;
@@ -18,36 +18,34 @@ use std::io::Write;
 use tariff::Buy;
 use vend_core::Sale;
 
-/// Prints what was found. Only an export may find no room, and then nothing is printed.
+/// Prints what was found, as JSON or as lines. Only JSON and an export may find no room, and then
+/// nothing is printed.
 pub(crate) fn put_found<O: Write>(
     alloc: Global,
     lookup: &Lookup,
     found: &Found,
+    json: bool,
     out: &mut Watched<'_, O>,
 ) -> Result<(), AllocError>
     ensures { MatchResult result
         (λ _. Takes (sink O.contents out.old) (sink O.contents out.new)
-        (found_text lookup.now found.now))
-        (λ _. IsExportedSale lookup.now found.now
+        (found_text json lookup.now found.now))
+        (λ _. IsMadeWhole json lookup.now found.now
         × Takes (sink O.contents out.old) (sink O.contents out.new) []) }
 {
+    if json {
+        let text = json_line(alloc, found)?;
+        out.put(&text);
+        return Ok(());
+    }
     match found {
-        Found::SaleCount(count) => put_count(*count, out),
         Found::Meter(meter) => put_meter(meter, out),
         Found::Sale(sale) => return put_sale(alloc, lookup, sale, out),
         Found::Quote(quote) => put_quote(&purchase_in(quote), out),
-        Found::ShiftTotals(number, totals) => put_totals(*number, *totals, out),
+        // Nothing else is looked up alone.
+        _ => {}
     }
     Ok(())
-}
-
-// Prints how many sales there are.
-fn put_count<O: Write>(count: u64, out: &mut Watched<'_, O>)
-    ensures { Takes (sink O.contents out.old) (sink O.contents out.new)
-        (found_text Lookup.SaleCount (Found.SaleCount count)) }
-{
-    let mut number = Buffer::new();
-    put_line(&[b"sales", number.format(count).as_bytes()], out);
 }
 
 // Prints a meter, below the names of its fields.
@@ -94,7 +92,7 @@ fn put_sale<O: Write>(
     ensures { MatchResult result
         (λ _. Takes (sink O.contents out.old) (sink O.contents out.new)
         (sale_text lookup.now sale.now))
-        (λ _. IsExportedSale lookup.now (FoundSale sale.now)
+        (λ _. IsMadeWhole false lookup.now (FoundSale sale.now)
         × Takes (sink O.contents out.old) (sink O.contents out.new) []) }
 {
     match lookup {

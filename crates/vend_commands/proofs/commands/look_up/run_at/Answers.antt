@@ -14,7 +14,7 @@ returns-in-Ok-Some g c =
     let at = places_of g.H.Medium.Disk g.H.Salts.SaltSource g.H.OfficeFile c.args.office c.args.asked.now.file.now c.args.asked.now.wait in
     let opened = subst (λ found. IfSome found (IsOpened at.image (OpensIn g.H.Medium.Disk at.image) Plain)) c.in-Ok-Some.field-0-is c.in-Ok-Some.ensures.opened in
     let meets = subst (λ found. IfSome found (λ books. at.meets)) c.in-Ok-Some.field-0-is c.in-Ok-Some.ensures.meets in
-    present (visited c.in-Ok-Some.books c.look_up-end.new.books opened meets c.look_up-end.ensures c.close_office.ensures)
+    present (visited c.in-Ok-Some.books c.read-end.new.books opened meets c.read-end.ensures c.close_office.ensures)
 
 pub returns : goal.returns
 returns g c = present (unopened c.in-Err.fault c.in-Err.ensures.refuses (takes_none (sink g.O.Write.contents c.args.out.now), c.put_opening.ensures, refl))

@@ -1,0 +1,133 @@
+//! The members of a list of an open office, printed page by page.
+
+ghost use Rattle.std.specs.Prelude.{◌≡◌};
+ghost use Rattle.std.specs.Option.{option_copied};
+ghost use Rattle.sqlite.specs.State.{HasCleanDisk};
+ghost use Rattle.books.specs.Keeps.{Represents, seen};
+ghost use Rattle.vend_commands.specs.print.Listing.{IsListPage, IsListed, last_of_full, list_behind};
+ghost use Rattle.vend_commands.specs.print.Listing.{page_lookup};
+ghost use Rattle.vend_commands.specs.print.Told.{outputs, sink};
+ghost use Rattle.vend_core.specs.Law.Life.{Life};
+
+use crate::command_end::CommandEnd;
+use crate::print::lines::put_refusal;
+use crate::print::page::page_text;
+use crate::print::watched::Watched;
+use book_lists::PAGE;
+use books::{Books, Found, Lookup};
+use command_line::Listed;
+use sqlite::Alter;
+use std::alloc::Global;
+use std::io::Write;
+use sts_token::BlockTransform;
+use vend_core::{Moment, Refusal};
+
+/// Prints the pages of a list at a moment, or tells why it stops. Where the output fails it goes no
+/// further.
+pub(crate) fn list<S: Alter, T: BlockTransform, O: Write, E: Write>(
+    alloc: Global,
+    books: &mut Books<S, T>,
+    moment: Moment,
+    list: Listed,
+    json: bool,
+    out: &mut Watched<'_, O>,
+    err: &mut Watched<'_, E>,
+) -> CommandEnd
+    ensures { IsListed moment list json (seen books.old) (seen books.new)
+        (outputs (sink O.contents out.old) (sink O.contents out.new)
+        (sink E.contents err.old) (sink E.contents err.new)) result }
+{
+    let mut next = list;
+    // No file has so many pages.
+    for page in 0..u64::MAX {
+        match print_page(alloc, books, moment, next, json, page == 0, out) {
+            Ok(Some(behind)) => next = behind,
+            Ok(None) => return CommandEnd::Done,
+            Err(refusal) => {
+                put_refusal(refusal, err);
+                return CommandEnd::Refused;
+            }
+        }
+    }
+    CommandEnd::Done
+}
+
+// Prints the first page of a list, and answers the list behind it: none where the page is not full,
+// and none where the output did not take it.
+fn print_page<S: Alter, T: BlockTransform, O: Write>(
+    alloc: Global,
+    books: &mut Books<S, T>,
+    moment: Moment,
+    list: Listed,
+    json: bool,
+    is_first: bool,
+    out: &mut Watched<'_, O>,
+) -> Result<Option<Listed>, Refusal>
+    ensures page { IsListPage moment list json is_first (seen books.old) (seen books.new)
+        (sink O.contents out.old) (sink O.contents out.new) result }
+    ensures keeps { (life : Life) → Represents life (seen books.old)
+        → Represents life (seen books.new) }
+    ensures clean { HasCleanDisk (seen books.new).state → HasCleanDisk (seen books.old).state }
+{
+    let page = match books.look_up(moment, &page_lookup(list)) {
+        Ok(page) => page,
+        Err(refusal) => return Err(refusal),
+    };
+    let Ok(text) = page_text(alloc, &page, json, is_first) else {
+        return Err(Refusal::Memory);
+    };
+    out.put(&text);
+    if out.has_failed() {
+        Ok(None)
+    } else {
+        Ok(list_behind(&page))
+    }
+}
+
+// What is looked up for the first page of a list.
+fn page_lookup(list: Listed) -> Lookup
+    ensures { result ≡ page_lookup list }
+{
+    match list {
+        Listed::Tariffs(after) => Lookup::Tariffs(after),
+        Listed::Meters(after) => Lookup::Meters(after),
+        Listed::Shifts(after) => Lookup::Shifts(after),
+        Listed::Sales(after) => Lookup::Sales(after),
+    }
+}
+
+// The list behind a page, after its last member, where the page is full.
+fn list_behind(page: &Found) -> Option<Listed>
+    ensures { result ≡ list_behind page.now }
+{
+    match page {
+        Found::Tariffs(page) => {
+            let last = last_of_full(page.as_slice())?;
+            Some(Listed::Tariffs(Some(last.name)))
+        }
+        Found::Meters(page) => {
+            let last = last_of_full(page.as_slice())?;
+            Some(Listed::Meters(Some(last.number)))
+        }
+        Found::Shifts(page) => {
+            let last = last_of_full(page.as_slice())?;
+            Some(Listed::Shifts(last.shift.number))
+        }
+        Found::Sales(page) => {
+            let last = last_of_full(page.as_slice())?;
+            Some(Listed::Sales(last.number))
+        }
+        _ => None,
+    }
+}
+
+// The last member of a page, where it is full.
+fn last_of_full<A>(page: &[A]) -> Option<&A>
+    ensures { option_copied result ≡ last_of_full page.now }
+{
+    if page.len() == PAGE as usize {
+        page.last()
+    } else {
+        None
+    }
+}
