@@ -1,11 +1,12 @@
 // What a sale would have, while it is written. A sale never waits for it.
-import { ask, inWords } from "./desk.js";
+import { inWords } from "./desk.js";
 import { MOST, cents, digits, find, isMeterNumber } from "./forms.js";
+import { lookUp } from "./looks.js";
 import { energy, money } from "./paper.js";
 
 const QUIET = 300; // milliseconds without a key, after which the office is asked
 let late = null; // what asks then
-let asked = null; // the one request that is under way
+let asked = false; // whether it has not answered yet
 
 /** What the fields ask for: a quote, or the meter while there is no money; null while they ask for nothing. */
 function target() {
@@ -26,19 +27,17 @@ function tell(text, kind) {
 async function look() {
   const about = target();
   if (!about || asked) return;
-  asked = new AbortController();
-  const { done, refused } = await ask("GET", about, undefined, asked);
-  asked = null;
+  asked = true;
+  const { done, refused } = await lookUp(about);
+  asked = false;
   if (about !== target()) offer(false); // what came is about what was written before
   else if (done) tell(line(done), "good");
   else if (refused?.refusal) tell(inWords(refused), "bad");
 }
 
-/** Takes the offer away, which is about what was written before. Another one is asked for soon, unless this is over: then
- * what is asked for is given up. */
+/** Takes the offer away, which is about what was written before. Another one is asked for soon, unless this is over. */
 export function offer(isOver) {
   tell("", "");
   clearTimeout(late);
-  if (isOver) asked?.abort();
-  else late = setTimeout(look, QUIET);
+  if (!isOver) late = setTimeout(look, QUIET);
 }

@@ -1,5 +1,6 @@
 // The page for tariffs and meters. Each of its messages may come twice: what is stored already changes nothing.
 import { Wrong, cents, digits, find, meterIn, onSubmit, replyTo, tenths } from "./forms.js";
+import "./lists.js";
 
 const MOST_STEPS = 8;
 const MOST_BYTES = 1048576; // of a file

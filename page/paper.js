@@ -3,6 +3,7 @@
 export const money = (amount) => (amount / 100).toFixed(2);
 export const energy = (amount) => `${(amount / 10).toFixed(1)} kWh`;
 const time = (text) => text.replace("T", " ").replace(/(\.\d+)?Z$/, " UTC");
+export const timeOf = (moment) => time(new Date(1000 * moment).toISOString());
 
 function element(name, className, ...parts) {
   const made = document.createElement(name);
@@ -16,6 +17,14 @@ function list(rows) {
   return element("dl", "", ...rows.flatMap(([name, value]) => [element("dt", "", name), element("dd", "", value)]));
 }
 
+/** A line of a table. */
+export const line = (cells, name = "td") => element("tr", "", ...cells.map((cell) => element(name, "", cell)));
+
+/** A table under the names of its columns. */
+export function table(names, lines) {
+  return element("table", "", element("thead", "", line(names, "th")), element("tbody", "", ...lines.map((it) => line(it))));
+}
+
 /** A token in groups of four digits, which break over lines between them alone. */
 function groups(token) {
   return token.match(/\d{4}/g).flatMap((group) => [element("span", "", group), " "]);
@@ -23,7 +32,7 @@ function groups(token) {
 
 export function receipt(sale, title) {
   return [title, list([
-    ["Sale", sale.number], ["Meter", sale.meter], ["Time", time(new Date(1000 * sale.moment).toISOString())],
+    ["Sale", sale.number], ["Meter", sale.meter], ["Time", timeOf(sale.moment)],
     ["Energy", energy(sale.tenths)], ["Price", money(sale.price)], ["Paid", money(sale.tender)],
     ["Change", money(sale.change)],
   ]), element("p", "token", ...groups(sale.token))];
@@ -32,13 +41,12 @@ export function receipt(sale, title) {
 /** The report of a shift: docs/TEXTS.md has its lines. */
 export function report(text) {
   const lines = text.trimEnd().split("\n");
-  const [[, number, operator], [, opened], [, closed]] = lines.slice(0, 3).map((line) => line.split(" "));
-  const [sales, sum, cash] = lines.slice(-3).map((line) => Number(line.split(" ")[1]));
-  const rows = lines.slice(3, -3).map((line) => line.trim().split(/ +/)).map(([sale, meter, amount, price]) =>
-    element("tr", "", ...[sale, meter, energy(amount), money(price)].map((cell) => element("td", "", cell))));
-  const head = ["Sale", "Meter", "Energy", "Price"].map((name) => element("th", "", name));
+  const [[, number, operator], [, opened], [, closed]] = lines.slice(0, 3).map((text) => text.split(" "));
+  const [sales, sum, cash] = lines.slice(-3).map((text) => Number(text.split(" ")[1]));
+  const rows = lines.slice(3, -3).map((text) => text.trim().split(/ +/)).map(([sale, meter, amount, price]) =>
+    [sale, meter, energy(amount), money(price)]);
   return [`Shift ${number}, ${operator}`, list([
     ["Opened", time(opened)], ["Closed", closed === "-" ? "still open" : time(closed)], ["Sales", sales],
     ["Energy", energy(sum)], ["Cash", money(cash)],
-  ]), element("table", "", element("thead", "", element("tr", "", ...head)), element("tbody", "", ...rows))];
+  ]), table(["Sale", "Meter", "Energy", "Price"], rows)];
 }

@@ -3,8 +3,10 @@
 import { PAUSES, ask, askAgain, inWords, wait } from "./desk.js";
 import { MOST, Wrong, act, cents, find, hush, meterIn, numberIn, onSubmit, replyTo, say } from "./forms.js";
 import { PENDING, SHIFT, keep, kept, pending, shift } from "./kept.js";
+import { giveUpLooks } from "./looks.js";
 import { offer } from "./offer.js";
 import { money, receipt, report } from "./paper.js";
+import { showRecent } from "./recent.js";
 
 const LOCK = "till.sale"; // one tab at a time sends a sale
 const SOON = 400; // milliseconds after a sending in which another one is not wanted: a double click, a key held down
@@ -173,6 +175,7 @@ function resume() {
     await wait(PAUSES[0]); // until what another tab has settled is seen here
     if (pending()[0]) await settle(pending()[0], false);
     else showNext();
+    showRecent();
   };
   return act("doubt", async () => {
     tell(SELLING);
@@ -199,13 +202,14 @@ onSubmit("start-form", async ({ operator }) => {
   // The answer to an opening that was lost is that the shift is open.
   if (!done && refused?.error !== "ShiftOpen") throw new Error(refused ? inWords(refused) : `${unknown} Try again.`);
   keep(SHIFT, JSON.stringify({ operator: name, number: done?.shift ?? null }));
+  showRecent();
   showAt("meter");
   const text = done ? `Shift ${done.shift} is open.` : `${inWords(refused)} Its number comes with the next sale.`;
   say("order-form", text, "good");
 });
 
-onSubmit("order-form", ({ meter, tender }) => navigator.locks.request(LOCK, { ifAvailable: true }, async (lock) => {
-  offer(true);
+/** Keeps the order that is written and sends it, under the lock where this tab has it. */
+async function sell({ meter, tender }, lock) {
   const amount = cents(tender.value);
   const order = { meter: meterIn(meter), operator: shift().operator, ref: newRef(), tender: amount };
   if (!amount || amount > MOST) throw new Wrong("Write the money as 12 or 12.50, up to 1000000.00.", tender);
@@ -213,7 +217,13 @@ onSubmit("order-form", ({ meter, tender }) => navigator.locks.request(LOCK, { if
   if (pending()[0]) return show();
   keep(PENDING + order.ref, JSON.stringify(order)); // before it is sent: from here on it can be asked for again
   await settle(PENDING + order.ref, true);
-}));
+}
+
+onSubmit("order-form", (fields) => {
+  offer(true);
+  giveUpLooks();
+  return navigator.locks.request(LOCK, { ifAvailable: true }, (lock) => sell(fields, lock)).finally(showRecent);
+});
 
 /** Shows what a number in a field asks for. The paper is taken away first: what is refused leaves none to print. */
 async function showPaperOf(field, target, partsOf) {
@@ -273,6 +283,7 @@ function leave() {
   localStorage.removeItem(SHIFT);
   find("order-form").reset();
   clearPaper();
+  showRecent();
   showNext();
 }
 
@@ -292,11 +303,15 @@ find("close").addEventListener("click", () => act("end-form", askToClose));
 find("keep").addEventListener("click", () => act("end-form", keepOpen));
 find("end-now").addEventListener("click", (event) => event.detail > 1 && event.preventDefault()); // as above
 find("end-form").addEventListener("keydown", ({ key }) => key === "Escape" && act("end-form", keepOpen));
-addEventListener("storage", show); // another tab has sold, or opened or closed the shift
+addEventListener("storage", () => { // another tab has sold, or opened or closed the shift
+  show();
+  showRecent();
+});
 
 if (navigator.locks) {
   showNext();
   if (pending()[0]) resume();
+  else showRecent();
 } else {
   say("message", "This page sells over https alone.");
 }
