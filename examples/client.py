@@ -17,6 +17,7 @@ import time
 
 TIMEOUT = 10  # seconds for each wait: others may be served before this client
 PAUSES = [0.2, 1, 5]  # seconds before the second and each further try
+PAGE = 100  # members of a page of a list; a shorter one is the last
 
 
 class Refused(Exception):
@@ -89,6 +90,36 @@ def sale_of(desk, operator, ref):
     if members.get("error") == "NoSale":
         return None
     raise (Unknown if status == 503 else Refused)(f"{status} {text.decode()}")
+
+
+def listed(desk, kind, key, after):
+    """The members of a list in order, each page asked for after the last member of the one before."""
+    while True:
+        page = json.loads(ask_until_known(desk, "GET", f"/{kind}?after={after}"))[kind]
+        yield from page
+        if len(page) < PAGE:
+            return
+        after = page[-1][key]
+
+
+def tariffs(desk, after=""):
+    """The tariffs after a name, or all: `name`, `steps` of today, and `later` ones with their `from`."""
+    return listed(desk, "tariffs", "name", after)
+
+
+def meters(desk, after=""):
+    """The meters after a number, or all: `meter`, `base`, `tariff`."""
+    return listed(desk, "meters", "meter", after)
+
+
+def shifts(desk, after=0):
+    """The shifts after a number: `number`, `operator`, `opened`, `closed` or None, and its totals."""
+    return listed(desk, "shifts", "number", after)
+
+
+def sales(desk, after=0):
+    """The sales after a number. Keep the last number that you have: after it come those made since."""
+    return listed(desk, "sales", "number", after)
 
 
 def lose_the_reply(desk, method, target, body):

@@ -20,6 +20,14 @@ const answerOf = (id) => {
 };
 const isIdle = () => !document.body.classList.contains('busy');
 """
+# Counts the requests of a page: those under way, and the most at a time.
+COUNT_REQUESTS = """
+const real = window.fetch.bind(window);
+window.requests = window.most = 0;
+window.fetch = async (...words) => {
+  window.most = Math.max(window.most, ++window.requests);
+  try { return await real(...words); } finally { window.requests -= 1; }
+};"""
 
 
 class Browser:

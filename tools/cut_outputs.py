@@ -97,7 +97,10 @@ def cut_reports(folder):
     shown = [["meter", "--meter", METER], ["last", "--meter", METER], ["sale", "--operator", "ann", "--ref", "A-1"]]
     count += sum(cut_output(folder, ["show", *at, *words]) for words in shown)
     quote = ["quote", "--file", str(file), "--at", AT, "--meter", METER]
-    count += cut_output(folder, [*quote, "15"])
+    listed = ["list", *at]
+    count += sum(cut_output(folder, [*listed, kind]) for kind in ("tariffs", "meters", "shifts", "sales"))
+    printed = [[*quote, "15"], [*quote, "15", "--json"], [*listed, "--json", "meters"]]
+    count += sum(cut_output(folder, words) for words in printed)
     (folder / "wrong.csv").write_bytes(b"name,steps\nflat,:100\nhome,100\n")
     refused = [
         (["import", *at, "tariffs", "wrong.csv"], b"refused 14 ImportRow 2 Field 2\n"),
@@ -110,6 +113,8 @@ def cut_reports(folder):
         (["show", *at, "sale", "--operator", "ann", "--ref", "A-2"], b"refused 12 NoSale\n"),
         (["show", "--file", "none.db", "last", "--meter", METER], b"file\n"),
         ([*quote, "9"], b"refused 10 TooLittle\n"),
+        (["list", "--file", "none.db", "meters"], b"file\n"),
+        ([*listed, "--after", "1", "meters"], b"bad word\n"),
         (["report", "--file", ".", "--kind", "sales"], b"open 3 Store\n"),
         (["base", *at, "--meter", "1", "--base", "2014"], b"bad word\n"),
     ]

@@ -6,7 +6,7 @@ import re
 from desk_client import SEEN, STATUSES, fault
 from shared import numbers, quoted, rows_of_page, same, wrong
 
-KINDS = {"object": dict, "string": str, "integer": int, "boolean": bool}
+KINDS = {"array": list, "object": dict, "string": str, "integer": int, "boolean": bool}
 # What cannot be had here.
 NOT_HERE = {"OfficeFull", "Memory", "Clock"}
 
@@ -40,6 +40,11 @@ def why_not(document, schema, value):
     if isinstance(value, int) and not (
             schema.get("minimum", value) <= value <= schema.get("maximum", value)):
         return f"{value} is outside its range"
+    if isinstance(value, list):
+        if len(value) > schema["maxItems"]:
+            return f"{len(value)} items"
+        return next((f"item {place}: {why}" for place, one in enumerate(value)
+                     if (why := why_not(document, schema["items"], one))), None)
     if isinstance(value, dict):
         if sorted(value) != sorted(schema["required"]) or set(value) != set(schema["properties"]):
             return f"the members are {sorted(value)}, not {sorted(schema['required'])}"
@@ -83,34 +88,37 @@ def check_examples(document, part):
             check_examples(document, inner)
 
 
-def targets_at(document, path):
-    """A pattern of the targets at a path, with the query that it asks for."""
-    asked = [resolve(document, it) for it in document["paths"][path].get("parameters", [])]
+def operations(document):
+    """Each operation of the description, behind its method and its path."""
+    for path, there in document["paths"].items():
+        for name in ("get", "post"):
+            if name in there:
+                yield name.upper(), path, there[name]
+
+
+def targets_of(document, path, operation):
+    """A pattern of the targets of an operation, with the query that it asks for."""
+    asked = [*document["paths"][path].get("parameters", []), *operation.get("parameters", [])]
+    asked = [resolve(document, it) for it in asked]
     query = "&".join(f"{it['name']}=[^&]*" for it in asked if it["in"] == "query")
     return re.sub(r"\{\w+\}", "[^/]+", path) + (rf"\?{query}" if query else "")
 
 
-def path_of(document, target):
-    """The path of the description that a target is at, or None."""
-    fitting = [path for path in document["paths"] if re.fullmatch(targets_at(document, path), target)]
-    return min(fitting, key=lambda path: path.count("{"), default=None)
-
-
-def operation_at(document, path):
-    """The one operation at a path, and its method."""
-    found, = (name for name in document["paths"][path] if name in ("get", "post"))
-    return found.upper(), document["paths"][path][found]
+def operation_of(document, target):
+    """The operation of the description that a target is of, or None: two of one path differ in their queries."""
+    fitting = [it for it in operations(document) if re.fullmatch(targets_of(document, *it[1:]), target)]
+    return min(fitting, key=lambda it: it[1].count("{"), default=None)
 
 
 def check_reply(document, method, target, sent, status, fields, body):
-    """A reply is as the description has it. Gives its path, its status and its error, or None where
-    the description has no such path."""
-    path = path_of(document, target)
-    if path is None:
+    """A reply is as the description has it. Gives its operation, its status and its error, or None where
+    the description has no such target."""
+    found = operation_of(document, target)
+    if found is None:
         same((status, body), (404, fault("NoRoute")), f"{target}, which is not described")
         return None
-    where = f"docs/openapi.yaml: {path}, {status}"
-    own_method, operation = operation_at(document, path)
+    own_method, path, operation = found
+    where = f"docs/openapi.yaml: {own_method} {path}, {status}"
     if str(status) not in operation["responses"]:
         wrong(f"{where} is not described; {method} {target} got {body}")
     described = resolve(document, operation["responses"][str(status)])
@@ -132,30 +140,30 @@ def check_reply(document, method, target, sent, status, fields, body):
         why = why_not(document, schema, value)
         if why:
             wrong(f"{where}: {why}")
-    return path, status, error_of(body, fields["Content-Type"])
+    return (own_method, path), status, error_of(body, fields["Content-Type"])
 
 
 def errors_described(document):
-    """Each path, status and error of the description; None stands for a reply that is no error."""
-    for path in document["paths"]:
-        for status, described in operation_at(document, path)[1]["responses"].items():
+    """Each operation, status and error of the description; None stands for a reply that is no error."""
+    for method, path, operation in operations(document):
+        for status, described in operation["responses"].items():
             for content in resolve(document, described)["content"].values():
                 for error in errors_in(document, content["schema"]) or [None]:
-                    yield path, int(status), error
+                    yield (method, path), int(status), error
 
 
 def check_described(document):
     """What the desk replied in all parts before is what docs/openapi.yaml describes, and all that
     it describes came, but for what cannot be had here. What is refused before the target is looked
-    at, and what a failed file gives, need not have come at each path."""
+    at, and what a failed file gives, need not have come at each operation."""
     check_examples(document, document)
     came = {check_reply(document, *seen) for seen in SEEN} - {None}
     anywhere = {(status, error) for _, status, error in came}
-    for path, status, error in errors_described(document):
+    for operation, status, error in errors_described(document):
         is_anywhere = status in (400, 413, 501, 503)
-        found = (status, error) in anywhere if is_anywhere else (path, status, error) in came
+        found = (status, error) in anywhere if is_anywhere else (operation, status, error) in came
         if not found and not (error and error[0] in NOT_HERE):
-            wrong(f"docs/openapi.yaml: {path}, {status}, {error} never came")
+            wrong(f"docs/openapi.yaml: {' '.join(operation)}, {status}, {error} never came")
     print(f"docs/openapi.yaml: {len(SEEN)} replies are as it describes them, and all came that it "
           f"describes, but for {', '.join(sorted(NOT_HERE))}")
 

@@ -66,6 +66,7 @@ def check_held(folder):
         with Desk(file, 1) as desk:
             for words in (sell_words(file, f"H-{number}"), report, ["audit", "--file", str(file)],
                           ["show", "--file", str(file), "meter", "--meter", METER],
+                          ["list", "--file", str(file), "shifts"],
                           ["quote", "--file", str(file), "--meter", METER, "10"]):
                 expect(vend(*words, "--wait", "0"), 1, b"", b"open 3 Store\n")
             sale = begun([*sell_words(file, f"H-{number}"), "--wait", "600"])

@@ -2,14 +2,16 @@
 is no script of its own."""
 import json
 import time
+from datetime import timedelta
 
-from desk_client import STATUSES, Desk, Kept, message, order, receipt_of, refusal, replies_in, reply, saw, talk, told
-from lookups import LOOKED_UP, ORACLE, answer, drawn_office, keep, lookups, meters_of
-from program import rows_in
+from desk_client import (STATUSES, Desk, Kept, dated, message, order, receipt_of, refusal, replies_in, reply, saw, talk,
+                         told)
+from lookups import (BEFORE, KEYS, LISTS, LOOKED_UP, NUMBERED, ORACLE, PAGE, SIZES, Growing, answer, drawn_office,
+                     in_json, keep, lists, lookups, meters_of)
+from program import KEY, rows_in
 from shared import FORMAT, numbers, same, wrong
 
 SEEDS = (1, 2, 3, 4)
-BEFORE = 12 * 86400  # seconds before now at which the requests of an office begin: they take some nine days
 SELLER = "look"  # who sells after each quote: none of the drawn operators
 
 
@@ -20,13 +22,11 @@ def status_of(number):
 
 def target_of(words):
     word, *values = words
+    if word.removeprefix("find-") in LISTS:
+        return f"/{word.removeprefix('find-')}?after={''.join(map(str, values))}"
     return {"find-count": "/health", "find-meter": "/meters/{}", "find-last": "/meters/{}/last",
             "find-quote": "/meters/{}/quote?tender={}", "find-sale": "/operators/{}/sales/{}",
             "find-totals": "/shifts/{}/totals"}[word].format(*values)
-
-
-def in_json(members):
-    return json.dumps(members, sort_keys=True, separators=(",", ":")).encode()
 
 
 def reply_to(office, moment, words):
@@ -38,7 +38,6 @@ def reply_to(office, moment, words):
         return reply(200, receipt_of(found), "text/plain")
     if words[0] == "find-count":
         found["format"] = FORMAT
-    found.pop("rnd", None)
     return reply(200, in_json(found))
 
 
@@ -75,6 +74,58 @@ def sell_as_quoted(kept, office, meter, tender, ref):
     return True
 
 
+def check_lists(folder):
+    """Each page of the lists of offices that have as many members as a page or two, one fewer, more, or none; the whole
+    lists, page by page; and, once something was added, that it is in its place."""
+    asked = 0
+    for size in SIZES:
+        file = folder / f"listed-{size}.db"
+        office = Growing(size, size, int(time.time()) - BEFORE).whole()
+        keep(office, file)
+        with Desk(file, 1) as desk:
+            kept = Kept(desk)
+            for words in lists(office, size):
+                looked_up(kept, office, words)
+                asked += 1
+            for kind in LISTS:
+                keys = [it[KEYS[kind]] for it in whole_list(kept, office, kind)]
+                same((len(keys), keys), (size, sorted({*keys})), f"the pages of all {kind}")
+            add_members(kept, office)
+            for words in [("find-tariffs",), ("find-meters",), ("find-shifts", size), ("find-sales", size)]:
+                looked_up(kept, office, words)
+            kept.close()
+            desk.finish()
+    sizes = ", ".join(map(str, SIZES))
+    print(f"lists: {asked} pages, in offices with {sizes} members of each kind, as the rules have them")
+
+
+def whole_list(kept, office, kind):
+    """All members of a list, each page after the last member of the one before."""
+    found, after = [], (0,) if kind in NUMBERED else ()
+    while True:
+        page = json.loads(looked_up(kept, office, (f"find-{kind}", *after)))[kind]
+        found += page
+        if len(page) < PAGE:
+            return found
+        after = (page[-1][KEYS[kind]],)
+
+
+def add_members(kept, office):
+    """A tariff and steps of a later day, a meter, a shift and a sale more, at the desk and by the rules."""
+    office.reopen("plain")  # the desk's transform
+    tariff, day = "-----", str(ORACLE.day_of(int(time.time())) + timedelta(days=2))  # a name that is not drawn
+    number = next(it for it in meters_of() if it not in office.meters)
+    for target, body, request in (
+            ("/tariffs", told(name=tariff, steps=":100"), f"add-tariff {tariff} :100"),
+            (f"/tariffs/{tariff}/steps", dated(day), f"add-steps {tariff} {day} :200"),
+            ("/meters", told(meter=number, base=2014, key=KEY, tariff=tariff), f"add-meter {number} 2014 {tariff} {KEY}"),
+            ("/shifts", told(operator=SELLER), f"open-shift {SELLER}"),
+            ("/sales", order("L-1", 1000, number, SELLER), f"sell {SELLER} L-1 {number} 1000")):
+        (status, _, text), = replies_in(kept.ask("POST", target, body))
+        moment = json.loads(text).get("moment") or int(time.time())
+        same((status, office.answer(f"{moment} {request}").startswith("refused")), (200, False), f"{target}: {text}")
+
+
 def check_lookups(folder):
     """Each look-up of drawn offices whose last days are those before now, and after each quote its sale."""
     asked, sales = 0, 0
@@ -85,7 +136,7 @@ def check_lookups(folder):
         rows = len(office.sales)
         with Desk(file, 2) as desk:
             kept = Kept(desk)
-            for words in [("find-count",), *lookups(office, seed)]:
+            for words in [("find-count",), *lookups(office, seed), *lists(office, seed)]:
                 looked_up(kept, office, words)
                 asked += 1
             same(rows_in(file, "SELECT count(*) FROM sales;"), [(rows,)], "the sales after look-ups")

@@ -1,17 +1,24 @@
 """What the commands print where something is looked up in drawn offices, beside the rules: a part of tools/check_program.
 It is no script of its own."""
 import contextlib
+import random
 import sqlite3
 
 from desk_client import receipt_of
-from lookups import SALE, Came, answer, drawn_office, keep, lookups, meters_of
-from program import METER, copy_of, expect, vend
+from lookups import (LISTS, NUMBERED, PAGE, SALE, SIZES, Came, Growing, afters, answer, drawn_office, in_json, keep,
+                     lookups, meters_of, pages)
+from program import AT, METER, copy_of, expect, vend
 from shared import same, wrong
 
 SEEDS = (1, 2, 3)
 SELLER = "look"  # who sells after each quote: none of the drawn operators
 COLUMNS = [part for part in SALE if part != "rnd"]
 COLUMNS.insert(-1, "change")
+# What a list has of each member, a line each, a tariff's later steps on further lines. Sales are an export.
+HEADS = {"tariffs": ("tariff", "from", "steps"), "meters": ("meter", "base", "tariff"),
+         "shifts": ("shift", "operator", "opened", "closed", "sales", "tenths", "cash"), "sales": COLUMNS}
+IN_JSON = ("find-meter", "find-sale", "find-quote")  # what is printed as the desk writes it too
+FOUND = 3  # of the members of a list so many are looked up after, drawn, beside those at the ends of pages
 
 
 def arguments(file, moment, words):
@@ -43,11 +50,13 @@ def printed(words, found):
 def look_up(file, office, moment, words):
     """Looks something up as the rules do, and gives the number of the refusal, or None, and what is found."""
     refused, found = answer(office, moment, words)
-    ran = vend(*arguments(file, moment, words))
-    if refused:
-        expect(ran, 1, b"", f"refused {refused[0]} {refused[1]}\n".encode())
-    else:
-        expect(ran, 0, printed(words, found), b"")
+    command = arguments(file, moment, words)
+    for more in ([], ["--json"]) if words[0] in IN_JSON else ([],):
+        ran = vend(*command, *more)
+        if refused:
+            expect(ran, 1, b"", f"refused {refused[0]} {refused[1]}\n".encode())
+        else:
+            expect(ran, 0, in_json(found) + b"\n" if more else printed(words, found), b"")
     return refused, found
 
 
@@ -79,6 +88,62 @@ def sell_as_quoted(file, office, moment, meter, tender):
     return True
 
 
+def lines_of(kind, member):
+    """The values of each line of a member of a list."""
+    if kind == "tariffs":
+        yield member["name"], "-", member["steps"]
+        yield from ((member["name"], later["from"], later["steps"]) for later in member["later"])
+    else:
+        names = ("number", *HEADS[kind][1:]) if kind == "shifts" else HEADS[kind]
+        yield ["-" if member[name] is None else member[name] for name in names]
+
+
+def list_of(kind, found):
+    """What is printed of the members of a list."""
+    between = "," if kind == "sales" else "\t"
+    lines = [HEADS[kind], *(line for page in found for member in page for line in lines_of(kind, member))]
+    return "".join(f"{between.join(map(str, line))}\n" for line in lines).encode()
+
+
+def asked_after(office, kind, seed):
+    """What a list may come after: nothing, members at the ends of its pages and some others, and what is no member."""
+    draw, members = random.Random(seed), afters(office, kind, seed)
+    have = len(getattr(office, kind))
+    if kind not in NUMBERED:
+        members[:have] = sorted(members[:have])
+    ends = {at for at in (0, PAGE - 1, PAGE, 2 * PAGE - 1, have - 2, have - 1, have) if 0 <= at < len(members)}
+    return [None, *(members[at] for at in sorted(ends)), *draw.sample(members, min(FOUND, len(members))), members[-1]]
+
+
+def check_lists(folder):
+    """The lists of offices of several sizes, whole and after this or that, at the moment of the last request."""
+    asked = 0
+    for size in SIZES:
+        file = folder / f"listed-{size}.db"
+        growing = Growing(size, size, int(AT))
+        office = growing.whole()
+        keep(office, file)
+        before = content(file)
+        for kind in LISTS:
+            for after in asked_after(office, kind, size):
+                more = [] if after is None else [f"--after={after}"]  # a name may begin with a hyphen
+                found = [*pages(office, growing.now, kind, after)]
+                command = ["list", "--file", file, "--at", str(growing.now), *more, kind]
+                expect(vend(*command), 0, list_of(kind, found), b"")
+                expect(vend(*command, "--json"), 0, b"".join(in_json({kind: page}) + b"\n" for page in found), b"")
+                asked += 1
+        for kind in NUMBERED:  # zeros in front, as everywhere in arguments
+            expect(vend("list", "--file", file, "--after", "00", kind), 0,
+                   list_of(kind, pages(office, growing.now, kind)), b"")
+        same(content(file), before, "what lists left")
+    for kind, after in (("tariffs", "a_b"), ("tariffs", "a" * 33), ("meters", "12345678904"), ("meters", "1"),
+                        ("shifts", "1000000001"), ("sales", "1000000001"), ("sales", "x"), ("sales", "")):
+        expect(vend("list", "--file", file, "--after", after, kind), 2, b"", b"bad word\n")
+    expect(vend(*arguments(file, growing.now, ("find-last", METER)), "--json"), 2, b"", b"bad word\n")
+    sizes = ", ".join(map(str, SIZES))
+    print(f"lists: {asked}, in offices with {sizes} members of each kind, as the rules have them")
+
+
 def check_missing(folder):
     """A file that is not there is not made, and one of others is no office."""
     for words in (("find-meter", METER), ("find-last", METER), ("find-sale", "ann", "A-1"), ("find-quote", METER, 10)):
@@ -86,6 +151,11 @@ def check_missing(folder):
         expect(vend(*arguments(file, 1388534430, words)), 1, b"", b"file\n")
         same(file.exists(), False, f"a file that {words} made")
         expect(vend(*arguments(folder, 1388534430, words)), 1, b"", b"open 3 Store\n")
+    for kind in LISTS:
+        file = folder / "missing.db"
+        expect(vend("list", "--file", file, kind), 1, b"", b"file\n")
+        same(file.exists(), False, f"a file that a list of {kind} made")
+        expect(vend("list", "--file", folder, kind), 1, b"", b"open 3 Store\n")
 
 
 def check_lookups(folder):
@@ -93,6 +163,7 @@ def check_lookups(folder):
     folder = folder / "lookups"
     folder.mkdir()
     check_missing(folder)
+    check_lists(folder)
     came, asked, sales = Came(), 0, 0
     for seed in SEEDS:
         file = folder / f"{seed}.db"

@@ -152,6 +152,7 @@ def check_calls(folder, watcher):
             (["show", *given, "sale", "--operator", "ann", "--ref", "A-1"], 0, office, []),
             (["quote", *given, "--meter", METER, "10"], 0, office, []),
             (["quote", *given, "--meter", METER, "9"], 1, office, []),
+            *((["list", *given, kind], 0, office, []) for kind in ("tariffs", "meters", "shifts", "sales")),
             (["import", *given, "tariffs", rows], 0, office | {os.path.realpath(rows)}, []),
             (["import", *given, "meters", rows], 1, {os.path.realpath(rows)}, []),
             (["import", *given, "tariffs", "none.csv"], 1, {none}, []),
@@ -214,6 +215,7 @@ def check_waits(folder, watcher):
         ["base", *given, "--meter", METER, "--base", "2014"],
         *(["report", *given, "--kind", kind] for kind in ("shift", "receipt", "totals", "sales")),
         ["show", *given, "last", "--meter", METER], ["quote", *given, "--meter", METER, "10"],
+        ["list", *given, "meters"], ["list", *given, "sales"],
         ["serve", *given, "--listen", "127.0.0.1:0", "--connections", "1"])
     with open(file, "r+b") as held:
         fcntl.lockf(held, fcntl.LOCK_EX | fcntl.LOCK_NB, LOCKED[1], LOCKED[0])
@@ -231,6 +233,7 @@ def check_waits(folder, watcher):
         expect(watcher.run(["report", "--file", str(folder), "--kind", "sales"]), 1, b"", b"open 3 Store\n")
         for words in (["report", "--file", "none.db", "--kind", "sales"],
                       ["show", "--file", "none.db", "last", "--meter", METER],
+                      ["list", "--file", "none.db", "tariffs"],
                       ["quote", "--file", "none.db", "--meter", METER, "10"]):
             expect(watcher.run(words), 1, b"", b"file\n")
             if watcher.calls() != (set(), 0, []):

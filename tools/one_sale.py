@@ -4,7 +4,7 @@ import json
 import signal
 import time
 
-from browser import WORDS
+from browser import COUNT_REQUESTS, WORDS
 from program import METER
 from servers import Plan, said, until
 from shared import same
@@ -18,13 +18,7 @@ def check_under_way(counter):
     browser, relay, proxy = counter.browser, counter.relay, counter.proxy
     back = browser.driver.current_window_handle
     browser.driver.switch_to.new_window("tab")
-    browser.before_each_page("""
-        const real = window.fetch.bind(window);
-        window.requests = window.most = 0;
-        window.fetch = async (...words) => {
-          window.most = Math.max(window.most, ++window.requests);
-          try { return await real(...words); } finally { window.requests -= 1; }
-        };""")
+    browser.before_each_page(COUNT_REQUESTS)
     browser.open()
     held = [Plan(waits=True) for _ in range(3)]
     relay.plan(*held)
@@ -65,7 +59,8 @@ def check_under_way(counter):
     until(last.came.is_set, "the order again, as soon as that is asked for", 4)
     last.goes.set()
     counter.is_first_receipt_after(browser.receipt("10.00"), "a pause that is cut short", 4)
-    same(browser.run("return [window.most, window.requests]"), [1, 0], "requests at a time")
+    browser.when("window.requests === 0", "the end of all requests")
+    same(browser.run("return window.most"), 1, "requests at a time")
     browser.close_tab(back)
     browser.open()
     # What is no sale says at its form that it waits.

@@ -33,6 +33,7 @@ def claims():
 
     replies = "Replies in a second, on one kept connection"
     commands = "Commands, from start to end, in ms"
+    lookups = "Look-ups in a second"
     sale = "A sale, by the sales before it"
     older = "Opening a file of format 1, and one of format 4"
     audit = "An audit of a file of format 4, beside an opening"
@@ -55,6 +56,9 @@ def claims():
         [count / 1000 for count in instructions]
     yield page, r"A command syncs (\d+) to (\d+) times", [min(syncs[2:]), max(syncs[2:])]
     yield page, r"reprints at the desk \| (\S+) to (\S+) \|", [min(reprinted), max(reprinted)]
+    looked_up = cells(lookups, "vend to Python")
+    yield page, r"look-ups at the desk \| (\S+) to (\S+) \|", [min(looked_up), max(looked_up)]
+    yield page, r"each look-up, with 100,000 sales and 10,000 meters, at most (\S+) ms", [max(cells(lookups, "vend, ms"))]
     for count, written in (("100", "100 sales in the file"), ("1000", "1,000 sales"),
                            ("10000", "10,000 sales")):
         yield page, rf"`sell`, {written} \| (\S+) \|", [number(sells[count]["vend to Python"])]

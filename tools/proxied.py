@@ -13,7 +13,7 @@ from program import METER, TOP, VEND
 from servers import CASHIER, MANAGER, WAIT, until
 from shared import same, wrong
 
-MOST_LINES = 1000  # of HTML, CSS and JavaScript together
+MOST_LINES = 1200  # of HTML, CSS and JavaScript together
 
 
 def check_files(counter):
@@ -106,10 +106,13 @@ def check_proxy(counter):
                 "/tariffs", "%74ariffs", "./tariffs", "sales/../tariffs", f"meters/{METER}",
                 f"meters/{METER}/last")),
             *((401, ("GET", f"/api/{target}"), {}) for target in (
-                "meters", f"meters/{METER}/base", f"meters/{METER}/last/more", f"meters/../tariffs/{METER}")),
+                "meters", f"meters/{METER}/base", f"meters/{METER}/last/more", f"meters/../tariffs/{METER}",
+                "tariffs?after=", "meters?after=", "shifts?after=0", "shifts/?after=0", "/shifts?after=0",
+                "%73hifts?after=0", "sales/../shifts?after=0", "shifts")),
             # Whoever looks something up has to sign in, and no page of another site does.
             *((status, ("GET", f"/api/{target}"), options) for target in (
-                f"meters/{METER}", f"meters/{METER}/quote?tender=10", "operators/ann/sales/A-1", "health")
+                f"meters/{METER}", f"meters/{METER}/quote?tender=10", "operators/ann/sales/A-1", "health", "sales?after=0",
+                "tariffs?after=")
               for status, options in ((401, {"user": None}), (403, {"till": None}))),
             *((403, ("GET", "/health"), {"source": "127.0.0.2", "user": user, "till": till})
               for user, till in ((None, None), (MANAGER, "1"))),
@@ -140,11 +143,15 @@ def check_proxy(counter):
                    "/operators/ann/sales/A-1", "/shifts/1/totals"):
         same(proxy.status("GET", f"/api{target}"), 404, f"a cashier at {target}")
         same(relay.heads[-1].split(b"\r\n")[0], f"GET {target} HTTP/1.0".encode(), "what the desk gets")
+    for user, target in ((CASHIER, "/sales?after=0"), (MANAGER, "/tariffs?after="), (MANAGER, "/meters?after="),
+                         (MANAGER, "/shifts?after=0"), (MANAGER, "/sales?after=0")):
+        same(proxy.status("GET", f"/api{target}", user=user), 200, f"{user[0]} at {target}")
+        same(relay.heads[-1].split(b"\r\n")[0], f"GET {target} HTTP/1.0".encode(), "what the desk gets")
     same(proxy.status("GET", "/health", user=None, till=None), 200, "a monitor on this computer")
     same(relay.heads[-1].split(b"\r\n")[0], b"GET /health HTTP/1.0", "what the desk gets")
     counter.has_sold(0, 0, "programs")
-    print("proxy: without the field 403, without a password 401, managers alone change tariffs and meters, cashiers "
-          "look up, the health for this computer alone, other names refused, long bodies 413, a strict policy")
+    print("proxy: without the field 403, without a password 401, managers alone change and list tariffs and meters "
+          "and list shifts, cashiers look up, the health for this computer alone, other names refused, long bodies 413, a strict policy")
 
 
 def check_other_site(counter):

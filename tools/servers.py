@@ -116,6 +116,7 @@ class Relay:
         self.heads = []  # the heads of all messages
         self.plans = []
         self.looks = []  # plans for look-ups of meters
+        self.lists = []  # plans for the list of sales and what comes before it
         threading.Thread(target=self.run, daemon=True).start()
 
     def run(self):
@@ -134,6 +135,8 @@ class Relay:
                 self.orders.append(body)
             elif head.startswith(b"GET /meters/"):
                 plan = self.looks.pop(0) if self.looks else None
+            elif head.startswith((b"GET /health ", b"GET /sales?")):
+                plan = self.lists.pop(0) if self.lists else None
             client.sendall(plan.reply(self.desk, text) if plan else self.desk.answer(text))
         if plan:
             plan.ended.set()

@@ -95,6 +95,7 @@ def look_at_sale(counter):
     last.goes.set()
     browser.receipt(MOST_MONEY)
     browser.is_seen("#title", "a receipt")
+    browser.when("textOf('recent-sales').split(/\\s+/).includes(words[0])", "the last sales", str(counter.sold + 1))
     browser.fits("a receipt")
     counter.has_sold(1, 3, "a sale")
 
@@ -132,3 +133,6 @@ def look_at_office(counter):
     for kind, words in (("tariffs", "names of the columns"), ("meters", "0 rows were new")):
         browser.at("file").send_keys(str(file))
         answers("import-form", words, kind=kind)
+    for kind in ("tariffs", "meters", "shifts"):
+        answers(f"{kind}-form", f"100 {kind} so far")
+        answers(f"{kind}-form", kind)
