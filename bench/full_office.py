@@ -4,7 +4,7 @@ docs/OFFICE.md, so that such a file is an office.
 """
 import sqlite3
 
-from peer_office import (BASES, DAY, in_one_line, month_of, purchase, read_source, read_texts,
+from peer_office import (BASES, DAY, day_of, in_one_line, month_of, purchase, read_source, read_texts,
                          token)
 
 TABLES_OF = {1: 6, 2: 9, 3: 10, 4: 11}  # how many of the tables a format has
@@ -78,13 +78,29 @@ def fill(conn, form, meters, sales, opened):
         conn.execute(text)
 
 
-def make_office(path, form, meters, buyers, count, until):
-    """A file of a format with these meters and an open shift of ann's, and with so many sales."""
+def fill_lists(conn, members, today):
+    """So many tariffs more, each with three steps and further ones from two days on, of which one has
+    come; and so many shifts more, each closed without a sale."""
+    texts = read_texts()
+    for number in range(members):
+        name = f"t-{number:04d}"
+        steps = [(place, 500 * (place + 1) if place < 2 else None, PRICE + place) for place in range(3)]
+        conn.execute(texts["NEW_TARIFF"], (name,))
+        conn.executemany(texts["NEW_STEP"], ((name, *step) for step in steps))
+        conn.executemany(texts["NEW_DATED_STEP"], ((name, day, *step) for day in (today - 1, today + 30)
+                                                   for step in steps))
+        conn.execute(texts["NEW_SHIFT"], (2 + number, f"o{number}", BASES[BASE], BASES[BASE] + 60))
+
+
+def make_office(path, form, meters, buyers, count, until, members=0):
+    """A file of a format with these meters and an open shift of ann's, and with so many sales, and so
+    many tariffs and shifts more."""
     conn = sqlite3.connect(path, isolation_level=None)
     for setting in ("journal_mode = WAL", "synchronous = OFF", "foreign_keys = ON"):
         conn.execute(f"PRAGMA {setting}")
     conn.execute("BEGIN")
     fill(conn, form, meters, sales_of(buyers, count, until), BASES[BASE])
+    fill_lists(conn, members, day_of(until))
     conn.execute("COMMIT")
     conn.close()
 

@@ -8,12 +8,13 @@ http.server and sqlite3. It is honest, not hardened: it trusts its options.
     peer.py import --file F meters CSV
     peer.py show --file F [--at S] meter|last --meter M
     peer.py quote --file F [--at S] --meter M TENDER
+    peer.py list --file F meters
 """
 import sys
 import time
 
 from peer_office import (BASE, DIGITS, METER, MOMENT, NUMBER, OPERATOR, PRICE, REF, SHIFT, TENDER,
-                         TENTHS, TID, Office, Refused)
+                         TENTHS, TID, Office, Refused, day_of)
 
 
 def receipt(sale):
@@ -63,6 +64,15 @@ def quote(office, options, words):
     print(tenths, price, tender - price)
 
 
+def list_meters(office, *_):
+    print("meter\tbase\ttariff")
+    after = ""
+    while page := office.meters_after(after):
+        for row in page:
+            print(*row, sep="\t")
+        after = page[-1][0]
+
+
 def is_meter_number(text):
     if len(text) != 11 or not text.isdigit():
         return False
@@ -98,7 +108,10 @@ def add(office, _, words):
 def serve(office, options, _):
     import json
     import socketserver
+    from datetime import date, timedelta
     from http.server import BaseHTTPRequestHandler
+
+    FIRST_DAY = date(1993, 1, 1)
 
     def members(sale):
         return {"base": sale[BASE], "change": sale[TENDER] - sale[PRICE], "meter": sale[METER],
@@ -123,10 +136,40 @@ def serve(office, options, _):
         sales, tenths, cash = office.totals(number)
         return {"cash": cash, "sales": sales, "shift": number, "tenths": tenths}
 
+    def steps_text(steps):
+        return ";".join(f"{'' if ends is None else ends}:{price}" for ends, price in steps)
+
+    def later_of(later):
+        return [{"from": str(FIRST_DAY + timedelta(days=day)), "steps": steps_text(steps)}
+                for day, steps in later.items()]
+
+    def tariffs_after(name):
+        page = office.tariffs_after(name, day_of(int(time.time())))
+        return {"tariffs": [{"later": later_of(later), "name": tariff, "steps": steps_text(steps)}
+                            for tariff, steps, later in page]}
+
+    def meters_after(number):
+        return {"meters": [{"base": base, "meter": meter, "tariff": tariff}
+                           for meter, base, tariff in office.meters_after(number)]}
+
+    def shifts_after(number):
+        return {"shifts": [{"cash": cash, "closed": closed, "number": shift, "opened": opened,
+                            "operator": operator, "sales": sales, "tenths": tenths}
+                           for shift, operator, opened, closed, sales, tenths, cash
+                           in office.shifts_after(number)]}
+
     def found_at(target):
         """What a target asks for: the members of its reply, or its text."""
         path, _, query = target.partition("?")
         match path[1:].split("/"):
+            case ["tariffs"]:
+                return tariffs_after(query.removeprefix("after="))
+            case ["meters"]:
+                return meters_after(query.removeprefix("after="))
+            case ["shifts"]:
+                return shifts_after(int(query.removeprefix("after=")))
+            case ["sales"]:
+                return {"sales": [*map(members, office.sales_after(int(query.removeprefix("after="))))]}
             case ["sales", number]:
                 return members(office.sale(int(number)))
             case ["health"]:
@@ -179,7 +222,8 @@ def serve(office, options, _):
             server.handle_request()
 
 
-COMMANDS = {"serve": serve, "sell": sell, "report": report, "import": add, "show": show, "quote": quote}
+COMMANDS = {"serve": serve, "sell": sell, "report": report, "import": add, "show": show, "quote": quote,
+            "list": list_meters}
 
 
 def main():

@@ -9,7 +9,10 @@ import sqlite3
 import time
 from pathlib import Path
 
-SOURCE = Path(__file__).resolve().parent.parent / "crates" / "book_tables" / "src" / "texts.rt"
+CRATES = Path(__file__).resolve().parent.parent / "crates"
+SOURCE = CRATES / "book_tables" / "src" / "texts.rt"
+LISTS = CRATES / "book_lists" / "src" / "texts.rt"
+PAGE = 100  # members of a page of a list
 BASES = {1993: 725846400, 2014: 1388534400, 2035: 2051222400}
 LAST_TID = 16777215
 DAY = 1440  # minutes
@@ -30,9 +33,9 @@ class Refused(Exception):
         self.name = name
 
 
-def read_source():
-    """The parts of the program's source of texts, each from the name of a constant on."""
-    return SOURCE.read_text().split("const ")[1:]
+def read_source(source=SOURCE):
+    """The parts of a source of the program's texts, each from the name of a constant on."""
+    return source.read_text().split("const ")[1:]
 
 
 def in_one_line(text):
@@ -46,10 +49,10 @@ def read_beginnings():
 
 
 def read_texts():
-    """The texts of the program's statements, by the names that its source gives them."""
+    """The texts of the program's statements, by the names that its sources give them."""
     beginnings = read_beginnings()
     texts = {}
-    for part in read_source():
+    for part in [*read_source(), *read_source(LISTS)]:
         name, is_text, rest = part.partition(": &str =")
         if is_text:
             macro, text = rest.split('"')[:2]
@@ -252,6 +255,28 @@ class Office:
         if not self.row("SHIFT_NUMBERED", shift):
             raise Refused(13, "NoSuchShift")
         return self.row("SHIFT_TOTALS", shift) or (0, 0, 0)
+
+    def sales_after(self, number):
+        return self.rows("SALES_AFTER", number, PAGE)
+
+    def shifts_after(self, number):
+        """A page of shifts: what is stored of each, and its totals."""
+        return [(*shift, *(self.row("SHIFT_TOTALS", shift[0]) or (0, 0, 0)))
+                for shift in self.rows("SHIFTS_AFTER", number, PAGE)]
+
+    def meters_after(self, meter):
+        """A page of meters: number, base, tariff."""
+        return [row[:3] for row in self.rows("METERS_AFTER", meter, PAGE)]
+
+    def tariffs_after(self, name, today):
+        """A page of tariffs: the name, today's steps, and the later ones by their days."""
+        return [(tariff, self.steps_on(tariff, today), dict(self.later_steps(tariff, today)))
+                for [tariff] in self.rows("TARIFFS_AFTER", name, PAGE)]
+
+    def later_steps(self, tariff, day):
+        while there := self.row("FIRST_DAY_AFTER", tariff, day):
+            [day] = there
+            yield day, self.rows("STEPS_FROM", tariff, day)
 
     def pages(self):
         """All sales, a thousand at a time."""

@@ -108,7 +108,7 @@ def give_up(*_):
 
 def measure_in(options, marks, make_room):
     """Measures all of a room in a new folder and within the limit, says how the machine was, and
-    puts what was printed into a page, between its marks, where one is named."""
+    puts what was printed into a page, between its marks, where one is named. Gives the room."""
     signal.signal(signal.SIGALRM, give_up)
     signal.signal(signal.SIGTERM, give_up)
     signal.alarm(options.limit)
@@ -123,3 +123,4 @@ def measure_in(options, marks, make_room):
                  f"{time.monotonic() - begun:.0f} seconds.\n")
     if options.page:
         put_into(options.page, marks, "\n".join(room.parts))
+    return room
