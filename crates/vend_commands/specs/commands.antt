@@ -1,4 +1,5 @@
 pub mod Asked
+pub mod AskedOfDesk
 pub mod Audited
 pub mod Imported
 pub mod LookedUp

@@ -1,0 +1,15 @@
+pub mod MessageLemmas
+pub mod PieceLemmas
+pub mod NumberLemmas
+pub mod WovenLemmas
+pub mod ReadingLemmas
+pub mod ValueLemmas
+pub mod FoundLemmas
+pub mod SaleLemmas
+pub mod SummaryLemmas
+pub mod PlainLemmas
+pub mod QuestionLemmas
+pub mod RefusalLemmas
+pub mod HeadLemmas
+pub mod TextLemmas
+pub mod TellsLemmas

@@ -1,0 +1,12 @@
+pub mod Message
+pub mod Meter
+pub mod Question
+pub mod Quote
+pub mod Refusal
+pub mod Reply
+pub mod Sale
+pub mod Start
+pub mod Tells
+pub mod Text
+pub mod Told
+pub mod Totals
