@@ -1,5 +1,4 @@
 //! The commands: how each is described, and what its words say.
-pub mod at_desk;
 pub mod audit;
 pub mod base;
 pub mod import;

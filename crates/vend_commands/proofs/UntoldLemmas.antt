@@ -21,14 +21,6 @@ use Rattle.vend_commands.specs.Run.IsProgramRun.{answered, bad_word, explained, 
 use Rattle.vend_commands.specs.commands.Selfchecked.{HasReplies}
 use Rattle.vend_commands.specs.print.Told.{Outputs, Sink}
 use Rattle.vend_commands.proofs.RunLemmas.{selfcheck_done}
-use Rattle.vend_commands.specs.commands.AskedOfDesk.{IsAsked, IsAskedOfDesk}
-use Rattle.vend_commands.specs.commands.AskedOfDesk.IsAsked.{broken, no_room as desk_full, replied, unsent as message_unsent}
-use Rattle.vend_commands.specs.commands.AskedOfDesk.IsAskedOfDesk.{asked as desk_asked, without_rows}
-use Rattle.vend_commands.specs.port.Exchanged.{Calls, IsUnsent, untold_calls}
-use Rattle.vend_commands.specs.port.Exchanged.IsUnsent.{no_room as full, unreached, unsent}
-use Rattle.vend_commands.specs.declared.port.exchange.ExchangeFault.{ExchangeFault}
-use Rattle.desk_client.specs.declared.question.Question.{Question}
-use Rattle.command_line.specs.declared.commands.at_desk.DeskWords.{DeskWords}
 use Rattle.vend_commands.specs.commands.Audited.{IsAudited}
 use Rattle.vend_commands.specs.commands.Audited.IsAudited.{absent, looked, unopened as audits_unopened}
 use Rattle.vend_commands.specs.commands.Imported.{AreAdded, IsFileImported}
@@ -140,22 +132,6 @@ deaf_bare way address door last old new (no_listener fails told) = no_listener t
 deaf_bare way address door last old new (no_text port is_port listens told) = no_text port is_port tt told
 deaf_bare way address door last old new (not_told port is_port listens cut told) = not_told port is_port tt cut told
 
-unsent_bare : (calls : Calls) (desk : Address) (fault : ExchangeFault) → IsUnsent calls desk fault → IsUnsent untold_calls desk fault
-unsent_bare calls desk fault (unreached misses is) = unreached tt is
-unsent_bare calls desk fault (unsent reaches is) = unsent tt is
-unsent_bare calls desk fault (full reaches is) = full tt is
-
-desk_asked_bare : (calls : Calls) (uncalled : Type 0) (desk : Address) (json : Bool) (question : Question) (o : Outputs) (end : CommandEnd) → IsAsked calls uncalled desk json question o end → IsAsked untold_calls ⊤ desk json question o end
-desk_asked_bare calls uncalled desk json question o end (replied came exchanged told is done) = replied came tt told is done
-desk_asked_bare calls uncalled desk json question o end (broken came exchanged none told) = broken came tt none told
-desk_asked_bare calls uncalled desk json question o end (message_unsent fault why told) = message_unsent fault (unsent_bare calls desk fault why) told
-desk_asked_bare calls uncalled desk json question o end (desk_full left told) = desk_full tt told
-
-asked_of_desk_bare : (reads : Text → List ℕ → Type 0) (lacks : Text → FileFault → Type 0) (calls : Calls) (uncalled : Type 0) (words : DeskWords) (o : Outputs) (end : CommandEnd)
-    → IsAskedOfDesk reads lacks calls uncalled words o end → IsAskedOfDesk reads lacks untold_calls ⊤ words o end
-asked_of_desk_bare reads lacks calls uncalled words o end (desk_asked rows are done) = desk_asked rows are (desk_asked_bare calls uncalled words.desk _ _ o end done)
-asked_of_desk_bare reads lacks calls uncalled words o end (without_rows fault why left told) = without_rows fault why tt told
-
 module _ {S D R W : Type 0} (store : Ghosts S) (way : Way D R W) (at : Places) (door : D) where
   serving_bare : (answers : Option (List ℤ)) (words : ServeWords) (err_old err_new : Sink) (end : CommandEnd)
       → IsServing store way at door answers words err_old err_new end → IsServing store untold_way (λ path wait. bare_place (at path wait)) tt answers words err_old err_new end
@@ -191,7 +167,6 @@ module _ {S D R W : Type 0} (store : Ghosts S) (way : Way D R W) (at : Places) (
     carried_bare (asks.Quote words) o end (idle, done) = ((tt, (tt, tt)), done)
     carried_bare (asks.Serve words) o end (left, done) = (tt, (done.0, serving_bare answers words o.err_old o.err_new end done.1))
     carried_bare (asks.Selfcheck words) o end (left, shut, done) = (tt, tt, selfcheck_done o end _ _ _ _ (less words.transform) (λ fault why. tt) done)
-    carried_bare (asks.Desk words) o end (left, shut, done) = (tt, tt, asked_of_desk_bare reads lacks loop.calls loop.leaves words o end done)
     carried_bare (asks.Audit words) o end (left, done) = ((tt, tt), audited_bare (at words.file.now words.wait) o end done)
 
     -- a run of the program, of which nothing is told but that

@@ -1,4 +1,3 @@
-pub mod Exchanged
 pub mod Places
 pub mod Port
 pub mod Sent

@@ -1,5 +1,4 @@
 //! The commands: what each does.
-pub(crate) mod at_desk;
 pub mod file_audit;
 pub mod import;
 pub mod list;

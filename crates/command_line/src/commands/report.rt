@@ -1,13 +1,12 @@
-ghost use Rattle.std.specs.Prelude.{◌≡◌, codes, false, IfOk};
-ghost use Rattle.clap.specs.Walk.{rule_of};
+ghost use Rattle.std.specs.Prelude.{codes, IfOk};
 ghost use Rattle.command_line.specs.Commands.{SaysPaper, SaysReport};
-ghost use Rattle.command_line.specs.Line.{IsDescribed, report_command, with_default};
+ghost use Rattle.command_line.specs.Line.{IsDescribed, report_command};
 ghost use Rattle.command_line.specs.Said.{IsArgument, ReadsWhat, argument_rows, parsed_argument};
 ghost use Rattle.command_line.specs.Values.{SaysItem};
 
 use crate::options::{self, needed, with};
 use crate::{said, values};
-use clap::{Arg, ArgMatches, Command};
+use clap::{ArgMatches, Command};
 use std::alloc::{AllocError, Global};
 
 /// What is printed from an office's books.
@@ -39,21 +38,14 @@ pub(crate) fn describe<'a>(alloc: Global) -> Result<Command<'a>, AllocError>
 {
     let about = "Prints a shift's report or totals, a sale's receipt again, or all sales as CSV";
     let kind = "What to print: shift, receipt, totals or sales";
+    let number = "The number of the shift or the sale, 1 to 1000000000; ignored with sales";
     let example = "Example: vend report --file office.db --kind receipt --number 7";
     let command = options::command(alloc, "report", about, example);
-    let command = with(command, options::present_file_or_desk(alloc))?;
+    let command = with(command, options::present_file(alloc))?;
     let command = with(command, options::wait(alloc))?;
     let command = with(command, needed(alloc, "kind", "KIND", kind))?;
-    with(command, number(alloc))
-}
-
-/// `--number`, which is 1 where it is left out.
-pub(crate) fn number<'a>(alloc: Global) -> Arg<'a>
-    ensures rule { rule_of result ≡ with_default (codes "number") (codes "1") }
-    ensures own { result.global ≡ false }
-{
-    let help = "The number of the shift or the sale, 1 to 1000000000; ignored with sales";
-    options::option(alloc, "number", "N", help).default_value("1")
+    let number = options::option(alloc, "number", "N", number).default_value("1");
+    with(command, number)
 }
 
 impl<'a> ReportWords<'a> {
@@ -82,7 +74,7 @@ fn read_paper(matches: &ArgMatches) -> Option<Paper>
     }
 }
 
-pub(crate) fn read_number(matches: &ArgMatches) -> Option<u32>
+fn read_number(matches: &ArgMatches) -> Option<u32>
     ensures { ReadsWhat result (IsArgument SaysItem
         (parsed_argument (codes "number") (argument_rows matches.now))) }
 {
