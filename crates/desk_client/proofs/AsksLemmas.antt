@@ -1,0 +1,381 @@
+-- What the messages of questions mean to a desk.
+use Rattle.std.proofs.Common.{◌≡◌, ℕ, ℤ, pos, ◌≤◌, ◌&&◌, true, List, [], ◌∷◌, ◌++◌, length, Some, None, Result, Ok, Err, codes, decimal, refl, ap, sym, subst, length-append, append-nil, arith}
+use Rattle.std.specs.Prelude.{nat_le}
+use Rattle.std.proofs.lemmas.Bool.{and_parts}
+use Rattle.std.proofs.lemmas.Bool.Decides.{nat_tests}
+use Rattle.std.specs.List.{AllByRecursion, concat, flat_map, list_all}
+use Rattle.book_facts.specs.declared.lookup.Lookup.TheVariants as lookups
+use Rattle.conversation.specs.message.Messages.{BeginsMessage, Message}
+use Rattle.desk.specs.Asking.{BodyAsks, import_of}
+use Rattle.desk.specs.Meaning.{ComesAt, IsFor, IsIdle, sale_form_of}
+use Rattle.desk.specs.declared.desk_fault.DeskFault.TheVariants.{Clock}
+use Rattle.desk.specs.declared.reply.form.Form.TheVariants.{Json}
+use Rattle.desk.specs.declared.reply.outcome.Outcome.TheVariants.{Faulty}
+use Rattle.desk.specs.declared.route.Route.{Route}
+use Rattle.desk.specs.declared.route.Route.TheVariants as routes
+use Rattle.desk.specs.json_body.Body.{BodySaysBase, BodySaysOperator, BodySaysOrder, IsJson}
+use Rattle.desk.specs.route.Endpoint.{endpoint_method}
+use Rattle.desk.specs.route.Route.{LeadsTo, Names, endpoint_of}
+use Rattle.papers.specs.File.{AreFileRecords, Fields}
+use Rattle.papers.specs.declared.file_kind.FileKind.TheVariants as files
+use Rattle.papers.specs.declared.row_fault.RowFault.{RowFault}
+use Rattle.papers.specs.declared.row_fault.RowFault.TheVariants.{At, Memory}
+use Rattle.json.specs.Print.{escape_byte}
+use Rattle.serde_json.specs.Data.{Data}
+use Rattle.serde_json.specs.Read.{read}
+use Rattle.serde_json.proofs.OnLiterals.{serde_json_on_literals}
+use Rattle.sts_fields.specs.Base.{year_of}
+use Rattle.sts_fields.specs.Moment.{IsMoment}
+use Rattle.sts_fields.specs.declared.base.Base.{Base}
+use Rattle.sts_fields.specs.declared.base.Base.TheVariants.{Y1993, Y2014, Y2035}
+use Rattle.vend_core.specs.Name.{IsMeterNo, IsName, IsOperator}
+use Rattle.vend_core.specs.declared.decision.request.Order.{Order}
+use Rattle.vend_core.specs.declared.office.row.Row.{Row}
+use Rattle.desk_client.specs.Asks.{IsAskable, IsAskableOrder, IsNoMoment, MeansAsked, MeansRows, asked_by, question_message}
+use Rattle.desk_client.specs.Message.{HasBodyOf}
+use Rattle.desk_client.specs.Question.{body_pieces, operator_pieces, order_pieces, question_method, question_text, target_pieces}
+use Rattle.desk_client.specs.declared.question.Question.{Question}
+use Rattle.desk_client.specs.declared.question.Question.TheVariants.{Import, MoveBase, OpenShift, CloseShift, Sell, ShiftReport, Receipt, ShiftTotals, Meter, LastSale, SaleOfRef, Quote, Tariffs, Meters, Shifts, Sales}
+use Rattle.desk_client.proofs.JsonLemmas.{base_json, base_read, operator_json, operator_read, order_json, order_read}
+use Rattle.desk_client.proofs.MessageLemmas.{is_message}
+use Rattle.desk_client.proofs.TargetLemmas.{IsFoundFor, found_base, found_close, found_first_meters, found_first_tariffs, found_imports_meters, found_imports_tariffs, found_last, found_meter, found_meters_after, found_quote, found_receipt, found_ref, found_sales, found_sales_after, found_shift, found_shifts, found_shifts_after, found_tariffs_after, found_totals, some_target}
+use Rattle.desk_client.proofs.WordLemmas.{IsPart, IsWord, is_seen, meter_word, name_word, number_text, number_word, operator_word, parts_seen, parts_short, seen_text, seen_visible, word_part, word_plain, word_value}
+
+-- ---- the route of each question
+
+abbrev pub route_by : Question → Route
+route_by (Import files.Meters csv) = routes.ImportMeters
+route_by (Import files.Tariffs csv) = routes.ImportTariffs
+route_by (MoveBase meter base) = routes.MoveBase meter
+route_by (OpenShift operator) = routes.OpenShift
+route_by (CloseShift operator) = routes.CloseShift
+route_by (Sell order) = routes.Sell
+route_by (ShiftReport number) = routes.ShiftReport number
+route_by (Receipt number) = routes.Receipt number
+route_by (ShiftTotals number) = routes.LookUp (lookups.ShiftTotals number)
+route_by (Meter meter) = routes.LookUp (lookups.Meter meter)
+route_by (LastSale meter) = routes.LookUp (lookups.LastSale meter)
+route_by (SaleOfRef operator order_ref) = routes.LookUp (lookups.SaleOfRef operator order_ref)
+route_by (Quote meter tender) = routes.LookUp (lookups.Quote meter tender)
+route_by (Tariffs after) = routes.LookUp (lookups.Tariffs after)
+route_by (Meters after) = routes.LookUp (lookups.Meters after)
+route_by (Shifts after) = routes.LookUp (lookups.Shifts after)
+route_by (Sales after) = routes.LookUp (lookups.Sales after)
+
+target_by : Question → List ℕ
+target_by q = concat (target_pieces q)
+
+method_by : (q : Question) → endpoint_method (endpoint_of (route_by q)) ≡ question_method q
+method_by (Import files.Meters csv) = refl
+method_by (Import files.Tariffs csv) = refl
+method_by (MoveBase meter base) = refl
+method_by (OpenShift operator) = refl
+method_by (CloseShift operator) = refl
+method_by (Sell order) = refl
+method_by (ShiftReport number) = refl
+method_by (Receipt number) = refl
+method_by (ShiftTotals number) = refl
+method_by (Meter meter) = refl
+method_by (LastSale meter) = refl
+method_by (SaleOfRef operator order_ref) = refl
+method_by (Quote meter tender) = refl
+method_by (Tariffs None) = refl
+method_by (Tariffs (Some name)) = refl
+method_by (Meters None) = refl
+method_by (Meters (Some meter)) = refl
+method_by (Shifts after) = refl
+method_by (Sales after) = refl
+
+-- ---- texts
+
+abbrev AreParts : List (List ℕ) → Type 0
+AreParts parts = (length parts ≤ 9) × AllByRecursion IsPart parts
+
+-- a word that is the same in each message
+fixed : (text : List ℕ) → (list_all is_seen text && nat_le (length text) 100) ≡ true → IsPart text
+fixed text e =
+    let parts = and_parts (list_all is_seen text) (nat_le (length text) 100) e in
+    record { short = grind (arith, nat_tests, parts.1); seen = parts.0 }
+
+one_part : (a : List ℕ) → IsPart a → AreParts (a ∷ [])
+one_part a p = (omega arith, (p, tt))
+
+two_parts : (a b : List ℕ) → IsPart a → IsPart b → AreParts (a ∷ b ∷ [])
+two_parts a b p q = (omega arith, (p, (q, tt)))
+
+three_parts : (a b c : List ℕ) → IsPart a → IsPart b → IsPart c → AreParts (a ∷ b ∷ c ∷ [])
+three_parts a b c p q r = (omega arith, (p, (q, (r, tt))))
+
+four_parts : (a b c d : List ℕ) → IsPart a → IsPart b → IsPart c → IsPart d → AreParts (a ∷ b ∷ c ∷ d ∷ [])
+four_parts a b c d p q r s = (omega arith, (p, (q, (r, (s, tt)))))
+
+number_part : (n : ℕ) → n ≤ 1000000000 → IsPart (decimal n)
+number_part n h = word_part (decimal n) (number_word n h)
+
+meter_part : (meter : List ℕ) → IsMeterNo meter → IsPart meter
+meter_part meter is = word_part meter (meter_word meter is)
+
+operator_part : (operator : List ℕ) → IsOperator operator → IsPart operator
+operator_part operator is = word_part operator (operator_word operator is)
+
+name_part : (name : List ℕ) → IsName name → IsPart name
+name_part name is = word_part name (name_word name is)
+
+-- the pieces of each target
+target_parts : (q : Question) → IsAskable q → AreParts (target_pieces q)
+target_parts (Import files.Meters csv) is = one_part _ (fixed _ refl)
+target_parts (Import files.Tariffs csv) is = one_part _ (fixed _ refl)
+target_parts (MoveBase meter base) is = three_parts _ _ _ (fixed _ refl) (meter_part meter is) (fixed _ refl)
+target_parts (OpenShift operator) is = one_part _ (fixed _ refl)
+target_parts (CloseShift operator) is = one_part _ (fixed _ refl)
+target_parts (Sell order) is = one_part _ (fixed _ refl)
+target_parts (ShiftReport number) is = two_parts _ _ (fixed _ refl) (number_part number is.most)
+target_parts (Receipt number) is = three_parts _ _ _ (fixed _ refl) (number_part number is.most) (fixed _ refl)
+target_parts (ShiftTotals number) is = three_parts _ _ _ (fixed _ refl) (number_part number is.most) (fixed _ refl)
+target_parts (Meter meter) is = two_parts _ _ (fixed _ refl) (meter_part meter is)
+target_parts (LastSale meter) is = three_parts _ _ _ (fixed _ refl) (meter_part meter is) (fixed _ refl)
+target_parts (SaleOfRef operator order_ref) is =
+    four_parts _ _ _ _ (fixed _ refl) (operator_part operator is.0) (fixed _ refl) (name_part order_ref is.1)
+target_parts (Quote meter tender) is =
+    four_parts _ _ _ _ (fixed _ refl) (meter_part meter is.0) (fixed _ refl) (number_part tender (omega (arith, is.1.1)))
+target_parts (Tariffs None) is = one_part _ (fixed _ refl)
+target_parts (Tariffs (Some name)) is = two_parts _ _ (fixed _ refl) (name_part name is)
+target_parts (Meters None) is = one_part _ (fixed _ refl)
+target_parts (Meters (Some meter)) is = two_parts _ _ (fixed _ refl) (meter_part meter is)
+target_parts (Shifts after) is = two_parts _ _ (fixed _ refl) (number_part after is.most)
+target_parts (Sales after) is = two_parts _ _ (fixed _ refl) (number_part after is.most)
+
+-- ---- targets
+
+target_found : (q : Question) → IsAskable q → IsFoundFor (target_by q) (endpoint_of (route_by q))
+unfolding target_by
+target_found (Import files.Meters csv) is = found_imports_meters
+target_found (Import files.Tariffs csv) is = found_imports_tariffs
+target_found (MoveBase meter base) is = found_base meter (word_value meter (meter_word meter is))
+target_found (OpenShift operator) is = found_shifts
+target_found (CloseShift operator) is = found_close
+target_found (Sell order) is = found_sales
+target_found (ShiftReport number) is = found_shift (decimal number) (number_text number is.most)
+target_found (Receipt number) is = found_receipt (decimal number) (number_text number is.most)
+target_found (ShiftTotals number) is = found_totals (decimal number) (number_text number is.most)
+target_found (Meter meter) is = found_meter meter (word_value meter (meter_word meter is))
+target_found (LastSale meter) is = found_last meter (word_value meter (meter_word meter is))
+target_found (SaleOfRef operator order_ref) is =
+    found_ref operator order_ref (word_value operator (operator_word operator is.0)) (word_value order_ref (name_word order_ref is.1))
+target_found (Quote meter tender) is =
+    found_quote meter (decimal tender) (word_value meter (meter_word meter is.0)) (word_value (decimal tender) (number_word tender (omega (arith, is.1.1))))
+target_found (Tariffs None) is = found_first_tariffs
+target_found (Tariffs (Some name)) is = found_tariffs_after name (word_value name (name_word name is))
+target_found (Meters None) is = found_first_meters
+target_found (Meters (Some meter)) is = found_meters_after meter (word_value meter (meter_word meter is))
+target_found (Shifts after) is = found_shifts_after (decimal after) (word_value (decimal after) (number_word after is.most))
+target_found (Sales after) is = found_sales_after (decimal after) (word_value (decimal after) (number_word after is.most))
+
+target_names : (q : Question) → IsAskable q → Names (target_by q) (route_by q)
+unfolding target_by
+target_names (Import files.Meters csv) is = tt
+target_names (Import files.Tariffs csv) is = tt
+target_names (MoveBase meter base) is = (refl, is)
+target_names (OpenShift operator) is = tt
+target_names (CloseShift operator) is = tt
+target_names (Sell order) is = tt
+target_names (ShiftReport number) is = (refl, is)
+target_names (Receipt number) is = (refl, is)
+target_names (ShiftTotals number) is = (refl, is)
+target_names (Meter meter) is = (refl, is)
+target_names (LastSale meter) is = (refl, is)
+target_names (SaleOfRef operator order_ref) is =
+    (ap (λ (r : List ℕ). codes "/operators/" ++ (operator ++ (codes "/sales/" ++ r))) (append-nil order_ref), is.0, is.1)
+target_names (Quote meter tender) is =
+    (ap (λ (t : List ℕ). codes "/meters/" ++ (meter ++ (codes "/quote?tender=" ++ t))) (append-nil (decimal tender)), is.0, is.1)
+target_names (Tariffs None) is = tt
+target_names (Tariffs (Some name)) is = (refl, is)
+target_names (Meters None) is = tt
+target_names (Meters (Some meter)) is = (refl, is)
+target_names (Shifts after) is = (refl, is)
+target_names (Sales after) is = (refl, is)
+
+leads : (q : Question) → IsAskable q → LeadsTo (target_by q) (route_by q)
+unfolding target_by
+leads q is = record {
+  finds = record {
+    text = seen_text (target_by q) (parts_seen (target_pieces q) (target_parts q is).1);
+    found = target_found q is;
+  };
+  names = target_names q is;
+}
+
+-- the message is for the route
+is_for : (q : Question) → IsAskable q → IsFor (question_message q) (route_by q)
+unfolding target_by
+is_for q is = (leads q is, method_by q)
+
+-- ---- bodies
+
+operator_parts : (operator : List ℕ) → IsOperator operator → AreParts (operator_pieces operator)
+operator_parts operator is = three_parts _ _ _ (fixed _ refl) (operator_part operator is) (fixed _ refl)
+
+order_parts : (o : Order) → IsAskableOrder o → AreParts (order_pieces o)
+order_parts o is = (
+  omega arith,
+  (
+    (fixed _ refl),
+    (
+      meter_part o.meter is.meter,
+      (
+        (fixed _ refl),
+        (
+          operator_part o.operator is.operator,
+          (
+            (fixed _ refl),
+            (
+              name_part o.order_ref is.order_ref,
+              (
+                (fixed _ refl),
+                (
+                  number_part o.tender (omega (arith, is.tender.1)),
+                  (fixed _ refl, tt),
+                ),
+              ),
+            ),
+          ),
+        ),
+      ),
+    ),
+  ),
+)
+
+small_year : (base : Base) → year_of base ≤ 1000000000
+small_year Y1993 = omega arith
+small_year Y2014 = omega arith
+small_year Y2035 = omega arith
+
+base_parts : (meter : List ℕ) (base : Base) → AreParts (body_pieces (MoveBase meter base))
+base_parts meter base = three_parts _ _ _ (fixed _ refl) (number_part (year_of base) (small_year base)) (fixed _ refl)
+
+short_body : (parts : List (List ℕ)) → AreParts parts → length (concat parts) ≤ 1048576
+short_body parts are = omega (arith, are.0, parts_short parts are.1)
+
+body_fits : (q : Question) → IsAskable q → HasBodyOf (question_method q) (concat (body_pieces q))
+body_fits (Import kind csv) is = omega (arith, is, length-append csv.now [])
+body_fits (MoveBase meter base) is = short_body (body_pieces (MoveBase meter base)) (base_parts meter base)
+body_fits (OpenShift operator) is = short_body (operator_pieces operator) (operator_parts operator is)
+body_fits (CloseShift operator) is = short_body (operator_pieces operator) (operator_parts operator is)
+body_fits (Sell order) is = short_body (order_pieces order) (order_parts order is)
+body_fits (ShiftReport number) is = refl
+body_fits (Receipt number) is = refl
+body_fits (ShiftTotals number) is = refl
+body_fits (Meter meter) is = refl
+body_fits (LastSale meter) is = refl
+body_fits (SaleOfRef operator order_ref) is = refl
+body_fits (Quote meter tender) is = refl
+body_fits (Tariffs after) is = refl
+body_fits (Meters after) is = refl
+body_fits (Shifts after) is = refl
+body_fits (Sales after) is = refl
+
+-- a desk reads the message whole
+pub is_sent : (q : Question) (rest : List ℕ) → IsAskable q → BeginsMessage (question_text q ++ rest) (question_message q) rest
+unfolding target_by
+is_sent q rest is =
+    let parts = target_parts q is in
+    let seen = parts_seen (target_pieces q) parts.1 in
+    is_message (question_message q) rest (record {
+      some = some_target (concat (target_pieces q)) (endpoint_of (route_by q)) (target_found q is);
+      short = omega (arith, parts.0, parts_short (target_pieces q) parts.1);
+      visible = seen_visible (concat (target_pieces q)) seen;
+      text = seen_text (concat (target_pieces q)) seen;
+      body = body_fits q is;
+      goes_on = refl;
+    })
+
+plain_of : (text : List ℕ) → IsWord text → flat_map escape_byte text ≡ text
+plain_of text is = word_plain text is.bytes
+
+-- the body is the text of the object
+json_of : (parts : List (List ℕ)) (json : Data) → AreParts parts → read (concat parts) ≡ Some json → IsJson (concat parts) json
+json_of parts json are e = record { text = seen_text (concat parts) (parts_seen parts are.1); reads = e }
+
+says_operator : (operator : List ℕ) → IsOperator operator
+    → (json : Data) × IsJson (concat (operator_pieces operator)) json × BodySaysOperator json operator
+unfolding serde_json_on_literals
+says_operator operator is = (
+  operator_json operator,
+  json_of (operator_pieces operator) (operator_json operator) (operator_parts operator is)
+      (operator_read operator (plain_of operator (operator_word operator is))),
+  record { members = record { count = refl; each = (refl, tt) }; named = is },
+)
+
+says_base : (meter : List ℕ) (base : Base) → (json : Data) × IsJson (concat (body_pieces (MoveBase meter base))) json × BodySaysBase json base
+unfolding serde_json_on_literals
+says_base meter base = (
+  base_json (year_of base),
+  json_of (body_pieces (MoveBase meter base)) (base_json (year_of base)) (base_parts meter base) (base_read (year_of base) (omega (arith, small_year base))),
+  record { members = record { count = refl; each = (refl, tt) } },
+)
+
+says_order : (o : Order) → IsAskableOrder o → (json : Data) × IsJson (concat (order_pieces o)) json × BodySaysOrder json o
+unfolding serde_json_on_literals
+says_order o is = (
+  order_json o.meter o.operator o.order_ref o.tender,
+  json_of (order_pieces o) (order_json o.meter o.operator o.order_ref o.tender) (order_parts o is)
+      (order_read o.meter o.operator o.order_ref o.tender (omega (arith, is.tender.1)) (plain_of o.meter (meter_word o.meter is.meter))
+      (plain_of o.operator (operator_word o.operator is.operator)) (plain_of o.order_ref (name_word o.order_ref is.order_ref))),
+  record {
+    members = record { count = refl; each = (refl, (refl, (refl, (refl, tt)))) };
+    meter = is.meter;
+    operator = is.operator;
+    order_ref = is.order_ref;
+    tender = is.tender;
+  },
+)
+
+-- ---- what is meant
+
+comes : (q : Question) (moment : ℕ) → IsAskable q → IsMoment moment → ComesAt (question_message q) (Some (pos moment)) (route_by q) moment
+comes q moment is h = record { is_for = is_for q is; given = refl; is_moment = h }
+
+-- by a file, by what reading its rows answers
+module _ (m : Message) (moment : ℕ) (route : Route) (at : ComesAt m (Some (pos moment)) route moment) (told : Json ≡ sale_form_of route) where
+  means_rows : (read : Result (List Row) RowFault) → BodyAsks route m.body (import_of read) → MeansRows m moment read
+  means_rows (Ok rows) asks = record { route = route; comes = at; asked = asks; told = told }
+  means_rows (Err (At row cause)) asks = (refl, (route, moment, at, asks))
+  means_rows (Err Memory) asks = tt
+
+file_records : (csv : List ℕ) (records : List Fields) → AreFileRecords csv records → AreFileRecords (csv ++ []) records
+file_records csv records are = subst (λ (bytes : List ℕ). AreFileRecords bytes records) (sym (append-nil csv)) are
+
+pub means : (q : Question) (moment : ℕ) → IsAskable q → IsMoment moment → MeansAsked (asked_by q) (question_message q) moment
+means (Import files.Meters csv) moment is h = λ records read are reading.
+    means_rows (question_message (Import files.Meters csv)) moment routes.ImportMeters (comes (Import files.Meters csv) moment is h) refl read
+    (records, file_records csv.now records are, read, reading, refl)
+means (Import files.Tariffs csv) moment is h = λ records read are reading.
+    means_rows (question_message (Import files.Tariffs csv)) moment routes.ImportTariffs (comes (Import files.Tariffs csv) moment is h) refl read
+    (records, file_records csv.now records are, read, reading, refl)
+means (MoveBase meter base) moment is h =
+    let says = says_base meter base in
+    record { route = routes.MoveBase meter; comes = comes (MoveBase meter base) moment is h; asked = (says.0, says.1, (base, refl, says.2)); told = refl }
+means (OpenShift operator) moment is h =
+    let says = says_operator operator is in
+    record { route = routes.OpenShift; comes = comes (OpenShift operator) moment is h; asked = (says.0, says.1, (operator, refl, says.2)); told = refl }
+means (CloseShift operator) moment is h =
+    let says = says_operator operator is in
+    record { route = routes.CloseShift; comes = comes (CloseShift operator) moment is h; asked = (says.0, says.1, (operator, refl, says.2)); told = refl }
+means (Sell order) moment is h =
+    let says = says_order order is in
+    record { route = routes.Sell; comes = comes (Sell order) moment is h; asked = (says.0, says.1, (order, refl, says.2)); told = refl }
+means (ShiftReport number) moment is h = record { route = routes.ShiftReport number; comes = comes (ShiftReport number) moment is h; asked = refl; told = refl }
+means (Receipt number) moment is h = record { route = routes.Receipt number; comes = comes (Receipt number) moment is h; asked = refl; told = refl }
+means (ShiftTotals number) moment is h = record { comes = comes (ShiftTotals number) moment is h; told = refl }
+means (Meter meter) moment is h = record { comes = comes (Meter meter) moment is h; told = refl }
+means (LastSale meter) moment is h = record { comes = comes (LastSale meter) moment is h; told = refl }
+means (SaleOfRef operator order_ref) moment is h = record { comes = comes (SaleOfRef operator order_ref) moment is h; told = refl }
+means (Quote meter tender) moment is h = record { comes = comes (Quote meter tender) moment is h; told = refl }
+means (Tariffs after) moment is h = record { comes = comes (Tariffs after) moment is h; told = refl }
+means (Meters after) moment is h = record { comes = comes (Meters after) moment is h; told = refl }
+means (Shifts after) moment is h = record { comes = comes (Shifts after) moment is h; told = refl }
+means (Sales after) moment is h = record { comes = comes (Sales after) moment is h; told = refl }
+
+-- a clock outside the moments of an office
+pub means_none : (q : Question) (second : ℤ) → IsAskable q → IsNoMoment second → IsIdle (question_message q) (Some second) (Faulty Clock)
+means_none q second is outside = record { route = route_by q; is_for = is_for q is; second = second; given = refl; outside = outside }

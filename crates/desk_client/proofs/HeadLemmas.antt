@@ -1,0 +1,167 @@
+-- Heads of replies, and that a text begins with one of them.
+use Rattle.std.proofs.Common.{◌≡◌, ◌≢◌, ◌∙◌, ℕ, ◌+◌, ◌*◌, ◌^◌, ◌<◌, ◌≤◌, List, [], ◌∷◌, ◌++◌, length, get_or, drop, refl, ap, sym, subst, append_assoc, length-append, arith}
+use Rattle.std.specs.Prelude.{decimal, if◌then◌else◌, ◌==◌}
+use Rattle.std.proofs.lemmas.Fmt.{length-decimal-le}
+use Rattle.std.proofs.lemmas.List.{append-nil, append_cancel_left, nil_from_length}
+use Rattle.httparse.proofs.GrammarLemmas.{cons-append}
+use Rattle.conversation.proofs.HeadLemmas.{front_within}
+use Rattle.vend_core.specs.Decision.Refusals.{refusal_category}
+use Rattle.vend_core.specs.declared.decision.category.Category.{Category}
+use Rattle.vend_core.specs.declared.decision.category.Category.TheVariants as categories
+use Rattle.desk_client.specs.Reply.{IsRefusing, IsReply, head_bytes, longest_body, longest_head}
+use Rattle.desk_client.specs.Start.{category_start, head_end, start_text}
+use Rattle.desk_client.specs.Told.{IsStart, IsTellable, granted_start, told_start, told_text}
+use Rattle.desk_client.specs.declared.start.Start.{Start}
+use Rattle.desk_client.specs.declared.start.Start.TheVariants.{Json, Paper, Missing, Forbidden, Unfit, Unable}
+use Rattle.desk_client.specs.declared.told.Told.{Told}
+use Rattle.desk_client.specs.declared.told.Told.TheVariants as told
+use Rattle.desk_client.specs.declared.told.Wanted.{Wanted}
+use Rattle.desk_client.specs.declared.told.Wanted.TheVariants as wanted
+use Rattle.desk_client.proofs.NumberLemmas.{same_number}
+use Rattle.desk_client.proofs.PlainLemmas.{plain_number}
+use Rattle.desk_client.proofs.WovenLemmas.{cut}
+
+-- what tells starts apart: two bytes of the status, and one behind it
+abbrev mark : List ℕ → ℕ
+mark text = 1000000 * get_or text 9 0 + 1000 * get_or text 11 0 + get_or text 31 0
+
+abbrev mark_of : Start → ℕ
+mark_of Json = 50048097
+mark_of Paper = 50048116
+mark_of Missing = 52052045
+mark_of Forbidden = 52057084
+mark_of Unfit = 52050116
+mark_of Unable = 53051101
+
+marked : (s : Start) (rest : List ℕ) → mark (start_text s ++ rest) ≡ mark_of s
+marked Json rest = refl
+marked Paper rest = refl
+marked Missing rest = refl
+marked Forbidden rest = refl
+marked Unfit rest = refl
+marked Unable rest = refl
+
+abbrev of_mark : ℕ → Start
+of_mark n = if n == 50048097 then Json else (if n == 50048116 then Paper else (if n == 52052045 then Missing else (if n == 52057084 then Forbidden else (if n == 52050116 then Unfit else (Unable)))))
+
+back : (s : Start) → of_mark (mark_of s) ≡ s
+back Json = refl
+back Paper = refl
+back Missing = refl
+back Forbidden = refl
+back Unfit = refl
+back Unable = refl
+
+-- a text begins with one start
+one_start : (s t : Start) (r q : List ℕ) → start_text s ++ r ≡ start_text t ++ q → s ≡ t
+one_start s t r q e = sym (back s) ∙ ap of_mark (sym (marked s r) ∙ ap mark e ∙ marked t q) ∙ back t
+
+-- and with one head
+pub one_head : (s t : Start) (n m : ℕ) (r q : List ℕ) → n < 2 ^ 64 → m < 2 ^ 64 → head_bytes s n r ≡ head_bytes t m q
+    → (s ≡ t) × (n ≡ m) × (r ≡ q)
+one_head s t n m r q small few e =
+    let starts = one_start s t (decimal n ++ (head_end ++ r)) (decimal m ++ (head_end ++ q)) e in
+    let behind : decimal n ++ (head_end ++ r) ≡ decimal m ++ (head_end ++ q) =
+    append_cancel_left (start_text t) _ _ (ap (λ (x : Start). start_text x ++ (decimal n ++ (head_end ++ r))) (sym starts) ∙ e) in
+    let same = cut (decimal n) (decimal m) (head_end ++ r) (head_end ++ q) (plain_number n small) (plain_number m few) refl refl behind in
+    (starts, same_number (decimal n) n m small few refl same.0, append_cancel_left head_end r q same.1)
+
+regroup : (s d r more : List ℕ) → (s ++ (d ++ 13 ∷ 10 ∷ 13 ∷ 10 ∷ r)) ++ more ≡ s ++ (d ++ 13 ∷ 10 ∷ 13 ∷ 10 ∷ (r ++ more))
+regroup s d r more = simp (append_assoc, cons-append)
+
+-- what a whole reply says of a head that was found, and what follows it
+pub reply_behind : (asked : Wanted) (s : Start) (n : ℕ) (r more : List ℕ) (t : Told) → n < 2 ^ 64 → IsReply asked (head_bytes s n r ++ more) t
+    → (s ≡ told_start t) × (n ≡ length (told_text t)) × (r ++ more ≡ told_text t)
+reply_behind asked s n r more t small reply =
+    one_head s (told_start t) n (length (told_text t)) (r ++ more) (told_text t) small (omega (arith, reply.short))
+    (sym (regroup (start_text s) (decimal n) r more) ∙ reply.is_text)
+
+-- the body of a whole reply is no longer than its head says, and that no longer than any
+pub reply_lengths : (asked : Wanted) (s : Start) (n : ℕ) (r more : List ℕ) (t : Told) → n < 2 ^ 64 → IsReply asked (head_bytes s n r ++ more) t
+    → (n ≤ longest_body) × (length r + length more ≡ n)
+reply_lengths asked s n r more t small reply =
+    let is = reply_behind asked s n r more t small reply in
+    (omega (arith, is.1, reply.short), omega (arith, is.1, ap length is.2, length-append r more))
+
+-- where nothing follows, the body is what is told
+pub reply_now : (asked : Wanted) (s : Start) (n : ℕ) (r more : List ℕ) (t : Told) → n < 2 ^ 64 → length r ≡ n → IsReply asked (head_bytes s n r ++ more) t
+    → (told_start t ≡ s) × (r ≡ told_text t)
+reply_now asked s n r more t small all reply =
+    let is = reply_behind asked s n r more t small reply in
+    let none : more ≡ [] = nil_from_length more (omega (arith, all, (reply_lengths asked s n r more t small reply).1)) in
+    (sym is.0, sym (append-nil r) ∙ ap (λ (m : List ℕ). r ++ m) (sym none) ∙ is.2)
+
+-- what a reply may begin with, by what is wanted
+granted_is : (asked : Wanted) → IsStart asked (granted_start asked)
+granted_is wanted.Done = refl
+granted_is wanted.Imported = refl
+granted_is wanted.Shift = refl
+granted_is wanted.Sale = refl
+granted_is wanted.Meter = refl
+granted_is wanted.Quote = refl
+granted_is wanted.Totals = refl
+granted_is wanted.Paper = refl
+granted_is wanted.Page = refl
+
+refused_is : (asked : Wanted) (category : Category) → IsStart asked (category_start category)
+refused_is asked categories.Missing = tt
+refused_is asked categories.Forbidden = tt
+refused_is asked categories.Unfit = tt
+refused_is asked (categories.UnfitRow row cause) = tt
+refused_is asked categories.Unable = tt
+
+pub start_is : (asked : Wanted) (t : Told) → IsTellable asked t → IsStart asked (told_start t)
+start_is asked (told.Granted granted) h = subst (λ w. IsStart asked (granted_start w)) (sym h.1) (granted_is asked)
+start_is asked (told.Refused refusal) h = refused_is asked (refusal_category refusal)
+start_is asked told.NoMoment h = tt
+
+short_start : (s : Start) → length (start_text s) ≤ 83
+short_start Json = omega arith
+short_start Paper = omega arith
+short_start Missing = omega arith
+short_start Forbidden = omega arith
+short_start Unfit = omega arith
+short_start Unable = omega arith
+
+-- the bytes of a head without what follows
+abbrev front : Start → ℕ → List ℕ
+front s n = start_text s ++ (decimal n ++ head_end)
+
+short_front : (s : Start) (n : ℕ) → n ≤ longest_body → length (front s n) ≤ longest_head
+short_front s n h =
+    omega (
+      arith,
+      length-append (start_text s) (decimal n ++ head_end),
+      length-append (decimal n) head_end,
+      short_start s,
+      length-decimal-le 8 n (omega arith) (omega (arith, h)) (omega (arith, h)),
+    )
+
+behind_front : (s d r : List ℕ) → s ++ (d ++ 13 ∷ 10 ∷ 13 ∷ 10 ∷ r) ≡ (s ++ (d ++ 13 ∷ 10 ∷ 13 ∷ 10 ∷ [])) ++ r
+behind_front s d r = simp (append_assoc, cons-append)
+
+-- where no head is found in as many bytes as any has, no reply begins so
+pub no_reply : (asked : Wanted) (input : List ℕ) → longest_head ≤ length input
+    → ((s : Start) (n : ℕ) (r : List ℕ) → IsStart asked s → n < 2 ^ 64 → input ≢ head_bytes s n r)
+    → (more : List ℕ) (t : Told) → ¬ IsReply asked (input ++ more) t
+no_reply asked input long none more t reply =
+    let s = told_start t in
+    let n = length (told_text t) in
+    let whole : input ++ more ≡ front s n ++ told_text t = reply.is_text ∙ behind_front (start_text s) (decimal n) (told_text t) in
+    let short = short_front s n reply.short in
+    let there = front_within input more (front s n) (told_text t) whole (omega (arith, short, long)) in
+    none s n (drop (length (front s n)) input) (start_is asked t reply.tellable) (omega (arith, reply.short))
+    (there ∙ sym (behind_front (start_text s) (decimal n) (drop (length (front s n)) input)))
+
+abbrev pub BeginsNot : List ℕ → Start → Type 0
+BeginsNot input s = (n : ℕ) (r : List ℕ) → n < 2 ^ 64 → input ≢ head_bytes s n r
+
+-- a refusal begins with one of four
+pub no_refusal : (input : List ℕ) → BeginsNot input Missing → BeginsNot input Forbidden → BeginsNot input Unfit → BeginsNot input Unable
+    → (s : Start) (n : ℕ) (r : List ℕ) → IsRefusing s → n < 2 ^ 64 → input ≢ head_bytes s n r
+no_refusal input a b c d Json n r is small = absurd is
+no_refusal input a b c d Paper n r is small = absurd is
+no_refusal input a b c d Missing n r is small = a n r small
+no_refusal input a b c d Forbidden n r is small = b n r small
+no_refusal input a b c d Unfit n r is small = c n r small
+no_refusal input a b c d Unable n r is small = d n r small

@@ -1,0 +1,166 @@
+-- Names and numbers, as they stand in targets and in bodies.
+use Rattle.std.proofs.Common.{◌≡◌, ℕ, ◌*◌, ◌<◌, ◌≤◌, ◌&&◌, ◌==◌, Bool, true, false, List, [], ◌∷◌, ◌++◌, length, get_or, refl, arith}
+use Rattle.std.specs.Prelude.{IsUtf8, decimal, nat_lt}
+use Rattle.std.specs.Char.{is_ascii_alphanumeric, is_ascii_digit}
+use Rattle.std.specs.List.{AllByRecursion, AllPass, concat, flat_map, list_all}
+use Rattle.std.specs.Str.{IsAscii}
+use Rattle.std.proofs.lemmas.Bool.{and_parts}
+use Rattle.std.proofs.lemmas.Bool.Decides.{nat_tests}
+use Rattle.std.proofs.lemmas.Fmt.{decimal_is_IsNumeral, decimal_nonempty, length-decimal-le}
+use Rattle.std.proofs.lemmas.List.{length-append}
+use Rattle.std.proofs.lemmas.List.Elements.{All-from_get_or, recursion_from_All}
+use Rattle.std.proofs.lemmas.List.Sums.{AllPass-from_list_all}
+use Rattle.std.proofs.lemmas.Str.{IsUtf8-from_ascii}
+use Rattle.std.proofs.lemmas.Str.Ascii.{IsAscii-from_all}
+use Rattle.std.proofs.lemmas.Str.Parse.{digit_at}
+use Rattle.httparse.specs.Grammar.{is_uri_byte}
+use Rattle.json.specs.Print.{escape_byte}
+use Rattle.vend_core.specs.Name.{IsMeterNo, IsName, IsOperator, is_name_byte}
+use Rattle.desk_client.proofs.WalkLemmas.{IsInside}
+
+-- a byte that stands as it is in a target and in a text of JSON, and parts no target
+pub record IsWordByte (b : ℕ) : Type 0 where
+  pub seen : (33 ≤ b) × (b < 127)
+  pub inside : (b == 47) ≡ false
+  pub plain : escape_byte b ≡ b ∷ []
+
+of_digit : (b : ℕ) → is_ascii_digit b ≡ true → IsWordByte b
+unfolding escape_byte
+of_digit b e = record { seen = grind (arith, nat_tests); inside = grind (arith, nat_tests); plain = grind (arith, nat_tests) }
+
+of_letter : (b : ℕ) → is_ascii_alphanumeric b ≡ true → IsWordByte b
+unfolding escape_byte
+of_letter b e = record { seen = grind (arith, nat_tests); inside = grind (arith, nat_tests); plain = grind (arith, nat_tests) }
+
+of_name : (b : ℕ) → is_name_byte b ≡ true → IsWordByte b
+unfolding escape_byte
+of_name b e = record { seen = grind (arith, nat_tests); inside = grind (arith, nat_tests); plain = grind (arith, nat_tests) }
+
+-- a short text of such bytes
+pub record IsWord (text : List ℕ) : Type 0 where
+  pub some : 1 ≤ length text
+  pub short : length text ≤ 32
+  pub bytes : AllByRecursion IsWordByte text
+
+word_by : (test : ℕ → Bool) → ((b : ℕ) → test b ≡ true → IsWordByte b) → (text : List ℕ) → 1 ≤ length text → length text ≤ 32
+    → AllPass test text → IsWord text
+word_by test is text some short passes = record {
+  some = some;
+  short = short;
+  bytes = recursion_from_All IsWordByte text (λ i d inside. is _ (passes i d inside));
+}
+
+-- ---- names and numbers
+
+pub meter_word : (meter : List ℕ) → IsMeterNo meter → IsWord meter
+meter_word meter is = word_by is_ascii_digit of_digit meter (omega (arith, is.eleven)) (omega (arith, is.eleven)) is.digits
+
+pub operator_word : (operator : List ℕ) → IsOperator operator → IsWord operator
+operator_word operator is = word_by is_ascii_alphanumeric of_letter operator is.some (omega (arith, is.short)) is.bytes
+
+pub name_word : (name : List ℕ) → IsName name → IsWord name
+name_word name is = word_by is_name_byte of_name name is.some is.short is.bytes
+
+-- what holds of each decimal digit holds of each byte of a number
+each_digit : (P : ℕ → Type 0) → ((b : ℕ) → 48 ≤ b → b ≤ 57 → P b) → (n : ℕ) → n ≤ 1000000000 → AllByRecursion P (decimal n)
+each_digit P holds n h =
+    recursion_from_All P (decimal n) (All-from_get_or P (decimal n) 0 (λ i inside.
+    let digit = digit_at (decimal n) i (decimal_is_IsNumeral n (omega (arith, h))).0.1 inside in
+    holds (get_or (decimal n) i 0) digit.0 digit.1))
+
+is_digit : (b : ℕ) → 48 ≤ b → b ≤ 57 → is_ascii_digit b ≡ true
+is_digit b low high = grind (arith, nat_tests)
+
+pub number_word : (n : ℕ) → n ≤ 1000000000 → IsWord (decimal n)
+number_word n h = record {
+  some = decimal_nonempty n (omega (arith, h));
+  short = let len = length-decimal-le 10 n (omega arith) (omega (arith, h)) (omega (arith, h)) in omega (arith, len);
+  bytes = each_digit IsWordByte (λ b low high. of_digit b (is_digit b low high)) n h;
+}
+
+-- ---- what a word has
+
+pub word_inside : (text : List ℕ) → AllByRecursion IsWordByte text → IsInside text
+word_inside [] all = tt
+word_inside (b ∷ text) all = (all.0.inside, word_inside text all.1)
+
+-- some text without a slash
+abbrev pub IsValue : List ℕ → Type 0
+IsValue [] = ⊥
+IsValue (b ∷ text) = (b < 128) × IsInside (b ∷ text)
+
+pub word_value : (text : List ℕ) → IsWord text → IsValue text
+word_value [] is = absurd (omega (arith, is.some))
+word_value (b ∷ text) is = (omega (arith, is.bytes.0.seen.1), word_inside (b ∷ text) is.bytes)
+
+-- the same, and a digit stands first
+abbrev pub IsNumberText : List ℕ → Type 0
+IsNumberText [] = ⊥
+IsNumberText (b ∷ text) = (b < 58) × IsInside (b ∷ text)
+
+first_digit : (text : List ℕ) → IsWord text → AllByRecursion (λ b. b < 58) text → IsNumberText text
+first_digit [] is digits = absurd (omega (arith, is.some))
+first_digit (b ∷ text) is digits = (digits.0, word_inside (b ∷ text) is.bytes)
+
+pub number_text : (n : ℕ) → n ≤ 1000000000 → IsNumberText (decimal n)
+number_text n h = first_digit (decimal n) (number_word n h) (each_digit (λ b. b < 58) (λ b low high. omega (arith, high)) n h)
+
+-- it is written in JSON as it is
+pub word_plain : (text : List ℕ) → AllByRecursion IsWordByte text → flat_map escape_byte text ≡ text
+word_plain [] all = refl
+word_plain (b ∷ text) all = rw (all.0.plain, word_plain text all.1) refl
+
+-- a visible byte of ASCII
+abbrev pub is_seen : ℕ → Bool
+is_seen b = nat_lt 32 b && nat_lt b 127
+
+both : (a b : Bool) → a ≡ true → b ≡ true → (a && b) ≡ true
+both true b p q = q
+both false b p q = absurd cc
+
+byte_seen : (b : ℕ) → (33 ≤ b) × (b < 127) → is_seen b ≡ true
+byte_seen b h = grind (arith, nat_tests, h.0, h.1)
+
+word_seen : (text : List ℕ) → AllByRecursion IsWordByte text → list_all is_seen text ≡ true
+word_seen [] all = refl
+word_seen (b ∷ text) all = both (is_seen b) (list_all is_seen text) (byte_seen b all.0.seen) (word_seen text all.1)
+
+-- ---- texts in parts
+
+-- a part of a target or of a body: visible, and not long
+pub record IsPart (text : List ℕ) : Type 0 where
+  pub short : length text ≤ 100
+  pub seen : list_all is_seen text ≡ true
+
+pub word_part : (text : List ℕ) → IsWord text → IsPart text
+word_part text is = record { short = omega (arith, is.short); seen = word_seen text is.bytes }
+
+seen_append : (a b : List ℕ) → list_all is_seen a ≡ true → list_all is_seen b ≡ true → list_all is_seen (a ++ b) ≡ true
+seen_append [] b p q = q
+seen_append (x ∷ a) b p q =
+    let parts = and_parts (is_seen x) (list_all is_seen a) p in
+    both (is_seen x) (list_all is_seen (a ++ b)) parts.0 (seen_append a b parts.1 q)
+
+pub parts_seen : (parts : List (List ℕ)) → AllByRecursion IsPart parts → list_all is_seen (concat parts) ≡ true
+parts_seen [] all = refl
+parts_seen (part ∷ parts) all = seen_append part (concat parts) all.0.seen (parts_seen parts all.1)
+
+pub parts_short : (parts : List (List ℕ)) → AllByRecursion IsPart parts → length (concat parts) ≤ 100 * length parts
+parts_short [] all = omega arith
+parts_short (part ∷ parts) all = omega (arith, length-append part (concat parts), all.0.short, parts_short parts all.1)
+
+-- what is visible is text, and may stand in a target
+ascii : (text : List ℕ) → list_all is_seen text ≡ true → IsAscii text
+ascii text seen = IsAscii-from_all text (λ i d inside. small _ (AllPass-from_list_all is_seen text seen i d inside))
+  where
+    small : (b : ℕ) → is_seen b ≡ true → b < 128
+    small b e = grind (arith, nat_tests)
+
+pub seen_text : (text : List ℕ) → list_all is_seen text ≡ true → IsUtf8 text
+seen_text text seen = IsUtf8-from_ascii text (ascii text seen)
+
+visible_byte : (b : ℕ) → is_seen b ≡ true → is_uri_byte b ≡ true
+visible_byte b e = grind (arith, nat_tests)
+
+pub seen_visible : (text : List ℕ) → list_all is_seen text ≡ true → AllPass is_uri_byte text
+seen_visible text seen = λ i d inside. visible_byte (get_or text i d) (AllPass-from_list_all is_seen text seen i d inside)

@@ -1,0 +1,38 @@
+-- The text of a meter in a reply, and the meters that it tells.
+use Rattle.std.specs.Prelude.{ℕ, ◌^◌, ◌<◌, List, [], ◌∷◌, ◌++◌, Option, Some, None, codes, decimal, ⊤}
+use Rattle.book_facts.specs.declared.lookup.MeterSummary.{MeterSummary}
+use Rattle.sts_fields.specs.Base.{year_of}
+use Rattle.vend_core.specs.Name.{IsMeterNo, IsName}
+use Rattle.desk_client.specs.Text.{woven}
+
+-- the number of the last sale to a meter, or that there is none
+abbrev pub last_sale_text : Option ℕ → List ℕ
+last_sale_text None = codes "null"
+last_sale_text (Some number) = decimal number
+
+-- a number of a sale has 32 bits
+abbrev pub IsLastSale : Option ℕ → Type 0
+IsLastSale None = ⊤
+IsLastSale (Some number) = number < 2 ^ 32
+
+-- the values that stand in the text of a meter
+abbrev pub meter_values : MeterSummary → List (List ℕ)
+meter_values m =
+    decimal (year_of m.base) ∷ m.number ∷ last_sale_text m.last_sale ∷ m.tariff ∷ decimal m.tenths
+    ∷ []
+
+-- what stands behind each
+abbrev pub meter_ends : List (List ℕ)
+meter_ends =
+    codes ",\"meter\":\"" ∷ codes "\",\"sale\":" ∷ codes ",\"tariff\":\""
+    ∷ codes "\",\"tenths\":" ∷ codes "}" ∷ []
+
+abbrev pub meter_text : MeterSummary → List ℕ
+meter_text m = codes "{\"base\":" ++ woven (meter_values m) meter_ends []
+
+-- a meter by its rules
+pub record IsToldMeter (m : MeterSummary) : Type 0 where
+  pub number : IsMeterNo m.number
+  pub last_sale : IsLastSale m.last_sale
+  pub tariff : IsName m.tariff
+  pub tenths : m.tenths < 2 ^ 64

@@ -1,0 +1,80 @@
+-- Pages of lists in replies: their texts, and the pages that they tell.
+use Rattle.std.specs.Prelude.{◌≡◌, ℕ, ◌^◌, ◌<◌, ◌≤◌, List, All, length, map, Option, Some, None, ⊤}
+use Rattle.book_facts.specs.declared.lookup.Found.{Found}
+use Rattle.book_facts.specs.declared.lookup.Found.TheVariants as found
+use Rattle.book_facts.specs.declared.lookup.LaterSteps.{LaterSteps}
+use Rattle.book_facts.specs.declared.lookup.ListedMeter.{ListedMeter}
+use Rattle.book_facts.specs.declared.lookup.ListedShift.{ListedShift}
+use Rattle.book_facts.specs.declared.lookup.ListedTariff.{ListedTariff}
+use Rattle.book_lists.specs.Pages.{page_size}
+use Rattle.desk.specs.declared.reply.form.Form.TheVariants.{Json}
+use Rattle.desk.specs.reply.Body.{found_body}
+use Rattle.sts_fields.specs.Day.{IsDay}
+use Rattle.sts_fields.specs.Moment.{IsMoment}
+use Rattle.tariff.specs.Steps.{IsSteps}
+use Rattle.tariff.specs.declared.step.Step.{Step}
+use Rattle.vend_core.specs.Name.{IsMeterNo, IsName, IsOperator}
+use Rattle.desk_client.specs.Sale.{IsTold}
+use Rattle.desk_client.specs.declared.page.PageKind.{PageKind}
+use Rattle.desk_client.specs.declared.page.PageKind.TheVariants.{Tariffs, Meters, Shifts, Sales}
+
+-- the body of a page, as a desk writes it
+abbrev pub page_text : Found → List ℕ
+page_text page = found_body Json page
+
+-- steps from a later day on, by the rules
+pub record IsToldLater (l : LaterSteps) : Type 0 where
+  pub from : IsDay l.from
+  pub steps : IsSteps l.steps
+
+-- a tariff
+pub record IsToldTariff (t : ListedTariff) : Type 0 where
+  pub name : IsName t.name
+  pub steps : IsSteps t.steps
+  pub later : All IsToldLater t.later.items
+
+-- a meter
+pub record IsToldListedMeter (m : ListedMeter) : Type 0 where
+  pub number : IsMeterNo m.number
+  pub tariff : IsName m.tariff
+
+-- the end of a shift, if it has one
+abbrev pub IsToldEnd : Option ℕ → Type 0
+IsToldEnd None = ⊤
+IsToldEnd (Some moment) = IsMoment moment
+
+-- a shift with its totals
+pub record IsToldListedShift (l : ListedShift) : Type 0 where
+  pub number : l.shift.number < 2 ^ 32
+  pub operator : IsOperator l.shift.operator
+  pub opened : IsMoment l.shift.opened
+  pub closed : IsToldEnd l.shift.closed
+  pub sales : l.totals.sales < 2 ^ 64
+  pub tenths : l.totals.tenths < 2 ^ 64
+  pub cash : l.totals.cash < 2 ^ 64
+
+-- members that keep their rules, no more than a page has
+pub record AreTold {A : Type 0} (IsItem : A → Type 0) (items : List A) : Type 0 where
+  pub each : All IsItem items
+  pub few : length items ≤ page_size
+
+-- a page of this kind, by its rules; the nibbles of the tokens of its sales are not told
+abbrev pub IsToldPage : PageKind → Found → Type 0
+IsToldPage Tariffs (found.Tariffs page) = AreTold IsToldTariff page.items
+IsToldPage Meters (found.Meters page) = AreTold IsToldListedMeter page.items
+IsToldPage Shifts (found.Shifts page) = AreTold IsToldListedShift page.items
+IsToldPage Sales (found.Sales page) = AreTold IsTold page.items
+IsToldPage kind page = ⊥
+
+-- what a tariff of a list has
+abbrev pub tariff_view : ListedTariff → List ℕ × List Step × List LaterSteps
+tariff_view t = (t.name, t.steps, t.later.items)
+
+-- two pages have the same members, in the same order
+abbrev pub AreAlike : Found → Found → Type 0
+AreAlike (found.Tariffs page) (found.Tariffs other) =
+    map tariff_view page.items ≡ map tariff_view other.items
+AreAlike (found.Meters page) (found.Meters other) = page.items ≡ other.items
+AreAlike (found.Shifts page) (found.Shifts other) = page.items ≡ other.items
+AreAlike (found.Sales page) (found.Sales other) = page.items ≡ other.items
+AreAlike page other = ⊥

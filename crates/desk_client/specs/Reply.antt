@@ -1,0 +1,51 @@
+-- Whole replies, and what their first bytes are.
+use Rattle.std.specs.Prelude.{◌≡◌, ◌<◌, ◌≤◌, ℕ, List, ◌++◌, length, decimal, ⊤}
+use Rattle.desk_client.specs.Start.{head_end, start_text}
+use Rattle.desk_client.specs.Told.{IsTellable, told_start, told_text}
+use Rattle.desk_client.specs.declared.reply.Reading.{Reading}
+use Rattle.desk_client.specs.declared.reply.Reading.TheVariants.{Whole, NeedHead, NeedBody, OutOfForm}
+use Rattle.desk_client.specs.declared.start.Start.{Start}
+use Rattle.desk_client.specs.declared.start.Start.TheVariants.{Json, Paper, Missing, Forbidden, Unfit, Unable}
+use Rattle.desk_client.specs.declared.told.Told.{Told}
+use Rattle.desk_client.specs.declared.told.Wanted.{Wanted}
+
+-- a start, the length of a body, an empty line and what follows
+abbrev pub head_bytes : Start → ℕ → List ℕ → List ℕ
+head_bytes start len rest = start_text start ++ (decimal len ++ (head_end ++ rest))
+
+-- the bytes of the whole reply that tells this
+abbrev pub reply_text : Told → List ℕ
+reply_text told = head_bytes (told_start told) (length (told_text told)) (told_text told)
+
+-- the most bytes of a body, and more than any head has
+abbrev pub longest_body : ℕ
+longest_body = 67108864
+
+abbrev pub longest_head : ℕ
+longest_head = 100
+
+-- the start is a refusal's
+abbrev pub IsRefusing : Start → Type 0
+IsRefusing Json = ⊥
+IsRefusing Paper = ⊥
+IsRefusing Missing = ⊤
+IsRefusing Forbidden = ⊤
+IsRefusing Unfit = ⊤
+IsRefusing Unable = ⊤
+
+-- the text is a whole reply to a message that wants this
+pub record IsReply (asked : Wanted) (text : List ℕ) (told : Told) : Type 0 where
+  pub tellable : IsTellable asked told
+  pub short : length (told_text told) ≤ longest_body
+  pub is_text : text ≡ reply_text told
+
+-- what each answer says of the bytes that came so far
+abbrev pub IsReading : Wanted → List ℕ → Reading → Type 0
+IsReading asked input (Whole told) = IsReply asked input told
+IsReading asked input NeedHead =
+    (length input < longest_head) × ((told : Told) → ¬ IsReply asked input told)
+IsReading asked input (NeedBody missing) =
+    (0 < missing)
+    × ((more : List ℕ) (told : Told) → IsReply asked (input ++ more) told → length more ≡ missing)
+IsReading asked input OutOfForm =
+    (more : List ℕ) (told : Told) → ¬ IsReply asked (input ++ more) told

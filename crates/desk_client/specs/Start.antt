@@ -1,0 +1,31 @@
+-- What replies begin with, up to the length of their body.
+use Rattle.std.specs.Prelude.{ℕ, List, [], ◌∷◌, codes}
+use Rattle.vend_core.specs.declared.decision.category.Category.{Category}
+use Rattle.vend_core.specs.declared.decision.category.Category.TheVariants as categories
+use Rattle.desk_client.specs.declared.start.Start.{Start}
+use Rattle.desk_client.specs.declared.start.Start.TheVariants.{Json, Paper, Missing, Forbidden, Unfit, Unable}
+
+abbrev pub start_text : Start → List ℕ
+start_text Json =
+    codes "HTTP/1.1 200 OK\r\nContent-Type: application/json\r\nContent-Length: "
+start_text Paper = codes "HTTP/1.1 200 OK\r\nContent-Type: text/plain\r\nContent-Length: "
+start_text Missing =
+    codes "HTTP/1.1 404 Not Found\r\nContent-Type: application/json\r\nContent-Length: "
+start_text Forbidden =
+    codes "HTTP/1.1 409 Conflict\r\nContent-Type: application/json\r\nContent-Length: "
+start_text Unfit =
+    codes "HTTP/1.1 422 Unprocessable Entity\r\nContent-Type: application/json\r\nContent-Length: "
+start_text Unable =
+    codes "HTTP/1.1 503 Service Unavailable\r\nContent-Type: application/json\r\nContent-Length: "
+
+-- what stands behind the length
+abbrev pub head_end : List ℕ
+head_end = 13 ∷ 10 ∷ 13 ∷ 10 ∷ []
+
+-- what the reply to a refusal of this category begins with
+abbrev pub category_start : Category → Start
+category_start categories.Missing = Missing
+category_start categories.Forbidden = Forbidden
+category_start categories.Unfit = Unfit
+category_start (categories.UnfitRow row cause) = Unfit
+category_start categories.Unable = Unable

@@ -1,0 +1,30 @@
+ghost use Rattle.std.specs.Prelude.{◌≡◌, ◌≤◌, ℕ, List, false, length};
+ghost use Rattle.desk.specs.declared.reply.outcome.Outcome.{Outcome};
+ghost use Rattle.desk.specs.reply.Text.{reply_bytes_of};
+ghost use Rattle.desk_client.specs.Alike.{TellAlike};
+ghost use Rattle.desk_client.specs.Reply.{IsReading, IsReply, longest_body};
+ghost use Rattle.desk_client.specs.Tells.{Tells};
+ghost use Rattle.desk_client.specs.Told.{IsTellable, told_text};
+ghost use Rattle.desk_client.specs.declared.reply.Reading.{Reading};
+ghost use Rattle.desk_client.specs.declared.reply.Reading.TheVariants.{Whole};
+ghost use Rattle.desk_client.specs.declared.told.Told.{Told};
+ghost use Rattle.desk_client.specs.declared.told.Wanted.{Wanted};
+
+use desk::reply_law;
+use sts_fields::amount_law;
+
+/// What a desk replies, where the conversation goes on, is the text of what the reply tells; it is
+/// read as a whole reply; and one text tells one thing, value for value.
+pub fn told_law()
+    ensures text { (asked : Wanted) (outcome : Outcome) (told : Told) → Tells outcome told
+        → IsTellable asked told → length (told_text told) ≤ longest_body
+        → IsReply asked (reply_bytes_of outcome false) told }
+    ensures read { (asked : Wanted) (text : List ℕ) (told : Told) (reading : Reading)
+        → IsReply asked text told → IsReading asked text reading
+        → (read : Told) × (reading ≡ Whole read) × IsReply asked text read }
+    ensures alike { (asked : Wanted) (text : List ℕ) (told other : Told)
+        → IsReply asked text told → IsReply asked text other → TellAlike told other }
+{
+    reply_law();
+    amount_law();
+}

@@ -1,0 +1,32 @@
+//! What a command sends to a running desk, and what it understands of the reply. It opens no
+//! socket and no file.
+#![tactic(auto)]
+
+mod asks;
+mod count;
+mod items;
+mod law;
+mod listed_meter;
+mod listed_shift;
+mod meter;
+mod page;
+mod question;
+mod quote;
+mod refusal;
+mod reply;
+mod sale;
+mod sending;
+mod start;
+mod tariff_items;
+mod text;
+mod told;
+mod totals;
+mod values;
+
+pub use asks::question_law;
+pub use law::told_law;
+pub use page::{PageKind, page_in, page_law};
+pub use question::Question;
+pub use reply::{MAX_BODY, MAX_HEAD, Reading, reply_in};
+pub use sending::message;
+pub use told::{Granted, Told, Wanted};

@@ -1,0 +1,97 @@
+//! Pages of lists, as replies tell them.
+
+ghost use Rattle.std.specs.Prelude.{◌≡◌, IfOk};
+ghost use Rattle.book_facts.specs.declared.lookup.Found.{Found as WhatIsFound};
+ghost use Rattle.desk_client.specs.Page.{AreAlike, IsToldPage, page_text};
+ghost use Rattle.desk_client.specs.Text.{IsFound};
+ghost use Rattle.desk_client.specs.declared.page.PageKind.TheVariants.{Meters, Sales, Shifts, Tariffs};
+
+use crate::items::{Item, read_list};
+use crate::tariff_items::tariff_law;
+use book_facts::{Found, ListedMeter, ListedShift, ListedTariff};
+use desk::list_law;
+use std::alloc::{AllocError, Global};
+use sts_fields::amount_law;
+use vend_core::Sale;
+
+/// What a page lists.
+#[derive(Clone, Copy, Debug, PartialEq, Eq)]
+pub enum PageKind {
+    Tariffs,
+    Meters,
+    Shifts,
+    Sales,
+}
+
+/// The page that a body tells, where it is one of this kind: at most 100 members, each by its
+/// rules. The reply does not tell the nibbles of the tokens of sales: here they are 0. An error is
+/// want of memory.
+pub fn page_in(alloc: Global, kind: PageKind, body: &[u8]) -> Result<Option<Found>, AllocError>
+    ensures { IfOk result (IsFound (λ page. IsToldPage kind page × (body.now ≡ page_text page))) }
+{
+    match kind {
+        PageKind::Tariffs => tariffs_in(alloc, body),
+        PageKind::Meters => meters_in(alloc, body),
+        PageKind::Shifts => shifts_in(alloc, body),
+        PageKind::Sales => sales_in(alloc, body),
+    }
+}
+
+// The same of a page of tariffs,
+fn tariffs_in(alloc: Global, body: &[u8]) -> Result<Option<Found>, AllocError>
+    ensures { IfOk result (IsFound (λ page. IsToldPage Tariffs page
+        × (body.now ≡ page_text page))) }
+{
+    list_law();
+    match read_list(alloc, "{\"tariffs\":[", body)? {
+        Some(tariffs) => Ok(Some(Found::Tariffs(tariffs))),
+        None => Ok(None),
+    }
+}
+
+// of meters,
+fn meters_in(alloc: Global, body: &[u8]) -> Result<Option<Found>, AllocError>
+    ensures { IfOk result (IsFound (λ page. IsToldPage Meters page × (body.now ≡ page_text page))) }
+{
+    list_law();
+    match read_list(alloc, "{\"meters\":[", body)? {
+        Some(meters) => Ok(Some(Found::Meters(meters))),
+        None => Ok(None),
+    }
+}
+
+// of shifts,
+fn shifts_in(alloc: Global, body: &[u8]) -> Result<Option<Found>, AllocError>
+    ensures { IfOk result (IsFound (λ page. IsToldPage Shifts page × (body.now ≡ page_text page))) }
+{
+    list_law();
+    match read_list(alloc, "{\"shifts\":[", body)? {
+        Some(shifts) => Ok(Some(Found::Shifts(shifts))),
+        None => Ok(None),
+    }
+}
+
+// and of sales.
+fn sales_in(alloc: Global, body: &[u8]) -> Result<Option<Found>, AllocError>
+    ensures { IfOk result (IsFound (λ page. IsToldPage Sales page × (body.now ≡ page_text page))) }
+{
+    list_law();
+    match read_list(alloc, "{\"sales\":[", body)? {
+        Some(sales) => Ok(Some(Found::Sales(sales))),
+        None => Ok(None),
+    }
+}
+
+/// One body tells one page.
+pub fn page_law()
+    ensures one { (kind : PageKind) (page other : WhatIsFound) → IsToldPage kind page
+        → IsToldPage kind other → page_text page ≡ page_text other → AreAlike page other }
+{
+    list_law();
+    tariff_law();
+    <ListedTariff as Item>::item_law();
+    <ListedMeter as Item>::item_law();
+    <ListedShift as Item>::item_law();
+    <Sale as Item>::item_law();
+    amount_law();
+}
