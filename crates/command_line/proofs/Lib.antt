@@ -1,3 +1,4 @@
 pub mod AddressLemmas
+pub mod DeskLemmas
 pub mod LineLemmas
 pub mod SayLemmas

@@ -2,7 +2,7 @@
 use Rattle.std.specs.Prelude.{◌≡◌, List, [], Option, Some, None, codes}
 use Rattle.clap.specs.Walk.{Row}
 use Rattle.sts_fields.specs.Text.{Text}
-use Rattle.command_line.specs.Commands.{SaysAudit, SaysImport, SaysList, SaysMeterCommand, SaysOffer, SaysQuote, SaysReport, SaysRequestWords, SaysSelfcheck, SaysServe, SaysShow, SaysTrial}
+use Rattle.command_line.specs.Commands.{SaysAudit, SaysDeskWords, SaysImport, SaysList, SaysMeterCommand, SaysOffer, SaysQuote, SaysReport, SaysRequestWords, SaysSelfcheck, SaysServe, SaysShow, SaysTrial}
 use Rattle.command_line.specs.Line.{command_in, faults_in}
 use Rattle.command_line.specs.declared.asked.Asked.{Asked}
 use Rattle.command_line.specs.declared.asked.Asked.TheVariants.{Trial, Import, Request, Report, Show, Meter, Quote, Offer, Serve, Selfcheck, Audit}
@@ -22,6 +22,7 @@ ArgumentsSay name rows (Offer words) = (name ≡ codes "offer") × SaysOffer row
 ArgumentsSay name rows (Serve words) = (name ≡ codes "serve") × SaysServe rows words
 ArgumentsSay name rows (Selfcheck words) = (name ≡ codes "selfcheck") × SaysSelfcheck rows words
 ArgumentsSay name rows (Audit words) = (name ≡ codes "audit") × SaysAudit rows words
+ArgumentsSay name rows (variants.Desk words) = SaysDeskWords name rows words
 
 -- the same of a command, where there is one
 abbrev pub CommandAsks : Option (Text × List Row) → Asked → Type 0

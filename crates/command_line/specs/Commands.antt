@@ -1,5 +1,5 @@
 -- What the words of each command say, by its rows.
-use Rattle.std.specs.Prelude.{◌≡◌, ℕ, false, List, Option, Some, None, codes}
+use Rattle.std.specs.Prelude.{◌≡◌, ◌⊎◌, ℕ, false, List, Option, Some, None, codes}
 use Rattle.clap.specs.Walk.{Row}
 use Rattle.papers.specs.declared.file_kind.FileKind.{FileKind}
 use Rattle.papers.specs.declared.file_kind.FileKind.TheVariants.{Meters, Tariffs}
@@ -7,6 +7,9 @@ use Rattle.sts_fields.specs.Text.{Text}
 use Rattle.command_line.specs.Address.{SaysAddress}
 use Rattle.command_line.specs.Said.{IsArgument, IsOptionalArgument, parsed_arguments, parsed_argument}
 use Rattle.command_line.specs.Values.{SayEach, SaysAfter, SaysAmount, SaysBase, SaysConnections, SaysFlag, SaysItem, SaysKey, SaysMeterNo, SaysMoment, SaysOperator, SaysPrior, SaysRef, SaysSteps, SaysTariff, SaysTender, SaysText, SaysTransform, SaysWait}
+use Rattle.command_line.specs.declared.commands.at_desk.DeskQuestion.{DeskQuestion}
+use Rattle.command_line.specs.declared.commands.at_desk.DeskQuestion.TheVariants as desk
+use Rattle.command_line.specs.declared.commands.at_desk.DeskWords.{DeskWords}
 use Rattle.command_line.specs.declared.commands.audit.AuditWords.{AuditWords}
 use Rattle.command_line.specs.declared.commands.import.ImportWords.{ImportWords}
 use Rattle.command_line.specs.declared.commands.list.ListWords.{ListWords}
@@ -183,3 +186,44 @@ pub record SaysServe (rows : List Row) (words : ServeWords) : Type 0 where
   pub listen : IsArgument SaysAddress (parsed_argument (codes "listen") rows) words.listen
   pub connections : IsArgument SaysConnections
       (parsed_argument (codes "connections") rows) words.connections
+
+-- the question of a command of this name; the export that `report` prints of all sales is their
+-- list
+abbrev pub SaysDeskQuestion : (name : Text) → List Row → DeskQuestion → Type 0
+SaysDeskQuestion name rows (desk.Import kind csv) = (name ≡ codes "desk-import")
+    × IsArgument SaysKind (parsed_argument (codes "kind") rows) kind
+    × IsArgument SaysText (parsed_argument (codes "csv") rows) csv
+SaysDeskQuestion name rows (desk.MoveBase meter base) = (name ≡ codes "desk-base")
+    × IsArgument SaysMeterNo (parsed_argument (codes "meter") rows) meter
+    × IsArgument SaysBase (parsed_argument (codes "base") rows) base
+SaysDeskQuestion name rows (desk.OpenShift operator) = (name ≡ codes "desk-shift")
+    × (parsed_argument (codes "act") rows ≡ Some (codes "open"))
+    × IsArgument SaysOperator (parsed_argument (codes "operator") rows) operator
+SaysDeskQuestion name rows (desk.CloseShift operator) = (name ≡ codes "desk-shift")
+    × (parsed_argument (codes "act") rows ≡ Some (codes "close"))
+    × IsArgument SaysOperator (parsed_argument (codes "operator") rows) operator
+SaysDeskQuestion name rows (desk.Sell order) = (name ≡ codes "desk-sell") × SaysOrder rows order
+SaysDeskQuestion name rows (desk.ShiftReport number) = (name ≡ codes "desk-report")
+    × SaysPaper (parsed_argument (codes "kind") rows) (parsed_argument (codes "number") rows)
+    (Shift number)
+SaysDeskQuestion name rows (desk.Receipt number) = (name ≡ codes "desk-report")
+    × SaysPaper (parsed_argument (codes "kind") rows) (parsed_argument (codes "number") rows)
+    (Receipt number)
+SaysDeskQuestion name rows (desk.ShiftTotals number) = (name ≡ codes "desk-report")
+    × SaysPaper (parsed_argument (codes "kind") rows) (parsed_argument (codes "number") rows)
+    (Totals number)
+SaysDeskQuestion name rows (desk.Show what json) = (name ≡ codes "desk-show") × SaysShown rows what
+    × IsArgument SaysFlag (parsed_argument (codes "json") rows) json
+SaysDeskQuestion name rows (desk.Offer meter tender json) = (name ≡ codes "desk-quote")
+    × IsArgument SaysMeterNo (parsed_argument (codes "meter") rows) meter
+    × IsArgument SaysTender (parsed_argument (codes "tender") rows) tender
+    × IsArgument SaysFlag (parsed_argument (codes "json") rows) json
+SaysDeskQuestion name rows (desk.List members json) = ((name ≡ codes "desk-list")
+    × SaysListed rows members × IsArgument SaysFlag (parsed_argument (codes "json") rows) json)
+    ⊎ ((name ≡ codes "desk-report") × SaysPaper (parsed_argument (codes "kind") rows)
+    (parsed_argument (codes "number") rows) Sales × (members ≡ listed.Sales 0) × (json ≡ false))
+
+-- a desk, and what it is asked
+pub record SaysDeskWords (name : Text) (rows : List Row) (words : DeskWords) : Type 0 where
+  pub desk : IsArgument SaysAddress (parsed_argument (codes "desk") rows) words.desk
+  pub question : SaysDeskQuestion name rows words.question

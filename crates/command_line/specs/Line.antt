@@ -114,13 +114,54 @@ selfcheck_command = command_named (codes "selfcheck") (transform_option ∷ [])
 abbrev pub audit_command : Shape
 audit_command = command_named (codes "audit") (needed (codes "file") ∷ wait_option ∷ [])
 
+-- ---- commands that ask a running desk
+
+-- where the desk listens, and these
+abbrev pub desk_command : Text → List Rule → Shape
+desk_command name rules = command_named name (needed (codes "desk") ∷ rules)
+
+abbrev pub desk_import_command : Shape
+desk_import_command = desk_command (codes "desk-import")
+    (word_named (codes "kind") ∷ word_named (codes "csv") ∷ [])
+
+abbrev pub desk_shift_command : Shape
+desk_shift_command = desk_command (codes "desk-shift")
+    (needed (codes "operator") ∷ word_named (codes "act") ∷ [])
+
+abbrev pub desk_sell_command : Shape
+desk_sell_command = desk_command (codes "desk-sell") (needed (codes "operator")
+    ∷ needed (codes "ref") ∷ needed (codes "meter") ∷ needed (codes "tender") ∷ [])
+
+abbrev pub desk_report_command : Shape
+desk_report_command = desk_command (codes "desk-report")
+    (needed (codes "kind") ∷ with_default (codes "number") (codes "1") ∷ [])
+
+abbrev pub desk_show_command : Shape
+desk_show_command = desk_command (codes "desk-show") (option_named (codes "meter")
+    ∷ option_named (codes "operator") ∷ option_named (codes "ref") ∷ json_option
+    ∷ word_named (codes "what") ∷ [])
+
+abbrev pub desk_list_command : Shape
+desk_list_command = desk_command (codes "desk-list")
+    (option_named (codes "after") ∷ json_option ∷ word_named (codes "what") ∷ [])
+
+abbrev pub desk_quote_command : Shape
+desk_quote_command = desk_command (codes "desk-quote")
+    (needed (codes "meter") ∷ json_option ∷ word_named (codes "tender") ∷ [])
+
+abbrev pub desk_base_command : Shape
+desk_base_command = desk_command (codes "desk-base")
+    (needed (codes "meter") ∷ needed (codes "base") ∷ [])
+
 -- ---- the line
 
 -- the commands, each of which has one level of words
 abbrev pub commands : List Shape
 commands = import_command ∷ shift_command ∷ sell_command ∷ report_command ∷ show_command
     ∷ list_command ∷ offer_command ∷ base_command ∷ audit_command ∷ serve_command
-    ∷ quote_command ∷ meter_command ∷ trial_command ∷ selfcheck_command ∷ []
+    ∷ quote_command ∷ meter_command ∷ trial_command ∷ selfcheck_command ∷ desk_import_command
+    ∷ desk_shift_command ∷ desk_sell_command ∷ desk_report_command ∷ desk_show_command
+    ∷ desk_list_command ∷ desk_quote_command ∷ desk_base_command ∷ []
 
 abbrev pub has_none : List Shape → Bool
 has_none [] = true
@@ -163,12 +204,35 @@ quotes_by_file (command ∷ next ∷ rest) =
     pointwise eqb command (codes "quote") && is_file_option next
 quotes_by_file words = false
 
--- the words as they are meant: `sell` is `trial` where `--base` comes next, and `quote` is `offer`
--- where `--file` does
+-- `--desk`, alone or with its value after `=`
+abbrev pub is_desk_option : Text → Bool
+is_desk_option word = pointwise eqb word (codes "--desk") || starts_with eqb word (codes "--desk=")
+
+-- the command that asks a desk what this one asks a file
+abbrev pub desk_name : Text → Text
+desk_name command =
+    if pointwise eqb command (codes "import") then codes "desk-import"
+    else if pointwise eqb command (codes "shift") then codes "desk-shift"
+    else if pointwise eqb command (codes "sell") then codes "desk-sell"
+    else if pointwise eqb command (codes "report") then codes "desk-report"
+    else if pointwise eqb command (codes "show") then codes "desk-show"
+    else if pointwise eqb command (codes "list") then codes "desk-list"
+    else if pointwise eqb command (codes "quote") then codes "desk-quote"
+    else if pointwise eqb command (codes "offer") then codes "desk-quote"
+    else if pointwise eqb command (codes "base") then codes "desk-base" else command
+
+-- the option `--desk` comes right after the command
+abbrev pub asks_desk : List Text → Bool
+asks_desk (command ∷ next ∷ rest) = is_desk_option next
+asks_desk words = false
+
+-- the words as they are meant: `sell` is `trial` where `--base` comes next, `quote` is `offer`
+-- where `--file` does, and each command that a desk can be asked is that one where `--desk` does
 abbrev pub meant_by : List Text → List Text
 meant_by (command ∷ rest) =
     (if sells_by_base (command ∷ rest) then codes "trial"
-    else if quotes_by_file (command ∷ rest) then codes "offer" else command) ∷ rest
+    else if quotes_by_file (command ∷ rest) then codes "offer"
+    else if asks_desk (command ∷ rest) then desk_name command else command) ∷ rest
 meant_by [] = []
 
 -- the faults that `clap` finds in the words; none where they are those of a command

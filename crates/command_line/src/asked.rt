@@ -2,6 +2,7 @@ ghost use Rattle.clap.specs.Simple.{subcommand_rows_of};
 ghost use Rattle.command_line.specs.Asked.{CommandAsks};
 ghost use Rattle.command_line.specs.Said.{ReadsOrFull};
 
+use crate::commands::at_desk::DeskWords;
 use crate::commands::audit::AuditWords;
 use crate::commands::import::ImportWords;
 use crate::commands::list::ListWords;
@@ -34,6 +35,7 @@ pub enum Asked<'m, 'a> {
     Serve(ServeWords<'a>),
     Selfcheck(SelfcheckWords),
     Audit(AuditWords<'a>),
+    Desk(DeskWords<'a>),
 }
 
 impl<'m, 'a> Asked<'m, 'a> {
@@ -82,7 +84,10 @@ impl<'m, 'a> Asked<'m, 'a> {
             },
             Some((name, words)) => match RequestWords::read(name, words) {
                 Some(words) => Ok(Asked::Request(words)),
-                None => Err(BadWords::Value),
+                None => match DeskWords::read(name, words) {
+                    Some(words) => Ok(Asked::Desk(words)),
+                    None => Err(BadWords::Value),
+                },
             },
             // The line has no words without a command.
             None => Err(BadWords::Value),

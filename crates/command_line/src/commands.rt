@@ -1,4 +1,5 @@
 //! The commands: how each is described, and what its words say.
+pub mod at_desk;
 pub mod audit;
 pub mod base;
 pub mod import;

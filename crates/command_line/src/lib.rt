@@ -6,6 +6,7 @@
 
 pub use address::Address;
 pub use asked::Asked;
+pub use commands::at_desk::{DeskQuestion, DeskWords};
 pub use commands::audit::AuditWords;
 pub use commands::import::ImportWords;
 pub use commands::list::{ListWords, Listed};

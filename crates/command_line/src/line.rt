@@ -3,12 +3,13 @@ ghost use Rattle.clap.specs.Kinds.{HasKind};
 ghost use Rattle.clap.specs.Simple.{Shape, app_of, subcommand_rows_of};
 ghost use Rattle.command_line.specs.Line.{IsDescribed, command_in, faults_in, line_of_commands, vend_line};
 ghost use Rattle.command_line.specs.Line.{is_base_option, is_file_option, meant_by};
+ghost use Rattle.command_line.specs.Line.{asks_desk, desk_name, is_desk_option};
 ghost use Rattle.command_line.specs.Line.{quotes_by_file, sells_by_base};
 ghost use Rattle.sts_fields.specs.Text.{Text};
 
 use crate::commands::{
-    audit, base, import, list, meter, offer, quote, report, selfcheck, sell, serve, shift, show,
-    trial,
+    at_desk, audit, base, import, list, meter, offer, quote, report, selfcheck, sell, serve, shift,
+    show, trial,
 };
 use clap::{ArgMatches, Command, Error};
 use std::alloc::{AllocError, Global};
@@ -23,7 +24,8 @@ const STATUSES: &str = "Exit status: 0 done; 1 refused or failed (standard error
     2 invalid arguments.\n'vend COMMAND --help' lists the options of a command.";
 
 /// The words of a line as they are meant, the program's own name left out: `sell` right before
-/// `--base` means `trial`, and `quote` right before `--file` means `offer`.
+/// `--base` means `trial`, `quote` right before `--file` means `offer`, and right before `--desk` a
+/// command means that a desk is asked.
 pub fn meant<'a>(alloc: Global, words: &[&'a str]) -> Result<Vec<&'a str>, AllocError>
     ensures { IfOk result (λ meant. map (λ w. w.now) meant.items
         ≡ meant_by (map (λ w. w.now) words.now)) }
@@ -33,6 +35,8 @@ pub fn meant<'a>(alloc: Global, words: &[&'a str]) -> Result<Vec<&'a str>, Alloc
         meant[0] = "trial";
     } else if quotes_by_file(words) {
         meant[0] = "offer";
+    } else if asks_desk(words) {
+        meant[0] = desk_name(words[0]);
     }
     Ok(meant)
 }
@@ -71,6 +75,48 @@ fn is_file_option(word: &str) -> bool
     word == "--file" || word.as_bytes().starts_with(b"--file=")
 }
 
+// The option `--desk` right after the command.
+fn asks_desk(words: &[&str]) -> bool
+    ensures { result ≡ asks_desk (map (λ w. w.now) words.now) }
+{
+    match words {
+        [_, next, ..] => is_desk_option(next),
+        _ => false,
+    }
+}
+
+// `--desk`, alone or with its value after `=`.
+fn is_desk_option(word: &str) -> bool
+    ensures { result ≡ is_desk_option word.now }
+{
+    word == "--desk" || word.as_bytes().starts_with(b"--desk=")
+}
+
+// The command that asks a desk what this one asks a file.
+fn desk_name<'a>(command: &'a str) -> &'a str
+    ensures { result.now ≡ desk_name command.entry.now }
+{
+    if command == "import" {
+        "desk-import"
+    } else if command == "shift" {
+        "desk-shift"
+    } else if command == "sell" {
+        "desk-sell"
+    } else if command == "report" {
+        "desk-report"
+    } else if command == "show" {
+        "desk-show"
+    } else if command == "list" {
+        "desk-list"
+    } else if command == "quote" || command == "offer" {
+        "desk-quote"
+    } else if command == "base" {
+        "desk-base"
+    } else {
+        command
+    }
+}
+
 /// The matches of words as they are meant, or what `clap` says of them.
 pub fn parse<'a>(alloc: Global, meant: &'a [&'a str]) -> Result<ArgMatches<'a>, Error>
     ensures { (words : List Text) → map (λ w. w.now) meant.entry.now ≡ meant_by words
@@ -100,7 +146,16 @@ fn describe<'a>(alloc: Global) -> Result<Command<'a>, AllocError>
     let line = with(line, quote::describe(alloc)?)?;
     let line = with(line, meter::describe(alloc)?)?;
     let line = with(line, trial::describe(alloc)?)?;
-    with(line, selfcheck::describe(alloc)?)
+    let line = with(line, selfcheck::describe(alloc)?)?;
+    // These are meant by others, and hidden.
+    let line = with(line, at_desk::describe_import(alloc)?)?;
+    let line = with(line, at_desk::describe_shift(alloc)?)?;
+    let line = with(line, at_desk::describe_sell(alloc)?)?;
+    let line = with(line, at_desk::describe_report(alloc)?)?;
+    let line = with(line, at_desk::describe_show(alloc)?)?;
+    let line = with(line, at_desk::describe_list(alloc)?)?;
+    let line = with(line, at_desk::describe_quote(alloc)?)?;
+    with(line, at_desk::describe_base(alloc)?)
 }
 
 // The line without its commands.

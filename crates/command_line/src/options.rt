@@ -2,6 +2,7 @@
 ghost use Rattle.std.specs.Prelude.{◌≡◌, ◌∷◌, ◌++◌, [], false, codes, IfOk};
 ghost use Rattle.clap.specs.Walk.{Rule, rule_of};
 ghost use Rattle.clap.specs.Simple.{Shape};
+ghost use Rattle.command_line.specs.Address.{SaysAddress};
 ghost use Rattle.command_line.specs.Line.{IsDescribed, command_named};
 ghost use Rattle.command_line.specs.Line.{at_option, json_option, needed, option_named};
 ghost use Rattle.command_line.specs.Line.{transform_option, wait_option};
@@ -11,6 +12,7 @@ ghost use Rattle.command_line.specs.Values.{SaysBase, SaysFlag, SaysKey, SaysMet
 ghost use Rattle.command_line.specs.Values.{SaysOperator, SaysRef};
 ghost use Rattle.command_line.specs.Values.{SaysTender, SaysText, SaysTransform, SaysWait};
 
+use crate::address::Address;
 use crate::transform::Shipped;
 use crate::{said, values};
 use clap::{Arg, ArgAction, ArgMatches, Command};
@@ -137,6 +139,26 @@ pub(crate) fn present_file<'a>(alloc: Global) -> Arg<'a>
     needed(alloc, "file", "FILE", help)
 }
 
+/// `--file`, of a command that a running desk can be asked too.
+pub(crate) fn file_or_desk<'a>(alloc: Global) -> Arg<'a>
+    ensures rule { rule_of result ≡ needed (codes "file") }
+    ensures own { result.global ≡ false }
+{
+    let help = "The office's file, created if it does not exist; --desk ADDRESS in its place asks \
+        a running desk";
+    needed(alloc, "file", "FILE", help)
+}
+
+/// The same, of a command that makes no file.
+pub(crate) fn present_file_or_desk<'a>(alloc: Global) -> Arg<'a>
+    ensures rule { rule_of result ≡ needed (codes "file") }
+    ensures own { result.global ≡ false }
+{
+    let help = "The office's file, which has to exist; --desk ADDRESS in its place asks a running \
+        desk";
+    needed(alloc, "file", "FILE", help)
+}
+
 pub(crate) fn read_file<'a>(matches: &ArgMatches<'a>) -> Option<&'a str>
     ensures { ReadsWhat result (IsArgument SaysText
         (parsed_argument (codes "file") (argument_rows matches.now))) }
@@ -158,6 +180,22 @@ pub(crate) fn read_wait(matches: &ArgMatches) -> Option<u32>
         (parsed_argument (codes "wait") (argument_rows matches.now))) }
 {
     values::wait(said::text(matches, "wait")?)
+}
+
+/// `--desk`, of a command that asks a running desk.
+pub(crate) fn desk<'a>(alloc: Global) -> Arg<'a>
+    ensures rule { rule_of result ≡ needed (codes "desk") }
+    ensures own { result.global ≡ false }
+{
+    let help = "Where a desk runs ('vend serve'): four numbers and a port, e.g. 127.0.0.1:8080";
+    needed(alloc, "desk", "ADDRESS", help)
+}
+
+pub(crate) fn read_desk(matches: &ArgMatches) -> Option<Address>
+    ensures { ReadsWhat result (IsArgument SaysAddress
+        (parsed_argument (codes "desk") (argument_rows matches.now))) }
+{
+    Address::read(said::text(matches, "desk")?)
 }
 
 /// `--operator`.

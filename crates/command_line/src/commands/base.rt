@@ -8,15 +8,18 @@ use clap::{ArgMatches, Command};
 use std::alloc::{AllocError, Global};
 use vend_core::Request;
 
+/// What it does, in its help.
+pub(crate) const ABOUT: &str =
+    "Moves a meter to a later base date, from which its identifiers begin anew";
+
 /// `base --file F [--wait S] --meter M --base Y [--at S] [--transform X]`.
 pub(crate) fn describe<'a>(alloc: Global) -> Result<Command<'a>, AllocError>
     ensures { IfOk result (IsDescribed base_command) }
 {
-    let about = "Moves a meter to a later base date, from which its identifiers begin anew";
     let example = "Example: vend base --file office.db --meter 12345678903 --base 2035";
-    let command = options::command(alloc, "base", about, example);
+    let command = options::command(alloc, "base", ABOUT, example);
     let command = with(command, options::transform(alloc))?;
-    let command = with(command, options::file(alloc))?;
+    let command = with(command, options::file_or_desk(alloc))?;
     let command = with(command, options::wait(alloc))?;
     let command = with(command, options::meter(alloc))?;
     let command = with(command, options::base(alloc))?;

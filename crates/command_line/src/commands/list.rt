@@ -1,15 +1,22 @@
-ghost use Rattle.std.specs.Prelude.{codes, IfOk};
+ghost use Rattle.std.specs.Prelude.{◌≡◌, codes, false, IfOk};
+ghost use Rattle.clap.specs.Walk.{rule_of};
 ghost use Rattle.command_line.specs.Commands.{IsNumberOrNone, SaysList, SaysListed};
-ghost use Rattle.command_line.specs.Line.{IsDescribed, list_command};
+ghost use Rattle.command_line.specs.Line.{IsDescribed, json_option, list_command, option_named};
+ghost use Rattle.command_line.specs.Line.{word_named};
 ghost use Rattle.command_line.specs.Said.{IsOptionalArgument, ReadsWhat, argument_rows, parsed_argument};
 ghost use Rattle.command_line.specs.Values.{SaysMeterNo, SaysTariff};
 
 use crate::options::{self, option, with};
 use crate::{said, values};
-use clap::{ArgMatches, Command};
+use clap::{Arg, ArgMatches, Command};
 use std::alloc::{AllocError, Global};
 use sts_fields::Moment;
 use vend_core::{MeterNo, TariffName};
+
+/// What it does, in its help.
+pub(crate) const ABOUT: &str =
+    "Prints the tariffs with their steps, the meters without their keys, the shifts with their \
+    totals, or the sales";
 
 /// What is listed of an office: all members of a kind, or those after one, in the order of their
 /// keys. It need not be there.
@@ -43,20 +50,42 @@ pub struct ListWords<'a> {
 pub(crate) fn describe<'a>(alloc: Global) -> Result<Command<'a>, AllocError>
     ensures { IfOk result (IsDescribed list_command) }
 {
-    let about = "Prints the tariffs with their steps, the meters without their keys, the shifts \
-        with their totals, or the sales";
-    let after = "Print only what comes after this: with tariffs a name, with meters a number of \
-        eleven digits, with shifts and sales a number from 0 to 1000000000";
-    let json = "Print the JSON that 'vend serve' replies, a line for each page of at most 100";
-    let what = "What to print: tariffs, meters, shifts or sales";
     let example = "Example: vend list --file office.db meters";
-    let command = options::command(alloc, "list", about, example);
-    let command = with(command, options::present_file(alloc))?;
+    let command = options::command(alloc, "list", ABOUT, example);
+    let command = with(command, options::present_file_or_desk(alloc))?;
     let command = with(command, options::wait(alloc))?;
     let command = with(command, options::at(alloc))?;
-    let command = with(command, option(alloc, "after", "KEY", after))?;
-    let command = with(command, options::json(alloc, json))?;
-    with(command, options::word(alloc, "what", "WHAT", what))
+    let command = with(command, after(alloc))?;
+    let command = with(command, json(alloc))?;
+    with(command, what(alloc))
+}
+
+/// `--after`, which may be left out.
+pub(crate) fn after<'a>(alloc: Global) -> Arg<'a>
+    ensures rule { rule_of result ≡ option_named (codes "after") }
+    ensures own { result.global ≡ false }
+{
+    let help = "Print only what comes after this: with tariffs a name, with meters a number of \
+        eleven digits, with shifts and sales a number from 0 to 1000000000";
+    option(alloc, "after", "KEY", help)
+}
+
+/// `--json`.
+pub(crate) fn json<'a>(alloc: Global) -> Arg<'a>
+    ensures rule { rule_of result ≡ json_option }
+    ensures own { result.global ≡ false }
+{
+    let help = "Print the JSON that 'vend serve' replies, a line for each page of at most 100";
+    options::json(alloc, help)
+}
+
+/// What is listed.
+pub(crate) fn what<'a>(alloc: Global) -> Arg<'a>
+    ensures rule { rule_of result ≡ word_named (codes "what") }
+    ensures own { result.global ≡ false }
+{
+    let help = "What to print: tariffs, meters, shifts or sales";
+    options::word(alloc, "what", "WHAT", help)
 }
 
 impl<'a> ListWords<'a> {
@@ -73,7 +102,7 @@ impl<'a> ListWords<'a> {
     }
 }
 
-fn read_listed(matches: &ArgMatches) -> Option<Listed>
+pub(crate) fn read_listed(matches: &ArgMatches) -> Option<Listed>
     ensures { ReadsWhat result (SaysListed (argument_rows matches.now)) }
 {
     match said::text(matches, "what")? {

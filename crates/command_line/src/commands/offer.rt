@@ -1,14 +1,20 @@
-ghost use Rattle.std.specs.Prelude.{IfOk};
+ghost use Rattle.std.specs.Prelude.{◌≡◌, codes, false, IfOk};
+ghost use Rattle.clap.specs.Walk.{rule_of};
 ghost use Rattle.command_line.specs.Commands.{SaysOffer};
-ghost use Rattle.command_line.specs.Line.{IsDescribed, offer_command};
+ghost use Rattle.command_line.specs.Line.{IsDescribed, json_option, offer_command, word_named};
 ghost use Rattle.command_line.specs.Said.{ReadsWhat, argument_rows};
 
 use crate::options::{self, with};
-use clap::{ArgMatches, Command};
+use clap::{Arg, ArgMatches, Command};
 use std::alloc::{AllocError, Global};
 use sts_fields::Moment;
 use tariff::Tender;
 use vend_core::MeterNo;
+
+/// What it does, in its help.
+pub(crate) const ABOUT: &str =
+    "Prints what a tender would buy for a meter now, as 'quote' does, and sells nothing; \
+    'quote --file ..' means the same";
 
 /// What `offer` is asked: what a tender would buy for a meter of an office.
 #[derive(Clone, Copy)]
@@ -29,18 +35,31 @@ pub struct OfferWords<'a> {
 pub(crate) fn describe<'a>(alloc: Global) -> Result<Command<'a>, AllocError>
     ensures { IfOk result (IsDescribed offer_command) }
 {
-    let about = "Prints what a tender would buy for a meter of a file now, as 'quote' does, and \
-        sells nothing; 'quote --file ..' means the same";
-    let json = "Print the JSON that 'vend serve' replies";
-    let tender = "The money in whole cents, 1 to 100000000";
     let example = "Example: vend quote --file office.db --meter 12345678903 1000";
-    let command = options::command(alloc, "offer", about, example);
-    let command = with(command, options::present_file(alloc))?;
+    let command = options::command(alloc, "offer", ABOUT, example);
+    let command = with(command, options::present_file_or_desk(alloc))?;
     let command = with(command, options::wait(alloc))?;
     let command = with(command, options::at(alloc))?;
     let command = with(command, options::meter(alloc))?;
-    let command = with(command, options::json(alloc, json))?;
-    with(command, options::word(alloc, "tender", "TENDER", tender))
+    let command = with(command, json(alloc))?;
+    with(command, tender(alloc))
+}
+
+/// `--json`.
+pub(crate) fn json<'a>(alloc: Global) -> Arg<'a>
+    ensures rule { rule_of result ≡ json_option }
+    ensures own { result.global ≡ false }
+{
+    options::json(alloc, "Print the JSON that 'vend serve' replies")
+}
+
+/// The tender.
+pub(crate) fn tender<'a>(alloc: Global) -> Arg<'a>
+    ensures rule { rule_of result ≡ word_named (codes "tender") }
+    ensures own { result.global ≡ false }
+{
+    let help = "The money in whole cents, 1 to 100000000";
+    options::word(alloc, "tender", "TENDER", help)
 }
 
 impl<'a> OfferWords<'a> {

@@ -1,13 +1,18 @@
-ghost use Rattle.std.specs.Prelude.{codes, IfOk};
+ghost use Rattle.std.specs.Prelude.{◌≡◌, codes, false, IfOk};
+ghost use Rattle.clap.specs.Walk.{rule_of};
 ghost use Rattle.command_line.specs.Commands.{SaysPaper, SaysReport};
-ghost use Rattle.command_line.specs.Line.{IsDescribed, report_command};
+ghost use Rattle.command_line.specs.Line.{IsDescribed, needed, report_command, with_default};
 ghost use Rattle.command_line.specs.Said.{IsArgument, ReadsWhat, argument_rows, parsed_argument};
 ghost use Rattle.command_line.specs.Values.{SaysItem};
 
-use crate::options::{self, needed, with};
+use crate::options::{self, with};
 use crate::{said, values};
-use clap::{ArgMatches, Command};
+use clap::{Arg, ArgMatches, Command};
 use std::alloc::{AllocError, Global};
+
+/// What it does, in its help.
+pub(crate) const ABOUT: &str =
+    "Prints a shift's report or totals, a sale's receipt again, or all sales as CSV";
 
 /// What is printed from an office's books.
 #[derive(Clone, Copy, Debug, PartialEq, Eq)]
@@ -36,16 +41,30 @@ pub struct ReportWords<'a> {
 pub(crate) fn describe<'a>(alloc: Global) -> Result<Command<'a>, AllocError>
     ensures { IfOk result (IsDescribed report_command) }
 {
-    let about = "Prints a shift's report or totals, a sale's receipt again, or all sales as CSV";
-    let kind = "What to print: shift, receipt, totals or sales";
-    let number = "The number of the shift or the sale, 1 to 1000000000; ignored with sales";
     let example = "Example: vend report --file office.db --kind receipt --number 7";
-    let command = options::command(alloc, "report", about, example);
-    let command = with(command, options::present_file(alloc))?;
+    let command = options::command(alloc, "report", ABOUT, example);
+    let command = with(command, options::present_file_or_desk(alloc))?;
     let command = with(command, options::wait(alloc))?;
-    let command = with(command, needed(alloc, "kind", "KIND", kind))?;
-    let number = options::option(alloc, "number", "N", number).default_value("1");
-    with(command, number)
+    let command = with(command, kind(alloc))?;
+    with(command, number(alloc))
+}
+
+/// `--kind`.
+pub(crate) fn kind<'a>(alloc: Global) -> Arg<'a>
+    ensures rule { rule_of result ≡ needed (codes "kind") }
+    ensures own { result.global ≡ false }
+{
+    let help = "What to print: shift, receipt, totals or sales";
+    options::needed(alloc, "kind", "KIND", help)
+}
+
+/// `--number`, which is 1 where it is left out.
+pub(crate) fn number<'a>(alloc: Global) -> Arg<'a>
+    ensures rule { rule_of result ≡ with_default (codes "number") (codes "1") }
+    ensures own { result.global ≡ false }
+{
+    let help = "The number of the shift or the sale, 1 to 1000000000; ignored with sales";
+    options::option(alloc, "number", "N", help).default_value("1")
 }
 
 impl<'a> ReportWords<'a> {
@@ -60,7 +79,7 @@ impl<'a> ReportWords<'a> {
     }
 }
 
-fn read_paper(matches: &ArgMatches) -> Option<Paper>
+pub(crate) fn read_paper(matches: &ArgMatches) -> Option<Paper>
     ensures { ReadsWhat result (SaysPaper
         (parsed_argument (codes "kind") (argument_rows matches.now))
         (parsed_argument (codes "number") (argument_rows matches.now))) }

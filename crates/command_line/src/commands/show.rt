@@ -1,14 +1,21 @@
-ghost use Rattle.std.specs.Prelude.{codes, IfOk};
+ghost use Rattle.std.specs.Prelude.{◌≡◌, codes, false, IfOk};
+ghost use Rattle.clap.specs.Walk.{rule_of};
 ghost use Rattle.command_line.specs.Commands.{SaysShow, SaysShown};
-ghost use Rattle.command_line.specs.Line.{IsDescribed, show_command};
+ghost use Rattle.command_line.specs.Line.{IsDescribed, json_option, option_named, show_command};
+ghost use Rattle.command_line.specs.Line.{word_named};
 ghost use Rattle.command_line.specs.Said.{ReadsWhat, argument_rows};
 
-use crate::options::{self, needed, option, with};
+use crate::options::{self, option, with};
 use crate::said;
-use clap::{ArgMatches, Command};
+use clap::{Arg, ArgMatches, Command};
 use std::alloc::{AllocError, Global};
 use sts_fields::Moment;
 use vend_core::{MeterNo, Operator, Ref};
+
+/// What it does, in its help.
+pub(crate) const ABOUT: &str =
+    "Prints a meter and what it bought this month, a sale by its ref, or the receipt of a meter's \
+    last sale";
 
 /// What is shown of an office.
 #[derive(Clone, Copy, Debug, PartialEq, Eq)]
@@ -40,24 +47,62 @@ pub struct ShowWords<'a> {
 pub(crate) fn describe<'a>(alloc: Global) -> Result<Command<'a>, AllocError>
     ensures { IfOk result (IsDescribed show_command) }
 {
-    let about = "Prints a meter and what it bought this month, a sale by its ref, or the receipt \
-        of a meter's last sale";
-    let meter = "With meter and last: the meter's number, eleven digits of which the last is a \
-        Luhn check";
-    let operator = "With sale: the cashier who sold, 1 to 16 ASCII letters or digits";
-    let order_ref = "With sale: your name for the order, 1 to 32 ASCII letters, digits or hyphens";
-    let json = "With meter and sale: print the JSON that 'vend serve' replies";
-    let what = "What to print: meter, sale or last";
     let example = "Example: vend show --file office.db meter --meter 12345678903";
-    let command = options::command(alloc, "show", about, example);
-    let command = with(command, options::present_file(alloc))?;
+    let command = options::command(alloc, "show", ABOUT, example);
+    let command = with(command, options::present_file_or_desk(alloc))?;
     let command = with(command, options::wait(alloc))?;
     let command = with(command, options::at(alloc))?;
-    let command = with(command, option(alloc, "meter", "NUMBER", meter))?;
-    let command = with(command, option(alloc, "operator", "NAME", operator))?;
-    let command = with(command, option(alloc, "ref", "REF", order_ref))?;
-    let command = with(command, options::json(alloc, json))?;
-    with(command, options::word(alloc, "what", "WHAT", what))
+    let command = with(command, meter(alloc))?;
+    let command = with(command, operator(alloc))?;
+    let command = with(command, order_ref(alloc))?;
+    let command = with(command, json(alloc))?;
+    with(command, what(alloc))
+}
+
+/// `--meter`, with `meter` and `last`.
+pub(crate) fn meter<'a>(alloc: Global) -> Arg<'a>
+    ensures rule { rule_of result ≡ option_named (codes "meter") }
+    ensures own { result.global ≡ false }
+{
+    let help = "With meter and last: the meter's number, eleven digits of which the last is a \
+        Luhn check";
+    option(alloc, "meter", "NUMBER", help)
+}
+
+/// `--operator`, with `sale`.
+pub(crate) fn operator<'a>(alloc: Global) -> Arg<'a>
+    ensures rule { rule_of result ≡ option_named (codes "operator") }
+    ensures own { result.global ≡ false }
+{
+    let help = "With sale: the cashier who sold, 1 to 16 ASCII letters or digits";
+    option(alloc, "operator", "NAME", help)
+}
+
+/// `--ref`, with `sale`.
+pub(crate) fn order_ref<'a>(alloc: Global) -> Arg<'a>
+    ensures rule { rule_of result ≡ option_named (codes "ref") }
+    ensures own { result.global ≡ false }
+{
+    let help = "With sale: your name for the order, 1 to 32 ASCII letters, digits or hyphens";
+    option(alloc, "ref", "REF", help)
+}
+
+/// `--json`.
+pub(crate) fn json<'a>(alloc: Global) -> Arg<'a>
+    ensures rule { rule_of result ≡ json_option }
+    ensures own { result.global ≡ false }
+{
+    let help = "With meter and sale: print the JSON that 'vend serve' replies";
+    options::json(alloc, help)
+}
+
+/// What is shown.
+pub(crate) fn what<'a>(alloc: Global) -> Arg<'a>
+    ensures rule { rule_of result ≡ word_named (codes "what") }
+    ensures own { result.global ≡ false }
+{
+    let help = "What to print: meter, sale or last";
+    options::word(alloc, "what", "WHAT", help)
 }
 
 impl<'a> ShowWords<'a> {
@@ -74,7 +119,7 @@ impl<'a> ShowWords<'a> {
     }
 }
 
-fn read_shown(matches: &ArgMatches) -> Option<Shown>
+pub(crate) fn read_shown(matches: &ArgMatches) -> Option<Shown>
     ensures { ReadsWhat result (SaysShown (argument_rows matches.now)) }
 {
     match said::text(matches, "what")? {

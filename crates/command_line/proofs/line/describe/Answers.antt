@@ -16,4 +16,12 @@ returns c =
     let after11 = c.in_ok-line-12.ensures _ _ after10 c.in_ok-describe-11.ensures in
     let after12 = c.in_ok-line-13.ensures _ _ after11 c.in_ok-describe-12.ensures in
     let after13 = c.in_ok-line-14.ensures _ _ after12 c.in_ok-describe-13.ensures in
-    c.with-14.ensures _ _ after13 c.in_ok-describe-14.ensures
+    let after14 = c.in_ok-line-15.ensures _ _ after13 c.in_ok-describe-14.ensures in
+    let after15 = c.in_ok-line-16.ensures _ _ after14 c.in_ok-describe_import.ensures in
+    let after16 = c.in_ok-line-17.ensures _ _ after15 c.in_ok-describe_shift.ensures in
+    let after17 = c.in_ok-line-18.ensures _ _ after16 c.in_ok-describe_sell.ensures in
+    let after18 = c.in_ok-line-19.ensures _ _ after17 c.in_ok-describe_report.ensures in
+    let after19 = c.in_ok-line-20.ensures _ _ after18 c.in_ok-describe_show.ensures in
+    let after20 = c.in_ok-line-21.ensures _ _ after19 c.in_ok-describe_list.ensures in
+    let after21 = c.in_ok-line-22.ensures _ _ after20 c.in_ok-describe_quote.ensures in
+    c.with-22.ensures _ _ after21 c.in_ok-describe_base.ensures

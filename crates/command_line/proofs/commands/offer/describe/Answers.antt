@@ -2,9 +2,9 @@ use Rattle.command_line.proofs.commands.offer.describe.Goals as goal
 
 pub returns : goal.returns
 returns c =
-    let after1 = c.in_ok-command.ensures _ _ c.command-command.ensures c.present_file.ensures.rule in
+    let after1 = c.in_ok-command.ensures _ _ c.command-command.ensures c.present_file_or_desk.ensures.rule in
     let after2 = c.in_ok-command-2.ensures _ _ after1 c.wait.ensures.rule in
     let after3 = c.in_ok-command-3.ensures _ _ after2 c.at.ensures.rule in
     let after4 = c.in_ok-command-4.ensures _ _ after3 c.meter.ensures.rule in
     let after5 = c.in_ok-command-5.ensures _ _ after4 c.json.ensures.rule in
-    c.with-6.ensures _ _ after5 c.word.ensures.rule
+    c.with-6.ensures _ _ after5 c.tender.ensures.rule

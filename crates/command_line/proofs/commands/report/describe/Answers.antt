@@ -1,9 +1,8 @@
-use Rattle.std.proofs.Common.{rules}
 use Rattle.command_line.proofs.commands.report.describe.Goals as goal
 
 pub returns : goal.returns
 returns c =
-    let after1 = c.in_ok-command.ensures _ _ c.command-command.ensures c.present_file.ensures.rule in
+    let after1 = c.in_ok-command.ensures _ _ c.command-command.ensures c.present_file_or_desk.ensures.rule in
     let after2 = c.in_ok-command-2.ensures _ _ after1 c.wait.ensures.rule in
-    let after3 = c.in_ok-command-3.ensures _ _ after2 c.needed.ensures.rule in
-    c.with-4.ensures _ _ after3 (search rules)
+    let after3 = c.in_ok-command-3.ensures _ _ after2 c.kind.ensures.rule in
+    c.with-4.ensures _ _ after3 c.number.ensures.rule

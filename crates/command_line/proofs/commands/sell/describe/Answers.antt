@@ -3,10 +3,10 @@ use Rattle.command_line.proofs.commands.sell.describe.Goals as goal
 pub returns : goal.returns
 returns c =
     let after1 = c.in_ok-command.ensures _ _ c.command-command.ensures c.transform.ensures.rule in
-    let after2 = c.in_ok-command-2.ensures _ _ after1 c.file.ensures.rule in
+    let after2 = c.in_ok-command-2.ensures _ _ after1 c.file_or_desk.ensures.rule in
     let after3 = c.in_ok-command-3.ensures _ _ after2 c.wait.ensures.rule in
     let after4 = c.in_ok-command-4.ensures _ _ after3 c.operator.ensures.rule in
-    let after5 = c.in_ok-command-5.ensures _ _ after4 c.needed.ensures.rule in
+    let after5 = c.in_ok-command-5.ensures _ _ after4 c.order_ref.ensures.rule in
     let after6 = c.in_ok-command-6.ensures _ _ after5 c.meter.ensures.rule in
-    let after7 = c.in_ok-command-7.ensures _ _ after6 c.needed-2.ensures.rule in
+    let after7 = c.in_ok-command-7.ensures _ _ after6 c.tender.ensures.rule in
     c.with-8.ensures _ _ after7 c.at.ensures.rule

@@ -2,11 +2,11 @@ use Rattle.command_line.proofs.commands.show.describe.Goals as goal
 
 pub returns : goal.returns
 returns c =
-    let after1 = c.in_ok-command.ensures _ _ c.command-command.ensures c.present_file.ensures.rule in
+    let after1 = c.in_ok-command.ensures _ _ c.command-command.ensures c.present_file_or_desk.ensures.rule in
     let after2 = c.in_ok-command-2.ensures _ _ after1 c.wait.ensures.rule in
     let after3 = c.in_ok-command-3.ensures _ _ after2 c.at.ensures.rule in
-    let after4 = c.in_ok-command-4.ensures _ _ after3 c.option.ensures.rule in
-    let after5 = c.in_ok-command-5.ensures _ _ after4 c.option-2.ensures.rule in
-    let after6 = c.in_ok-command-6.ensures _ _ after5 c.option-3.ensures.rule in
+    let after4 = c.in_ok-command-4.ensures _ _ after3 c.meter.ensures.rule in
+    let after5 = c.in_ok-command-5.ensures _ _ after4 c.operator.ensures.rule in
+    let after6 = c.in_ok-command-6.ensures _ _ after5 c.order_ref.ensures.rule in
     let after7 = c.in_ok-command-7.ensures _ _ after6 c.json.ensures.rule in
-    c.with-8.ensures _ _ after7 c.word.ensures.rule
+    c.with-8.ensures _ _ after7 c.what.ensures.rule

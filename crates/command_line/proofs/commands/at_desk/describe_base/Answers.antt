@@ -1,0 +1,6 @@
+use Rattle.command_line.proofs.commands.at_desk.describe_base.Goals as goal
+
+pub returns : goal.returns
+returns c =
+    let after1 = c.in_ok-command-2.ensures _ _ c.in_ok-command.ensures c.meter.ensures.rule in
+    c.with-2.ensures _ _ after1 c.base.ensures.rule
