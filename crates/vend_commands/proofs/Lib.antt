@@ -1,8 +1,10 @@
 pub mod AgainLemmas
+pub mod AtDeskLemmas
 pub mod AuditLemmas
 pub mod ConnectionLemmas
 pub mod CourseLemmas
 pub mod DeskLemmas
+pub mod DeskListLemmas
 pub mod ExportLemmas
 pub mod FoundLemmas
 pub mod KeyedLemmas

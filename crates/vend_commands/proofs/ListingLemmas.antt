@@ -66,7 +66,7 @@ more_pages o moment list [] next page is finds = subst (λ (l : Option Listed). 
 more_pages o moment None (first ∷ pages) next page are finds = absurd are
 more_pages o moment (Some list) (first ∷ pages) next page are finds = (are.0, more_pages o moment (list_behind first) pages next page are.1 finds)
 
-more_text : (json : Bool) (pages : List Found) (page : Found) → pages_text json pages ++ page_text json (length pages == 0) page ≡ pages_text json (pages ++ page ∷ [])
+pub more_text : (json : Bool) (pages : List Found) (page : Found) → pages_text json pages ++ page_text json (length pages == 0) page ≡ pages_text json (pages ++ page ∷ [])
 more_text json [] page = sym (append-nil (page_text json true page))
 more_text json (first ∷ pages) page =
     let later : (length (first ∷ pages) == 0) ≡ false = ne_eqb (length (first ∷ pages)) 0 (λ e. omega (arith, e)) in
@@ -78,7 +78,7 @@ more_text json (first ∷ pages) page =
     ∙ ap (λ l. front ++ l) (sym (flat_map-append (page_text json false) pages (page ∷ [])))
 
 -- what follows a page that was taken, and one that no other follows
-some_behind : (next : Listed) (behind : Option Listed) (failed : Bool) → Some next ≡ (if failed then None else behind) → behind ≡ Some next
+pub some_behind : (next : Listed) (behind : Option Listed) (failed : Bool) → Some next ≡ (if failed then None else behind) → behind ≡ Some next
 some_behind next behind true is = absurd (cc)
 some_behind next behind false is = sym is
 

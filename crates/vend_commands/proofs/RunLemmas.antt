@@ -24,6 +24,19 @@ use Rattle.papers.specs.declared.row_fault.RowFault.{RowFault}
 use Rattle.tariff.specs.Purchase.{purchase_of}
 use Rattle.command_line.specs.Asked.{AskFor}
 use Rattle.vend_commands.specs.commands.Asked.{IsAskedAt}
+use Rattle.vend_commands.specs.commands.AskedOfDesk.{IsAnswered, IsAsked, IsAskedOnce, TellsTold}
+use Rattle.vend_commands.specs.commands.AskedOfDesk.IsAsked.{broken, no_room as desk_full, replied, unsent}
+use Rattle.vend_commands.specs.commands.AskedOfDesk.IsAskedOnce.{asked as desk_asked, without_rows}
+use Rattle.vend_commands.specs.commands.ListedAtDesk.{page_stop_end}
+use Rattle.vend_commands.specs.declared.commands.list_at_desk.PageFault.{PageFault}
+use Rattle.vend_commands.specs.port.Exchanged.{Calls}
+use Rattle.vend_commands.specs.declared.port.file_fault.FileFault.{FileFault}
+use Rattle.desk_client.specs.declared.question.Question.{Question}
+use Rattle.desk_client.specs.declared.told.Told.{Told}
+use Rattle.desk_client.specs.declared.told.Told.TheVariants as tells
+use Rattle.command_line.specs.declared.address.Address.{Address}
+use Rattle.command_line.specs.declared.commands.at_desk.DeskQuestion.{DeskQuestion}
+use Rattle.command_line.specs.declared.commands.at_desk.DeskQuestion.TheVariants as desk_asks
 use Rattle.vend_commands.specs.commands.Audited.{IsAudited, TellsAudit}
 use Rattle.vend_commands.specs.commands.Audited.IsAudited.{absent, looked, unopened as audits_unopened}
 use Rattle.vend_commands.specs.print.Exported.{export_stop_end}
@@ -171,6 +184,39 @@ shown_ends : {S : Type 0} (store : Ghosts S) (at : Places) (file : Text) (wait m
 shown_ends store at file wait moment wanted o end (shown_absent misses told) = told_ends o _ _ how.Refused end (omega arith) told
 shown_ends store at file wait moment wanted o end (shown_present visit) = visit_ends store _ _ _ o end (λ old new done. read_ends moment wanted old new o end done) visit
 
+told_in_reply_ends : (json : Bool) (question : Question) (told : Told) (o : Outputs) (end : CommandEnd) → TellsTold json question told o end → exit_status_of end ≤ 1
+told_in_reply_ends json question (tells.Granted granted) o end (inl told) = told_ends o _ _ how.Done end (omega arith) told
+told_in_reply_ends json question (tells.Granted granted) o end (inr (room, told)) = told_ends o _ _ how.Refused end (omega arith) told
+told_in_reply_ends json question (tells.Refused refusal) o end told = told_ends o _ _ how.Refused end (omega arith) told
+told_in_reply_ends json question tells.NoMoment o end told = told_ends o _ _ how.Refused end (omega arith) told
+
+desk_asked_ends : (calls : Calls) (uncalled : Type 0) (desk : Address) (json : Bool) (question : Question) (o : Outputs) (end : CommandEnd) → IsAsked calls uncalled desk json question o end → exit_status_of end ≤ 1
+desk_asked_ends calls uncalled desk json question o end (replied came exchanged told is done) = told_in_reply_ends json question told o end done
+desk_asked_ends calls uncalled desk json question o end (broken came exchanged none told) = told_ends o _ _ how.Refused end (omega arith) told
+desk_asked_ends calls uncalled desk json question o end (unsent fault why told) = told_ends o _ _ how.Refused end (omega arith) told
+desk_asked_ends calls uncalled desk json question o end (desk_full left told) = told_ends o _ _ how.Refused end (omega arith) told
+
+asked_once_ends : (reads : Text → List ℕ → Type 0) (lacks : Text → FileFault → Type 0) (calls : Calls) (uncalled : Type 0) (desk : Address) (question : DeskQuestion) (o : Outputs) (end : CommandEnd) → IsAskedOnce reads lacks calls uncalled desk question o end → exit_status_of end ≤ 1
+asked_once_ends reads lacks calls uncalled desk question o end (desk_asked rows are done) = desk_asked_ends calls uncalled desk _ _ o end done
+asked_once_ends reads lacks calls uncalled desk question o end (without_rows fault why left told) = told_ends o _ _ how.Refused end (omega arith) told
+
+page_stop_low : (stop : Option PageFault) → exit_status_of (page_stop_end stop) ≤ 1
+page_stop_low None = omega arith
+page_stop_low (Some fault) = omega arith
+
+answered_ends : (reads : Text → List ℕ → Type 0) (lacks : Text → FileFault → Type 0) (calls : Calls) (uncalled : Type 0) (desk : Address) (question : DeskQuestion) (o : Outputs) (end : CommandEnd) → IsAnswered reads lacks calls uncalled desk question o end → exit_status_of end ≤ 1
+answered_ends reads lacks calls uncalled desk (desk_asks.Import kind csv) o end done = asked_once_ends reads lacks calls uncalled desk (desk_asks.Import kind csv) o end done
+answered_ends reads lacks calls uncalled desk (desk_asks.MoveBase meter base) o end done = asked_once_ends reads lacks calls uncalled desk (desk_asks.MoveBase meter base) o end done
+answered_ends reads lacks calls uncalled desk (desk_asks.OpenShift operator) o end done = asked_once_ends reads lacks calls uncalled desk (desk_asks.OpenShift operator) o end done
+answered_ends reads lacks calls uncalled desk (desk_asks.CloseShift operator) o end done = asked_once_ends reads lacks calls uncalled desk (desk_asks.CloseShift operator) o end done
+answered_ends reads lacks calls uncalled desk (desk_asks.Sell order) o end done = asked_once_ends reads lacks calls uncalled desk (desk_asks.Sell order) o end done
+answered_ends reads lacks calls uncalled desk (desk_asks.ShiftReport number) o end done = asked_once_ends reads lacks calls uncalled desk (desk_asks.ShiftReport number) o end done
+answered_ends reads lacks calls uncalled desk (desk_asks.Receipt number) o end done = asked_once_ends reads lacks calls uncalled desk (desk_asks.Receipt number) o end done
+answered_ends reads lacks calls uncalled desk (desk_asks.ShiftTotals number) o end done = asked_once_ends reads lacks calls uncalled desk (desk_asks.ShiftTotals number) o end done
+answered_ends reads lacks calls uncalled desk (desk_asks.Show shown json) o end done = asked_once_ends reads lacks calls uncalled desk (desk_asks.Show shown json) o end done
+answered_ends reads lacks calls uncalled desk (desk_asks.Offer meter tender json) o end done = asked_once_ends reads lacks calls uncalled desk (desk_asks.Offer meter tender json) o end done
+answered_ends reads lacks calls uncalled desk (desk_asks.List list json) o end done = told_ends o _ _ (page_stop_end done.stop) end (page_stop_low done.stop) done.told
+
 done_ends : (Idle : Type 0) (At : ℕ → Type 0) (o : Outputs) (end : CommandEnd) (moment : Option ℕ) → ((moment : ℕ) → At moment → exit_status_of end ≤ 1) → IsDoneAt Idle At o end moment → exit_status_of end ≤ 1
 done_ends Idle At o end (Some moment) ends done = ends moment done
 done_ends Idle At o end None ends (idle, told) = told_ends o _ _ how.Refused end (omega arith) told
@@ -193,6 +239,7 @@ answer_ends store m (asks.Quote words) o end (idle, done) =
 answer_ends store m (asks.Serve words) o end (left, done) = serving_ends store m.way m.at m.door m.answers words o.err_old o.err_new end done.1
 answer_ends store m (asks.Selfcheck words) o end (untouched, shut, agreed has told) = told_ends o _ _ how.Done end (omega arith) told
 answer_ends store m (asks.Selfcheck words) o end (untouched, shut, failed fault why told) = told_ends o _ _ how.Refused end (omega arith) told
+answer_ends store m (asks.Desk words) o end (untouched, shut, done) = answered_ends m.reads m.lacks m.loop.calls m.loop.leaves words.desk words.question o end done
 answer_ends store m (asks.Audit words) o end (shut, done) = audit_ends (m.at words.file.now words.wait) o end done
 
 -- words that ask for something never end as bad words

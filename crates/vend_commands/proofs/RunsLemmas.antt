@@ -367,6 +367,7 @@ module _ (laws : Laws) (Before : Image → Type 0) (lives : List Life) where
       carried_on (asks.Quote words) o end done found clean kept = ∣ unseen_on kept ∣₁
       carried_on (asks.Serve words) o end (left, (silent, done)) found clean kept = serving_on words o.err_old o.err_new end done found clean kept
       carried_on (asks.Selfcheck words) o end done found clean kept = ∣ unseen_on kept ∣₁
+      carried_on (asks.Desk words) o end done found clean kept = ∣ unseen_on kept ∣₁
       carried_on (asks.Audit words) o end (shut, done) found clean kept = ∣ audited_on words o end done found clean kept ∣₁
 
       run_on : (words : List Text) (o : Outputs) (end : CommandEnd) (it : IsProgramRun (over_files {g = disk}) here words o end)

@@ -27,6 +27,16 @@ use Rattle.command_line.specs.declared.commands.report.ReportWords.{ReportWords}
 use Rattle.command_line.specs.declared.commands.serve.ServeWords.{ServeWords}
 use Rattle.command_line.specs.declared.transform.Shipped.{Shipped}
 use Rattle.vend_commands.specs.commands.Asked.{IsAskedAt}
+use Rattle.vend_commands.specs.commands.AskedOfDesk.{IsAnswered, IsAsked, IsAskedOnce, TellsTold}
+use Rattle.vend_commands.specs.commands.AskedOfDesk.IsAsked.{broken, no_room as desk_full, replied, unsent}
+use Rattle.vend_commands.specs.commands.AskedOfDesk.IsAskedOnce.{asked as desk_asked, without_rows}
+use Rattle.vend_commands.specs.port.Exchanged.{Calls}
+use Rattle.vend_commands.specs.declared.port.file_fault.FileFault.{FileFault}
+use Rattle.desk_client.specs.declared.question.Question.{Question}
+use Rattle.desk_client.specs.declared.told.Told.{Told}
+use Rattle.desk_client.specs.declared.told.Told.TheVariants as tells
+use Rattle.command_line.specs.declared.commands.at_desk.DeskQuestion.{DeskQuestion}
+use Rattle.command_line.specs.declared.commands.at_desk.DeskQuestion.TheVariants as desk_asks
 use Rattle.vend_commands.specs.commands.Audited.{IsAudited, TellsAudit}
 use Rattle.vend_commands.specs.commands.Audited.IsAudited.{absent, looked, unopened as audits_unopened}
 use Rattle.vend_commands.specs.commands.Imported.{AreAdded, IsFileImported}
@@ -130,6 +140,35 @@ shown_same : {S : Type 0} (store : Ghosts S) (at : Places) (file : Text) (wait m
 shown_same store at file wait moment wanted o end (shown_absent misses told) = told_same o _ _ _ end told
 shown_same store at file wait moment wanted o end (shown_present visit) = visit_same store _ _ _ o end (λ old new done. read_same moment wanted old new o end done) visit
 
+told_in_reply_same : (json : Bool) (question : Question) (told : Told) (o : Outputs) (end : CommandEnd) → TellsTold json question told o end → AreSame o
+told_in_reply_same json question (tells.Granted granted) o end (inl told) = told_same o _ _ _ end told
+told_in_reply_same json question (tells.Granted granted) o end (inr (room, told)) = told_same o _ _ _ end told
+told_in_reply_same json question (tells.Refused refusal) o end told = told_same o _ _ _ end told
+told_in_reply_same json question tells.NoMoment o end told = told_same o _ _ _ end told
+
+desk_asked_same : (calls : Calls) (uncalled : Type 0) (desk : Address) (json : Bool) (question : Question) (o : Outputs) (end : CommandEnd) → IsAsked calls uncalled desk json question o end → AreSame o
+desk_asked_same calls uncalled desk json question o end (replied came exchanged told is done) = told_in_reply_same json question told o end done
+desk_asked_same calls uncalled desk json question o end (broken came exchanged none told) = told_same o _ _ _ end told
+desk_asked_same calls uncalled desk json question o end (unsent fault why told) = told_same o _ _ _ end told
+desk_asked_same calls uncalled desk json question o end (desk_full left told) = told_same o _ _ _ end told
+
+asked_once_same : (reads : Text → List ℕ → Type 0) (lacks : Text → FileFault → Type 0) (calls : Calls) (uncalled : Type 0) (desk : Address) (question : DeskQuestion) (o : Outputs) (end : CommandEnd) → IsAskedOnce reads lacks calls uncalled desk question o end → AreSame o
+asked_once_same reads lacks calls uncalled desk question o end (desk_asked rows are done) = desk_asked_same calls uncalled desk _ _ o end done
+asked_once_same reads lacks calls uncalled desk question o end (without_rows fault why left told) = told_same o _ _ _ end told
+
+answered_same : (reads : Text → List ℕ → Type 0) (lacks : Text → FileFault → Type 0) (calls : Calls) (uncalled : Type 0) (desk : Address) (question : DeskQuestion) (o : Outputs) (end : CommandEnd) → IsAnswered reads lacks calls uncalled desk question o end → AreSame o
+answered_same reads lacks calls uncalled desk (desk_asks.Import kind csv) o end done = asked_once_same reads lacks calls uncalled desk (desk_asks.Import kind csv) o end done
+answered_same reads lacks calls uncalled desk (desk_asks.MoveBase meter base) o end done = asked_once_same reads lacks calls uncalled desk (desk_asks.MoveBase meter base) o end done
+answered_same reads lacks calls uncalled desk (desk_asks.OpenShift operator) o end done = asked_once_same reads lacks calls uncalled desk (desk_asks.OpenShift operator) o end done
+answered_same reads lacks calls uncalled desk (desk_asks.CloseShift operator) o end done = asked_once_same reads lacks calls uncalled desk (desk_asks.CloseShift operator) o end done
+answered_same reads lacks calls uncalled desk (desk_asks.Sell order) o end done = asked_once_same reads lacks calls uncalled desk (desk_asks.Sell order) o end done
+answered_same reads lacks calls uncalled desk (desk_asks.ShiftReport number) o end done = asked_once_same reads lacks calls uncalled desk (desk_asks.ShiftReport number) o end done
+answered_same reads lacks calls uncalled desk (desk_asks.Receipt number) o end done = asked_once_same reads lacks calls uncalled desk (desk_asks.Receipt number) o end done
+answered_same reads lacks calls uncalled desk (desk_asks.ShiftTotals number) o end done = asked_once_same reads lacks calls uncalled desk (desk_asks.ShiftTotals number) o end done
+answered_same reads lacks calls uncalled desk (desk_asks.Show shown json) o end done = asked_once_same reads lacks calls uncalled desk (desk_asks.Show shown json) o end done
+answered_same reads lacks calls uncalled desk (desk_asks.Offer meter tender json) o end done = asked_once_same reads lacks calls uncalled desk (desk_asks.Offer meter tender json) o end done
+answered_same reads lacks calls uncalled desk (desk_asks.List list json) o end done = told_same o _ _ _ end done.told
+
 done_same : (Idle : Type 0) (At : ℕ → Type 0) (o : Outputs) (end : CommandEnd) (moment : Option ℕ) → ((moment : ℕ) → At moment → AreSame o) → IsDoneAt Idle At o end moment → AreSame o
 done_same Idle At o end (Some moment) same done = same moment done
 done_same Idle At o end None same (idle, told) = told_same o _ _ _ end told
@@ -151,6 +190,7 @@ answer_same store m (asks.Serve words) o end (left, done) =
     record { out = ap (λ s. s.name) done.0; err = serving_same store m.way m.at m.door m.answers words o.err_old o.err_new end done.1 }
 answer_same store m (asks.Selfcheck words) o end (untouched, shut, agreed has told) = told_same o _ _ _ end told
 answer_same store m (asks.Selfcheck words) o end (untouched, shut, failed fault why told) = told_same o _ _ _ end told
+answer_same store m (asks.Desk words) o end (untouched, shut, done) = answered_same m.reads m.lacks m.loop.calls m.loop.leaves words.desk words.question o end done
 answer_same store m (asks.Audit words) o end (shut, done) = audit_same (m.at words.file.now words.wait) o end done
 
 explained_same : (kind : ErrorKind) (text : Text) (o : Outputs) (end : CommandEnd) → IsExplained kind text o end → AreSame o

@@ -170,6 +170,7 @@ module _ {M S H D R W : Type 0} (disk : disk.Ghosts M) (salts : source.Ghosts S)
   carried_tells (asks.Quote words) o end done q is = absurd is
   carried_tells (asks.Serve words) o end (left, (silent, done)) q is = serving_tells words o.err_old o.err_new o end done q is
   carried_tells (asks.Selfcheck words) o end done q is = absurd is
+  carried_tells (asks.Desk words) o end done q is = absurd is
   carried_tells (asks.Audit words) o end (shut, done) q is = audited_tells words o end done q is
 
   run_tells : (words : List Text) (o : Outputs) (end : CommandEnd) (it : IsProgramRun (over_files {g = disk}) here words o end) → Tells (use_run disk salts of office m words o end it) o end

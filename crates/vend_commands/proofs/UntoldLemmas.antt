@@ -1,5 +1,5 @@
 -- What is left of a run where nothing is told of the door but the bytes of its connections.
-use Rattle.std.proofs.Common.{ℕ, ℤ, zero, suc, Bool, true, false, List, Option, None, Some, Result, Ok, Err, inl, inr, ap, refl}
+use Rattle.std.proofs.Common.{ℕ, ℤ, zero, suc, Bool, true, false, List, [], Option, None, Some, Result, Ok, Err, inl, inr, ap, refl}
 use Rattle.std.specs.Prelude.{⊤}
 use Rattle.sqlite_trees.specs.declared.store.Store.{Ghosts}
 use Rattle.books.specs.Keeps.{Seen}
@@ -21,6 +21,20 @@ use Rattle.vend_commands.specs.Run.IsProgramRun.{answered, bad_word, explained, 
 use Rattle.vend_commands.specs.commands.Selfchecked.{HasReplies}
 use Rattle.vend_commands.specs.print.Told.{Outputs, Sink}
 use Rattle.vend_commands.proofs.RunLemmas.{selfcheck_done}
+use Rattle.vend_commands.specs.commands.AskedOfDesk.{IsAnswered, IsAsked, IsAskedOnce}
+use Rattle.vend_commands.specs.commands.AskedOfDesk.IsAsked.{broken, no_room as desk_full, replied, unsent as message_unsent}
+use Rattle.vend_commands.specs.commands.AskedOfDesk.IsAskedOnce.{asked as desk_asked, without_rows}
+use Rattle.vend_commands.specs.commands.ListedAtDesk.{IsDeskStop, IsListedAtDesk, IsPageStop}
+use Rattle.vend_commands.specs.declared.commands.list_at_desk.PageFault.{PageFault}
+use Rattle.vend_commands.specs.declared.commands.list_at_desk.PageFault.TheVariants as faults
+use Rattle.book_facts.specs.declared.lookup.Found.{Found}
+use Rattle.command_line.specs.declared.commands.list.Listed.{Listed}
+use Rattle.vend_commands.specs.port.Exchanged.{Calls, IsUnsent, Round, untold_calls}
+use Rattle.vend_commands.specs.port.Exchanged.IsUnsent.{no_room as full, unreached, unsent}
+use Rattle.vend_commands.specs.declared.port.exchange.ExchangeFault.{ExchangeFault}
+use Rattle.desk_client.specs.declared.question.Question.{Question}
+use Rattle.command_line.specs.declared.commands.at_desk.DeskQuestion.{DeskQuestion}
+use Rattle.command_line.specs.declared.commands.at_desk.DeskQuestion.TheVariants as desk_asks
 use Rattle.vend_commands.specs.commands.Audited.{IsAudited}
 use Rattle.vend_commands.specs.commands.Audited.IsAudited.{absent, looked, unopened as audits_unopened}
 use Rattle.vend_commands.specs.commands.Imported.{AreAdded, IsFileImported}
@@ -132,6 +146,58 @@ deaf_bare way address door last old new (no_listener fails told) = no_listener t
 deaf_bare way address door last old new (no_text port is_port listens told) = no_text port is_port tt told
 deaf_bare way address door last old new (not_told port is_port listens cut told) = not_told port is_port tt cut told
 
+unsent_bare : (calls : Calls) (desk : Address) (rounds : List Round) (fault : ExchangeFault) → IsUnsent calls desk rounds fault → IsUnsent untold_calls desk rounds fault
+unsent_bare calls desk rounds fault (unreached misses none is) = unreached tt none is
+unsent_bare calls desk rounds fault (unsent held is) = unsent tt is
+unsent_bare calls desk rounds fault (full held is) = full tt is
+
+desk_asked_bare : (calls : Calls) (uncalled : Type 0) (desk : Address) (json : Bool) (question : Question) (o : Outputs) (end : CommandEnd) → IsAsked calls uncalled desk json question o end → IsAsked untold_calls ⊤ desk json question o end
+desk_asked_bare calls uncalled desk json question o end (replied came exchanged told is done) = replied came tt told is done
+desk_asked_bare calls uncalled desk json question o end (broken came exchanged none told) = broken came tt none told
+desk_asked_bare calls uncalled desk json question o end (message_unsent fault why told) = message_unsent fault (unsent_bare calls desk [] fault why) told
+desk_asked_bare calls uncalled desk json question o end (desk_full left told) = desk_full tt told
+
+asked_once_bare : (reads : Text → List ℕ → Type 0) (lacks : Text → FileFault → Type 0) (calls : Calls) (uncalled : Type 0) (desk : Address) (question : DeskQuestion) (o : Outputs) (end : CommandEnd)
+    → IsAskedOnce reads lacks calls uncalled desk question o end → IsAskedOnce reads lacks untold_calls ⊤ desk question o end
+asked_once_bare reads lacks calls uncalled desk question o end (desk_asked rows are done) = desk_asked rows are (desk_asked_bare calls uncalled desk _ _ o end done)
+asked_once_bare reads lacks calls uncalled desk question o end (without_rows fault why left told) = without_rows fault why tt told
+
+page_stop_bare : (calls : Calls) (desk : Address) (rounds : List Round) (left : Option Listed) (fault : PageFault) → IsPageStop calls desk rounds left fault → IsPageStop untold_calls desk rounds left fault
+page_stop_bare calls desk rounds left (faults.Unsent fault) why = unsent_bare calls desk rounds fault why
+page_stop_bare calls desk rounds left (faults.Refused refusal) (list, is, came, held, why) = (list, is, came, tt, why)
+page_stop_bare calls desk rounds left faults.NoMoment (list, is, came, held, why) = (list, is, came, tt, why)
+page_stop_bare calls desk rounds left faults.OutOfForm (list, is, came, held, why) = (list, is, came, tt, why)
+page_stop_bare calls desk rounds left faults.Memory (list, is, came, held, why) = (list, is, came, tt, why)
+
+desk_stop_bare : (calls : Calls) (desk : Address) (rounds : List Round) (pages : List Found) (left : Option Listed) (failed : Bool) (stop : Option PageFault) → IsDeskStop calls desk rounds pages left failed stop → IsDeskStop untold_calls desk rounds pages left failed stop
+desk_stop_bare calls desk rounds pages left failed None (held, why) = (tt, why)
+desk_stop_bare calls desk rounds pages left failed (Some fault) why = page_stop_bare calls desk rounds left fault why
+
+desk_list_bare : (calls : Calls) (desk : Address) (list : Listed) (json : Bool) (o : Outputs) (end : CommandEnd) → IsListedAtDesk calls desk list json o end → IsListedAtDesk untold_calls desk list json o end
+desk_list_bare calls desk list json o end it = record {
+  rounds = it.rounds;
+  pages = it.pages;
+  left = it.left;
+  stop = it.stop;
+  told = it.told;
+  are = it.are;
+  stops = desk_stop_bare calls desk it.rounds it.pages it.left o.new.failed it.stop it.stops;
+}
+
+answered_bare : (reads : Text → List ℕ → Type 0) (lacks : Text → FileFault → Type 0) (calls : Calls) (uncalled : Type 0) (desk : Address) (question : DeskQuestion) (o : Outputs) (end : CommandEnd)
+    → IsAnswered reads lacks calls uncalled desk question o end → IsAnswered reads lacks untold_calls ⊤ desk question o end
+answered_bare reads lacks calls uncalled desk (desk_asks.Import kind csv) o end done = asked_once_bare reads lacks calls uncalled desk (desk_asks.Import kind csv) o end done
+answered_bare reads lacks calls uncalled desk (desk_asks.MoveBase meter base) o end done = asked_once_bare reads lacks calls uncalled desk (desk_asks.MoveBase meter base) o end done
+answered_bare reads lacks calls uncalled desk (desk_asks.OpenShift operator) o end done = asked_once_bare reads lacks calls uncalled desk (desk_asks.OpenShift operator) o end done
+answered_bare reads lacks calls uncalled desk (desk_asks.CloseShift operator) o end done = asked_once_bare reads lacks calls uncalled desk (desk_asks.CloseShift operator) o end done
+answered_bare reads lacks calls uncalled desk (desk_asks.Sell order) o end done = asked_once_bare reads lacks calls uncalled desk (desk_asks.Sell order) o end done
+answered_bare reads lacks calls uncalled desk (desk_asks.ShiftReport number) o end done = asked_once_bare reads lacks calls uncalled desk (desk_asks.ShiftReport number) o end done
+answered_bare reads lacks calls uncalled desk (desk_asks.Receipt number) o end done = asked_once_bare reads lacks calls uncalled desk (desk_asks.Receipt number) o end done
+answered_bare reads lacks calls uncalled desk (desk_asks.ShiftTotals number) o end done = asked_once_bare reads lacks calls uncalled desk (desk_asks.ShiftTotals number) o end done
+answered_bare reads lacks calls uncalled desk (desk_asks.Show shown json) o end done = asked_once_bare reads lacks calls uncalled desk (desk_asks.Show shown json) o end done
+answered_bare reads lacks calls uncalled desk (desk_asks.Offer meter tender json) o end done = asked_once_bare reads lacks calls uncalled desk (desk_asks.Offer meter tender json) o end done
+answered_bare reads lacks calls uncalled desk (desk_asks.List list json) o end done = desk_list_bare calls desk list json o end done
+
 module _ {S D R W : Type 0} (store : Ghosts S) (way : Way D R W) (at : Places) (door : D) where
   serving_bare : (answers : Option (List ℤ)) (words : ServeWords) (err_old err_new : Sink) (end : CommandEnd)
       → IsServing store way at door answers words err_old err_new end → IsServing store untold_way (λ path wait. bare_place (at path wait)) tt answers words err_old err_new end
@@ -167,6 +233,7 @@ module _ {S D R W : Type 0} (store : Ghosts S) (way : Way D R W) (at : Places) (
     carried_bare (asks.Quote words) o end (idle, done) = ((tt, (tt, tt)), done)
     carried_bare (asks.Serve words) o end (left, done) = (tt, (done.0, serving_bare answers words o.err_old o.err_new end done.1))
     carried_bare (asks.Selfcheck words) o end (left, shut, done) = (tt, tt, selfcheck_done o end _ _ _ _ (less words.transform) (λ fault why. tt) done)
+    carried_bare (asks.Desk words) o end (left, shut, done) = (tt, tt, answered_bare reads lacks loop.calls loop.leaves words.desk words.question o end done)
     carried_bare (asks.Audit words) o end (left, done) = ((tt, tt), audited_bare (at words.file.now words.wait) o end done)
 
     -- a run of the program, of which nothing is told but that

@@ -1,3 +1,4 @@
+pub mod AtDesk
 pub mod Run
 pub mod Selling
 pub mod Sound

@@ -9,6 +9,7 @@ use Rattle.vend_core.specs.declared.decision.refusal.Refusal.TheVariants.{Memory
 use Rattle.command_line.specs.Asked.{AskFor}
 use Rattle.command_line.specs.Line.{faults_in}
 use Rattle.vend_commands.specs.commands.Asked.{IsAskedAt}
+use Rattle.vend_commands.specs.commands.AskedOfDesk.{IsAskedOfDesk}
 use Rattle.vend_commands.specs.commands.Audited.{IsAudited}
 use Rattle.book_facts.specs.declared.lookup.Lookup.TheVariants as lookups
 use Rattle.vend_commands.specs.commands.Imported.{IsFileImported}
@@ -31,7 +32,8 @@ use Rattle.vend_commands.specs.declared.command_end.CommandEnd.{CommandEnd}
 use Rattle.vend_commands.specs.declared.command_end.CommandEnd.TheVariants.{Done, Refused, BadWords}
 
 -- What is asked for is done, and nothing of the machine is used beside: where no office is needed
--- none is found, only `serve` has the door, and only `selfcheck` connects the machine with itself.
+-- none is found, only `serve` has the door, only `selfcheck` connects the machine with itself, and
+-- only a command that asks a desk connects it with one, and it has no clock.
 abbrev pub IsCarriedOut : {S D R W : Type 0} → Ghosts S → Machine D R W → Asked → Outputs
     → CommandEnd → Type 0
 IsCarriedOut store m (Trial words) o end =
@@ -55,6 +57,8 @@ IsCarriedOut store m (Serve words) o end =
     m.loop.leaves × IsServedTo store m.way m.at m.door m.answers words o end
 IsCarriedOut store m (Selfcheck words) o end = m.untouched × IsShut m
     × IsSelfchecked (m.loop.agrees words.transform) (m.loop.disagrees words.transform) o end
+IsCarriedOut store m (asks.Desk words) o end = m.untouched × IsShut m
+    × IsAskedOfDesk m.reads m.lacks m.loop.calls m.loop.leaves words o end
 IsCarriedOut store m (Audit words) o end =
     IsOffline m × IsAudited (m.at words.file.now words.wait) o end
 

@@ -1,6 +1,8 @@
 pub mod Asked
+pub mod AskedOfDesk
 pub mod Audited
 pub mod Imported
+pub mod ListedAtDesk
 pub mod LookedUp
 pub mod Metered
 pub mod Quoted

@@ -1,3 +1,4 @@
+pub mod Exchanged
 pub mod Places
 pub mod Port
 pub mod Sent

@@ -1,7 +1,9 @@
 //! The commands: what each does.
+pub(crate) mod at_desk;
 pub mod file_audit;
 pub mod import;
 pub mod list;
+pub(crate) mod list_at_desk;
 mod look_up;
 pub mod meter;
 pub mod offer;

@@ -1,5 +1,6 @@
-ghost use Rattle.std.specs.Prelude.{◌≡◌, ℕ, List, [], Option, Some, None, Ok, Err, Contains};
-ghost use Rattle.std.specs.Prelude.{false, true, filter, map, nat_lt, unwrap_or};
+ghost use Rattle.std.specs.Prelude.{◌≡◌, ◌≢◌, ◌≤◌, ◌⊎◌, ◌<◌, ◌^◌, ℕ, List, [], Option, Some};
+ghost use Rattle.std.specs.Prelude.{None, Ok, Err, Contains, false, true, filter, map, nat_lt};
+ghost use Rattle.std.specs.Prelude.{unwrap_or, Result, IfErr, All, ℤ, pos, Bool, length};
 ghost use Rattle.sqlite.specs.Files.{file_state};
 ghost use Rattle.sqlite.specs.State.{HasCleanDisk};
 ghost use Rattle.sqlite_wal.specs.Recovery.{Image};
@@ -8,7 +9,7 @@ ghost use Rattle.audit_office.specs.declared.finding.Finding.{Finding};
 ghost use Rattle.sts_fields.specs.Day.{day_at};
 ghost use Rattle.sts_fields.specs.Text.{Text};
 ghost use Rattle.sts_token.specs.Token.{BlockFunction};
-ghost use Rattle.book_facts.specs.Lookups.{listed_shift};
+ghost use Rattle.book_facts.specs.Lookups.{listed_shift, IsOfRules};
 ghost use Rattle.book_facts.specs.declared.lookup.Found.{Found as WhatIsFound};
 ghost use Rattle.book_facts.specs.declared.lookup.Found.TheVariants.{Quote as Quoted};
 ghost use Rattle.book_facts.specs.declared.lookup.ListedMeter.{ListedMeter};
@@ -33,7 +34,7 @@ ghost use Rattle.vend_commands.specs.office.Audits.{AuditsIn};
 ghost use Rattle.vend_commands.specs.office.Closed.{IsClosed};
 ghost use Rattle.vend_commands.specs.serving.Connections.{AreHeld, Service, service};
 ghost use Rattle.vend_commands.specs.serving.Courses.{Course, LiveOn};
-ghost use Rattle.vend_core.specs.Law.Life.{AreLives, Life};
+ghost use Rattle.vend_core.specs.Law.Life.{AreLives, Life, IsLife, acknowledges};
 ghost use Rattle.vend_core.specs.Office.{IsOffice, Office};
 ghost use Rattle.vend_core.specs.declared.decision.answer.Answer.TheVariants.{Sold};
 ghost use Rattle.vend_core.specs.declared.decision.request.Order.{Order};
@@ -47,21 +48,49 @@ ghost use Rattle.vend_commands.specs.office.Served.{TellsReply};
 ghost use Rattle.vend_commands.specs.print.Listing.{ArePages};
 ghost use Rattle.vend_commands.specs.print.ListTexts.{pages_text, shifts_text};
 ghost use Rattle.vend_commands.specs.print.WholeLists.{AreAllMeters, AreAllTariffs, meters_text, tariffs_text};
-ghost use Rattle.vend_commands.specs.print.Told.{Outputs};
+ghost use Rattle.vend_commands.specs.print.Told.{Outputs, IsTold};
 ghost use Rattle.vend_commands.specs.office.Visited.{seen_in};
 ghost use Rattle.vend_commands.specs.declared.command_end.CommandEnd.{CommandEnd};
-ghost use Rattle.vend_commands.specs.declared.command_end.CommandEnd.TheVariants.{Done};
+ghost use Rattle.vend_commands.specs.declared.command_end.CommandEnd.TheVariants.{Done, Refused};
+ghost use Rattle.books.specs.Looking.{IsFoundAt};
+ghost use Rattle.book_facts.specs.declared.lookup.Lookup.{Lookup};
+ghost use Rattle.vend_core.specs.declared.decision.answer.Answer.{Answer};
+ghost use Rattle.vend_core.specs.declared.decision.refusal.Refusal.{Refusal};
+ghost use Rattle.vend_core.specs.declared.decision.request.Request.{Request};
+ghost use Rattle.sts_fields.specs.Moment.{IsMoment};
+ghost use Rattle.conversation.specs.Conversation.{Conversation};
+ghost use Rattle.conversation.specs.Exchanges.{Timed, timed};
+ghost use Rattle.conversation.specs.message.Messages.{Ending, ended};
+ghost use Rattle.desk.specs.Answering.{LifeReplies, answers_by, life_serves, message_refusal_of};
+ghost use Rattle.vend_core.specs.Law.LifeLaws.{IsReadingRequest};
+ghost use Rattle.desk_client.specs.Asks.{IsAskable, IsNoMoment};
+ghost use Rattle.desk_client.specs.Question.{question_text, wanted_by};
+ghost use Rattle.desk_client.specs.Reply.{IsReply, longest_body};
+ghost use Rattle.desk_client.specs.declared.question.Question.{Question as WhatIsAsked};
+ghost use Rattle.desk_client.specs.declared.told.Told.{Told};
+ghost use Rattle.vend_commands.specs.AtDesk.{AreAnsweredOn, IsAnsweredAt, IsAskedByOne, IsGivenOn, IsOneLookup, IsPageOrRefusal, PrintsAsOnFile, PrintsList, came_in, sent_in};
+ghost use Rattle.std.specs.Borrow.{Bor};
+ghost use Rattle.clap.specs.Walk.{Row};
+ghost use Rattle.command_line.specs.Commands.{SaysDeskQuestion};
+ghost use Rattle.vend_commands.specs.commands.AskedOfDesk.{TellsTold, is_json, question_of};
+ghost use Rattle.conversation.specs.message.Framing.{longest_body as longest_message};
+ghost use Rattle.vend_commands.specs.commands.ListedAtDesk.{TellPages, page_question};
+ghost use Rattle.vend_commands.specs.port.Exchanged.{Round};
+ghost use Rattle.vend_commands.specs.print.Printed.{clock_line};
 
 use crate::port::door::Door;
 use crate::port::loopback::Loopback;
 use crate::port::ports::{OfficeFile, TextFiles};
 use audit::look_law;
 use books::{found_law, opening_law};
-use command_line::Listed;
-use desk::{Clock, reply_law};
+use command_line::{DeskQuestion, Listed};
+use desk::{Clock, conversation_law, reply_law, route_law};
+use desk_client::{page_law, question_law, told_law};
 use papers::{export_fields_law, export_law};
 use sqlite::FileStore;
 use sqlite_trees::store::Store;
+use sts_fields::amount_law;
+use tariff::purchase_law;
 use vend_core::{history_law, life_law, office_law, store_law};
 
 /// What the pages of a list print together where the last one is not full: the lines of all
@@ -195,4 +224,100 @@ pub fn receipt_once()
 {
     export_fields_law();
     reply_law();
+}
+
+/// What a command that asks a desk prints is what the same command prints of the desk's office. The
+/// desk read what the command sent, and answered it by its own law, and its whole reply came.
+pub fn at_desk_law()
+    // One question: the reply or what was found, printed as on the file.
+    ensures one { (question : WhatIsAsked) (json : Bool) (moment : ℕ) (old new : Timed Life)
+        (came : Text) (told : Told) (o : Outputs) (end : CommandEnd)
+        → IsAskedByOne json question → IsAskable question → IsMoment moment
+        → IsOffice old.0.opening → IsLife new.0
+        → IsAnsweredAt (pos moment) old (question_text question) came new
+        → IsReply (wanted_by question) came told → TellsTold json question told o end
+        → PrintsAsOnFile json question moment old.0 new.0 o end }
+
+    // A list: its pages, of one day, and the list that is left behind them.
+    ensures pages { (list : Listed) (day : ℕ) (old new : Timed Life) (rounds : List Round)
+        (pages : List WhatIsFound) (left : Option Listed)
+        → IsAskable (page_question list)
+        → IsOffice old.0.opening → IsLife old.0
+        → AreAnsweredOn day old rounds new → TellPages (Some list) rounds pages left
+        → PrintsList day list pages left old.0 new.0 }
+
+    // The command takes each of these answers for what it is, up to the longest body.
+    ensures read { (question : WhatIsAsked) (moment : ℕ) (old new : Timed Life) (came : Text)
+        → IsAskable question → IsMoment moment → IsOffice old.0.opening → IsLife new.0
+        → IsAnsweredAt (pos moment) old (question_text question) came new
+        → length came ≤ longest_body → (told : Told) × IsReply (wanted_by question) came told }
+    ensures page_read { (list : Listed) (moment : ℕ) (old new : Timed Life) (came : Text)
+        → IsAskable (page_question list) → IsMoment moment
+        → IsOffice old.0.opening → IsLife old.0
+        → IsAnsweredAt (pos moment) old (question_text (page_question list)) came new
+        → length came ≤ longest_body → IsPageOrRefusal list came }
+
+    // What the words of a command say is such a question: it can be asked, and but for a list it is
+    // asked by one message.
+    ensures askable { (name : Text) (words : List Row) (asked : DeskQuestion) (rows : Bor Text)
+        → SaysDeskQuestion name words asked → length rows.now ≤ longest_message
+        → IsAskable (question_of asked rows) }
+    ensures by_one { (name : Text) (words : List Row) (asked : DeskQuestion) (rows : Bor Text)
+        → SaysDeskQuestion name words asked
+        → ((list : Listed) (json : Bool) → asked ≢ DeskQuestion.List list json)
+        → IsAskedByOne (is_json asked) (question_of asked rows) }
+
+    // So a desk answers what a question sends, and what a list sends: a conversation over these
+    // bytes is their exchanges and no others, as long as the line loses and changes none of them,
+    // nor any of what the desk writes.
+    ensures line { (question : WhatIsAsked) (old new : Timed Life) (came : Text) (ending : Ending)
+        → IsAskable question
+        → Conversation (timed (answers_by life_serves)) message_refusal_of ended
+        (question_text question) old came ending new
+        → (second : ℤ) × IsAnsweredAt second old (question_text question) came new }
+
+    ensures lines { (list : Listed) (day : ℕ) (old new : Timed Life) (rounds : List Round)
+        (pages : List WhatIsFound) (left : Option Listed) (ending : Ending)
+        → IsAskable (page_question list)
+        → IsOffice old.0.opening → IsLife old.0
+        → TellPages (Some list) rounds pages left → length (came_in rounds) < 2 ^ 64
+        → (held : Conversation (timed (answers_by life_serves)) message_refusal_of ended
+        (sent_in rounds) old (came_in rounds) ending new)
+        → All (λ x. IsGivenOn day x.now) held.exchanges
+        → AreAnsweredOn day old rounds new }
+
+    // A desk's clock outside the moments of an office: that is printed, and the office is as it
+    // was.
+    ensures clock { (question : WhatIsAsked) (json : Bool) (second : ℤ) (old new : Timed Life)
+        (came : Text) (told : Told) (o : Outputs) (end : CommandEnd)
+        → IsAskable question → IsNoMoment second
+        → IsAnsweredAt second old (question_text question) came new
+        → IsReply (wanted_by question) came told → TellsTold json question told o end
+        → IsTold o [] clock_line Refused end × (new.0 ≡ old.0) }
+
+    // One life has one reply to a request at a moment, and one of what is looked up then, but for
+    // want of memory and a store that fails: so books that keep the desk's life in its file reply
+    // and find the same. A report and a receipt are the same at each moment.
+    ensures same_reply { (life one other : Life) (moment later : ℕ) (request : Request)
+        (desk file : Result Answer Refusal)
+        → (moment ≡ later) ⊎ IsReadingRequest request
+        → LifeReplies moment request desk life one → LifeReplies later request file life other
+        → IsLife one → IsLife other
+        → acknowledges desk ≡ true → acknowledges file ≡ true → desk ≡ file }
+    ensures same_found { (life : Life) (moment : ℕ) (lookup : Lookup)
+        (desk file : Result WhatIsFound Refusal)
+        → IsOneLookup lookup
+        → IsFoundAt life moment lookup desk → IsFoundAt life moment lookup file
+        → IfErr desk IsOfRules → IfErr file IsOfRules → desk ≡ file }
+{
+    amount_law();
+    purchase_law();
+    office_law();
+    store_law();
+    route_law();
+    conversation_law();
+    reply_law();
+    told_law();
+    question_law();
+    page_law();
 }

@@ -19,7 +19,8 @@ mod trials;
 pub use command_end::CommandEnd;
 pub use commands::selfcheck::run_selfcheck;
 pub use laws::{
-    broken_law, list_law, offer_law, program_law, receipt_once, sell_law, serve_law, sound_law,
+    at_desk_law, broken_law, list_law, offer_law, program_law, receipt_once, sell_law, serve_law,
+    sound_law,
 };
 pub use office::reopening::reopen;
 pub use port::door::Door;

@@ -1,6 +1,7 @@
 //! What a command has of the machine, and the machine's own.
 
 pub(crate) mod door;
+pub(crate) mod exchange;
 pub(crate) mod file_fault;
 pub(crate) mod loopback;
 pub(crate) mod machine;

@@ -230,6 +230,12 @@ fn answer<
             ports.door.leave();
             run_selfcheck(&words, alloc, ports.loopback, out, err)
         }
+        Asked::Desk(words) => {
+            ports.office.leave();
+            ports.door.leave();
+            let loopback = ports.loopback;
+            commands::at_desk::run(&words, alloc, &ports.texts, loopback, out, err)
+        }
         Asked::Audit(words) => {
             go_offline(ports.door, ports.loopback);
             commands::file_audit::run(&words, alloc, ports.office, out, err)

@@ -18,6 +18,7 @@ use Rattle.command_line.specs.declared.transform.Shipped.{Shipped}
 use Rattle.vend_commands.specs.office.Audits.{AuditsIn}
 use Rattle.vend_commands.specs.office.Closed.{IsClosed}
 use Rattle.vend_commands.specs.office.Opened.{OpensIn}
+use Rattle.vend_commands.specs.port.Exchanged.{Calls, calls_of, untold_calls}
 use Rattle.vend_commands.specs.commands.Selfchecked.{AgreesOver, Disagrees, HasReplies}
 use Rattle.vend_commands.specs.print.Told.{Held}
 use Rattle.vend_commands.specs.declared.port.door.Door as doors
@@ -101,12 +102,13 @@ way of remaining contents = record {
   contents = contents;
 }
 
--- What the machine's connection with itself tells of `selfcheck`: that it was left, that the
--- replies over it agreed, and why not.
+-- What the connection that a command makes tells: that none was made; of the machine with itself,
+-- for `selfcheck`, that the replies over it agreed, and why not; and what came of one with a desk.
 pub record Loop : Type 1 where
   pub leaves : Type 0
   pub agrees : Shipped → Type 0
   pub disagrees : Shipped → SelfcheckFault → Type 0
+  pub calls : Calls
 
 abbrev pub loop_of : {N S : Type 0} → loopback.Ghosts N S → (remaining contents : S → Held) → N
     → Loop
@@ -115,10 +117,11 @@ loop_of of remaining contents net = record {
   agrees = λ transform. AgreesOver of remaining contents net (forward_of transform);
   disagrees = λ transform fault. Disagrees of remaining contents net (forward_of transform)
       (seen {g = over_memory} {h = shipped}) fault;
+  calls = calls_of of remaining contents net;
 }
 
 -- the files that keep offices and that none of them was found, the files that are read, the answers
--- of the clock, the door, and the connection with itself
+-- of the clock, the door, and the connection that a command makes
 pub record Machine (D R W : Type 0) : Type 1 where
   pub at : Places
   pub untouched : Type 0
@@ -152,7 +155,7 @@ places_of {H} {D} {S} disk salts of office path wait = record {
 abbrev pub IsShut : {D R W : Type 0} → Machine D R W → Type 0
 IsShut m = m.way.leaves m.door
 
--- nor was the machine connected with itself
+-- nor was a connection made
 abbrev pub IsOffline : {D R W : Type 0} → Machine D R W → Type 0
 IsOffline m = IsShut m × m.loop.leaves
 
@@ -189,7 +192,12 @@ untold_way = record {
 
 -- a connection of which nothing is told but that there are replies over memory
 abbrev pub untold_loop : Loop
-untold_loop = record { leaves = ⊤; agrees = HasReplies; disagrees = λ transform fault. ⊤ }
+untold_loop = record {
+  leaves = ⊤;
+  agrees = HasReplies;
+  disagrees = λ transform fault. ⊤;
+  calls = untold_calls;
+}
 
 -- a file of which nothing is told but what it holds, how an office is opened there and closed, and
 -- what an audit answers

@@ -57,6 +57,12 @@ ArePages o moment (Some list) (page ∷ pages) left =
 
 -- ---- a page
 
+-- The page is printed, and the list behind it is to follow, but where a write failed.
+abbrev pub IsPagePut : Found → (json first : Bool) → (before after : Sink)
+    → (next : Option Listed) → Type 0
+IsPagePut page json first before after next = Takes before after (page_text json first page)
+    × (next ≡ (if after.failed then None else list_behind page))
+
 -- The first page of the list is printed, and the list behind it is to follow, but where a write
 -- failed; or it was refused, for want of memory or as the store failed, and nothing was printed.
 abbrev pub IsListPage : (moment : ℕ) → Listed → (json first : Bool) → (old new : Seen)

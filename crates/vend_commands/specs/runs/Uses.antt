@@ -298,6 +298,7 @@ module _ {M S H D R W : Type 0} (disk : disk.Ghosts M) (salts : source.Ghosts S)
   use_carried (asks.Serve words) o end (left, (silent, done)) =
       use_serving words o.err_old o.err_new end done
   use_carried (asks.Selfcheck words) o end done = unseen
+  use_carried (asks.Desk words) o end done = unseen
   use_carried (asks.Audit words) o end (shut, done) = use_audited words o end done
 
   -- a run, whatever its words are

@@ -134,8 +134,8 @@ fn refusal_of(fault: RowFault) -> Refusal
     }
 }
 
-// Tells why a file is not read.
-fn put_read_fault<E: Write>(fault: FileFault, err: &mut Watched<'_, E>)
+/// Tells why a file is not read.
+pub(crate) fn put_read_fault<E: Write>(fault: FileFault, err: &mut Watched<'_, E>)
     ensures { Takes (sink E.contents err.old) (sink E.contents err.new) (read_fault_line fault) }
 {
     match fault {

@@ -1,12 +1,12 @@
 //! The members of a list of an open office, printed page by page.
 
-ghost use Rattle.std.specs.Prelude.{◌≡◌};
+ghost use Rattle.std.specs.Prelude.{◌≡◌, [], MatchResult};
 ghost use Rattle.std.specs.Option.{option_copied};
 ghost use Rattle.sqlite.specs.State.{HasCleanDisk};
 ghost use Rattle.books.specs.Keeps.{Represents, seen};
-ghost use Rattle.vend_commands.specs.print.Listing.{IsListPage, IsListed, last_of_full, list_behind};
-ghost use Rattle.vend_commands.specs.print.Listing.{page_lookup};
-ghost use Rattle.vend_commands.specs.print.Told.{outputs, sink};
+ghost use Rattle.vend_commands.specs.print.Listing.{IsListPage, IsListed, IsPagePut, last_of_full};
+ghost use Rattle.vend_commands.specs.print.Listing.{list_behind, page_lookup};
+ghost use Rattle.vend_commands.specs.print.Told.{Takes, outputs, sink};
 ghost use Rattle.vend_core.specs.Law.Life.{Life};
 
 use crate::command_end::CommandEnd;
@@ -17,7 +17,7 @@ use book_lists::PAGE;
 use books::{Books, Found, Lookup};
 use command_line::Listed;
 use sqlite::Alter;
-use std::alloc::Global;
+use std::alloc::{AllocError, Global};
 use std::io::Write;
 use sts_token::BlockTransform;
 use vend_core::{Moment, Refusal};
@@ -73,14 +73,33 @@ fn print_page<S: Alter, T: BlockTransform, O: Write>(
         Ok(page) => page,
         Err(refusal) => return Err(refusal),
     };
-    let Ok(text) = page_text(alloc, &page, json, is_first) else {
-        return Err(Refusal::Memory);
+    match put_page(alloc, &page, json, is_first, out) {
+        Ok(behind) => Ok(behind),
+        Err(_) => Err(Refusal::Memory),
+    }
+}
+
+/// Prints a page, and answers the list behind it: none where it is not full, and none where the
+/// output did not take it.
+pub(crate) fn put_page<O: Write>(
+    alloc: Global,
+    page: &Found,
+    json: bool,
+    is_first: bool,
+    out: &mut Watched<'_, O>,
+) -> Result<Option<Listed>, AllocError>
+    ensures { MatchResult result
+        (IsPagePut page.now json is_first (sink O.contents out.old) (sink O.contents out.new))
+        (λ _. Takes (sink O.contents out.old) (sink O.contents out.new) []) }
+{
+    let Ok(text) = page_text(alloc, page, json, is_first) else {
+        return Err(AllocError);
     };
     out.put(&text);
     if out.has_failed() {
         Ok(None)
     } else {
-        Ok(list_behind(&page))
+        Ok(list_behind(page))
     }
 }
 

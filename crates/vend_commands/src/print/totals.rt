@@ -36,8 +36,8 @@ pub(crate) fn print_totals<S: Alter, T: BlockTransform, O: Write, E: Write>(
     }
 }
 
-// Prints the totals of a shift on a line.
-fn put_totals<O: Write>(number: u32, totals: Totals, out: &mut Watched<'_, O>)
+/// Prints the totals of a shift on a line.
+pub(crate) fn put_totals<O: Write>(number: u32, totals: Totals, out: &mut Watched<'_, O>)
     ensures { Takes (sink O.contents out.old) (sink O.contents out.new)
         (totals_line number totals) }
 {

@@ -65,3 +65,15 @@ returns-in-Audit g c =
     (way D g.D.Reader.Read.remaining g.D.Writer.Write.contents) c.args.ports.door (loop_of g.L.Loopback g.L.Stream.Read.remaining g.L.Stream.Write.contents c.args.ports.loopback) in
     let o = outputs (sink g.O.Write.contents c.args.out.now) (sink g.O.Write.contents c.run-in-Audit.new.out) (sink g.E.Write.contents c.args.err.now) (sink g.E.Write.contents c.run-in-Audit.new.err) in
     done_so store m c.args.asked (asks.Audit c.in-Audit.words) o c.run-in-Audit.result c.in-Audit.is ((c.go_offline-in-Audit.ensures.door, c.go_offline-in-Audit.ensures.loopback), c.run-in-Audit.ensures)
+
+pub returns-in-Desk : goal.returns-in-Desk
+returns-in-Desk g c =
+    let H = g.H.OfficeFile in
+    let D = g.D.Door in
+    let at = places_of g.H.Medium.Disk g.H.Salts.SaltSource H c.args.ports.office in
+    let store = over_files {g = g.H.Medium.Disk} in
+    let m = machine at (H.leaves c.args.ports.office) (g.F.TextFiles.reads c.args.ports.texts) (g.F.TextFiles.lacks c.args.ports.texts) (g.C.Clock.answers c.args.ports.clock)
+    (way D g.D.Reader.Read.remaining g.D.Writer.Write.contents) c.args.ports.door (loop_of g.L.Loopback g.L.Stream.Read.remaining g.L.Stream.Write.contents c.args.ports.loopback) in
+    let o = outputs (sink g.O.Write.contents c.args.out.now) (sink g.O.Write.contents c.run-in-Desk.new.out) (sink g.E.Write.contents c.args.err.now) (sink g.E.Write.contents c.run-in-Desk.new.err) in
+    done_so store m c.args.asked (asks.Desk c.in-Desk.words) o c.run-in-Desk.result c.in-Desk.is
+    (c.leave-in-Desk.ensures, c.leave-in-Desk-2.ensures, c.run-in-Desk.ensures)

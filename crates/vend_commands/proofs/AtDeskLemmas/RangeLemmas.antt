@@ -1,0 +1,98 @@
+-- The values that an office tells keep the rules of what is told.
+use Rattle.std.proofs.Common.{◌≡◌, ℕ, ◌^◌, ◌≤◌, Bool, not, List, length, Option, None, Some, refl, arith}
+use Rattle.std.specs.Prelude.{◌==◌, All, Contains, IfSome, IsSome, filter, find, sum_by}
+use Rattle.std.specs.Option.{option_or}
+use Rattle.std.proofs.lemmas.List.Elements.{All-contains, All-filter, All-weaker}
+use Rattle.std.proofs.lemmas.List.Filters.{length-filter_both}
+use Rattle.std.proofs.lemmas.List.Sums.{sum_by-le}
+use Rattle.sts_fields.specs.Amount.{IsRepresentable, greatest_amount}
+use Rattle.vend_core.specs.Law.Cash.{cash_of}
+use Rattle.vend_core.specs.Name.{IsMeterNo, IsName}
+use Rattle.vend_core.specs.Office.{IsOffice, IsSaleRow, IsShiftRow, Office}
+use Rattle.vend_core.specs.Office.Lookup.{sales_of_shift}
+use Rattle.vend_core.specs.declared.office.sale.Sale.{Sale}
+use Rattle.vend_core.specs.declared.office.shift.Shift.{Shift}
+use Rattle.vend_core.proofs.OfficeLemmas.RowLemmas.{found, number_within}
+
+-- what is there
+pub there_is : {A : Type 0} (o : Option A) → IsSome o → (x : A) × (o ≡ Some x)
+there_is (Some x) some = (x, refl)
+there_is None some = cc
+
+-- ---- sales
+
+pub sale_row : (o : Office) (s : Sale) → IsOffice o → Contains o.sales s → IsSaleRow o s
+sale_row o s office there = All-contains (IsSaleRow o) o.sales s office.sales there
+
+pub sale_number : (o : Office) (s : Sale) → IsOffice o → Contains o.sales s → s.number ≤ 10 ^ 9
+sale_number o s office there =
+    let within = number_within (λ (s : Sale). s.number) o.sales s office.sale_numbers there in
+    omega (arith, within.1, office.sale_count)
+
+pub sale_shift : (o : Office) (s : Sale) → IsOffice o → Contains o.sales s → s.shift ≤ 10 ^ 9
+sale_shift o s office there =
+    let row = sale_row o s office there in
+    omega (arith, row.shift.1, office.shift_count)
+
+pub meter_row : (o : Office) (number : List ℕ) → IsOffice o → IsSome (o.meters number) → IsMeterNo number
+meter_row o number office some =
+    let m = there_is (o.meters number) some in
+    (office.meters number m.0 m.1).numbered
+
+pub tariff_named : (o : Office) (name : List ℕ) → IsOffice o → IsSome (o.tariffs name) → IsName name
+tariff_named o name office some =
+    let steps = there_is (o.tariffs name) some in
+    (office.tariffs name steps.0 steps.1).named
+
+-- ---- shifts
+
+pub shift_row : (o : Office) (s : Shift) → IsOffice o → Contains o.shifts s → IsShiftRow s
+shift_row o s office there = All-contains IsShiftRow o.shifts s office.shifts there
+
+pub shift_number : (o : Office) (s : Shift) → IsOffice o → Contains o.shifts s → s.number ≤ 10 ^ 9
+shift_number o s office there =
+    let within = number_within (λ (s : Shift). s.number) o.shifts s office.shift_numbers there in
+    omega (arith, within.1, office.shift_count)
+
+-- ---- totals
+
+pub fewer : {A : Type 0} (p : A → Bool) (xs : List A) → length (filter p xs) ≤ length xs
+fewer p xs = omega (arith, length-filter_both p (λ x. not (p x)) (λ x. refl) xs)
+
+abbrev of_shift : ℕ → Sale → Bool
+of_shift n s = s.shift == n
+
+pub count_within : (o : Office) (number : ℕ) → IsOffice o → length (sales_of_shift o number) ≤ 10 ^ 9
+count_within o number office = omega (arith, fewer (of_shift number) o.sales, office.sale_count)
+
+pub tenths_within : ((t : ℕ) → IsRepresentable t → t ≤ greatest_amount) → (o : Office) (number : ℕ) → IsOffice o
+    → sum_by (λ s. s.tenths) (sales_of_shift o number) ≤ 10 ^ 17
+tenths_within greatest o number office =
+    let each : All (λ (s : Sale). s.tenths ≤ 18201624) (sales_of_shift o number) =
+    All-filter (of_shift number) (λ (s : Sale). s.tenths ≤ 18201624) o.sales
+    (All-weaker (IsSaleRow o) (λ s. s.tenths ≤ 18201624) (λ s row. greatest s.tenths row.tenths) o.sales office.sales) in
+    let sum = sum_by-le (λ (s : Sale). s.tenths) 18201624 (sales_of_shift o number) each in
+    let count = count_within o number office in
+    omega (arith, sum, count)
+
+pub cash_within : (o : Office) (number : ℕ) → IsOffice o → cash_of (sales_of_shift o number) ≤ 10 ^ 17
+cash_within o number office =
+    let each : All (λ (s : Sale). s.price ≤ 100000000) (sales_of_shift o number) =
+    All-filter (of_shift number) (λ (s : Sale). s.price ≤ 100000000) o.sales
+    (All-weaker (IsSaleRow o) (λ s. s.price ≤ 100000000) (λ s row. omega (arith, row.price, row.tender.1)) o.sales office.sales) in
+    let sum = sum_by-le (λ (s : Sale). s.price) 100000000 (sales_of_shift o number) each in
+    let count = count_within o number office in
+    omega (arith, sum, count)
+
+-- ---- what is found
+
+pub or_keeps : {A : Type 0} (P : A → Type 0) (a b : Option A) → IfSome a P → IfSome b P → IfSome (option_or a b) P
+or_keeps P None b h k = k
+or_keeps P (Some x) b h k = h
+
+pub found_stands : {A : Type 0} (p : A → Bool) (xs : List A) → IfSome (find p xs) (Contains xs)
+found_stands {A} p xs = by_found (find p xs) refl
+  where
+    by_found : (r : Option A) → find p xs ≡ r → IfSome r (Contains xs)
+    by_found None e = tt
+    by_found (Some x) e = (found p xs x e).0
