@@ -11,7 +11,7 @@ from pathlib import Path
 
 from client import Client, reprint
 from servers import Server
-from tables import how_busy, machine, put_into
+from tables import how_busy, machine, put_into, put_parts
 
 CHANGING = "moment", "tid", "token"  # of a sale, from one moment to the next
 
@@ -58,9 +58,9 @@ class Room:
             raise SystemExit(f"wrong: {ran}")
         return taken, ran.stdout
 
-    def serve(self, side, office):
+    def serve(self, side, office, connections=1):
         return Server([*side, "serve", "--file", str(office), "--listen", "127.0.0.1:0",
-                       "--connections", "1"])
+                       "--connections", str(connections)])
 
     @contextlib.contextmanager
     def clients(self, *servers):
@@ -122,5 +122,6 @@ def measure_in(options, marks, make_room):
         room.say(f"At the end: {how_busy(folder)}. The run took "
                  f"{time.monotonic() - begun:.0f} seconds.\n")
     if options.page:
-        put_into(options.page, marks, "\n".join(room.parts))
+        put = put_parts if getattr(options, "part", None) else put_into
+        put(options.page, marks, "\n".join(room.parts))
     return room

@@ -1,6 +1,7 @@
 """What a measurement prints: Markdown tables of ratios with the numbers behind them, and the
 machine that they come from."""
 import os
+import re
 import sqlite3
 import statistics
 import sys
@@ -53,3 +54,19 @@ def put_into(page, marks, text):
     if not last:
         raise SystemExit(f"{page} has no place for the tables, between {' and '.join(marks)}")
     page.write_text(f"{before}{first}\n\n{text}\n{last}{after}")
+
+
+def put_parts(page, marks, text):
+    """Puts tables into a page in the place of those with their titles, each with what is said of the run."""
+    before, first, rest = page.read_text().partition(marks[0])
+    held, last, after = rest.partition(marks[1])
+    begun, *parts = re.split(r"^(?=### )", text, flags=re.MULTILINE)
+    parts[-1], _, end = parts[-1].partition("At the end: ")
+    for part in parts:
+        title = re.escape(part.partition("\n")[0])
+        said = f"{part.rstrip()}\n\nA run of its own, {begun.strip()} At the end: {end.strip()}\n\n"
+        held, count = re.subn(rf"^{title}\n.*?(?=^### |^At the end: )", lambda _: said, held,
+                              flags=re.MULTILINE | re.DOTALL)
+        if count != 1:
+            raise SystemExit(f"{page} has no place for {title}")
+    page.write_text(f"{before}{first}{held}{last}{after}")

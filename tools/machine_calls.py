@@ -21,6 +21,7 @@ SALTS = 8
 IN_64_BITS = 2**64 - 1
 HAS = ["socket", "bind", "listen"]
 SELFCHECK = HAS + ["socket", "connect", "accept"]
+ASKS = ["socket", "connect"]
 TOKEN = "00072057602627981690"
 # More than the pieces after which the desk pauses for a client that sends little at a time.
 MANY = 600
@@ -167,6 +168,7 @@ def check_calls(folder, watcher):
         found = watcher.calls()
         if found != (opened, FIRST_SALT + 1 if opened & office else 0, sockets):
             raise SystemExit(f"wrong: {words} asked of the system {found}\nexpected {opened}, {sockets}")
+    check_asking(file, watcher, rows)
     with Served(watcher, file, 3) as served:
         for _ in range(3):
             served.ask("GET", "/sales/1")
@@ -174,6 +176,27 @@ def check_calls(folder, watcher):
     found = watcher.calls()
     if found != (office, FIRST_SALT + 1, HAS + ["accept"] * 3):
         raise SystemExit(f"wrong: serve asked of the system {found}")
+
+
+def check_asking(file, watcher, rows):
+    """A command that asks a desk has one connection, and opens no file but `import` its file of rows."""
+    csv = os.path.realpath(rows)
+    commands = (
+        ("sell", "--operator", "ann", "--ref", "D-1", "--meter", METER, "--tender", "10"),
+        ("shift", "--operator", "cat", "open"), ("base", "--meter", METER, "--base", "2014"),
+        ("report", "--kind", "sales"), ("report", "--kind", "shift"), ("show", "last", "--meter", METER),
+        ("quote", "--meter", METER, "10"), ("list", "meters"), ("import", "tariffs", rows))
+    with Desk(file, len(commands)) as desk:
+        for name, *words in commands:
+            expect(watcher.run([name, "--desk", f"127.0.0.1:{desk.port}", *words]), 0, err=b"")
+            found = watcher.calls()
+            if found != ({csv} & set(map(os.path.realpath, words)), 0, ASKS):
+                raise SystemExit(f"wrong: {name} --desk asked of the system {found}")
+        desk.used = len(commands)
+        desk.finish()
+    expect(watcher.run(["import", "--desk", "127.0.0.1:1", "tariffs", "none.csv"]), 1, b"", b"file\n")
+    if watcher.calls() != ({os.path.realpath(watcher.folder / "none.csv")}, 0, []):
+        raise SystemExit(f"wrong: without rows a command asked of the system {watcher.calls()}")
 
 
 def check_pauses(folder, watcher):

@@ -43,6 +43,7 @@ def claims():
     beside_c = cells(sale, "vend to C")
     sells = {row["Sales in the file"]: row for row in all_tables[commands]
              if row["Command"] == "one sale (`sell`)"}
+    at_desk = [[number(row[column]) for row in sells.values()] for column in ("vend --desk", "--desk to Python")]
     migrations = cells(older, "1 to 4, times as long")
     audits = [(int(row["Sales in the file"].replace(",", "")), number(row["audit, ms"]))
               for row in all_tables[audit]]
@@ -65,6 +66,8 @@ def claims():
     yield page, r"`sell`, 100,000 sales \((\S+) s against (\S+) ms\) \| (\S+) \|", \
         [number(sells["100000"]["vend"]) / 1000, number(sells["100000"]["Python"]),
          number(sells["100000"]["vend to Python"])]
+    yield page, r"`sell --desk`, 100 to 100,000 sales \| (\S+) to (\S+) \|", [min(at_desk[1]), max(at_desk[1])]
+    yield page, r"A command that asks it takes (\S+) ms", [max(at_desk[0])]
     yield page, r"export of 10,000 sales \| (\S+) \|", \
         cells(commands, "vend to Python", Command="the export of all sales (`report`)")
     yield page, r"import of 10,000 meters \| (\S+) \|", \
@@ -75,7 +78,8 @@ def claims():
         [number(most["format 1, MiB at most"]), number(most["format 4, MiB at most"])]
     per_sale = [ms * 1000 / count for count, ms in audits if count >= 10000]
     yield page, r"opening, (\d+) to (\d+) µs a sale", [min(per_sale), max(per_sale)]
-    yield "docs/FAQ.md", r"a `sell` takes (\S+) s\.", [number(sells["100000"]["vend"]) / 1000]
+    yield "docs/FAQ.md", r"a `sell` takes (\S+) s\. .*`sell --desk` takes (\S+) ms", \
+        [number(sells["100000"]["vend"]) / 1000, max(at_desk[0])]
     yield "CHANGELOG.md", r"takes (\S+) to (\S+) times as long as a later one", \
         [min(migrations), max(migrations)]
 

@@ -1,0 +1,271 @@
+"""Programs in the place of a desk that send what a desk does not send, or nothing, and what a command says of them: a part
+of tools/check_at_desk. It is no script of its own."""
+import contextlib
+import json
+import os
+import socket
+import subprocess
+import threading
+
+from clocked_desk import Ran, run
+from desk_client import STATUSES, fault, refusal, reply, row_refusal
+from lookups import in_json
+from many_sales import meter_of
+from program import METER, RECEIPT, TOP, VEND
+from servers import message_from
+from shared import numbers, quoted, rows_of_page, same, wrong
+
+NET = Ran(1, b"", b"net\n")
+SALE = {"base": 2014, "change": 0, "meter": METER, "moment": 1388534430, "number": 1, "operator": "ann", "price": 10,
+        "ref": "A-1", "shift": 1, "tender": 10, "tenths": 1, "tid": 2, "token": "00072057602627981690"}
+ROW = (b"number,moment,shift,operator,ref,meter,base,tid,tenths,price,tender,change,token\n"
+       b"1,1388534430,1,ann,A-1,12345678903,2014,2,1,10,10,0,00072057602627981690\n")
+TARIFFS = str(TOP / "examples" / "tariffs.csv")
+SELL = ("sell", "--operator", "ann", "--ref", "A-1", "--meter", METER, "--tender", "10")
+MOST_BODY = 2**26  # bytes of a body, at most
+MOST_MEMORY = 2**28  # bytes of memory that a command takes for it, at most
+PATIENCE = 10  # seconds
+
+
+class Pretender:
+    """What stands where a desk listens: it sends each client what it has, and closes the connection."""
+
+    def __init__(self, answer):
+        self.answer, self.asked = answer, []
+        self.server = socket.create_server(("127.0.0.1", 0), backlog=100)
+        self.address = f"127.0.0.1:{self.server.getsockname()[1]}"
+        self.thread = threading.Thread(target=self.serve, daemon=True)
+        self.thread.start()
+
+    def __enter__(self):
+        return self
+
+    def __exit__(self, *_):
+        # Closed beneath an accept that is about to begin, the socket's number could be the next one's by then.
+        self.server.shutdown(socket.SHUT_RDWR)
+        self.thread.join()
+        self.server.close()
+
+    def serve(self):
+        with contextlib.suppress(OSError):
+            while True:
+                client = self.server.accept()[0]
+                threading.Thread(target=self.talk, args=(client,), daemon=True).start()
+
+    def talk(self, client):
+        with client, contextlib.suppress(OSError):
+            if callable(self.answer):
+                self.answer(self, client)
+                return
+            self.asked.append(message_from(client))
+            client.sendall(self.answer)
+
+
+def asked_of(answer, name, *words):
+    """How a command ends that asks a program which answers so."""
+    with Pretender(answer) as it:
+        return run([name, "--desk", it.address, *words])
+
+
+def granted():
+    """Each kind of command with a body that a desk sends it, its media type, and what is printed then."""
+    totals = {"cash": 10, "sales": 1, "shift": 1, "tenths": 1}
+    meter = {"base": 2014, "meter": METER, "sale": None, "tariff": "flat", "tenths": 0}
+    quote = {"change": 5, "meter": METER, "price": 10, "tariff": "flat", "tender": 15, "tenths": 1}
+    page = {"meters": [{"base": 2014, "meter": METER, "tariff": "flat"}]}
+    json_type, text = "application/json", "text/plain"
+    return {
+        "import": (("import", "tariffs", TARIFFS), b'{"added":1}', json_type, b"added 1\n"),
+        "base": (("base", "--meter", METER, "--base", "2014"), b'{"done":true}', json_type, b"done\n"),
+        "shift": (("shift", "--operator", "ann", "open"), b'{"shift":1}', json_type, b"shift 1\n"),
+        "sell": (SELL, in_json(SALE), json_type, RECEIPT),
+        "show sale": (("show", "sale", "--operator", "ann", "--ref", "A-1"), in_json(SALE), json_type, ROW),
+        "receipt": (("report", "--kind", "receipt"), RECEIPT, text, RECEIPT),
+        "totals": (("report", "--kind", "totals"), in_json(totals), json_type, b"shift 1 sales 1 tenths 1 cash 10\n"),
+        "show meter": (("show", "meter", "--meter", METER), in_json(meter), json_type,
+                       b"meter\tbase\ttariff\ttenths\tsale\n12345678903\t2014\tflat\t0\t-\n"),
+        "quote": (("quote", "--meter", METER, "15"), in_json(quote), json_type, b"1 10 5\n"),
+        "list": (("list", "meters"), in_json(page), json_type, b"meter\tbase\ttariff\n12345678903\t2014\tflat\n"),
+    }
+
+
+def statuses_of():
+    """Each refusal that a desk sends, with the status of its reply: its number and name, or a row and its cause."""
+    status_of = {number: status for status, (_, said) in STATUSES.items()
+                 for number in numbers(said.partition("refusal")[2])}
+    lines = [line for cell, *_ in rows_of_page("COMMANDS.md", "Line", "Why", "What to do") for line in quoted(cell)]
+    named = [line.split() for line in lines if line.startswith("refused ") and line.split()[1].isdigit()]
+    causes = [cause for cell, _ in rows_of_page("COMMANDS.md", "Cause", "Why") for cause in quoted(cell)]
+    for _, number, name, *more in named:
+        if not more:
+            yield status_of[int(number)], refusal(int(number), name), f"refused {number} {name}\n"
+    for cause in causes:
+        cause = cause.replace("Field k", "Field 2")
+        yield status_of[14], row_refusal(10000, cause), f"refused 14 ImportRow 10000 {cause}\n"
+
+
+def check_told():
+    """What a desk grants and refuses is printed, each refusal under its status alone; and one command's reply is no
+    other's."""
+    kinds, count = granted(), 0
+    for name, (words, _, _, printed) in kinds.items():
+        for other, (_, body, media, _) in kinds.items():
+            alike = {name, other} == {"sell", "show sale"} or name == other
+            same(asked_of(reply(200, body, media), *words), Ran(0, printed, b"") if alike else NET,
+                 f"the reply to {other} after {name}")
+    refusals = [*statuses_of(), (503, fault("Clock"), "refused clock\n")]
+    for status, body, line in refusals:
+        for name, (words, *_) in kinds.items():
+            same(asked_of(reply(status, body), *words), Ran(1, b"", line.encode()), f"{name}: {line}")
+        for other in (200, 404, 409, 422, 503):
+            if other != status:
+                same(asked_of(reply(other, body), *SELL), NET, f"{line} under {other}")
+                count += 1
+    return len(kinds), len(refusals), count
+
+
+def spoilt_sales():
+    """Sales that no office has made, one value after another."""
+    values = {
+        "base": (2015, "2014", None), "change": (1, -1, 0.0, 4294967296), "meter": (METER[:-1] + "4", int(METER), ""),
+        "moment": (725846399, 4102444800, "1388534430"), "number": (-1, 2**32, 1.5), "operator": ("a" * 17, "a b", ""),
+        "price": (9, 11, 2**32), "ref": ("r" * 33, "A_1", ""), "shift": (-1, 2**32), "tender": (0, 100000001, 9, 11),
+        "tenths": (16385, 18201625), "tid": (-1, 2**32), "token": ("0" * 19, "0" * 21, "0" * 19 + "x"),
+    }
+    for name, others in values.items():
+        for value in others:
+            yield in_json({**SALE, name: value})
+        yield in_json({key: value for key, value in SALE.items() if key != name})
+    text = in_json(SALE)
+    yield from (b"", b"null", b"[]", b"{}", b"\0", b"\xff", text[:-1], text + b"}", b" " + text, text + b"\n")
+    yield from (text.replace(b",", b", "), text.replace(b'"number":1,', b'"number":01,'), json.dumps(SALE).encode())
+    yield json.dumps(dict(reversed(SALE.items())), separators=(",", ":")).encode()
+    yield in_json({**SALE, "more": 1})
+
+
+def spoilt_heads():
+    """Replies to a sale whose heads no desk writes."""
+    whole, body = reply(200, in_json(SALE)), in_json(SALE)
+    length = b"Content-Length: %d" % len(body)
+    for old, new in ((b"HTTP/1.1", b"HTTP/1.0"), (b"HTTP/1.1", b"HTTP/2"), (b"200 OK", b"200"), (b"200 OK", b"201 OK"),
+                     (b"200 OK", b"500 OK"), (b"OK", b"Okay"), (b"application/json", b"text/plain"),
+                     (b"Content-Type", b"content-type"), (length, b"Content-Length: 0%d" % len(body)),
+                     (length, b"Content-Length: -1"), (length, b"Content-Length: "), (length, b"Content-Length: x"),
+                     (length, length + b"\r\nConnection: close"), (length, length + b"\r\n" + length), (length, b"X: 1"),
+                     (length, b"Transfer-Encoding: chunked"), (b"\r\n", b"\n"), (length, b"Content-Length: 0"),
+                     (length, b"Content-Length: %d" % (MOST_BODY + 1)), (length, b"Content-Length: %d" % 2**63),
+                     (length, b"Content-Length: %d" % (2**64 + len(body))), (length, b"Content-Length: 99999999999999999999"),
+                     (length, b"Content-Length: %d" % (len(body) - 1)), (length, b"Content-Length: %d" % (len(body) + 1))):
+        yield whole.replace(old, new, 1)
+    yield from (whole[:cut] for cut in range(0, len(whole), 7))
+    yield from (b"\r\n" + whole, b"rubbish\n", b"\x16\x03\x01\x02\x00\x01\x00\x01\xfc\x03\x03", b"x" * 100000, b"\0" * 100)
+    yield from (reply(400, fault("Head"), closes=True), reply(413, fault("Body"), closes=True), reply(404, fault("NoRoute")),
+                reply(405, fault("Method"), allow="POST"), reply(422, fault("Body")), reply(501, fault("Method"), closes=True))
+
+
+def spoilt_refusals():
+    """Refusals that no office gives."""
+    for body in (refusal(1, "NoShift"), refusal(0, "RefReused"), refusal(20, "Other"), refusal(14, "ImportRow"),
+                 refusal("01", "RefReused"), refusal(1, ""), refusal(1, "refReused"), fault("RefReused"),
+                 refusal(1, "RefReused") + b" ", b'{"refusal":1,"error":"RefReused"}'):
+        yield reply(409, body)
+    for row, cause in ((1, "Other"), (1, "Field"), (1, "Field 0256"), (1, "Field 256"), (1, "Field x"), (-1, "Header"),
+                       (2**32, "Header"), ("01", "Header")):
+        yield reply(422, row_refusal(row, cause))
+
+
+def check_rubbish():
+    """Replies of another form: nothing is printed but that none came."""
+    texts = [*(reply(200, body) for body in spoilt_sales()), *spoilt_heads(), *spoilt_refusals()]
+    for text in texts:
+        same(asked_of(text, *SELL), NET, f"a reply of another form: {text[:300]}")
+    return len(texts)
+
+
+def endless(front, piece):
+    """A program that sends for ever, as long as somebody takes it."""
+    def answer(_, client):
+        message_from(client)
+        client.sendall(front)
+        while True:
+            client.sendall(piece)
+    return answer
+
+
+def measured(address, words):
+    """How a command ends, without its output, and how much memory it took at most."""
+    process = subprocess.Popen([VEND, words[0], "--desk", address, *words[1:]], stdin=subprocess.DEVNULL,
+                               stdout=subprocess.PIPE, stderr=subprocess.PIPE)
+    size = 0
+    while piece := process.stdout.read(1 << 20):
+        size += len(piece)
+    err = process.stderr.read()
+    _, status, used = os.wait4(process.pid, 0)
+    process.returncode = os.waitstatus_to_exitcode(status)
+    process.stdout.close()
+    process.stderr.close()
+    return process.returncode, size, err, used.ru_maxrss * 1024
+
+
+def check_endless():
+    """What never ends is not read for ever, nor kept whole."""
+    head = lambda length, media="application/json": reply(200, b"", media).replace(b"Length: 0", b"Length: %d" % length)
+    receipt = ("report", "--kind", "receipt")
+    rows = (
+        (b"", b"x" * 65536, SELL, (1, 0, b"net\n")),
+        (b"HTTP/1.1 200 OK\r\nX: ", b"x" * 65536, SELL, (1, 0, b"net\n")),
+        (head(2**63 - 1), b"x" * 65536, SELL, (1, 0, b"net\n")),
+        (head(MOST_BODY + 1, "text/plain"), b"x" * 65536, receipt, (1, 0, b"net\n")),
+        (head(MOST_BODY), b"x" * 65536, SELL, (1, 0, b"net\n")),
+        (head(MOST_BODY, "text/plain"), b"x" * 65536, receipt, (0, MOST_BODY, b"")))
+    for front, piece, words, wanted in rows:
+        with Pretender(endless(front, piece)) as it:
+            *found, memory = measured(it.address, words)
+        same(tuple(found), wanted, f"a desk that sends for ever behind {front}")
+        if memory > MOST_MEMORY:
+            wrong(f"behind {front} a command took {memory} bytes of memory")
+    return len(rows)
+
+
+def meters_page(first, count=100):
+    """A page of meters, and the lines that are printed of it."""
+    names = [meter_of(f"{number:010}") for number in range(first, first + count)]
+    page = {"meters": [{"base": 2014, "meter": name, "tariff": "flat"} for name in names]}
+    return reply(200, in_json(page)), "".join(f"{name}\t2014\tflat\n" for name in names).encode()
+
+
+def check_pages_of_rubbish():
+    """A list whose pages are those of a desk for a while: what came is printed, and then that no more did."""
+    whole = [meters_page(100 * number) for number in range(200)]
+    head = b"meter\tbase\ttariff\n"
+    few, _ = meters_page(0, 3)
+    spoilt = (b"", b"rubbish", few[:-1], few.replace(b"2014", b"2015", 1), few.replace(b'"flat"', b'"fl at"', 1),
+              few.replace(b"meters", b"shifts"), few.replace(b"}]", b"},]"), few.replace(b"},{", b"} {"),
+              meters_page(0, 101)[0], reply(503, refusal(1, "RefReused")))
+    rows = [(pages, end, b"net\n") for pages in (0, 1, 2) for end in spoilt]
+    rows += [(200, b"rubbish", b"net\n"), (1, reply(503, refusal(17, "Stopped")), b"refused 17 Stopped\n"),
+             (2, reply(503, fault("Clock")), b"refused clock\n")]
+    for pages, end, err in rows:
+        def answer(it, client):
+            for text in [text for text, _ in whole[:pages]] + [end]:
+                it.asked.append(message_from(client))
+                client.sendall(text)
+        with Pretender(answer) as it:
+            ran = run(["list", "--desk", it.address, "meters"])
+            lines = b"".join(printed for _, printed in whole[:pages])
+            same(ran, Ran(1, head * bool(pages) + lines, err), f"{pages} pages, and then {end[:200]}")
+            afters = [text.split()[1].partition(b"=")[2].decode() for text in it.asked]
+            same(len(set(afters)), pages + 1, f"what is asked for: {afters}")
+    return len(rows)
+
+
+def check_bad_desks():
+    """Programs that are no desk."""
+    with socket.create_server(("127.0.0.1", 0)) as server:
+        nobody = f"127.0.0.1:{server.getsockname()[1]}"
+    for words, *_ in granted().values():
+        same(run([words[0], "--desk", nobody, *words[1:]]), NET, "nobody listens")
+    kinds, refusals, others = check_told()
+    rubbish, ends, pages = check_rubbish(), check_endless(), check_pages_of_rubbish()
+    print(f"replies: of {kinds} kinds each is printed, {refusals} refusals too, each under its status alone; {rubbish} of "
+          f"another form, {ends} without an end and {pages} lists that break end with `net`")
