@@ -6,7 +6,7 @@ use Rattle.sqlite_resolve.specs.Compile.{table_defined_by}
 use Rattle.sqlite.specs.Effect.{IsDatabase}
 use Rattle.sqlite.specs.State.{HasCleanDisk, KeepsCommit, Shows, State, Survives}
 use Rattle.sqlite.proofs.StateLemmas.{survives_then}
-use Rattle.one_table.specs.Making.{AreDefined, MakesTable, MakesTables}
+use Rattle.one_table.specs.Making.{AreDefined, HasMadeBefore, MakesTable, MakesTables}
 use Rattle.one_table.specs.InTransaction.{IsUnderWay, KeepsTransaction}
 use Rattle.one_table.proofs.ChangeLemmas.{keeps_inside, keeps_then, stays_then}
 use Rattle.one_table.proofs.MakingLemmas.{makes_none, makes_more}
@@ -44,6 +44,10 @@ so_far texts old mid (inr some) is sound ts defined = some.tables sound ts defin
 so_far texts old mid (inl none) is sound ts defined =
     let empty : ts ≡ [] = zip_none (λ text t. table_defined_by text ≡ Ok t) ts (subst (λ l. AreDefined l ts) none.none defined) in
     subst₂ (λ l d. MakesTables l old.now d) (sym empty) (sym none.now_is) (makes_none old.now (sound (subst IsTrue none.is_open is)))
+
+-- the same, to tell of the next one
+pub made_before : (texts : List (List ℕ)) (old mid : State) → HasMadeSo texts old mid → Survives old mid (λ _. ⊥) → HasMadeBefore texts old mid
+made_before texts old mid made survives = record { survives = survives; tables = λ is sound ts defined. so_far texts old mid made is sound ts defined }
 
 shows_next : (texts : List (List ℕ)) (old mid new : State) → HasMadeSo texts old mid → Shows mid new new.now mid.committed true → Shows old new new.now old.committed true
 shows_next texts old mid new (inl none) q = record { was_open = subst IsTrue none.is_open q.was_open; is_open = q.is_open; now_is = refl; committed_is = q.committed_is ∙ none.committed; mode = q.mode }

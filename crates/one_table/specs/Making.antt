@@ -1,5 +1,5 @@
 -- CREATE TABLE, and what it makes of a database.
-use Rattle.std.specs.Prelude.{◌≡◌, ℕ, Bool, true, false, not, ◌&&◌, ◌==◌, ◌<◌, if◌then◌else◌, List, [], ◌∷◌, codes, length, fold, None, Ok, Err}
+use Rattle.std.specs.Prelude.{◌≡◌, ℕ, Bool, true, false, not, ◌&&◌, ◌==◌, ◌<◌, if◌then◌else◌, List, [], ◌∷◌, ◌++◌, codes, length, fold, IsTrue, None, Ok, Err}
 use Rattle.std.specs.List.{AllByRecursion, AllZip, list_all}
 use Rattle.sqlite_value.specs.declared.value.Value.TheVariants.{Null}
 use Rattle.sqlite_value.specs.declared.keys.Collation.TheVariants.{Binary}
@@ -15,6 +15,11 @@ use Rattle.sqlite_resolve.specs.Compile.{first, table_defined_by}
 use Rattle.sqlite_catalog.specs.Change.{created, is_used, next_tree, KeepsRows}
 use Rattle.sqlite.specs.Does.{lacks_sequence}
 use Rattle.sqlite.specs.Effect.{Database, IsDatabase}
+use Rattle.sqlite.specs.State.{State, Survives}
+use Rattle.sqlite.specs.declared.error.Error.{Error}
+use Rattle.sqlite_trees.specs.declared.store.Store.{Ghosts}
+use Rattle.one_table.specs.Committing.{HasBeen}
+use Rattle.one_table.specs.InTransaction.{FailsToRun}
 use Rattle.one_table.specs.Place.{Has}
 use Rattle.one_table.specs.Standing.{Stands, tree_in}
 use Rattle.one_table.specs.Referring.{is_among, is_unreferred, is_idle, is_harmless, is_left_alone}
@@ -116,3 +121,18 @@ pub record MakesTables (ts : List Table) (a b : Database) : Type 0 where
   pub alone : (tree : ℕ) → tree < next_tree a.schema → AreIdle ts
       → is_left_alone a.schema tree ≡ true → is_left_alone b.schema tree ≡ true
   pub sound : IsDatabase b
+
+-- ---- why the tables are not made
+
+-- no fault is forgotten, and the tables of these texts are there, where the database was sound
+pub record HasMadeBefore (texts : List (List ℕ)) (old mid : State) : Type 0 where
+  pub survives : Survives old mid (λ _. ⊥)
+  pub tables : IsTrue mid.is_open → (IsTrue old.is_open → IsDatabase old.now)
+      → (ts : List Table) → AreDefined texts ts → MakesTables ts old.now mid.now
+
+-- the tables of some texts, or of none, were made, and the text after them fails on what they left
+abbrev pub FailsToMake : {S : Type 0} → Ghosts S → List (List ℕ) → State → State → Error → Type 0
+FailsToMake g texts old new e =
+    (before : List (List ℕ)) × (text : List ℕ) × (after : List (List ℕ))
+    × (before ++ text ∷ after ≡ texts)
+    × HasBeen g (λ mid. HasMadeBefore before old mid × FailsToRun text [] mid new e)

@@ -1,13 +1,13 @@
 //! CREATE TABLE inside a transaction: what it makes, and what it leaves as it was.
-ghost use Rattle.std.specs.Prelude.{◌≡◌, ◌<◌, ◌⊎◌, true, List, Ok, OnOk, OnErr, IsTrue, map, length};
+ghost use Rattle.std.specs.Prelude.{◌≡◌, ◌<◌, ◌⊎◌, true, List, [], Ok, IfErr, OnOk, OnErr, IsTrue, map, length};
 ghost use Rattle.std.specs.List.{list_all};
 ghost use Rattle.sqlite.specs.Effect.{IsDatabase};
 ghost use Rattle.one_table.specs.Over.{Inside};
 ghost use Rattle.sqlite.specs.State.{HasCleanDisk};
 ghost use Rattle.sqlite_resolve.specs.Compile.{table_defined_by};
 ghost use Rattle.sqlite_schema.specs.declared.schema.Table.{Table};
-ghost use Rattle.one_table.specs.InTransaction.{KeepsTransaction, StaysInside};
-ghost use Rattle.one_table.specs.Making.{is_creation, AreDefined, MakesTable, MakesTables};
+ghost use Rattle.one_table.specs.InTransaction.{FailsToRun, KeepsTransaction, StaysInside};
+ghost use Rattle.one_table.specs.Making.{is_creation, AreDefined, FailsToMake, MakesTable, MakesTables};
 
 use crate::writing::run;
 use sqlite::{Alter, Error, Transaction};
@@ -21,6 +21,8 @@ fn create_table<S: Alter>(tx: &mut Transaction<'_, S>, text: &str) -> Result<(),
     ensures inside { Inside S.Store tx (λ old new. HasCleanDisk new
         → OnOk result (StaysInside old new)) }
     ensures transaction { Inside S.Store tx (λ old new. KeepsTransaction old new result) }
+    ensures refused { Inside S.Store tx (λ old new. HasCleanDisk new
+        → IfErr result (FailsToRun text.now [] old new)) }
 {
     run(tx, text, &[])
 }
@@ -42,6 +44,8 @@ pub fn create_tables<S: Alter>(tx: &mut Transaction<'_, S>, texts: &[&str]) -> R
     ensures inside { Inside S.Store tx (λ old new. HasCleanDisk new
         → OnOk result (StaysInside old new)) }
     ensures transaction { Inside S.Store tx (λ old new. KeepsTransaction old new result) }
+    ensures refused { Inside S.Store tx (λ old new. HasCleanDisk new
+        → IfErr result (FailsToMake S.Store (map (λ t. t.now) texts.now) old new)) }
 {
     'texts: for text in texts {
         create_table(tx, text)?;
