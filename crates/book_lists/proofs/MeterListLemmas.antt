@@ -18,7 +18,7 @@ use Rattle.book_tables.specs.Tables.{meters_table}
 use Rattle.book_tables.specs.declared.reading.pages.MeterRow.{MeterRow}
 use Rattle.book_tables.proofs.ListLemmas.{contains_map, map_source}
 use Rattle.book_tables.proofs.ReadingLemmas.ListingLemmas.{Lists}
-use Rattle.book_tables.proofs.ReadingLemmas.PagingLemmas.{all_meters, keeps_row, shown_row}
+use Rattle.book_tables.proofs.ReadingLemmas.MeterLemmas.{keeps_row, one_shown_row, shown_row}
 use Rattle.book_tables.proofs.RowLemmas.ValueLemmas.{meters_keep}
 use Rattle.book_tables.proofs.WritingLemmas.BaseTexts.{all_meters_names}
 use Rattle.book_lists.specs.Pages.{AreFirstAfter, page_size}
@@ -55,7 +55,7 @@ module _ (after : List ℕ) where
     names = all_meters_names;
     asks = meters_after_asks after page_size;
     stands = λ s has. has.0.has;
-    one = all_meters.one;
+    one = one_shown_row;
     kept = λ rows of_office found are. All-weaker (StandsIn rows) keeps_row (row_keeps rows of_office) found are.0;
     answers = λ db rows held of_office answer is.
         let page = page_by_text number_in after {xs = rows.meters} {show = λ m. shown_row (meter_row m)} (record { holds_them = held.1.1.0; some = λ r none. cc; passes = λ hidden r. last_term (at_texts false Gt r.0 after); shows = λ hidden r. refl })

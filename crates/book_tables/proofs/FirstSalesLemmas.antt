@@ -1,6 +1,5 @@
--- The first of a list, and the totals of an office's sales.
-use Rattle.std.proofs.Common.{◌≡◌, ◌≤◌, ℕ, zero, suc, List, [], ◌∷◌, ◌++◌, length, map, take, max, unwrap_or, slice_get, Option, Some, refl, sym, ap, subst, ◌∙◌, arith}
-use Rattle.std.proofs.lemmas.List.{take_all}
+-- The totals of an office's sales.
+use Rattle.std.proofs.Common.{◌≡◌, ◌≤◌, ℕ, List, [], ◌∷◌, ◌++◌, length, map, max, unwrap_or, Option, Some, refl, ap, ◌∙◌, arith}
 use Rattle.std.proofs.lemmas.List.Elements.{All-weaker}
 use Rattle.std.proofs.lemmas.List.Sums.{sum_by-le}
 use Rattle.sts_fields.specs.Amount.{IsRepresentable}
@@ -8,32 +7,19 @@ use Rattle.sts_fields.specs.declared.base.Base.{Base}
 use Rattle.vend_core.specs.Office.Lookup.{greatest_of}
 use Rattle.vend_core.specs.Office.{IsOffice, IsSaleRow, Office, greatest_count}
 use Rattle.vend_core.specs.declared.office.sale.Sale.{Sale}
-use Rattle.book_tables.specs.reading.Reading.{AreOfOffice}
-use Rattle.book_tables.specs.row.Rows.{Rows}
 use Rattle.book_tables.specs.Stands.{sales_under}
 use Rattle.book_tables.specs.writing.Writing.{AreWithinTotals, is_under}
 use Rattle.book_tables.proofs.SalesOfLemmas.{kept_last, tells_under}
 
--- ---- the first of a list
-
-pub slice_first : {X : Type 0} (n : ℕ) (xs : List X) (i : ℕ) (x : X) → slice_get (take n xs) i ≡ Some x → slice_get xs i ≡ Some x
-slice_first n [] i x at = subst (λ l. slice_get l i ≡ Some x) (take_all n [] (omega arith)) at
-slice_first zero (y ∷ ys) i x at = cc
-slice_first (suc n) (y ∷ ys) zero x at = at
-slice_first (suc n) (y ∷ ys) (suc i) x at = slice_first n ys i x at
-
 -- ---- their sums
 
 -- so few sales of what a token can carry and of a tender at the most add up to no more
-office_within : ((t : ℕ) → IsRepresentable t → t ≤ 18201624) → (o : Office) → IsOffice o → AreWithinTotals o.sales
+pub office_within : ((t : ℕ) → IsRepresentable t → t ≤ 18201624) → (o : Office) → IsOffice o → AreWithinTotals o.sales
 office_within greatest o office =
     let tenths = sum_by-le (λ (t : Sale). t.tenths) 18201624 o.sales (All-weaker (IsSaleRow o) (λ t. t.tenths ≤ 18201624) (λ t row. greatest t.tenths row.tenths) o.sales office.sales) in
     let cash = sum_by-le (λ (t : Sale). t.price) 100000000 o.sales (All-weaker (IsSaleRow o) (λ t. t.price ≤ 100000000) (λ t row. omega (arith, row.price, row.tender.1)) o.sales office.sales) in
     let count : length o.sales ≤ greatest_count = office.sale_count in
     (omega (arith, count), omega (arith, tenths, count), omega (arith, cash, count))
-
-pub rows_within : ((t : ℕ) → IsRepresentable t → t ≤ 18201624) → (full : Rows) → AreOfOffice full → AreWithinTotals full.sales
-rows_within greatest full (o, office, are) = subst AreWithinTotals (sym are.sales) (office_within greatest o office)
 
 -- ---- their greatest identifier
 

@@ -3,8 +3,6 @@ pub mod BringingLemmas
 pub mod FillingBasesLemmas
 pub mod FillingLemmas
 pub mod GatheringLemmas
-pub mod LookLemmas
-pub mod LookingLemmas
 pub mod MakingLemmas
 pub mod NumberLemmas
 pub mod RecognisingLemmas

@@ -1,8 +1,9 @@
 -- Lists of rows that differ in pairs: what stands in them, and what passes a test.
-use Rattle.std.proofs.Common.{◌≡◌, suc, ◌-◌, ◌<◌, ◌⊎◌, inl, inr, Bool, true, false, cond, List, [], ◌∷◌, ◌++◌, length, get_or, Some, refl, sym, ◌∙◌, ap, subst, arith}
+use Rattle.std.proofs.Common.{◌≡◌, ℕ, zero, suc, ◌+◌, ◌-◌, ◌≤◌, ◌<◌, ◌⊎◌, inl, inr, Bool, true, false, cond, List, [], ◌∷◌, ◌++◌, drop, length, get_or, nat_lt, slice_get, Some, refl, sym, ◌∙◌, ap, subst, arith}
 use Rattle.std.specs.Prelude.{AllPairs, Contains, filter, find, map}
 use Rattle.std.specs.Option.{option_to_list}
-use Rattle.std.proofs.lemmas.Bool.{cases_lt, false≢true}
+use Rattle.std.proofs.lemmas.Bool.{cases_lt, false≢true, le-ltb, lt-ltb}
+use Rattle.vend_core.specs.Office.{AreNumbered}
 use Rattle.std.proofs.lemmas.List.{get_or-map, get_or_append_left, get_or-append_right, length-append, length-map}
 use Rattle.std.proofs.lemmas.List.Elements.{Contains-append_cases, Contains-append_left, Contains-append_right, Contains-get_or, Contains-push, Contains-push_cases}
 
@@ -145,3 +146,30 @@ first_is_all p (x ∷ xs) pairs = first_here p x xs (p x) refl pairs (first_is_a
 
 pub pairs_weaker : {X : Type 0} (R S : X → X → Type 0) (xs : List X) → ((a b : X) → R a b → S a b) → AllPairs R xs → AllPairs S xs
 pairs_weaker R S xs weaker pairs i j d before within = weaker (get_or xs i d) (get_or xs j d) (pairs i j d before within)
+
+-- ---- those after a number, in a list that is numbered from 1
+
+module _ {X : Type 0} (number : X → ℕ) where
+  abbrev AreFrom : ℕ → List X → Type 0
+  AreFrom first xs = (i : ℕ) (x : X) → slice_get xs i ≡ Some x → number x ≡ i + suc first
+
+  further : (first : ℕ) (x : X) (xs : List X) → AreFrom first (x ∷ xs) → AreFrom (suc first) xs
+  further first x xs are i y at = omega (arith, are (suc i) y at)
+
+  passes : (d : ℕ) (x : X) → d < number x → nat_lt d (number x) ≡ true
+  passes d x above = lt-ltb d (number x) above
+
+  all_after : (d first : ℕ) (xs : List X) → d ≤ first → AreFrom first xs → filter (λ x. nat_lt d (number x)) xs ≡ xs
+  all_after d first [] below are = refl
+  all_after d first (x ∷ xs) below are =
+      rw (passes d x (omega (arith, are 0 x refl)), all_after d (suc first) xs (omega arith) (further first x xs are)) refl
+
+  after_from : (k d first : ℕ) (xs : List X) → d ≡ k + first → AreFrom first xs → filter (λ x. nat_lt d (number x)) xs ≡ drop k xs
+  after_from zero d first xs is are = all_after d first xs (omega arith) are
+  after_from (suc k) d first [] is are = refl
+  after_from (suc k) d first (x ∷ xs) is are =
+      rw (le-ltb d (number x) (omega (arith, are 0 x refl))) (after_from k d (suc first) xs (omega arith) (further first x xs are))
+
+  -- those after a number are the rest of the list
+  pub after_numbered : (d : ℕ) (xs : List X) → AreNumbered number xs → filter (λ x. nat_lt d (number x)) xs ≡ drop d xs
+  after_numbered d xs are = after_from d d 0 xs (omega arith) (λ i x at. are i x at)

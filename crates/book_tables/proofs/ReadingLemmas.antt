@@ -10,7 +10,6 @@ pub mod LatestLemmas
 pub mod ListingLemmas
 pub mod MeterLemmas
 pub mod OneRowTexts
-pub mod PagingLemmas
 pub mod ReadLemmas
 pub mod SaleLemmas
 pub mod SaleListLemmas

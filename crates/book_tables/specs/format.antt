@@ -1,4 +1,3 @@
 pub mod Filling
 pub mod Format
-pub mod Looking
 pub mod Making

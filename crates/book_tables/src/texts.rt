@@ -117,13 +117,6 @@ pub(crate) const SALES_AFTER: &str = select_sale!(
     " FROM sales WHERE number > ?1 ORDER BY number LIMIT ?2"
 );
 
-// The same with the month.
-pub(crate) const BOOKED_SALES_AFTER: &str = select_sale!(
-    ", month FROM sales WHERE number > ?1 ORDER BY number LIMIT ?2"
-);
-
-pub(crate) const FIRST_SALE_NUMBER: &str = "SELECT number FROM sales ORDER BY number LIMIT 1";
-
 // No index serves it: it walks all sales.
 pub(crate) const SALES_OF_SHIFT: &str = select_sale!(
     " FROM sales WHERE shift = ?1 ORDER BY number"
@@ -145,8 +138,6 @@ pub(crate) const NEW_DATED_STEP: &str =
 pub(crate) const NEW_BASE: &str = "INSERT INTO meter_bases (meter, base) VALUES (?1, ?2)";
 
 pub(crate) const BASE_SET: &str = "UPDATE meters SET base = ?2 WHERE meter = ?1";
-
-pub(crate) const ALL_METERS: &str = "SELECT meter, base, tariff, secret FROM meters";
 
 pub(crate) const MONTH_TENTHS: &str =
     "SELECT tenths FROM month_tenths WHERE meter = ?1 AND month = ?2";

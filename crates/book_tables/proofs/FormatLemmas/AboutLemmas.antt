@@ -1,12 +1,11 @@
 -- What `about` tells, whatever the rows of the other tables are.
-use Rattle.std.proofs.Common.{◌≡◌, ℕ, zero, suc, nat_le, true, false, List, [], ◌∷◌, codes, bytes_eq, arith, refl, ap, ◌∙◌, inl}
+use Rattle.std.proofs.Common.{◌≡◌, ℕ, zero, suc, false, List, [], ◌∷◌, codes, bytes_eq, arith, refl, ap, ◌∙◌, inl}
 use Rattle.std.specs.List.{AllByRecursion}
 use Rattle.std.proofs.lemmas.Bool.{le-leb}
 use Rattle.sqlite.specs.Effect.{Database}
 use Rattle.sqlite.specs.State.{State}
 use Rattle.sqlite_schema.specs.declared.schema.Schema.{Schema}
 use Rattle.sqlite_schema.specs.declared.schema.Table.{Table}
-use Rattle.sqlite_rules.specs.Lists.{Has as Member}
 use Rattle.one_table.specs.Making.{MakesTables}
 use Rattle.one_table.specs.Standing.{tree_in}
 use Rattle.book_tables.specs.format.Format.{TellsFormat}
@@ -23,34 +22,24 @@ pub told_made : (n : ℕ) (a b : Database) → HasOfficeOf n a.schema → MakesT
 told_made zero a b had m told = m.new.0.1
 told_made (suc n) a b had m told = (m.still about_kept.table (of_upto (IsKept a.schema) (suc n) about_kept kept (inl refl) (le-leb 1 (suc n) (omega arith)) had.tables).0).2 ∙ told
 
--- a table that came up to the format has its rows as they were
-pub left_made : (n : ℕ) (a b : Database) → HasOfficeOf n a.schema → MakesTables (kept_tables (later n)) a b → (k : Kept) → Member kept k → nat_le k.since n ≡ true → rows_in b k.table.name ≡ rows_in a k.table.name
-left_made n a b had m k there came = (m.still k.table (of_upto (IsKept a.schema) n k kept there came had.tables).0).2
-
--- a table of the office that is not this one
-abbrev pub IsAnotherThan : Kept → Kept → Type 0
-IsAnotherThan k u = IsInOffice u × (bytes_eq k.table.name u.table.name ≡ false)
-
+-- a table of the office that is not `about`
 abbrev pub IsAnother : Kept → Type 0
-IsAnother = IsAnotherThan about_kept
+IsAnother u = IsInOffice u × (bytes_eq about_kept.table.name u.table.name ≡ false)
 
 -- a write of others leaves it
-module _ (k : Kept) (in_office : IsInOffice k) (old new : State) (has : HasOffice old.now.schema) where
+module _ (old new : State) (has : HasOffice old.now.schema) where
   abbrev its_tree : ℕ
-  its_tree = tree_in old.now.schema k.table.name
+  its_tree = tree_in old.now.schema (codes "about")
 
-  none_of : (us : List Kept) → AllByRecursion (IsAnotherThan k) us → IsOfNone old.now.schema (kept_names us) its_tree
+  none_of : (us : List Kept) → AllByRecursion IsAnother us → IsOfNone old.now.schema (kept_names us) its_tree
   none_of [] others = tt
   none_of (u ∷ us) others = (
-    trees_differ old.now.schema k.table u.table (in_office.there old.now.schema has).0 (others.0.0.there old.now.schema has).0 (names_differ _ _ others.0.1),
+    trees_differ old.now.schema about_kept.table u.table (about_in.there old.now.schema has).0 (others.0.0.there old.now.schema has).0 (names_differ _ _ others.0.1),
     none_of us others.1,
   )
 
-  pub rows_left : (us : List Kept) → AllByRecursion (IsAnotherThan k) us → WritesOnly (kept_names us) old new → rows_in new.now k.table.name ≡ rows_in old.now k.table.name
-  rows_left us others only =
-      let there = (in_office.there old.now.schema has).0.has.listed in
-      ap (λ (s : Schema). new.now.trees (tree_in s k.table.name)) only.schema
-      ∙ listed_holds (λ (u : Table). IsOfNone old.now.schema (kept_names us) u.tree → new.now.trees u.tree ≡ old.now.trees u.tree) old.now.schema.tables _ (record k.table { tree = its_tree }) there only.tables (none_of us others)
-
-pub told_left : (old new : State) → HasOffice old.now.schema → (ks : List Kept) → AllByRecursion IsAnother ks → WritesOnly (kept_names ks) old new → rows_in new.now (codes "about") ≡ rows_in old.now (codes "about")
-told_left = rows_left about_kept about_in
+  pub told_left : (us : List Kept) → AllByRecursion IsAnother us → WritesOnly (kept_names us) old new → rows_in new.now (codes "about") ≡ rows_in old.now (codes "about")
+  told_left us others only =
+      let there = (about_in.there old.now.schema has).0.has.listed in
+      ap (λ (s : Schema). new.now.trees (tree_in s (codes "about"))) only.schema
+      ∙ listed_holds (λ (u : Table). IsOfNone old.now.schema (kept_names us) u.tree → new.now.trees u.tree ≡ old.now.trees u.tree) old.now.schema.tables _ (record about_kept.table { tree = its_tree }) there only.tables (none_of us others)

@@ -1,60 +1,48 @@
--- The tables of an older format are brought up to the present one, step after step: the same
--- office.
-use Rattle.std.proofs.Common.{◌≡◌, ◌≢◌, ◌≤◌, ◌↔◌, ◌∙◌, ℕ, Bool, false, List, [], ◌∷◌, codes, nat_le, refl, sym, subst, inl, inr, arith, IsPermutation, Result, Ok, Err, IfErr}
+-- The tables of an older format are brought up to the present one: the same office.
+use Rattle.std.proofs.Common.{◌≡◌, ◌≢◌, ◌<◌, ◌↔◌, ◌∙◌, ℕ, true, List, [], ◌∷◌, codes, map, zero, suc, refl, sym, subst, inr, arith, Result, Ok, Err, IfErr, IsErrAnd, OnOk}
 use Rattle.std.specs.Prelude.{AllPairs, Contains}
 use Rattle.std.specs.List.{AllByRecursion}
-use Rattle.std.proofs.lemmas.Bool.{false≢true}
-use Rattle.std.proofs.lemmas.List.Sorted.{Contains-permutation, IsPermutation-refl, IsPermutation-sym}
-use Rattle.std.proofs.lemmas.Map.Keys.{IsDistinct-IsPermutation}
-use Rattle.std.proofs.lemmas.Map.Made.{AllPairs-from_IsDistinct, IsDistinct-from_AllPairs}
-use Rattle.sqlite.specs.Effect.{Database, IsDatabase}
-use Rattle.sqlite.specs.State.{IsUnchanged, State}
-use Rattle.sqlite_rules.specs.Lists.{Has as Member}
+use Rattle.sqlite.specs.State.{HasCleanDisk, State, Survives}
+use Rattle.sqlite.proofs.StateLemmas.{survives_then}
+use Rattle.sqlite_trees.specs.declared.store.Store.{Ghosts}
 use Rattle.sts_fields.specs.declared.base.Base.{Base}
-use Rattle.vend_core.specs.Office.{IsOffice, Office}
-use Rattle.one_table.specs.InTransaction.{StaysInside}
-use Rattle.one_table.proofs.ChangeLemmas.{stays_then}
-use Rattle.book_tables.specs.format.Filling.{AwaitsBases, FillsBases, FillsTotals, HasTotalsUpto}
-use Rattle.book_tables.specs.format.Format.{HasFormat, TellsFormat}
-use Rattle.book_tables.specs.Holds.{HasOffice, HasOfficeOf, HoldsMembers, HoldsOf, StandsFor, rows_in}
-use Rattle.book_tables.specs.Kept.{Kept, about_kept, bases_kept, kept, kept_names, last_ids_kept, meters_kept, month_tenths_kept, shift_totals_kept}
-use Rattle.book_tables.specs.format.Looking.{ShowMeters, ShowSales, ShowsRows, ShowsRowsOf}
-use Rattle.book_tables.specs.format.Making.{BringsInside, MakesMissing, TellsOf, TellsPresent, rows_upto}
-use Rattle.book_tables.specs.row.Rows.{DatedStepRow, Rows, present_format}
-use Rattle.book_tables.specs.Stands.{AreDatedApart, AreMembersOf, AreTotalsOf, HasDatedStep}
-use Rattle.book_tables.specs.writing.Writing.{WritesOnly, is_under, totals_names, with_totals_of}
+use Rattle.vend_core.specs.Office.{IsOffice, Office, empty_office}
+use Rattle.vend_core.specs.declared.office.sale.Sale.{Sale}
+use Rattle.one_table.specs.InTransaction.{KeepsTransaction, StaysInside}
+use Rattle.one_table.proofs.ChangeLemmas.{if_err, keeps_inside, keeps_then, on_ok, stays_then}
+use Rattle.book_tables.specs.format.Filling.{AreHanded, Fills, FillsBases, FillsTotals, IsReady, base_row}
+use Rattle.book_tables.specs.Holds.{HasOffice, HoldsMembers, HoldsOf, rows_in}
+use Rattle.book_tables.specs.format.Format.{HasFormat}
+use Rattle.book_tables.specs.Kept.{Kept, about_kept, bases_kept, kept_names, last_ids_kept, later, month_tenths_kept, shift_totals_kept}
+use Rattle.book_tables.specs.format.Making.{BringsInside, BringsTables, FailsToBring, FillsMissing, HandsOver, IsSoundOfFormat, MakesMissing, TellsPresent, rows_upto}
+use Rattle.book_tables.specs.row.Rows.{DatedStepRow, Rows, about_rows, present_format}
+use Rattle.book_tables.specs.Stands.{AreDatedApart, AreMembersOf, AreTotalsOf, HasDatedStep, IsOfFormat}
+use Rattle.book_tables.specs.writing.Edited.{no_rows}
+use Rattle.book_tables.specs.writing.Failing.{FailsToWriteAll}
+use Rattle.book_tables.specs.writing.Writing.{WritesOnly, WritesTables, totals_names, with_totals_of}
 use Rattle.book_tables.specs.declared.error.TableError.{TableError}
-use Rattle.book_tables.specs.declared.error.TableError.TheVariants as fails
-use Rattle.book_tables.proofs.FormatLemmas.AboutLemmas.{IsAnother, IsAnotherThan, rows_left, told_left}
+use Rattle.book_tables.specs.declared.error.TableError.TheVariants.{Database as Failed, RowOfNoOffice}
+use Rattle.book_tables.specs.declared.reading.pages.MeterRow.{MeterRow}
+use Rattle.book_tables.proofs.FormatLemmas.AboutLemmas.{IsAnother, told_left}
+use Rattle.book_tables.proofs.FormatLemmas.FillingBasesLemmas.{bases_are, bases_once}
+use Rattle.book_tables.proofs.FormatLemmas.FillingLemmas.{fills_off, fills_then, fills_write, nothing_written}
+use Rattle.book_tables.proofs.FormatLemmas.MakingLemmas.{missing_may, still_beside}
+use Rattle.book_tables.proofs.WritingLemmas.CauseLemmas.{Came, came_inside, of_later}
 use Rattle.book_tables.proofs.WritingLemmas.EditLemmas.{no_members}
 use Rattle.book_tables.proofs.HoldsLemmas.{held_as}
-use Rattle.book_tables.proofs.FormatLemmas.MakingLemmas.{MayChange, about_may, still_beside}
-use Rattle.book_tables.proofs.OfficeTableLemmas.{bases_in, last_ids_in, meters_in, month_tenths_in, shift_totals_in}
+use Rattle.book_tables.proofs.OfficeTableLemmas.{bases_in, last_ids_in, month_tenths_in, shift_totals_in}
 use Rattle.book_tables.proofs.WritingLemmas.OnlyLemmas.{AreAmong, only_among, only_both}
-use Rattle.book_tables.proofs.SalesOfLemmas.{same_test, tells_under}
 
 -- ---- the office's members
 
--- pairs of a number and a base that differ, in any order
-bases_apart : (xs ys : List (List ℕ × Base)) → IsPermutation xs ys → AllPairs (λ a b. a ≢ b) xs → AllPairs (λ a b. a ≢ b) ys
-bases_apart xs ys same apart =
-    let eq : List ℕ × Base → List ℕ × Base → Bool = λ a b. is_under b a in
-    let flips = λ (a b : List ℕ × Base). same_test (is_under b a) (is_under a b) (λ is. (tells_under a b).1 (sym ((tells_under b a).0 is))) (λ is. (tells_under b a).1 (sym ((tells_under a b).0 is))) in
-    let decides = λ (a b : List ℕ × Base). tells_under b a in
-    AllPairs-from_IsDistinct decides ys (IsDistinct-IsPermutation eq flips xs ys same (IsDistinct-from_AllPairs decides xs apart))
-
--- where its totals are made anew, its bases stand in another order, and there are no steps of later
--- days
-members_brought : (rows totals : Rows) (bases : List (List ℕ × Base)) (o : Office) → AreMembersOf rows o → rows.dated_steps ≡ [] → IsPermutation rows.bases bases → AreTotalsOf o.sales totals
-    → AreMembersOf (record (with_totals_of totals rows) { bases = bases; dated_steps = [] }) o
-members_brought rows totals bases o are none same they = record {
+-- where its totals are made anew, its bases are listed anew, and there are no steps of later days
+members_brought : (rows totals : Rows) (bases : List (List ℕ × Base)) (o : Office) → AreMembersOf rows o → rows.dated_steps ≡ [] → ((number : List ℕ) (base : Base) → (o.bases number base ≡ true) ↔ Contains bases (number, base))
+    → AllPairs (λ a b. a ≢ b) bases → AreTotalsOf o.sales totals → AreMembersOf (record (with_totals_of totals rows) { bases = bases; dated_steps = [] }) o
+members_brought rows totals bases o are none has once they = record {
   tariffs = are.tariffs;
   steps = are.steps;
   meters = are.meters;
-  bases = λ number base. (
-    λ has. Contains-permutation rows.bases bases (number, base) same ((are.bases number base).0 has),
-    λ there. (are.bases number base).1 (Contains-permutation bases rows.bases (number, base) (IsPermutation-sym rows.bases bases same) there),
-  );
+  bases = has;
   dated_steps = λ r. subst (λ (l : List DatedStepRow). HasDatedStep o r ↔ Contains l r) none (are.dated_steps r);
   shifts = are.shifts;
   sales = are.sales;
@@ -62,152 +50,164 @@ members_brought rows totals bases o are none same they = record {
   tariffs_once = are.tariffs_once;
   steps_once = are.steps_once;
   meters_once = are.meters_once;
-  bases_once = bases_apart rows.bases bases same are.bases_once;
+  bases_once = once;
   dated_once = subst (AllPairs AreDatedApart) none are.dated_once;
 }
 
--- ---- what is left
+-- ---- what is filled, by the format
 
--- the tables that get rows, by the format that they had
-abbrev from_third : List Kept
-from_third = about_kept ∷ []
+totals_among : AreAmong totals_names (kept_names (later 1))
+totals_among s tree none = (none.0, (none.1.0, (none.1.1.0, tt)))
 
-abbrev from_second : List Kept
-from_second = about_kept ∷ bases_kept ∷ []
+bases_after_first : AreAmong (codes "meter_bases" ∷ []) (kept_names (later 1))
+bases_after_first s tree none = (none.1.1.1.0, tt)
 
-abbrev pub totals_kept : List Kept
-totals_kept = last_ids_kept ∷ month_tenths_kept ∷ shift_totals_kept ∷ []
+bases_after_second : AreAmong (codes "meter_bases" ∷ []) (kept_names (later 2))
+bases_after_second s tree none = (none.0, tt)
 
-abbrev from_first : List Kept
-from_first = about_kept ∷ bases_kept ∷ totals_kept
-
--- a table that came after the format
-later_may : (n : ℕ) (k : Kept) → Member kept k → nat_le k.since n ≡ false → MayChange n k
-later_may n k there later = (there, λ came. absurd (false≢true (sym later ∙ came)))
-
-bases_listed : Member kept bases_kept
-bases_listed = inr (inr (inr (inr (inr (inr (inr (inr (inr (inl refl)))))))))
-
-second_may : AllByRecursion (MayChange 2) from_second
-second_may = (about_may 2, (later_may 2 bases_kept bases_listed refl, tt))
-
-first_may : AllByRecursion (MayChange 1) from_first
-first_may = (
-  about_may 1,
-  (
-    later_may 1 bases_kept bases_listed refl,
-    (
-      later_may 1 last_ids_kept (inr (inr (inr (inr (inr (inr (inl refl))))))) refl,
-      (later_may 1 month_tenths_kept (inr (inr (inr (inr (inr (inr (inr (inl refl)))))))) refl, (later_may 1 shift_totals_kept (inr (inr (inr (inr (inr (inr (inr (inr (inl refl))))))))) refl, tt)),
-    ),
-  ),
-)
-
--- none of them but `about` is `about`
+-- none of these tables is `about`
 bases_another : AllByRecursion IsAnother (bases_kept ∷ [])
 bases_another = ((bases_in, refl), tt)
+
+abbrev totals_kept : List Kept
+totals_kept = last_ids_kept ∷ month_tenths_kept ∷ shift_totals_kept ∷ []
 
 totals_another : AllByRecursion IsAnother totals_kept
 totals_another = ((last_ids_in, refl), ((month_tenths_in, refl), ((shift_totals_in, refl), tt)))
 
-meters_others : AllByRecursion (IsAnotherThan meters_kept) totals_kept
-meters_others = ((last_ids_in, refl), ((month_tenths_in, refl), ((shift_totals_in, refl), tt)))
+module _ (meters : List MeterRow) (sales : List Sale) where
+  pub missing_first : (old mid new : State) → IsReady old → IsReady mid → FillsTotals sales old mid → FillsBases meters mid new → FillsMissing 1 meters sales old new
+  missing_first old mid new ready then totals fills = record {
+    only = only_both _ old mid new (only_among _ (kept_names (later 1)) totals_among old mid totals.only) (only_among _ (kept_names (later 1)) bases_after_first mid new fills.only);
+    tells = told_left mid new then.has (bases_kept ∷ []) bases_another fills.only ∙ told_left old mid ready.has totals_kept totals_another totals.only;
+    members = λ o rows office none handed are of_format held.
+        let sums = totals.rows 1 (rows_upto 1 rows) o office handed.sales held in
+        let some : Rows = with_totals_of sums.0 (rows_upto 1 rows) in
+        let alone = of_format.bases (omega arith) in (
+          record some { bases = map base_row meters },
+          fills.rows 1 some sums.1,
+          members_brought rows sums.0 (map base_row meters) o are (of_format.dated_steps (omega arith)) (bases_are o rows meters sales handed are alone) (bases_once o rows meters sales handed are alone) (subst (λ (l : List Sale). AreTotalsOf l sums.0) handed.sales sums.2),
+        );
+  }
 
-pub meters_left : (old new : State) → HasOffice old.now.schema → WritesOnly totals_names old new → rows_in new.now (codes "meters") ≡ rows_in old.now (codes "meters")
-meters_left old new has only = rows_left meters_kept meters_in old new has totals_kept meters_others only
+  pub missing_second : (old new : State) → IsReady old → FillsBases meters old new → FillsMissing 2 meters sales old new
+  missing_second old new ready fills = record {
+    only = only_among _ (kept_names (later 2)) bases_after_second old new fills.only;
+    tells = told_left old new ready.has (bases_kept ∷ []) bases_another fills.only;
+    members = λ o rows office none handed are of_format held.
+        let alone = of_format.bases (omega arith) in (
+          record rows { bases = map base_row meters; dated_steps = [] },
+          fills.rows 2 (rows_upto 2 rows) held,
+          members_brought rows rows (map base_row meters) o are (of_format.dated_steps (omega arith)) (bases_are o rows meters sales handed are alone) (bases_once o rows meters sales handed are alone) are.totals,
+        );
+  }
 
--- what was seen once the missing tables were made
-pub shows_made : (from : ℕ) → 1 ≤ from → (old mid : Database) → MakesMissing from old mid → ShowSales (rows_in mid (codes "sales")) → ShowMeters (rows_in mid (codes "meters")) → ShowsRows old
-shows_made from some old mid made sales meters =
-    let left = made.left some in
-    record { sales = subst ShowSales left.sales sales; meters = subst ShowMeters left.meters meters }
+  -- nothing is to be filled
+  missing_none : (from : ℕ) (old : State) → IsReady old → ((o : Office) (rows : Rows) → (from ≡ 0 → o ≡ empty_office) → AreMembersOf rows o → IsOfFormat from rows → AreMembersOf (rows_upto from rows) o) → FillsMissing from meters sales old old
+  missing_none from old ready members = record {
+    only = nothing_written (kept_names (later from)) old ready;
+    tells = refl;
+    members = λ o rows office none handed are of_format held. (rows_upto from rows, held, members o rows none are of_format);
+  }
 
--- they are made, and then a look leaves all as it was
-pub made_still : (from : ℕ) (old : Database) (mid new : State) → IsUnchanged mid new → MakesMissing from old mid.now → MakesMissing from old new.now
-made_still from old mid new same made = subst (λ (d : Database). MakesMissing from old d) (sym same.0.now_is) made
-
--- they are among more tables
-about_among : (ks : List Kept) → AreAmong (codes "about" ∷ []) (kept_names (about_kept ∷ ks))
-about_among ks s tree none = (none.0, tt)
-
-bases_among : (ks : List Kept) → AreAmong (codes "meter_bases" ∷ []) (kept_names (about_kept ∷ bases_kept ∷ ks))
-bases_among ks s tree none = (none.1.0, tt)
-
-totals_among : AreAmong totals_names (kept_names from_first)
-totals_among s tree none = (none.1.1.0, (none.1.1.1.0, (none.1.1.1.1.0, tt)))
+  pub missing_third : (from : ℕ) → from < present_format → from ≢ 1 → from ≢ 2 → (old : State) → IsReady old → FillsMissing from meters sales old old
+  missing_third zero below one two old ready = missing_none 0 old ready (λ o rows none are of_format. subst (AreMembersOf no_rows) (sym (none refl)) no_members)
+  missing_third (suc zero) below one two old ready = absurd (one refl)
+  missing_third (suc (suc zero)) below one two old ready = absurd (two refl)
+  missing_third (suc (suc (suc zero))) below one two old ready = missing_none 3 old ready (λ o rows none are of_format. members_brought rows rows rows.bases o are (of_format.dated_steps (omega arith)) are.bases are.bases_once are.totals)
+  missing_third (suc (suc (suc (suc n)))) below one two old ready = absurd (omega (arith, below))
 
 -- ---- an older format, once its missing tables are made
 
--- what is brought, by what is made of the office's rows
-brings : (from : ℕ) → from ≤ present_format → 1 ≤ from → (old mid new : State) → StaysInside old mid → MakesMissing from old.now mid.now
-    → (ks : List Kept) → AllByRecursion (MayChange from) ks → WritesOnly (kept_names ks) mid new → ((o : Office) (rows : Rows) → IsOffice o → HoldsOf from from old.now rows → AreMembersOf rows o → HoldsOf present_format from mid.now (rows_upto from rows) → HoldsMembers new.now o)
-    → (TellsFormat from old.now → HasFormat new.now present_format) → ShowsRowsOf from old.now → BringsInside from old new
-brings from known some old mid new inside made ks may only members told shows = record {
-  inside = stays_then old mid new inside only.inside;
-  brings = record {
+about_among : (ks : List Kept) → AreAmong (codes "about" ∷ []) (kept_names (about_kept ∷ ks))
+about_among ks s tree none = (none.0, tt)
+
+rest_among : (ks : List Kept) → AreAmong (kept_names ks) (kept_names (about_kept ∷ ks))
+rest_among ks s tree none = none.1
+
+-- they are filled, and the format is told
+pub record Completes (from : ℕ) (meters : List MeterRow) (sales : List Sale) (old new : State) : Type 0 where
+  pub only : WritesOnly (kept_names (about_kept ∷ later from)) old new
+  pub tells : rows_in old.now (codes "about") ≡ about_rows from → HasFormat new.now present_format
+  pub members : (o : Office) (rows : Rows) → IsOffice o → (from ≡ 0 → o ≡ empty_office) → AreHanded o meters sales → AreMembersOf rows o → IsOfFormat from rows → HoldsOf present_format from old.now (rows_upto from rows) → HoldsMembers new.now o
+
+completes : (from : ℕ) (meters : List MeterRow) (sales : List Sale) (old filled new : State) → FillsMissing from meters sales old filled → TellsPresent from filled new → Completes from meters sales old new
+completes from meters sales old filled new fills tells = record {
+  only = only_both _ old filled new (only_among _ (kept_names (about_kept ∷ later from)) (rest_among (later from)) old filled fills.only) (only_among _ (kept_names (about_kept ∷ later from)) (about_among (later from)) filled new tells.only);
+  tells = λ told. tells.tells (fills.tells ∙ told);
+  members = λ o rows office none handed are of_format held.
+      let full = fills.members o rows office none handed are of_format held in
+      (full.0, tells.rows full.0 full.1, full.2);
+}
+
+-- so it is once the tables were filled, or it is not filled for a cause
+pub filled_on : (from : ℕ) (meters : List MeterRow) (sales : List Sale) (old filled new : State) (r : Result (Unit {0}) TableError) → Fills (FillsMissing from meters sales) old filled (Ok tt) → WritesTables (TellsPresent from) filled new r → Fills (Completes from meters sales) old new r
+filled_on from meters sales old filled new r first second =
+    fills_then old filled new (kept_names (later from)) r (λ fills. fills.only) (λ _ _ fills tells. completes from meters sales old filled new fills tells) first (fills_write filled new r second)
+
+pub filled_off : (from : ℕ) (meters : List MeterRow) (sales : List Sale) (old new : State) (e : TableError) (r : Result (Unit {0}) TableError) → IsErrAnd r (λ x. x ≡ e) → Fills (FillsMissing from meters sales) old new (Err e) → Fills (Completes from meters sales) old new r
+filled_off from meters sales old new e r is failed = fills_off old new e r is failed
+
+module _ (from : ℕ) (meters : List MeterRow) (sales : List Sale) (old mid new : State) (inside : StaysInside old mid) (made : MakesMissing from old.now mid.now) (done : Completes from meters sales mid new) where
+  tables_brought : BringsTables from old.now new.now
+  tables_brought = record {
     had = made.had;
-    has = subst HasOffice (sym only.schema) made.has;
-    members = λ o stands.
-        let held = (held_as old.now o from stands known made.had).0 in
-        members o held.0 stands.office held.1 held.2 (made.rows held.0 held.1);
-    tells = told;
-    shows = shows;
-    beside = still_beside from old.now made.had mid new made.beside made.has ks may only;
-  };
-}
+    has = subst HasOffice (sym done.only.schema) made.has;
+    tells = λ told. done.tells (made.tells told);
+    beside = still_beside from old.now made.had mid new made.beside made.has (about_kept ∷ later from) (missing_may from) done.only;
+  }
 
--- from format 3
-pub brings_third : (old mid new : State) → StaysInside old mid → MakesMissing 3 old.now mid.now → ShowsRows old.now → TellsPresent 3 mid new → BringsInside 3 old new
-brings_third old mid new inside made shows tells =
-    brings 3 (omega arith) (omega arith) old mid new inside made from_third (about_may 3, tt) tells.only (λ o rows office held are here.
-    (record rows { dated_steps = [] }, tells.rows (rows_upto 3 rows) here, members_brought rows rows rows.bases o are (held.of_format.dated_steps (omega arith)) (IsPermutation-refl rows.bases) are.totals)) (λ told. tells.tells (made.tells told)) shows
+  office_brought : from < present_format → HandsOver old.now meters sales → BringsInside from old new
+  office_brought known handed = record {
+    inside = stays_then old mid new inside done.only.inside;
+    brings = record {
+      tables = tables_brought;
+      members = λ o stands.
+          let held = held_as old.now o from stands (omega (arith, known)) made.had in
+          let rows = held.0.0 in
+          done.members o rows stands.office held.1 (handed o stands) held.0.2 held.0.1.of_format (made.rows rows held.0.1);
+    };
+  }
 
--- from format 2
-pub awaits_bases : (rows : Rows) (o : Office) → IsOffice o → AreMembersOf rows o → AwaitsBases rows (rows_upto 2 rows)
-awaits_bases rows o office are = record { office = (o, office, are); same = refl; none = refl }
+-- what follows of all of it, where the missing tables were made
+module _ (from : ℕ) (meters : List MeterRow) (sales : List Sale) (old mid new : State) (r : Result (Unit {0}) TableError) (makes : HasCleanDisk mid → IsSoundOfFormat from old → MakesMissing from old.now mid.now) (inside : HasCleanDisk mid → StaysInside old mid)
+    (first : KeepsTransaction {T = Unit {0}} {E = TableError} old mid (Ok tt)) (rest : Fills (Completes from meters sales) mid new r) where
+  early : HasCleanDisk new → HasCleanDisk mid
+  early clean = omega (arith, clean, rest.survives.clean)
 
-pub brings_second : (old mid filled new : State) → StaysInside old mid → MakesMissing 2 old.now mid.now → ShowsRows old.now → FillsBases mid filled → TellsPresent 2 filled new → BringsInside 2 old new
-brings_second old mid filled new inside made shows fills tells =
-    let filling = only_among _ (kept_names from_second) (bases_among []) mid filled (fills.others.only made.beside.sound) in
-    let only = only_both (kept_names from_second) mid filled new filling (only_among _ (kept_names from_second) (about_among (bases_kept ∷ [])) filled new tells.only) in
-    brings 2 (omega arith) (omega arith) old mid new inside made from_second second_may only (λ o rows office held are here.
-    let it = fills.rows 2 (rows_upto 2 rows) rows here (awaits_bases rows o office are) in
-    let same = subst (λ (l : List (List ℕ × Base)). IsPermutation l it.0) (sym (held.of_format.bases (omega arith))) it.1 in
-    (record rows { bases = it.0; dated_steps = [] }, tells.rows (record rows { bases = it.0; dated_steps = [] }) it.2, members_brought rows rows it.0 o are (held.of_format.dated_steps (omega arith)) same are.totals)) (λ told. tells.tells (told_left mid filled made.has (bases_kept ∷ []) bases_another (fills.others.only made.beside.sound) ∙ made.tells told)) shows
+  ready_made : HasCleanDisk new → IsSoundOfFormat from old → IsReady mid
+  ready_made clean sound = let is = inside (early clean) in let made = makes (early clean) sound in record { is_open = is.is_open; under_way = is.mode; sound = made.beside.sound; has = made.has }
 
--- from format 1
-pub awaits_totals : (rows : Rows) (o : Office) → IsOffice o → AreMembersOf rows o → HasTotalsUpto 0 rows (rows_upto 1 rows)
-awaits_totals rows o office are = record {
-  office = (o, office, are);
-  same = refl;
-  within = omega arith;
-  totals = let none = no_members.totals in record { last_ids = none.last_ids; month_tenths = none.month_tenths; shift_totals = none.shift_totals; by_shift = none.by_shift };
-}
+  pub brings_office : from < present_format → HasCleanDisk new → IsSoundOfFormat from old → HandsOver old.now meters sales → OnOk r (BringsInside from old new)
+  brings_office known clean sound handed = on_ok r (λ done. office_brought from meters sales old mid new (inside (early clean)) (makes (early clean) sound) done known handed) (rest.made clean (ready_made clean sound))
 
--- once they have totals
-pub awaits_later : (rows totals : Rows) (o : Office) → IsOffice o → AreMembersOf rows o → AwaitsBases rows (with_totals_of totals (rows_upto 1 rows))
-awaits_later rows totals o office are = record { office = (o, office, are); same = refl; none = refl }
+  pub brings_tables : HasCleanDisk new → IsSoundOfFormat from old → OnOk r (BringsTables from old.now new.now)
+  brings_tables clean sound = on_ok r (λ done. tables_brought from meters sales old mid new (inside (early clean)) (makes (early clean) sound) done) (rest.made clean (ready_made clean sound))
 
-pub brings_with_totals : (old mid totalled filled new : State) → StaysInside old mid → MakesMissing 1 old.now mid.now → ShowsRows old.now → FillsTotals mid totalled → FillsBases totalled filled → TellsPresent 1 filled new → BringsInside 1 old new
-brings_with_totals old mid totalled filled new inside made shows totals fills tells =
-    let names = kept_names from_first in
-    let totalling = totals.others.only made.beside.sound in
-    let has = subst HasOffice (sym totals.others.schema) made.has in
-    let filling = only_among _ names (bases_among totals_kept) totalled filled (fills.others.only totalling.sound) in
-    let telling = only_among _ names (about_among (bases_kept ∷ totals_kept)) filled new tells.only in
-    let only = only_both names mid totalled new (only_among _ names totals_among mid totalled totalling) (only_both names totalled filled new filling telling) in
-    brings 1 (omega arith) (omega arith) old mid new inside made from_first first_may only (λ o rows office held are here.
-    let sums = totals.rows 1 (rows_upto 1 rows) rows here (awaits_totals rows o office are) in
-    let some : Rows = with_totals_of sums.0 (rows_upto 1 rows) in
-    let it = fills.rows 1 some rows sums.1 (awaits_later rows sums.0 o office are) in
-    let same = subst (λ (l : List (List ℕ × Base)). IsPermutation l it.0) (sym (held.of_format.bases (omega arith))) it.1 in
-    let they = subst (λ l. AreTotalsOf l sums.0) are.sales sums.2 in
-    (record some { bases = it.0 }, tells.rows (record some { bases = it.0 }) it.2, members_brought rows sums.0 it.0 o are (held.of_format.dated_steps (omega arith)) same they)) (λ told. tells.tells (told_left totalled filled has (bases_kept ∷ []) bases_another (fills.others.only totalling.sound) ∙ told_left mid totalled made.has totals_kept totals_another totalling ∙ made.tells told)) shows
+  pub fails_bringing : {S : Type 0} (g : Ghosts S) → HasCleanDisk new → IsSoundOfFormat from old → IfErr r (FailsToBring g from old new)
+  fails_bringing g clean sound =
+      let made = makes (early clean) sound in
+      let from_made : State = record old { now = mid.now } in
+      let came : Came from_made mid = came_inside from_made mid (stays_from (inside (early clean))) refl (survives_from first.survives) in
+      if_err r (why_not g made came) (rest.refused clean (ready_made clean sound))
+    where
+      stays_from : StaysInside old mid → StaysInside (record old { now = mid.now }) mid
+      stays_from is = record { was_open = is.was_open; is_open = is.is_open; now_is = is.now_is; committed_is = is.committed_is; mode = is.mode }
 
--- ---- why it fails
+      survives_from : Survives old mid (λ _. ⊥) → Survives (record old { now = mid.now }) mid (λ _. ⊥)
+      survives_from s = record { clean = s.clean; shield = s.shield; counts = s.counts; limit = s.limit; closes = s.closes; crash = s.crash }
 
--- an error of a step that is not told of an office's rows
-pub tells_unless : {A : Type 0} (from : ℕ) (db : Database) (r : Result A TableError) → ((o : Office) → IsDatabase db → HasOfficeOf from db.schema → StandsFor db o → r ≢ Err fails.RowOfNoOffice) → IfErr r (TellsOf from db)
-tells_unless from db (Ok x) none = tt
-tells_unless from db (Err (fails.Database e)) none = tt
-tells_unless from db (Err fails.RowOfNoOffice) none = λ sound has o stands. none o sound has stands refl
+      why_not : {S : Type 0} (g : Ghosts S) → MakesMissing from old.now mid.now → Came (record old { now = mid.now }) mid → (e : TableError) → FailsToWriteAll mid new e → FailsToBring g from old new e
+      why_not g made came (Failed e) why = inr (record { made = mid.now; makes = made; fails = of_later (record old { now = mid.now }) mid new came (Failed e) why })
+      why_not g made came RowOfNoOffice why = why
+
+  pub keeps_bringing : KeepsTransaction old new r
+  keeps_bringing = record {
+    inside = λ clean way.
+        let before = first.inside (early clean) way in
+        on_ok r (stays_then old mid new before) (rest.inside clean before.mode before.is_open);
+    kept = λ clean way.
+        let before = first.inside (early clean) way in
+        keeps_then old mid new (keeps_inside old mid before) (rest.kept clean before.mode before.is_open);
+    survives = survives_then old mid new _ _ (λ _. ⊥) (λ _ db none. none) (λ _ db none. none) first.survives rest.survives;
+  }

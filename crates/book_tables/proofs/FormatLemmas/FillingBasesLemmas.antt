@@ -1,63 +1,63 @@
--- What a step leaves that fills the bases of the meters.
-use Rattle.std.proofs.Common.{◌≡◌, ℕ, false, List, [], ◌∷◌, ◌++◌, append-nil, append_assoc, codes, map, sym, ap, subst, ◌∙◌, IsPermutation}
+-- What a step leaves that fills the bases of the meters, and whose they are then.
+use Rattle.std.proofs.Common.{◌≡◌, ◌≢◌, ◌↔◌, ◌∙◌, true, List, ℕ, [], ◌∷◌, ◌++◌, append-nil, append_assoc, ap, map, subst, sym}
+use Rattle.std.specs.Prelude.{AllPairs, Contains}
 use Rattle.std.proofs.lemmas.List.{map-append}
-use Rattle.std.proofs.lemmas.List.Sorted.{IsPermutation-map}
-use Rattle.sqlite.specs.Effect.{Database}
-use Rattle.sqlite.specs.State.{IsUnchanged, State}
-use Rattle.sqlite_keyed.proofs.ListLemmas.{map-map}
+use Rattle.sqlite.specs.State.{State}
 use Rattle.sts_fields.specs.declared.base.Base.{Base}
+use Rattle.vend_core.specs.Office.{Office}
 use Rattle.vend_core.specs.declared.office.meter.Meter.{Meter}
-use Rattle.one_table.specs.InTransaction.{IsUnderWay}
-use Rattle.book_tables.specs.format.Filling.{AwaitsBases, FillsBases, KeepsAllBut}
-use Rattle.book_tables.specs.Holds.{AreStoredRows, HoldsOf, rows_in}
-use Rattle.book_tables.specs.Kept.{meters_kept}
-use Rattle.book_tables.specs.reading.Reading.{TableHolds, meter_row}
-use Rattle.book_tables.specs.row.Rows.{Rows, meter_columns, present_format}
+use Rattle.vend_core.specs.declared.office.sale.Sale.{Sale}
+use Rattle.book_tables.specs.format.Filling.{AreHanded, FillsBases, IsReady, base_row}
+use Rattle.book_tables.specs.Holds.{HoldsOf}
+use Rattle.book_tables.specs.row.Rows.{Rows, present_format}
+use Rattle.book_tables.specs.Stands.{AreMembersOf}
 use Rattle.book_tables.specs.writing.Writing.{AddsBase}
 use Rattle.book_tables.specs.declared.reading.pages.MeterRow.{MeterRow}
-use Rattle.book_tables.proofs.FormatLemmas.FillingLemmas.{held_after, leaves_read, leaves_then}
-use Rattle.book_tables.proofs.OfficeTableLemmas.{meters_in}
+use Rattle.book_tables.proofs.FormatLemmas.FillingLemmas.{nothing_written}
+use Rattle.book_tables.proofs.ListLemmas.{contains_map, map_source, no_pairs, pairs_cons, pairs_first, pairs_rest}
+use Rattle.book_tables.proofs.WritingLemmas.OnlyLemmas.{only_both}
 
-abbrev pub bases_name : List (List ℕ)
-bases_name = codes "meter_bases" ∷ []
-
-abbrev row_of : MeterRow → List ℕ × Base
-row_of m = (m.number, m.meter.base)
-
--- the meters of the office are there
-pub meters_there : (told : ℕ) (db : Database) (rows full : Rows) → HoldsOf present_format told db rows → rows.meters ≡ full.meters → TableHolds meters_kept db full
-meters_there told db rows full held same =
-    (meters_in.there db.schema held.has, (told, subst (λ (ms : List (List ℕ × Meter)). AreStoredRows false (rows_in db (codes "meters")) (map meter_columns ms)) same (meters_in.holds told db rows held)))
-
--- these bases stand after those that were there
-pub record BasesSome (found : List MeterRow) (old new : State) : Type 0 where
-  pub others : KeepsAllBut bases_name old new
-  pub rows : (told : ℕ) (rows : Rows) → HoldsOf present_format told old.now rows → HoldsOf present_format told new.now (record rows { bases = rows.bases ++ map row_of found })
-
-pub bases_none : (old mid : State) → IsUnderWay old → IsUnchanged old mid → BasesSome [] old mid
-bases_none old mid way same = record {
-  others = leaves_read bases_name old mid way same;
-  rows = λ told rows held. subst (λ (bases : List (List ℕ × Base)). HoldsOf present_format told mid.now (record rows { bases = bases })) (sym (append-nil rows.bases)) (held_after told rows old mid same held);
+-- no base yet, and one more
+pub bases_none : (old : State) → IsReady old → FillsBases [] old old
+bases_none old ready = record {
+  only = nothing_written _ old ready;
+  rows = λ told rows held. subst (λ (bases : List (List ℕ × Base)). HoldsOf present_format told old.now (record rows { bases = bases })) (sym (append-nil rows.bases)) held;
 }
 
-pub bases_more : (found : List MeterRow) (m : MeterRow) (old mid new : State) → BasesSome found old mid → AddsBase m.number m.meter.base mid new → BasesSome (found ++ m ∷ []) old new
+pub bases_more : (found : List MeterRow) (m : MeterRow) (old mid new : State) → FillsBases found old mid → AddsBase m.number m.meter.base mid new → FillsBases (found ++ m ∷ []) old new
 bases_more found m old mid new first second = record {
-  others = leaves_then bases_name old mid new first.others second.only;
+  only = only_both _ old mid new first.only second.only;
   rows = λ told rows held.
-      let these = second.rows told (record rows { bases = rows.bases ++ map row_of found }) (first.rows told rows held) in
-      let same = append_assoc rows.bases (map row_of found) (row_of m ∷ []) ∙ ap (λ (l : List (List ℕ × Base)). rows.bases ++ l) (sym (map-append row_of found (m ∷ []))) in
+      let these = second.rows told (record rows { bases = rows.bases ++ map base_row found }) (first.rows told rows held) in
+      let same = append_assoc rows.bases (map base_row found) (base_row m ∷ []) ∙ ap (λ (l : List (List ℕ × Base)). rows.bases ++ l) (sym (map-append base_row found (m ∷ []))) in
       subst (λ (bases : List (List ℕ × Base)). HoldsOf present_format told new.now (record rows { bases = bases })) same these;
 }
 
-pub fills_bases : (found : List MeterRow) (old new : State) → BasesSome found old new
-    → ((told : ℕ) (rows full : Rows) → HoldsOf present_format told old.now rows → AwaitsBases full rows → IsPermutation (map meter_row full.meters) found) → FillsBases old new
-fills_bases found old new some given = record {
-  others = some.others;
-  rows = λ told rows full held awaits.
-      let all = IsPermutation-map row_of (map meter_row full.meters) found (given told rows full held awaits) in
-      let these = some.rows told rows held in (
-        map row_of found,
-        subst (λ (l : List (List ℕ × Base)). IsPermutation l (map row_of found)) (map-map row_of meter_row full.meters) all,
-        subst (λ (before : List (List ℕ × Base)). HoldsOf present_format told new.now (record rows { bases = before ++ map row_of found })) awaits.none these,
-      );
-}
+pairs_into : {X Y : Type 0} (R : X → X → Type 0) (S : Y → Y → Type 0) (f : X → Y) (xs : List X) → ((a b : X) → R a b → S (f a) (f b)) → AllPairs R xs → AllPairs S (map f xs)
+pairs_into R S f [] keeps pairs = no_pairs S
+pairs_into R S f (x ∷ xs) keeps pairs =
+    pairs_cons S (f x) (map f xs) (pairs_into R S f xs keeps (pairs_rest R x xs pairs)) (λ y there.
+    let from = map_source f xs y there in
+    subst (S (f x)) from.2 (keeps x from.0 (pairs_first R x from.0 xs pairs from.1)))
+
+-- where the office's meters have their present bases alone, these are those of the meters that are
+-- given
+module _ (o : Office) (rows : Rows) (meters : List MeterRow) (sales : List Sale) (handed : AreHanded o meters sales) (are : AreMembersOf rows o) (alone : rows.bases ≡ map (λ (r : List ℕ × Meter). (r.0, r.1.base)) rows.meters) where
+  abbrev own_base : (List ℕ × Meter) → (List ℕ × Base)
+  own_base r = (r.0, r.1.base)
+
+  pub bases_are : (number : List ℕ) (base : Base) → (o.bases number base ≡ true) ↔ Contains (map base_row meters) (number, base)
+  bases_are number base = (
+    λ has.
+        let from = map_source own_base rows.meters (number, base) (subst (λ (l : List (List ℕ × Base)). Contains l (number, base)) alone ((are.bases number base).0 has)) in
+        let there = (handed.meters from.0.0 from.0.1).0 ((are.meters from.0.0 from.0.1).1 from.1) in
+        subst (Contains (map base_row meters)) from.2 (contains_map base_row meters _ there),
+    λ listed.
+        let from = map_source base_row meters (number, base) listed in
+        let there = (are.meters from.0.number from.0.meter).0 ((handed.meters from.0.number from.0.meter).1 from.1) in
+        let stands = subst (Contains (map own_base rows.meters)) from.2 (contains_map own_base rows.meters _ there) in
+        (are.bases number base).1 (subst (λ (l : List (List ℕ × Base)). Contains l (number, base)) (sym alone) stands),
+  )
+
+  pub bases_once : AllPairs (λ a b. a ≢ b) (map base_row meters)
+  bases_once = pairs_into (λ (a b : MeterRow). a.number ≢ b.number) (λ a b. a ≢ b) base_row meters (λ a b apart same. apart (ap (λ (x : List ℕ × Base). x.0) same)) handed.once

@@ -1,9 +1,9 @@
 -- The tables that an older format lacks are made, and `about` tells the present format: the same
 -- office.
-use Rattle.std.proofs.Common.{◌≡◌, ◌≢◌, ◌≤◌, ◌<◌, ℕ, zero, suc, ◌+◌, ◌==◌, arith, Bool, true, false, not, cond, List, [], ◌∷◌, drop, filter, find, length, map, nat_le, Option, None, Some, refl, sym, ap, subst, ◌∙◌, inl, inr, IfErr, Result, Ok, Err}
+use Rattle.std.proofs.Common.{◌≡◌, ◌≢◌, ◌<◌, ℕ, zero, suc, ◌+◌, ◌==◌, arith, Bool, true, false, not, cond, List, [], ◌∷◌, drop, filter, find, length, map, nat_le, Option, None, Some, refl, sym, ap, subst, ◌∙◌, inl, inr}
 use Rattle.std.specs.Prelude.{codes, pos}
 use Rattle.std.specs.List.{AllByRecursion, position_from}
-use Rattle.std.proofs.lemmas.Bool.{cases_Bool, eq-eqb, false≢true, le-leb}
+use Rattle.std.proofs.lemmas.Bool.{cases_Bool, eq-eqb, false≢true}
 use Rattle.std.proofs.lemmas.Option.{same_Some}
 use Rattle.sqlite.specs.Effect.{Database}
 use Rattle.sqlite.specs.Order.{Row}
@@ -20,7 +20,7 @@ use Rattle.sqlite_sql.specs.Term.{Term, lit}
 use Rattle.sqlite_tied.specs.Compute.{everything}
 use Rattle.sqlite_trees.specs.Tree.{put_row}
 use Rattle.sqlite_value.specs.declared.value.Value.TheVariants.{Null}
-use Rattle.one_table.specs.InTransaction.{PutsRow, StaysInside}
+use Rattle.one_table.specs.InTransaction.{PutsRow}
 use Rattle.one_table.specs.Inserting.{IsInsert, insert_in, insert_meant, new_row, puts_meant}
 use Rattle.one_table.specs.Making.{IsNewTable, MakesTables}
 use Rattle.one_table.specs.Numbered.{IsInOrder}
@@ -29,21 +29,17 @@ use Rattle.one_table.specs.Reading.{is_whole}
 use Rattle.one_table.specs.Referring.{is_left_alone}
 use Rattle.one_table.specs.Standing.{place_in, tree_in}
 use Rattle.one_table.proofs.CastLemmas.{cast_int, cast_no_int}
-use Rattle.one_table.proofs.ChangeLemmas.{stays_then}
 use Rattle.one_table.proofs.GrowthLemmas.{Grows, found_stays}
 use Rattle.one_table.proofs.MakingLemmas.{all_grow}
-use Rattle.book_tables.specs.writing.Edited.{no_rows}
-use Rattle.book_tables.specs.Holds.{AreStoredRows, HasOffice, HasOfficeOf, HoldsMembers, HoldsOf, HoldsRows, IsKept, rows_in, table_names}
-use Rattle.book_tables.specs.Kept.{Kept, about_kept, kept, kept_names, kept_tables, kept_texts, later, meters_kept, sales_kept, upto}
-use Rattle.book_tables.specs.format.Making.{AreLeft, BringsInside, LeavesBeside, MakesMissing, TellsOf, TellsPresent, rows_upto, told_names}
+use Rattle.book_tables.specs.Holds.{AreStoredRows, HasOffice, HasOfficeOf, HoldsOf, HoldsRows, IsKept, rows_in, table_names}
+use Rattle.book_tables.specs.Kept.{Kept, about_kept, kept, kept_names, kept_tables, kept_texts, later, upto}
+use Rattle.book_tables.specs.format.Making.{LeavesBeside, MakesMissing, TellsPresent, rows_upto, told_names}
 use Rattle.book_tables.specs.row.Rows.{Rows, about_rows, number, present_format}
 use Rattle.book_tables.specs.Tables.{about_table}
 use Rattle.book_tables.specs.writing.Writing.{IsOfNone, WritesOnly}
-use Rattle.book_tables.specs.declared.error.TableError.{TableError}
 use Rattle.book_tables.specs.declared.error.TableError.TheVariants as fails
-use Rattle.book_tables.proofs.FormatLemmas.AboutLemmas.{left_made, told_made}
-use Rattle.book_tables.proofs.WritingLemmas.EditLemmas.{no_members}
-use Rattle.book_tables.proofs.HoldsLemmas.{free_later, held_as, of_upto}
+use Rattle.book_tables.proofs.FormatLemmas.AboutLemmas.{told_made}
+use Rattle.book_tables.proofs.HoldsLemmas.{free_later, of_upto}
 use Rattle.book_tables.proofs.KeptLemmas.{about_changed}
 use Rattle.book_tables.proofs.FormatLemmas.TextLemmas.{IsText, are_among, are_idle, later_texts, upto_texts}
 use Rattle.book_tables.proofs.WritingLemmas.WriteLemmas.{changes_only, only_one}
@@ -134,14 +130,8 @@ beside_tables n a b m = record {
   sound = m.sound;
 }
 
-made_left : (n : ℕ) → 1 ≤ n → (a b : Database) → HasOfficeOf n a.schema → MakesTables (kept_tables (later n)) a b → AreLeft a b
-made_left n some a b had m = record {
-  sales = left_made n a b had m sales_kept (inr (inr (inr (inr (inr (inl refl)))))) (le-leb 1 n some);
-  meters = left_made n a b had m meters_kept (inr (inr (inr (inl refl)))) (le-leb 1 n some);
-}
-
 pub makes_missing : (n : ℕ) → n < present_format → (a b : Database) → HasOfficeOf n a.schema → MakesTables (kept_tables (later n)) a b → MakesMissing n a b
-makes_missing n below a b had m = record { had = had; has = has_all n a b had m; rows = rows_made n below a b had m; tells = told_made n a b had m; left = λ some. made_left n some a b had m; beside = beside_tables n a b m }
+makes_missing n below a b had m = record { had = had; has = has_all n a b had m; rows = rows_made n below a b had m; tells = told_made n a b had m; beside = beside_tables n a b m }
 
 -- a format below the present one lacks some table
 pub lacks_some : (n : ℕ) → n < present_format → 0 < length (kept_texts (later n))
@@ -242,9 +232,21 @@ tree_is s at t has = rw (has.named, has.listed) refl
 abbrev pub MayChange : ℕ → Kept → Type 0
 MayChange n k = Member kept k × (nat_le k.since n ≡ true → Member (told_names n) k.table.name)
 
-pub about_may : (n : ℕ) → MayChange n about_kept
+about_may : (n : ℕ) → MayChange n about_kept
 about_may zero = (inl refl, λ came. absurd (false≢true came))
 about_may (suc n) = (inl refl, λ _. inl refl)
+
+may_first : (n : ℕ) (k : Kept) (rest : List Kept) (b : Bool) → nat_le k.since n ≡ b → Member kept k → AllByRecursion (MayChange n) rest → AllByRecursion (MayChange n) (cond (not b) (k ∷ rest) rest)
+may_first n k rest true came there all = all
+may_first n k rest false later there all = ((there, λ came. absurd (false≢true (sym later ∙ came))), all)
+
+later_may : (n : ℕ) (ks : List Kept) → AllByRecursion (Member kept) ks → AllByRecursion (MayChange n) (filter (λ k. not (nat_le k.since n)) ks)
+later_may n [] there = tt
+later_may n (k ∷ ks) there = may_first n k (filter (λ k. not (nat_le k.since n)) ks) (nat_le k.since n) refl there.0 (later_may n ks there.1)
+
+-- those that a format lacked, and `about`
+pub missing_may : (n : ℕ) → AllByRecursion (MayChange n) (about_kept ∷ later n)
+missing_may n = (about_may n, later_may n kept (all_from (Member kept) kept (λ k there. there)))
 
 -- what was written of such tables leaves alone all else that was there
 module _ (n : ℕ) (a : Database) (had : HasOfficeOf n a.schema) (old new : State) (beside : LeavesBeside n a old.now) (has : HasOffice old.now.schema) where
@@ -274,31 +276,3 @@ module _ (n : ℕ) (a : Database) (had : HasOfficeOf n a.schema) (old new : Stat
         ∙ all_has (λ u. IsOfNone a.schema (told_names n) u.tree → old.now.trees u.tree ≡ a.trees u.tree) a.schema.tables u beside.others there apart);
     sound = only.sound;
   }
-
--- where there was nothing, it is the empty office
-pub brings_first : (old mid new : State) → StaysInside old mid → MakesMissing 0 old.now mid.now → TellsPresent 0 mid new → BringsInside 0 old new
-brings_first old mid new inside made tells =
-    let none : HoldsOf 0 0 old.now no_rows = record { has = made.had; are = tt; of_format = record { bases = λ _. refl; dated_steps = λ _. refl } } in
-    let held = made.rows no_rows none in
-    record {
-      inside = stays_then old mid new inside tells.only.inside;
-      brings = record {
-        had = made.had;
-        has = subst HasOffice (sym tells.only.schema) made.has;
-        members = λ o stands.
-            let is = (held_as old.now o 0 stands (omega arith) made.had).1 refl in
-            subst (HoldsMembers new.now) (sym is) (no_rows, tells.rows no_rows held, no_members);
-        tells = λ told. tells.tells (made.tells told);
-        shows = tt;
-        beside = still_beside 0 old.now made.had mid new made.beside made.has (about_kept ∷ []) (about_may 0, tt) tells.only;
-      };
-    }
-
--- an error that tells of no row
-pub tells_error : (from : ℕ) (db : Database) (e : TableError) → e ≢ fails.RowOfNoOffice → TellsOf from db e
-tells_error from db (fails.Database e) none = tt
-tells_error from db fails.RowOfNoOffice none = absurd (none refl)
-
-pub tells_none : {A : Type 0} (from : ℕ) (db : Database) (r : Result A TableError) → IfErr r (λ e. e ≢ fails.RowOfNoOffice) → IfErr r (TellsOf from db)
-tells_none from db (Ok x) none = tt
-tells_none from db (Err e) none = tells_error from db e none

@@ -1,9 +1,10 @@
 -- What the statements on the table of meters find.
-use Rattle.std.proofs.Common.{get_or, ◌≡◌, ◌≢◌, ℕ, List, [], ◌∷◌, length, map, Option, None, Some, IfSome, option_map, refl, sym, ap, subst, ◌∙◌, ◌≤◌}
+use Rattle.std.proofs.Common.{drop, get_or, ◌≡◌, ◌≢◌, ℕ, List, [], ◌∷◌, length, map, Option, None, Some, IfSome, option_map, refl, sym, ap, subst, ◌∙◌, ◌≤◌}
 use Rattle.std.specs.Prelude.{All, Bool, bytes_eq, filter, find}
 use Rattle.std.specs.Option.{option_to_list}
 use Rattle.std.proofs.lemmas.List.Elements.{Contains-get_or}
 use Rattle.std.proofs.lemmas.Slice.Eq.{bytes_eq-Decides}
+use Rattle.sqlite.specs.Order.{Row}
 use Rattle.sqlite.specs.declared.types.Value.TheVariants.{Text}
 use Rattle.sqlite_typed.proofs.TestLemmas.{last_term}
 use Rattle.one_table.proofs.HiddenLemmas.{one_hidden}
@@ -12,9 +13,11 @@ use Rattle.book_tables.specs.reading.Reading.{AreOfOffice}
 use Rattle.book_tables.proofs.ReadingLemmas.FindLemmas.{Finds}
 use Rattle.book_tables.proofs.ReadingLemmas.ReadLemmas.{few, found_keeps}
 use Rattle.book_tables.proofs.ListLemmas.{NotBothPass, first_is_all, pairs_weaker}
+use Rattle.vend_core.specs.Name.{IsMeterNo}
 use Rattle.vend_core.specs.declared.office.meter.Meter.{Meter}
+use Rattle.book_tables.specs.declared.reading.pages.MeterRow.{MeterRow}
 use Rattle.book_tables.specs.Kept.{meters_kept}
-use Rattle.book_tables.specs.row.Rows.{Rows, shown_meter}
+use Rattle.book_tables.specs.row.Rows.{Rows, meter_columns, shown_meter}
 use Rattle.book_tables.specs.Tables.{meters_table}
 use Rattle.book_tables.specs.row.Values.{AreMeterValues}
 use Rattle.book_tables.proofs.RowLemmas.RecordLemmas.{one_shown_meter}
@@ -61,3 +64,22 @@ module _ (number : List ℕ) where
         (subst (λ (l : List (List ℕ × Meter)). length l ≤ 1) (sym one) (few (find has_number rows.meters)))
         ∙ ap (map (λ (r : List ℕ × Meter). shown_meter r.1)) one ∙ second_shown (find has_number rows.meters);
   }
+
+-- ---- a meter under its number
+
+-- what a row shows of it
+abbrev pub shown_row : MeterRow → Row
+shown_row m = meter_columns (m.number, m.meter)
+
+abbrev pub keeps_row : MeterRow → Type 0
+keeps_row m = IsMeterNo m.number × AreMeterValues m.meter
+
+-- a row shows one such meter alone
+pub one_shown_row : (a b : MeterRow) → keeps_row a → keeps_row b → shown_row a ≡ shown_row b → a ≡ b
+one_shown_row a b keeps_a keeps_b e =
+    let shown : shown_meter a.meter ≡ shown_meter b.meter = ap (drop 1) e in
+    let meter : a.meter ≡ b.meter = one_shown_meter a.meter b.meter keeps_a.1.key keeps_b.1.key shown in
+    let A : MeterRow = record { number = a.number; meter = a.meter } in
+    let B : MeterRow = record { number = b.number; meter = b.meter } in
+    let same : A ≡ B = cc in
+    same

@@ -1,14 +1,11 @@
 -- What the statements that list sales find.
-use Rattle.std.proofs.Common.{◌≡◌, ◌+◌, ◌<◌, ◌<ℤ◌, true, ℕ, suc, List, [], ◌∷◌, codes, filter, map, pos, slice_get, take, Some, arith, nat_lt, refl, sym, ap, subst, ◌∙◌}
-use Rattle.std.specs.Prelude.{◌==◌, All, Bool}
+use Rattle.std.proofs.Common.{◌≡◌, ◌+◌, ◌<◌, ◌<ℤ◌, ℕ, suc, List, [], ◌∷◌, filter, pos, slice_get, take, Some, arith, nat_lt, refl, sym, subst, ◌∙◌}
+use Rattle.std.specs.Prelude.{◌==◌, Bool}
 use Rattle.std.specs.List.{AllByRecursion}
 use Rattle.std.proofs.lemmas.Int.{ints}
 use Rattle.std.proofs.lemmas.List.{take-map}
-use Rattle.std.proofs.lemmas.List.Elements.{All-cons, All-filter, All-head, All-nil, All-same, All-tail, All-take}
-use Rattle.sqlite_sql.specs.Term.{col, lit}
-use Rattle.sqlite.specs.declared.types.Value.TheVariants.{Int}
-use Rattle.sqlite.specs.Order.{Row}
-use Rattle.sqlite_keyed.proofs.ListLemmas.{map-map}
+use Rattle.std.proofs.lemmas.List.Elements.{All-filter, All-same, All-take}
+use Rattle.sqlite_sql.specs.Term.{col}
 use Rattle.sqlite_trees.specs.Tree.{IsAscending}
 use Rattle.sqlite_typed.proofs.TestLemmas.{last_term}
 use Rattle.one_table.specs.Listed.{no_limit}
@@ -18,15 +15,13 @@ use Rattle.vend_core.specs.Office.{AreNumbered}
 use Rattle.vend_core.specs.declared.office.sale.Sale.{Sale}
 use Rattle.book_tables.specs.reading.Reading.{AreOfOffice}
 use Rattle.book_tables.specs.Kept.{sales_kept}
-use Rattle.book_tables.specs.row.Rows.{Rows, number, shown_booked, shown_number, shown_sale}
+use Rattle.book_tables.specs.row.Rows.{Rows, number, shown_sale}
 use Rattle.book_tables.specs.Tables.{sales_table}
-use Rattle.book_tables.specs.row.Values.{AreSaleValues, IsNumber}
-use Rattle.book_tables.specs.declared.row.office_records.Booked.{Booked}
-use Rattle.book_tables.proofs.ReadingLemmas.LastLemmas.{all_pass}
+use Rattle.book_tables.specs.row.Values.{AreSaleValues}
 use Rattle.book_tables.proofs.ReadingLemmas.ListingLemmas.{Lists}
-use Rattle.book_tables.proofs.RowLemmas.RecordLemmas.{one_number, one_shown_sale}
+use Rattle.book_tables.proofs.RowLemmas.RecordLemmas.{one_shown_sale}
 use Rattle.book_tables.proofs.ReadingLemmas.SaleLemmas.{sales_keep_values}
-use Rattle.book_tables.proofs.ReadingLemmas.SaleListTexts.{booked_after_asks, booked_after_query, booked_after_text, booked_names, first_sale_asks, first_sale_query, first_sale_text, sales_after_asks, sales_after_query, sales_after_text, sales_of_shift_asks, sales_of_shift_query, sales_of_shift_text}
+use Rattle.book_tables.proofs.ReadingLemmas.SaleListTexts.{sales_after_asks, sales_after_query, sales_after_text, sales_of_shift_asks, sales_of_shift_query, sales_of_shift_text}
 use Rattle.book_tables.proofs.ReadingLemmas.SaleTexts.{sale_names}
 
 -- ---- rows that are numbered rise by their numbers
@@ -106,84 +101,3 @@ module _ (shift : ℕ) where
       first_by_key (record { holds_them = held.1.1; passes = λ s. last_term (number_is s.shift shift); shows = λ s. refl }) 0 (λ s. pos s.number) (λ s. refl) no_limit answer (sales_rise rows of_office) is,
     );
   }
-
--- ---- the sales after a number, with the month of each
-
-abbrev pub shown_booking : Booked → Row
-shown_booking b = shown_booked b.sale
-
-abbrev pub keeps_booking : Booked → Type 0
-keeps_booking b = AreSaleValues b.sale
-
-abbrev booked : Sale → Booked
-booked s = record { sale = s }
-
-one_booking : (a b : Booked) → shown_booking a ≡ shown_booking b → a ≡ b
-one_booking a b e =
-    let sale : a.sale ≡ b.sale = one_shown_sale a.sale b.sale (ap (take 13) e) in
-    let A : Booked = record { sale = a.sale } in
-    let B : Booked = record { sale = b.sale } in
-    let same : A ≡ B = cc in
-    same
-
-module _ (after limit : ℕ) where
-  abbrev these : Rows → List Sale
-  these rows = take limit (filter (is_after after limit) rows.sales)
-
-  sales_back : (xs : List Sale) → map (λ (b : Booked). b.sale) (map booked xs) ≡ xs
-  sales_back [] = refl
-  sales_back (x ∷ xs) = ap (λ (l : List Sale). x ∷ l) (sales_back xs)
-
-  keeps_back : (found : List Booked) (xs : List Sale) → map (λ (b : Booked). b.sale) found ≡ xs → All AreSaleValues xs → All keeps_booking found
-  keeps_back [] xs are all = All-nil keeps_booking
-  keeps_back (b ∷ found) xs are all =
-      let kept : All AreSaleValues (b.sale ∷ map (λ (c : Booked). c.sale) found) = All-same AreSaleValues _ xs are all in
-      All-cons keeps_booking b found (All-head AreSaleValues b.sale (map (λ (c : Booked). c.sale) found) kept) (keeps_back found (map (λ (c : Booked). c.sale) found) refl (All-tail AreSaleValues b.sale (map (λ (c : Booked). c.sale) found) kept))
-
-  pub booked_after : Lists sales_kept booked_after_text (number after ∷ number limit ∷ []) shown_booking keeps_booking (λ rows found. map (λ b. b.sale) found ≡ these rows)
-  booked_after = record {
-    table = sales_table;
-    query = booked_after_query;
-    names = booked_names;
-    asks = booked_after_asks after limit;
-    stands = λ s has. has.0.has;
-    one = λ a b keeps_a keeps_b same. one_booking a b same;
-    kept = λ rows of_office found is.
-        keeps_back found (these rows) is (All-take AreSaleValues limit (filter (is_after after limit) rows.sales) (All-filter (is_after after limit) AreSaleValues rows.sales (sales_keep_values rows of_office)));
-    answers = λ db rows held of_office answer is. (
-      map booked (these rows),
-      sales_back (these rows),
-      first_by_key (record { holds_them = held.1.1; passes = λ s. last_term (number_above s.number after); shows = λ s. refl }) 0 (λ s. pos s.number) (λ s. refl) (col 0 1) answer (sales_rise rows of_office) is
-          ∙ take-map shown_booked limit (filter (is_after after limit) rows.sales) ∙ sym (map-map shown_booking booked (these rows)),
-    );
-  }
-
--- ---- the first number
-
-abbrev numbers_of : List Sale → List ℕ
-numbers_of sales = map (λ s. s.number) (take 1 sales)
-
-first_keeps : (sales : List Sale) → All AreSaleValues sales → All IsNumber (numbers_of sales)
-first_keeps [] all = All-nil IsNumber
-first_keeps (s ∷ more) all = All-cons IsNumber s.number [] (All-head AreSaleValues s more all).number (All-nil IsNumber)
-
-first_shown : (sales : List Sale) → take 1 (map (λ (s : Sale). shown_number s.number) sales) ≡ map shown_number (numbers_of sales)
-first_shown [] = refl
-first_shown (s ∷ more) = refl
-
-pub first_sale : Lists sales_kept first_sale_text [] shown_number IsNumber (λ rows found. found ≡ numbers_of rows.sales)
-first_sale = record {
-  table = sales_table;
-  query = first_sale_query;
-  names = codes "number" ∷ [];
-  asks = first_sale_asks;
-  stands = λ s has. has.0.has;
-  one = λ a b keeps_a keeps_b same. one_number a b same;
-  kept = λ rows of_office found is. All-same IsNumber found (numbers_of rows.sales) is (first_keeps rows.sales (sales_keep_values rows of_office));
-  answers = λ db rows held of_office answer is. (
-    numbers_of rows.sales,
-    refl,
-    first_by_key {p = λ _. true} {show = λ s. shown_number s.number} (record { holds_them = held.1.1; passes = λ s. refl; shows = λ s. refl }) 0 (λ s. pos s.number) (λ s. refl) (lit (Int (pos 1))) answer (sales_rise rows of_office) is
-        ∙ ap (λ (l : List Sale). take 1 (map (λ (s : Sale). shown_number s.number) l)) (all_pass rows.sales) ∙ first_shown rows.sales,
-  );
-}

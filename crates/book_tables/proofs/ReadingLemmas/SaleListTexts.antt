@@ -1,13 +1,11 @@
 -- What each text that lists sales means.
-use Rattle.std.proofs.Common.{ℕ, List, [], ◌∷◌, ◌++◌, refl, codes, pos}
-use Rattle.sqlite.specs.declared.types.Value.TheVariants.{Int}
+use Rattle.std.proofs.Common.{ℕ, List, [], ◌∷◌, refl, codes}
 use Rattle.sqlite_value.specs.declared.keys.Collation.TheVariants.{Binary}
 use Rattle.sqlite_sql.specs.Query.{Query}
-use Rattle.sqlite_sql.specs.Term.{Term, lit, col, op2}
+use Rattle.sqlite_sql.specs.Term.{Term, col, op2}
 use Rattle.sqlite_sql.specs.declared.ops.BinaryOp.TheVariants.{Compare}
 use Rattle.sqlite_sql.specs.declared.ops.CompareOp.TheVariants.{Eq, Gt}
 use Rattle.sqlite_tied.specs.Compute.{everything}
-use Rattle.sqlite_resolve.specs.Scope.{Name}
 use Rattle.one_table.specs.Listed.{query_on, no_limit, rising}
 use Rattle.one_table.specs.Reading.{is_whole, meant, select_meant, text_meant}
 use Rattle.book_tables.specs.row.Rows.{number}
@@ -43,37 +41,4 @@ sales_of_shift_query tree = query_on tree is_of_shift sale_terms (rising 0) no_l
 pub sales_of_shift_asks : (shift : ℕ) → Asks sales_table sales_of_shift_query sale_names sales_of_shift_text (number shift ∷ [])
 unfolding everything is_whole meant select_meant text_meant
 sales_of_shift_asks shift =
-    record { is = λ tree. record { means = refl; from = refl }; bare = λ tree. refl; typed = λ tree. refl; whole = refl }
-
--- ---- with the month
-
-abbrev pub booked_after_text : List ℕ
-booked_after_text =
-    codes "SELECT number, moment, shift, operator, ref, meter, base, tid, rnd, tenths, price, tender, digits, month FROM sales WHERE number > ?1 ORDER BY number LIMIT ?2"
-
-abbrev pub booked_terms : List Term
-booked_terms = sale_terms ++ col 1 3 ∷ []
-
-abbrev pub booked_names : List Name
-booked_names = sale_names ++ codes "month" ∷ []
-
-abbrev pub booked_after_query : ℕ → Query
-booked_after_query tree = query_on tree is_after booked_terms (rising 0) (col 0 1)
-
-pub booked_after_asks : (after limit : ℕ) → Asks sales_table booked_after_query booked_names booked_after_text (number after ∷ number limit ∷ [])
-unfolding everything is_whole meant select_meant text_meant
-booked_after_asks after limit =
-    record { is = λ tree. record { means = refl; from = refl }; bare = λ tree. refl; typed = λ tree. refl; whole = refl }
-
--- ---- the first number
-
-abbrev pub first_sale_text : List ℕ
-first_sale_text = codes "SELECT number FROM sales ORDER BY number LIMIT 1"
-
-abbrev pub first_sale_query : ℕ → Query
-first_sale_query tree = query_on tree [] (col 1 0 ∷ []) (rising 0) (lit (Int (pos 1)))
-
-pub first_sale_asks : Asks sales_table first_sale_query (codes "number" ∷ []) first_sale_text []
-unfolding everything is_whole meant select_meant text_meant
-first_sale_asks =
     record { is = λ tree. record { means = refl; from = refl }; bare = λ tree. refl; typed = λ tree. refl; whole = refl }

@@ -1,16 +1,14 @@
 -- A sale's row is that of its parts.
-use Rattle.std.proofs.Common.{◌≡◌, ℕ, zero, suc, ◌+◌, [], ◌∷◌, ◌++◌, Option, length, drop, subst, sym, ◌∙◌, ap, ap₂, add-one, arith}
+use Rattle.std.proofs.Common.{◌≡◌, ℕ, zero, suc, ◌+◌, [], ◌∷◌, Option, length, drop, subst, sym, ◌∙◌, ap, add-one, arith}
 use Rattle.std.proofs.lemmas.List.{drop_all, drop_more}
 use Rattle.sqlite.specs.Order.{Row, column}
 use Rattle.sqlite.specs.declared.types.Value.TheVariants.{Null}
 use Rattle.vend_core.specs.declared.decision.request.Order.{Order}
 use Rattle.vend_core.specs.declared.office.sale.Sale.{Sale}
 use Rattle.book_tables.specs.row.Parts.{entry_columns, order_columns, sale_part, shown_entry, shown_order, shown_token, token_columns}
-use Rattle.book_tables.specs.row.Rows.{number, shown_booked, shown_sale}
+use Rattle.book_tables.specs.row.Rows.{number, shown_sale}
 use Rattle.book_tables.specs.row.ReadBack.{ReadsBack}
 use Rattle.book_tables.specs.row.Values.{AreSaleValues}
-use Rattle.sts_fields.specs.Calendar.{month_at}
-use Rattle.sqlite.specs.declared.types.Value.{Value}
 use Rattle.book_tables.specs.declared.row.office_records.Entry.{Entry}
 use Rattle.book_tables.specs.declared.row.office_records.Token.{Token}
 
@@ -27,12 +25,9 @@ columns_to_the_end r at (suc count) e =
     drop_more r at Null (omega (arith, e)) ∙ ap (λ (k : ℕ). column r at ∷ drop k r) (add-one at) in
     ap (λ (more : Row). column r at ∷ more) rest ∙ sym next
 
--- a row of the columns of a sale, and one with the month behind
+-- a row of the columns of a sale
 pub whole_sale : (r : Row) → length r ≡ 13 → sale_part r ≡ r
 whole_sale r e = columns_to_the_end r 0 13 (sym e)
-
-pub whole_booking : (r : Row) → length r ≡ 14 → sale_part r ++ column r 13 ∷ [] ≡ r
-whole_booking r e = columns_to_the_end r 0 14 (sym e)
 
 -- the sale of these parts
 abbrev pub sale_from : Entry → Order → Token → ℕ → Sale
@@ -75,8 +70,3 @@ shows_token r s e = ap token_columns e
 
 pub read_whole : (r : Row) (read : Option Sale) → length r ≡ 13 → ReadsBack shown_sale AreSaleValues (sale_part r) read → ReadsBack shown_sale AreSaleValues r read
 read_whole r read count part = subst (λ (row : Row). ReadsBack shown_sale AreSaleValues row read) (whole_sale r count) part
-
--- ---- with the month
-
-pub books : (r : Row) (s : Sale) (month : ℕ) → length r ≡ 14 → shown_sale s ≡ sale_part r → number month ≡ column r 13 → month ≡ month_at s.moment → shown_booked s ≡ r
-books r s month count sale is of_moment = ap₂ (λ (front : Row) (v : Value). front ++ v ∷ []) sale (ap number (sym of_moment) ∙ is) ∙ whole_booking r count

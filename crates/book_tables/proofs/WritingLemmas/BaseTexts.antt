@@ -3,14 +3,13 @@ use Rattle.std.proofs.Common.{◌≡◌, true, ℕ, List, [], ◌∷◌, refl, c
 use Rattle.sqlite_value.specs.declared.value.Value.TheVariants.{Null}
 use Rattle.sqlite_sql.specs.Query.{Query}
 use Rattle.sqlite_sql.specs.Term.{Term, col, lit}
-use Rattle.sqlite_tied.specs.Compute.{everything}
 use Rattle.sqlite_resolve.specs.Scope.{Name}
+use Rattle.sqlite_tied.specs.Compute.{everything}
 use Rattle.one_table.specs.Changing.{IsUpdate, sets_meant, update_in, update_meant}
 use Rattle.one_table.specs.Inserting.{IsInsert, insert_in, insert_meant, puts_meant}
 use Rattle.one_table.specs.Listed.{no_limit, query_on}
-use Rattle.one_table.specs.Reading.{is_whole, meant, select_meant, text_meant}
+use Rattle.one_table.specs.Reading.{is_whole}
 use Rattle.book_tables.specs.Tables.{meter_bases_table, meters_table}
-use Rattle.book_tables.proofs.ReadingLemmas.ReadLemmas.{Asks}
 use Rattle.book_tables.proofs.WritingLemmas.WriteTexts.{is_that_meter}
 
 -- ---- a base more
@@ -48,17 +47,7 @@ pub base_set_whole : is_whole base_set_text 2 ≡ true
 unfolding everything is_whole
 base_set_whole = refl
 
--- ---- all meters
-
-abbrev pub all_meters_text : List ℕ
-all_meters_text = codes "SELECT meter, base, tariff, secret FROM meters"
+-- ---- all columns of a meter
 
 abbrev pub all_meters_names : List Name
 all_meters_names = codes "meter" ∷ codes "base" ∷ codes "tariff" ∷ codes "secret" ∷ []
-
-abbrev pub all_meters_query : ℕ → Query
-all_meters_query tree = query_on tree [] (col 1 1 ∷ col 1 2 ∷ col 1 3 ∷ col 1 4 ∷ []) [] no_limit
-
-pub all_meters_asks : Asks meters_table all_meters_query all_meters_names all_meters_text []
-unfolding everything is_whole meant select_meant text_meant
-all_meters_asks = record { is = λ tree. record { means = refl; from = refl }; bare = λ tree. refl; typed = λ tree. refl; whole = refl }

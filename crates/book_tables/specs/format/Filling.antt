@@ -1,93 +1,73 @@
--- The filling of tables that a format lacked, from the rows that its tables have: what is known of
--- the rows, and what each step makes of them, whatever format `about` tells.
-use Rattle.std.specs.Prelude.{◌≡◌, ◌≤◌, ℕ, List, [], ◌∷◌, IsPermutation, IsTrue, OnOk, Result, codes, length, map, take}
+-- The filling of tables that a format lacked, from the meters and the sales of the office, whatever
+-- format `about` tells.
+use Rattle.std.specs.Prelude.{◌≡◌, ◌≢◌, ◌↔◌, ℕ, List, ◌∷◌, [], ◌++◌, codes, map, AllPairs, Contains, IfErr, IsTrue, OnOk, Result, Some}
 use Rattle.sqlite.specs.Effect.{IsDatabase}
 use Rattle.sqlite.specs.State.{HasCleanDisk, KeepsCommit, State, Survives}
 use Rattle.sts_fields.specs.declared.base.Base.{Base}
+use Rattle.vend_core.specs.Office.{IsOffice, Office}
 use Rattle.vend_core.specs.declared.office.meter.Meter.{Meter}
 use Rattle.vend_core.specs.declared.office.sale.Sale.{Sale}
 use Rattle.one_table.specs.InTransaction.{IsUnderWay, StaysInside}
-use Rattle.book_tables.specs.Holds.{HoldsOf}
-use Rattle.book_tables.specs.reading.Reading.{AreOfOffice}
-use Rattle.book_tables.specs.row.Gathered.{IsGathered}
+use Rattle.book_tables.specs.Holds.{HasOffice, HoldsOf}
+use Rattle.book_tables.specs.reading.Reading.{meter_row}
 use Rattle.book_tables.specs.row.Rows.{Rows, present_format}
-use Rattle.book_tables.specs.declared.error.TableError.{TableError}
-use Rattle.book_tables.specs.declared.row.gathered.Gathered.{Gathered}
 use Rattle.book_tables.specs.Stands.{AreTotalsOf}
+use Rattle.book_tables.specs.writing.Edited.{no_rows}
+use Rattle.book_tables.specs.writing.Failing.{FailsToWriteAll}
 use Rattle.book_tables.specs.writing.Writing.{WritesOnly, totals_names, with_totals_of}
+use Rattle.book_tables.specs.declared.error.TableError.{TableError}
+use Rattle.book_tables.specs.declared.reading.pages.MeterRow.{MeterRow}
 
--- what is left where only the tables of these names may have other rows: where nothing was written
--- the database is sound if it was
-pub record KeepsAllBut (names : List (List ℕ)) (old new : State) : Type 0 where
-  pub schema : new.now.schema ≡ old.now.schema
-  pub only : IsDatabase old.now → WritesOnly names old new
+-- these are the meters of the office, each once, and its sales
+pub record AreHanded (o : Office) (given : List MeterRow) (sold : List Sale) : Type 0 where
+  pub meters : (number : List ℕ) (m : Meter)
+      → (o.meters number ≡ Some m) ↔ Contains given (meter_row (number, m))
+  pub once : AllPairs (λ a b. a.number ≢ b.number) given
+  pub sales : sold ≡ o.sales
 
--- ---- totals
+-- an open connection, in a transaction that is under way, has the tables of the present format in a
+-- sound database
+pub record IsReady (s : State) : Type 0 where
+  pub is_open : IsTrue s.is_open
+  pub under_way : IsUnderWay s
+  pub sound : IsDatabase s.now
+  pub has : HasOffice s.now.schema
 
--- the sales are an office's, and the totals are those of the first of them up to this number
-pub record HasTotalsUpto (number : ℕ) (full rows : Rows) : Type 0 where
-  pub office : AreOfOffice full
-  pub same : rows.sales ≡ full.sales
-  pub within : number ≤ length full.sales
-  pub totals : AreTotalsOf (take number full.sales) rows
-
--- there are totals of some office's first sales up to this number
-abbrev pub HasSomeTotals : ℕ → ℕ → Rows → Type 0
-HasSomeTotals number format rows = (full : Rows) × HasTotalsUpto number full rows
-
--- What was gathered of the first sales up to a number is that of those up to another one, which is
--- the same only where there are no more.
-pub record GathersUpto (sales : List Sale) (done last : ℕ) (g h : Gathered) : Type 0 where
-  pub within : last ≤ length sales
-  pub ended : last ≡ done → length sales ≤ done
-  pub gathered : IsGathered (take done sales) g → IsGathered (take last sales) h
-
--- The rows of a table of totals are these, where it had none and they are such as is asked. All but
--- the totals is as it was.
-pub record PutsFirst {R : Type 0} (set : List R → Rows → Rows) (Are : List R → Type 0)
-    (list : List R) (old new : State) : Type 0 where
-  pub was_open : IsTrue new.is_open → IsTrue old.is_open
-  pub schema : new.now.schema ≡ old.now.schema
-  pub others : IsDatabase old.now → IsTrue old.is_open → IsUnderWay old
-      → WritesOnly totals_names old new
-  pub rows : (told : ℕ) (rows : Rows) → HoldsOf present_format told old.now (set [] rows)
-      → Are list → HoldsOf present_format told new.now (set list rows)
-
--- what several statements, or none, leave inside a transaction, where the connection is open
-pub record GoesOn (old new : State) (result : Result (Unit {0}) TableError) : Type 0 where
+-- What several writes, or none, make of the tables of a connection that is ready, and why one of
+-- them fails. Nothing is committed.
+pub record Fills (Makes : State → State → Type 0) (old new : State)
+    (result : Result (Unit {0}) TableError) : Type 0 where
+  pub made : HasCleanDisk new → IsReady old → OnOk result (Makes old new)
+  pub refused : HasCleanDisk new → IsReady old → IfErr result (FailsToWriteAll old new)
   pub inside : HasCleanDisk new → IsUnderWay old → IsTrue old.is_open
       → OnOk result (StaysInside old new)
   pub kept : HasCleanDisk new → IsUnderWay old → IsTrue old.is_open → KeepsCommit old new
   pub survives : Survives old new (λ _. ⊥)
 
--- the totals are those of all sales, where there were none
-pub record FillsTotals (old new : State) : Type 0 where
-  pub others : KeepsAllBut totals_names old new
-  pub rows : (told : ℕ) (rows full : Rows) → HoldsOf present_format told old.now rows
-      → HasTotalsUpto 0 full rows
+-- The rows of a table of totals are these, where it had none, and these and those that are to
+-- follow are such as is asked.
+pub record PutsFirst {R : Type 0} (set : List R → Rows → Rows) (Are : List R → Type 0)
+    (list : List R) (old new : State) : Type 0 where
+  pub only : WritesOnly totals_names old new
+  pub rows : (told : ℕ) (rows : Rows) (after : List R) → Are (list ++ after)
+      → HoldsOf present_format told old.now (set [] rows)
+      → HoldsOf present_format told new.now (set list rows)
+
+-- the totals are those of these sales, where there were none and the sales are an office's
+pub record FillsTotals (sales : List Sale) (old new : State) : Type 0 where
+  pub only : WritesOnly totals_names old new
+  pub rows : (told : ℕ) (rows : Rows) (o : Office) → IsOffice o → sales ≡ o.sales
+      → HoldsOf present_format told old.now (with_totals_of no_rows rows)
       → (totals : Rows) × HoldsOf present_format told new.now (with_totals_of totals rows)
-      × AreTotalsOf full.sales totals
-
--- ---- bases
-
--- the meters are an office's, and no base is there yet
-pub record AwaitsBases (full rows : Rows) : Type 0 where
-  pub office : AreOfOffice full
-  pub same : rows.meters ≡ full.meters
-  pub none : rows.bases ≡ []
-
--- there are such meters
-abbrev pub AwaitsSomeBases : ℕ → Rows → Type 0
-AwaitsSomeBases format rows = (full : Rows) × AwaitsBases full rows
+      × AreTotalsOf sales totals
 
 -- a meter's number and its present base
-abbrev pub base_row : (List ℕ × Meter) → (List ℕ × Base)
-base_row r = (r.0, r.1.base)
+abbrev pub base_row : MeterRow → (List ℕ × Base)
+base_row m = (m.number, m.meter.base)
 
--- each meter's present base is the one that it had, each once and in any order, where no base was
-pub record FillsBases (old new : State) : Type 0 where
-  pub others : KeepsAllBut (codes "meter_bases" ∷ []) old new
-  pub rows : (told : ℕ) (rows full : Rows) → HoldsOf present_format told old.now rows
-      → AwaitsBases full rows
-      → (bases : List (List ℕ × Base)) × IsPermutation (map base_row full.meters) bases
-      × HoldsOf present_format told new.now (record rows { bases = bases })
+-- the present base of each of these meters stands after those that were there
+pub record FillsBases (meters : List MeterRow) (old new : State) : Type 0 where
+  pub only : WritesOnly (codes "meter_bases" ∷ []) old new
+  pub rows : (told : ℕ) (rows : Rows) → HoldsOf present_format told old.now rows
+      → HoldsOf present_format told new.now
+      (record rows { bases = rows.bases ++ map base_row meters })

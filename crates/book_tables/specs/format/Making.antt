@@ -1,22 +1,28 @@
 -- The tables of an office that are made in a database, beside whatever other tables it has, and the
 -- tables of an older format that are brought up to the present one.
-use Rattle.std.specs.Prelude.{◌≡◌, ◌≤◌, ℕ, zero, suc, true, List, [], ◌∷◌, codes, fold, IsTrue}
+use Rattle.std.specs.Prelude.{◌≡◌, ◌⊎◌, ℕ, zero, suc, true, List, [], ◌∷◌, codes, fold, IsTrue}
 use Rattle.std.specs.List.{AllByRecursion}
 use Rattle.sqlite.specs.Effect.{Database, IsDatabase}
 use Rattle.sqlite.specs.State.{Shows, State}
 use Rattle.sqlite.specs.Table.{Table}
-use Rattle.one_table.specs.Making.{made}
+use Rattle.sqlite.specs.declared.error.Error.{Error}
+use Rattle.sqlite_trees.specs.declared.store.Store.{Ghosts}
+use Rattle.one_table.specs.Making.{FailsToMake, made}
 use Rattle.one_table.specs.Place.{Has}
-use Rattle.vend_core.specs.Office.{Office}
+use Rattle.vend_core.specs.Office.{IsOffice, Office, empty_office}
+use Rattle.vend_core.specs.declared.office.sale.Sale.{Sale}
 use Rattle.book_tables.specs.writing.Edited.{no_rows}
+use Rattle.book_tables.specs.format.Filling.{AreHanded}
 use Rattle.book_tables.specs.format.Format.{HasFormat, TellsFormat}
 use Rattle.book_tables.specs.Holds.{HasOffice, HasOfficeOf, Holds, HoldsMembers, HoldsOf, StandsFor, rows_in}
-use Rattle.book_tables.specs.Kept.{kept_tables, later}
-use Rattle.book_tables.specs.format.Looking.{ShowsRowsOf}
+use Rattle.book_tables.specs.Kept.{kept_names, kept_tables, kept_texts, later}
 use Rattle.book_tables.specs.row.Rows.{Rows, about_rows, present_format}
+use Rattle.book_tables.specs.Stands.{AreMembersOf, IsOfFormat}
+use Rattle.book_tables.specs.writing.Failing.{FailsToWriteAll}
+use Rattle.book_tables.specs.writing.Writing.{IsOfNone, WritesOnly}
 use Rattle.book_tables.specs.declared.error.TableError.{TableError}
 use Rattle.book_tables.specs.declared.error.TableError.TheVariants as fails
-use Rattle.book_tables.specs.writing.Writing.{IsOfNone, WritesOnly}
+use Rattle.book_tables.specs.declared.reading.pages.MeterRow.{MeterRow}
 
 -- while the connection is open, its database is sound and has the tables of a format
 abbrev pub IsSoundOfFormat : ℕ → State → Type 0
@@ -53,11 +59,6 @@ pub record LeavesBeside (from : ℕ) (old new : Database) : Type 0 where
       → new.trees u.tree ≡ old.trees u.tree) old.schema.tables
   pub sound : IsDatabase new
 
--- the rows that are looked at are as they were
-pub record AreLeft (old new : Database) : Type 0 where
-  pub sales : rows_in new (codes "sales") ≡ rows_in old (codes "sales")
-  pub meters : rows_in new (codes "meters") ≡ rows_in old (codes "meters")
-
 -- the tables that a format lacks are made, with nothing in them
 pub record MakesMissing (from : ℕ) (old new : Database) : Type 0 where
   pub had : HasOfficeOf from old.schema
@@ -65,7 +66,6 @@ pub record MakesMissing (from : ℕ) (old new : Database) : Type 0 where
   pub rows : (rows : Rows) → HoldsOf from from old rows
       → HoldsOf present_format from new (rows_upto from rows)
   pub tells : TellsFormat from old → rows_in new (codes "about") ≡ about_rows from
-  pub left : 1 ≤ from → AreLeft old new
   pub beside : LeavesBeside from old new
 
 -- `about` tells the present format, where it told another or none
@@ -74,25 +74,48 @@ pub record TellsPresent (told : ℕ) (old new : State) : Type 0 where
   pub rows : (rows : Rows) → HoldsOf present_format told old.now rows → Holds new.now rows
   pub tells : rows_in old.now (codes "about") ≡ about_rows told → HasFormat new.now present_format
 
--- The database has the present tables in place of those of a format, or of none, and holds the
--- office that it stood for: the empty one, where there was none. Whatever the other rows are,
--- `about` tells the present format in place of that of the tables. The rows of `sales` and of
--- `meters` were looked at, and are sales and meters.
-pub record BringsOffice (from : ℕ) (old new : Database) : Type 0 where
+-- The tables that a format lacked have the rows of its office, and no others do: the totals of its
+-- sales, and the present base of each of its meters.
+pub record FillsMissing (from : ℕ) (meters : List MeterRow) (sales : List Sale)
+    (old new : State) : Type 0 where
+  pub only : WritesOnly (kept_names (later from)) old new
+  pub tells : rows_in new.now (codes "about") ≡ rows_in old.now (codes "about")
+  pub members : (o : Office) (rows : Rows) → IsOffice o → (from ≡ 0 → o ≡ empty_office)
+      → AreHanded o meters sales → AreMembersOf rows o → IsOfFormat from rows
+      → HoldsOf present_format from old.now (rows_upto from rows)
+      → (full : Rows) × HoldsOf present_format from new.now full × AreMembersOf full o
+
+-- The database has the present tables in place of those of a format, or of none. Whatever the rows
+-- are, `about` tells the present format in place of that of the tables.
+pub record BringsTables (from : ℕ) (old new : Database) : Type 0 where
   pub had : HasOfficeOf from old.schema
   pub has : HasOffice new.schema
-  pub members : (o : Office) → StandsFor old o → HoldsMembers new o
   pub tells : TellsFormat from old → HasFormat new present_format
-  pub shows : ShowsRowsOf from old
   pub beside : LeavesBeside from old new
 
--- it is not, where a row is that of no office: then the database stands for none
-abbrev pub TellsOf : ℕ → Database → TableError → Type 0
-TellsOf from old (fails.Database e) = Unit {0}
-TellsOf from old fails.RowOfNoOffice =
-    IsDatabase old → HasOfficeOf from old.schema → (o : Office) → ¬ StandsFor old o
+-- They hold the office that the database stood for: the empty one, where there was none.
+pub record BringsOffice (from : ℕ) (old new : Database) : Type 0 where
+  pub tables : BringsTables from old new
+  pub members : (o : Office) → StandsFor old o → HoldsMembers new o
+
+-- these are the meters and the sales of the office that the database stands for
+abbrev pub HandsOver : Database → List MeterRow → List Sale → Type 0
+HandsOver db meters sales = (o : Office) → StandsFor db o → AreHanded o meters sales
 
 -- The same inside a transaction: the connection is in it, and nothing is committed.
 pub record BringsInside (from : ℕ) (old new : State) : Type 0 where
   pub inside : Shows old new new.now old.committed true
   pub brings : BringsOffice from old.now new.now
+
+-- the tables that the format lacked were made, and one of the writes after that failed
+pub record FailsOnceMade (from : ℕ) (old new : State) (e : Error) : Type 0 where
+  pub made : Database
+  pub makes : MakesMissing from old.now made
+  pub fails : FailsToWriteAll (record old { now = made }) new (fails.Database e)
+
+-- Why the tables are not brought up: one that the format lacked was not made, or a write of rows
+-- failed after that. No row is told to be no office's.
+abbrev pub FailsToBring : {S : Type 0} → Ghosts S → ℕ → State → State → TableError → Type 0
+FailsToBring g from old new (fails.Database e) =
+    FailsToMake g (kept_texts (later from)) old new e ⊎ FailsOnceMade from old new e
+FailsToBring g from old new fails.RowOfNoOffice = ⊥

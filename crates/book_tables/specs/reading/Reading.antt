@@ -11,7 +11,7 @@ use Rattle.one_table.specs.Answer.{FailsToRead as FailsToAnswer}
 use Rattle.one_table.specs.InTransaction.{FailsToWrite}
 use Rattle.one_table.specs.Merges.{FailsToTouch}
 use Rattle.one_table.specs.Reading.{FailsPlainly}
-use Rattle.one_table.specs.ReadsOnly.{ReadsInside, ReadsOnly}
+use Rattle.one_table.specs.ReadsOnly.{ReadsOnly}
 use Rattle.one_table.specs.Upserting.{Merging}
 use Rattle.one_table.specs.declared.read_fault.ReadFault.{ReadFault}
 use Rattle.one_table.specs.declared.read_fault.ReadFault.TheVariants as fault
@@ -66,11 +66,6 @@ SaysOfTable k Says old new result =
 abbrev pub ReadsTable : {T : Type 0} → Kept → State → State → Result T TableError → Type 0
 ReadsTable k old new result =
     ReadsOnly (HasTable k) IsUnchanged (FailsToReadOf (TableHolds k)) old new result
-
--- the same inside a transaction, which `KeepsTransaction` says of any statement
-abbrev pub ReadsTableInside : {T : Type 0} → Kept → State → State → Result T TableError → Type 0
-ReadsTableInside k old new result =
-    ReadsInside (HasTable k) (FailsToReadOf (TableHolds k)) old new result
 
 -- ---- steps of later days, by first day
 

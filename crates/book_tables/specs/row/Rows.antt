@@ -1,6 +1,6 @@
 -- The rows of the office's tables: the records that they are, and the values that are stored of
 -- each.
-use Rattle.std.specs.Prelude.{ℕ, zero, suc, pos, List, [], ◌∷◌, ◌++◌, Option, Some, None}
+use Rattle.std.specs.Prelude.{ℕ, zero, suc, pos, List, [], ◌∷◌, Option, Some, None}
 use Rattle.sqlite.specs.Order.{Row}
 use Rattle.sqlite.specs.declared.types.Value.{Value}
 use Rattle.sqlite.specs.declared.types.Value.TheVariants.{Null, Int, Text}
@@ -139,10 +139,6 @@ shown_sale s =
     number s.number ∷ number s.moment ∷ number s.shift ∷ Text s.operator ∷ Text s.order_ref
     ∷ Text s.meter ∷ number (year_of s.base) ∷ number s.tid ∷ number s.rnd ∷ number s.tenths
     ∷ number s.price ∷ number s.tender ∷ Text s.digits ∷ []
-
--- the same with the month of the moment
-abbrev pub shown_booked : Sale → Row
-shown_booked s = shown_sale s ++ number (month_at s.moment) ∷ []
 
 abbrev pub shown_totals : Totals → Row
 shown_totals t = number t.sales ∷ number t.tenths ∷ number t.cash ∷ []

@@ -6,7 +6,7 @@ use Rattle.sqlite_keyed.specs.Keyed.{IsKeyedBy}
 use Rattle.sts_fields.specs.declared.base.Base.{Base}
 use Rattle.book_tables.specs.Holds.{HoldsOf}
 use Rattle.book_tables.specs.row.Rows.{Rows, present_format}
-use Rattle.book_tables.specs.writing.Writing.{HasRoomFor, WritesOnly}
+use Rattle.book_tables.specs.writing.Writing.{HasRoomFor, WritesOnly, totals_names}
 use Rattle.book_tables.specs.declared.row.totals.Totals.{Totals}
 
 -- the rows with these in one of the tables
@@ -30,10 +30,11 @@ FitMonths months = All (λ r. r.1 < 2 ^ 63) months
 abbrev pub FitShifts : List (ℕ × Totals) → Type 0
 FitShifts shifts = IsKeyedBy (λ r. pos r.0) shifts × All (λ r. HasRoomFor r.1) shifts
 
--- this row stands after those that the table of the name had, where they are such as is asked
-pub record PutsNext {R : Type 0} (name : List ℕ) (set : List R → Rows → Rows)
-    (Are : List R → Type 0) (r : R) (old new : State) : Type 0 where
-  pub only : WritesOnly (name ∷ []) old new
-  pub rows : (told : ℕ) (rows : Rows) (before : List R)
-      → HoldsOf present_format told old.now (set before rows) → Are (before ++ r ∷ [])
+-- This row stands after those that its table had, where these, it and those that are to follow are
+-- such as is asked. All but the totals is as it was.
+pub record PutsNext {R : Type 0} (set : List R → Rows → Rows) (Are : List R → Type 0) (r : R)
+    (old new : State) : Type 0 where
+  pub only : WritesOnly totals_names old new
+  pub rows : (told : ℕ) (rows : Rows) (before after : List R) → Are (before ++ r ∷ after)
+      → HoldsOf present_format told old.now (set before rows)
       → HoldsOf present_format told new.now (set (before ++ r ∷ []) rows)

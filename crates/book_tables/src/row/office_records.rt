@@ -15,7 +15,7 @@ ghost use Rattle.book_tables.specs.row.Values.{AreMeterValues, AreSaleValues, Ar
 use crate::row::cells;
 use crate::row::record::Record;
 use sqlite::Row;
-use sts_fields::{Amount, Base, Moment, month_of};
+use sts_fields::{Amount, Base, Moment};
 use tariff::Step;
 use vend_core::{Meter, Order, Sale, Shift, TariffName};
 
@@ -192,33 +192,5 @@ impl Record for Sale {
             return None;
         }
         sale_of(row)
-    }
-}
-
-/// A sale whose row has the month of its moment.
-#[derive(Drop)]
-pub(crate) struct Booked {
-    pub(crate) sale: Sale,
-}
-
-impl Record for Booked {
-    ghost use Rattle.book_tables.specs.row.Rows.{shown_booked};
-
-    ghost shown = { λ b. shown_booked b.sale };
-
-    ghost keeps = { λ b. AreSaleValues b.sale };
-
-    fn of_row(row: &Row) -> Option<Booked> {
-        if row.column_count() != 14 {
-            return None;
-        }
-        let Some(sale) = sale_of(row) else {
-            return None;
-        };
-        let month = month_of(sale.moment).unwrap();
-        match cells::between_at(row, 13, month, month) {
-            Some(_) => Some(Booked { sale }),
-            None => None,
-        }
     }
 }

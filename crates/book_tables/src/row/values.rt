@@ -1,6 +1,6 @@
 //! The values of the columns of a row, in the order of its table, as a write binds them.
 
-ghost use Rattle.std.specs.Prelude.{◌≡◌, ◌<◌, ◌^◌, ◌∷◌, []};
+ghost use Rattle.std.specs.Prelude.{◌≡◌, ◌<◌, ◌^◌, ◌∷◌, [], length};
 ghost use Rattle.sqlite.specs.Values.{bound};
 ghost use Rattle.sqlite.specs.declared.types.Value.TheVariants.{Text};
 ghost use Rattle.sts_fields.specs.Base.{year_of};
@@ -231,7 +231,8 @@ fn total(sum: u64) -> ValueRef<'static>
 /// The number of a meter, a month, and the sum of the meter's tenths in it, where a column can hold
 /// it.
 pub(crate) fn month_total_values(meter: &MeterNo, month: u32, tenths: u64) -> [ValueRef<'_>; 3]
-    ensures { tenths < 2 ^ 63 → bound result ≡ month_columns ((meter.now, month), tenths) }
+    ensures count { length (bound result) ≡ 3 }
+    ensures bound { tenths < 2 ^ 63 → bound result ≡ month_columns ((meter.now, month), tenths) }
 {
     [
         ValueRef::Text(meter.as_bytes()),
@@ -242,7 +243,8 @@ pub(crate) fn month_total_values(meter: &MeterNo, month: u32, tenths: u64) -> [V
 
 /// The number of a shift, and its totals, where the columns can hold them.
 pub(crate) fn shift_total_values(shift: u32, totals: &Totals) -> [ValueRef<'static>; 4]
-    ensures { HasRoomFor totals.now → bound result ≡ totals_columns (shift, totals.now) }
+    ensures count { length (bound result) ≡ 4 }
+    ensures bound { HasRoomFor totals.now → bound result ≡ totals_columns (shift, totals.now) }
 {
     [
         whole(shift),

@@ -1,11 +1,10 @@
 //! The statements that put a row of the running totals in, where none of its key is.
 
-ghost use Rattle.std.specs.Prelude.{◌≡◌, ◌≢◌, codes, IfErr, OnOk};
+ghost use Rattle.std.specs.Prelude.{◌≡◌, List};
 ghost use Rattle.one_table.specs.Over.{Inside};
-ghost use Rattle.sqlite.specs.State.{HasCleanDisk};
-ghost use Rattle.one_table.specs.InTransaction.{KeepsTransaction};
-ghost use Rattle.book_tables.specs.reading.Reading.{HasAllTables};
+ghost use Rattle.book_tables.specs.row.Rows.{Rows};
 ghost use Rattle.book_tables.specs.writing.Putting.{AreAnyIds, FitMonths, FitShifts, PutsNext, with_last_ids, with_month_tenths, with_shift_totals};
+ghost use Rattle.book_tables.specs.writing.Writing.{WritesTables};
 
 use crate::error::TableError;
 use crate::row::totals::Totals;
@@ -16,74 +15,57 @@ use sqlite::{Alter, Transaction};
 use sts_fields::Base;
 use vend_core::MeterNo;
 
-/// Puts the last identifier of a meter under a base in.
-///
-/// # Errors
-/// Want of memory, the disk, and a row of the key.
-pub(crate) fn put_last_id<S: Alter>(
-    tx: &mut Transaction<'_, S>,
-    meter: &MeterNo,
-    base: Base,
-    tid: u32,
-) -> Result<(), TableError>
-    ensures same_reference { tx.new.conn.ghost_name ≡ tx.old.conn.ghost_name }
-    ensures puts { Inside S.Store tx (λ old new. HasCleanDisk new → HasAllTables old
-        → OnOk result (PutsNext (codes "last_ids") with_last_ids AreAnyIds (
-          (meter.now, base),
-          tid,
-        ) old new)) }
-    ensures transaction { Inside S.Store tx (λ old new. KeepsTransaction old new result) }
-    ensures database { IfErr result (λ e. e ≢ TableError.RowOfNoOffice) }
-{
-    put(tx, NEW_LAST_ID, &last_id_values(meter, base, tid))
+/// A row of a table of running totals, with its key.
+pub(crate) trait TotalRow: Sized {
+    // All rows with these in its table, and what is asked of these.
+    ghost in_table: { List Self → Rows → Rows };
+
+    ghost are: { List Self → Type 0 };
+
+    /// Puts the row in.
+    ///
+    /// # Errors
+    /// Want of memory, the disk, and a row of the key.
+    fn put<S: Alter>(&self, tx: &mut Transaction<'_, S>) -> Result<(), TableError>
+        ensures same_reference { tx.new.conn.ghost_name ≡ tx.old.conn.ghost_name }
+        ensures writes { Inside S.Store tx (λ old new. WritesTables (PutsNext in_table are
+            self.now) old new result) };
 }
 
-/// Puts the tenths of a meter in a month in.
-///
-/// # Errors
-/// Want of memory, the disk, and a row of the key.
-pub(crate) fn put_month_tenths<S: Alter>(
-    tx: &mut Transaction<'_, S>,
-    meter: &MeterNo,
-    month: u32,
-    tenths: u64,
-) -> Result<(), TableError>
-    ensures same_reference { tx.new.conn.ghost_name ≡ tx.old.conn.ghost_name }
-    ensures puts { Inside S.Store tx (λ old new. HasCleanDisk new → HasAllTables old
-        → OnOk result (PutsNext (codes "month_tenths") with_month_tenths FitMonths (
-          (
-            meter.now,
-            month,
-          ),
-          tenths,
-        ) old new)) }
-    ensures transaction { Inside S.Store tx (λ old new. KeepsTransaction old new result) }
-    ensures database { IfErr result (λ e. e ≢ TableError.RowOfNoOffice) }
-{
-    put(
-        tx,
-        NEW_MONTH_TENTHS,
-        &month_total_values(meter, month, tenths),
-    )
+impl TotalRow for ((MeterNo, Base), u32) {
+    ghost in_table = { with_last_ids };
+
+    ghost are = { AreAnyIds };
+
+    fn put<S: Alter>(&self, tx: &mut Transaction<'_, S>) -> Result<(), TableError> {
+        put(
+            tx,
+            NEW_LAST_ID,
+            &last_id_values(&self.0.0, self.0.1, self.1),
+        )
+    }
 }
 
-/// Puts the totals of a shift in.
-///
-/// # Errors
-/// Want of memory, the disk, and a row of the key.
-pub(crate) fn put_shift_totals<S: Alter>(
-    tx: &mut Transaction<'_, S>,
-    shift: u32,
-    totals: &Totals,
-) -> Result<(), TableError>
-    ensures same_reference { tx.new.conn.ghost_name ≡ tx.old.conn.ghost_name }
-    ensures puts { Inside S.Store tx (λ old new. HasCleanDisk new → HasAllTables old
-        → OnOk result (PutsNext (codes "shift_totals") with_shift_totals FitShifts (
-          shift,
-          totals.now,
-        ) old new)) }
-    ensures transaction { Inside S.Store tx (λ old new. KeepsTransaction old new result) }
-    ensures database { IfErr result (λ e. e ≢ TableError.RowOfNoOffice) }
-{
-    put(tx, NEW_SHIFT_TOTALS, &shift_total_values(shift, totals))
+impl TotalRow for ((MeterNo, u32), u64) {
+    ghost in_table = { with_month_tenths };
+
+    ghost are = { FitMonths };
+
+    fn put<S: Alter>(&self, tx: &mut Transaction<'_, S>) -> Result<(), TableError> {
+        put(
+            tx,
+            NEW_MONTH_TENTHS,
+            &month_total_values(&self.0.0, self.0.1, self.1),
+        )
+    }
+}
+
+impl TotalRow for (u32, Totals) {
+    ghost in_table = { with_shift_totals };
+
+    ghost are = { FitShifts };
+
+    fn put<S: Alter>(&self, tx: &mut Transaction<'_, S>) -> Result<(), TableError> {
+        put(tx, NEW_SHIFT_TOTALS, &shift_total_values(self.0, &self.1))
+    }
 }

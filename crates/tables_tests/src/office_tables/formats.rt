@@ -1,9 +1,11 @@
-//! Tables of older formats that have no sales, or rows that are no office's.
+//! Tables of older formats that have sales, or none.
 use crate::office_tables::made::{batch, count, file};
 use book_tables::format::number::format_number;
 use book_tables::format::presence::format_here;
 use book_tables::format::upgrade::bring;
-use book_tables::{PRESENT_FORMAT, TableError};
+use book_tables::reading::pages::MeterRow;
+use book_tables::reading::sale_lists::sales_after;
+use book_tables::{PRESENT_FORMAT, TableError, all_records};
 use sqlite::{Connection, Error, ErrorCode, MemStore};
 use std::alloc::Global;
 use std::test::Fail;
@@ -33,13 +35,18 @@ const SECOND: &str = "UPDATE about SET format = 2; \
     ('12345678903', 253, 3); \
     INSERT INTO shift_totals VALUES (1, 3, 13, 130), (2, 1, 3, 30)";
 
-// Brings the tables of a format to the present one, and commits it.
+const METERS: &str = "SELECT meter, base, tariff, secret FROM meters";
+
+// Brings the tables of a format to the present one, with the meters and the sales that they have,
+// and commits it.
 fn brought(alloc: Global, conn: &mut Connection<MemStore>, from: u32) -> Result<(), TableError> {
     if !conn.is_autocommit() || from >= PRESENT_FORMAT {
         return Err(TableError::Database(Error::SqliteFailure(ErrorCode::TransactionState)));
     }
+    let meters: Vec<MeterRow> = all_records(alloc, conn, METERS, &[])?;
+    let sales = sales_after(alloc, conn, 0, 1000)?;
     let mut tx = conn.transaction();
-    bring(alloc, &mut tx, from)?;
+    bring(alloc, &mut tx, from, &meters, &sales)?;
     tx.commit()?;
     Ok(())
 }
@@ -66,20 +73,6 @@ fn office(alloc: Global, format: u32) -> Result<Connection<MemStore>, Error> {
     Ok(conn)
 }
 
-// Spoils the office of a format, which cannot be brought up then and stays as it was.
-fn stays(alloc: Global, format: u32, sql: &str) -> Result<bool, Fail> {
-    let mut conn = office(alloc, format)?;
-    batch(&mut conn, sql)?;
-    let sales = count(&mut conn, "SELECT count(*) FROM sales")?;
-    let brought = brought(alloc, &mut conn, format);
-    Ok(
-        brought == Err(TableError::RowOfNoOffice)
-            && format_here(alloc, conn.schema())? == Some(format)
-            && format_number(alloc, &mut conn)? == Some(format)
-            && count(&mut conn, "SELECT count(*) FROM sales")? == sales,
-    )
-}
-
 #[test]
 fn a_file_with_no_sales_has_no_totals(rt: HostRuntime) -> Result<(), Fail> {
     let mut conn = file(rt.alloc(), 6)?;
@@ -98,36 +91,6 @@ fn a_file_with_no_sales_has_no_totals(rt: HostRuntime) -> Result<(), Fail> {
     Ok(())
 }
 
-// Rows that are no office's, in a file of each older format.
-#[test]
-fn a_bad_row_leaves_the_older_file(rt: HostRuntime) -> Result<(), Fail> {
-    let spoils = [
-        "UPDATE sales SET price = 101 WHERE number = 2",
-        "UPDATE sales SET digits = '123' WHERE number = 4",
-        "UPDATE sales SET tid = 16777216 WHERE number = 1",
-        "UPDATE sales SET month = 253 WHERE number = 2",
-        "UPDATE sales SET month = -1 WHERE number = 4",
-        "UPDATE sales SET number = 5 WHERE number = 4",
-        "UPDATE sales SET number = 6 WHERE number = 1",
-        "UPDATE sales SET number = 0 WHERE number = 1",
-        "INSERT INTO sales VALUES (0, 1388534400, 252, 1, 'ann', 'r-0', '10000000009', 2014, 1, \
-        0, 5, 50, 50, '00216172799293731483')",
-        "INSERT INTO sales VALUES (-7, 1388534400, 252, 1, 'ann', 'r-0', '10000000009', 2014, 1, \
-        0, 5, 50, 50, '00216172799293731483')",
-        "UPDATE meters SET base = 2000 WHERE meter = '79927398713'",
-        "UPDATE meters SET secret = '0123456789ABCDEF' WHERE meter = '79927398713'",
-        "UPDATE meters SET secret = '0123456789abcde' WHERE meter = '10000000009'",
-    ];
-    for sql in spoils {
-        for format in [1, 2, 3] {
-            let stays = stays(rt.alloc(), format, sql)?;
-            assert!(rt; stays, "{format}: {sql}");
-        }
-    }
-    Ok(())
-}
-
-// The same offices as they were, so that the rows above are refused for what they spoil.
 #[test]
 fn an_older_office_is_brought_up(rt: HostRuntime) -> Result<(), Fail> {
     for format in [1, 2, 3] {
