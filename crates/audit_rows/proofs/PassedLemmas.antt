@@ -1,6 +1,10 @@
 -- Reads of tables, one after another: what they leave, and why a later one fails.
-use Rattle.std.proofs.Common.{◌≡◌, ◌≤◌, false, Result, Ok, Err, sym, ◌∙◌, subst, inl, inr, arith}
+use Rattle.std.proofs.Common.{◌≡◌, ◌≤◌, ◌++◌, ◌∙◌, false, List, ◌∷◌, Result, Ok, Err, sym, ap, subst, inl, inr, arith}
+use Rattle.std.specs.Prelude.{All}
 use Rattle.std.proofs.lemmas.Bool.{both_ways, true_from_ne_false}
+use Rattle.std.proofs.lemmas.Result.{IfErr-weaker, on_err_weaker, on_ok_weaker}
+use Rattle.std.proofs.lemmas.List.{append_assoc}
+use Rattle.std.proofs.lemmas.List.Elements.{All-append, All-contains, Contains-append_left, Contains-append_right}
 use Rattle.sqlite_trees.specs.declared.error.StoreError.{StoreError}
 use Rattle.sqlite_trees.specs.declared.error.StoreError.TheVariants.{OutOfMemory, Io, Corrupt, Full, Broken, Unstorable}
 use Rattle.sqlite_trees.proofs.Doubt.{no_doubt}
@@ -9,13 +13,20 @@ use Rattle.sqlite.specs.State.{HasCause, HasCleanDisk, IsRolledBack, IsUnchanged
 use Rattle.sqlite.specs.declared.error.Error.{Error}
 use Rattle.sqlite.proofs.Callers.{unchanged_then}
 use Rattle.sqlite.proofs.StateLemmas.{survives_then}
+use Rattle.vend_core.proofs.ListsLemmas.MapLemmas.{all_from_contains}
 use Rattle.one_table.specs.Reading.{FailsPlainly}
 use Rattle.one_table.specs.ReadsOnly.{ReadsOnly}
 use Rattle.one_table.proofs.AnswerLemmas.{left_then}
-use Rattle.audit_rows.specs.Breaks.{Breaks}
-use Rattle.audit_rows.specs.Fails.{FailsToAudit, HasNoFormat, IsKnown}
+use Rattle.one_table.proofs.ReadsOnlyLemmas.{read_so}
+use Rattle.book_tables.specs.Holds.{IsKept}
+use Rattle.audit_rows.specs.Breaks.{Breaks, HasTrueRows}
+use Rattle.audit_rows.specs.Fails.{FailsToRead, HasNoFormat, HaveTables, IsKnown}
+use Rattle.audit_rows.specs.Listing.{FailsToList}
+use Rattle.audit_rows.specs.Tables.{kept_of}
 use Rattle.audit_rows.specs.declared.finding.AuditFault.{AuditFault}
 use Rattle.audit_rows.specs.declared.finding.AuditFault.TheVariants.{Failed, Found, NoOffice}
+use Rattle.audit_rows.specs.declared.finding.Finding.{Finding}
+use Rattle.audit_rows.specs.declared.table_name.TableName.{TableName}
 
 module _ (old mid new : State) (same : IsUnchanged old mid) (survives : Survives old mid (λ _. ⊥)) where
   caused_after : (cause : StoreError) → HasCause mid new ⊥ cause → HasCause old new ⊥ cause
@@ -39,70 +50,97 @@ module _ (old mid new : State) (same : IsUnchanged old mid) (survives : Survives
   plainly_after e (inl why) = inl (why.0, why.1, caused_after why.0 why.2, back_after why.3, why.4)
   plainly_after e (inr why) = inr (why.0, rw (← survives.limit) why.1, unchanged_then old mid new same why.2)
 
-  fails_after : (e : AuditFault) → FailsToAudit mid new e → FailsToAudit old new e
-  fails_after (Found f) why = (subst (Breaks f) same.0.now_is why.0, unchanged_then old mid new same why.1)
-  fails_after NoOffice why = (subst HasNoFormat same.0.now_is why.0, unchanged_then old mid new same why.1)
-  fails_after (Failed e) (inl why) = inl (λ was_open. plainly_after e (why same.0.is_open))
-  fails_after (Failed e) (inr why) = inr (why.0, unchanged_then old mid new same why.1)
+  pub lists_after : (e : Error) → FailsToList mid new e → FailsToList old new e
+  lists_after e (inl why) = inl (λ was_open. plainly_after e (why same.0.is_open))
+  lists_after e (inr why) = inr (why.0, unchanged_then old mid new same why.1)
 
-module _ (Known : Database → Type 0) {old mid : State} where
-  -- what is known is known after a read that succeeded
-  known_after : {T : Type 0} {x : T} → ReadsOnly (IsKnown Known) IsUnchanged FailsToAudit old mid (Ok x) → (mid.is_clean ≡ false → mid.is_open ≡ false) → IsKnown Known old → IsKnown Known mid
-  known_after first shut known runs =
-      let same = first.same (no_doubt mid.is_clean (true_from_ne_false mid.is_clean (λ dirty. both_ways mid.is_open (shut dirty) runs))) known in
-      subst Known (sym same.0.now_is) (known same.0.was_open)
+-- a read after one that left all as it was
+module _ {K L : State → Type 0} {T U E F : Type 0} {A : State → State → E → Type 0} {B C : State → State → F → Type 0} {x : T} {old mid new : State} (first : ReadsOnly K IsUnchanged A old mid (Ok x)) (there : K old → L mid) where
+  pub reads_then : (r : Result U F) → ReadsOnly L IsUnchanged B mid new r → (HasCleanDisk mid → K old → IsUnchanged old mid → Survives old mid (λ _. ⊥) → (e : F) → B mid new e → C old new e) → ReadsOnly K IsUnchanged C old new r
+  reads_then r second fails = record {
+    same = λ clean known. on_ok_weaker r (unchanged_then old mid new (first.same (early known clean) known)) (second.same clean (there known));
+    kept = λ clean known. on_err_weaker r (left_then old mid new (first.same (early known clean) known)) (second.kept clean (there known));
+    mode = λ outside. second.mode (first.mode outside);
+    faults = λ clean known. IfErr-weaker r (B mid new) (C old new) (fails (early known clean) known (first.same (early known clean) known) (first.survives known)) (second.faults clean (there known));
+    survives = λ known. survives_then old mid new _ _ (λ _. ⊥) (λ _ db none. none) (λ _ db none. none) (first.survives known) (second.survives (there known));
+  }
+    where
+      early : K old → HasCleanDisk new → HasCleanDisk mid
+      early known clean = omega (arith, (second.survives (there known)).clean, clean)
 
--- a read after another, of the same tables
-pub read_after : (Known : Database → Type 0) {T U : Type 0} {x : T} {r : Result U AuditFault} {old mid new : State} → ReadsOnly (IsKnown Known) IsUnchanged FailsToAudit old mid (Ok x) → (mid.is_clean ≡ false → mid.is_open ≡ false)
-    → ReadsOnly (IsKnown Known) IsUnchanged FailsToAudit mid new r → ReadsOnly (IsKnown Known) IsUnchanged FailsToAudit old new r
-read_after Known {T} {U} {x} {r = Ok y} {old} {mid} {new} first shut this = record {
-  same = λ clean known.
-      let known_mid = known_after Known first shut known in
-      let was : HasCleanDisk mid = omega (arith, (this.survives known_mid).clean, clean) in
-      unchanged_then old mid new (first.same was known) (this.same clean known_mid);
-  kept = λ _ _. tt;
-  mode = λ outside. this.mode (first.mode outside);
-  faults = λ _ _. tt;
-  survives = λ known. survives_then old mid new _ _ (λ _. ⊥) (λ _ db none. none) (λ _ db none. none) (first.survives known) (this.survives (known_after Known first shut known));
-}
-read_after Known {T} {U} {x} {r = Err e} {old} {mid} {new} first shut this = record {
-  same = λ _ _. tt;
-  kept = λ clean known.
-      let known_mid = known_after Known first shut known in
-      let was : HasCleanDisk mid = omega (arith, (this.survives known_mid).clean, clean) in
-      left_then old mid new (first.same was known) (this.kept clean known_mid);
-  mode = λ outside. this.mode (first.mode outside);
-  faults = λ clean known.
-      let known_mid = known_after Known first shut known in
-      let was : HasCleanDisk mid = omega (arith, (this.survives known_mid).clean, clean) in
-      fails_after old mid new (first.same was known) (first.survives known) e (this.faults clean known_mid);
-  survives = λ known. survives_then old mid new _ _ (λ _. ⊥) (λ _ db none. none) (λ _ db none. none) (first.survives known) (this.survives (known_after Known first shut known));
-}
+module _ (xs ys : List TableName) (db : Database) (all : HaveTables (xs ++ ys) db) where
+  have_first : HaveTables xs db
+  have_first = all_from_contains (λ (t : TableName). IsKept db.schema (kept_of t)) xs (λ t there. All-contains (λ (u : TableName). IsKept db.schema (kept_of u)) (xs ++ ys) t all (Contains-append_left xs ys t there))
 
--- ---- two reads
+  have_after : HaveTables ys db
+  have_after = all_from_contains (λ (t : TableName). IsKept db.schema (kept_of t)) ys (λ t there. All-contains (λ (u : TableName). IsKept db.schema (kept_of u)) (xs ++ ys) t all (Contains-append_right xs ys t there))
 
--- what is known may be more
-pub of_known : {A B : Database → Type 0} {old new : State} {T : Type 0} (r : Result T AuditFault) → ((db : Database) → A db → B db) → ReadsOnly (IsKnown B) IsUnchanged FailsToAudit old new r → ReadsOnly (IsKnown A) IsUnchanged FailsToAudit old new r
-of_known {old = old} r more this = record {
-  same = λ clean known. this.same clean (λ runs. more old.now (known runs));
-  kept = λ clean known. this.kept clean (λ runs. more old.now (known runs));
-  mode = this.mode;
-  faults = λ clean known. this.faults clean (λ runs. more old.now (known runs));
-  survives = λ known. this.survives (λ runs. more old.now (known runs));
-}
+module _ (xs ys : List TableName) where
+  -- a finding in the first tables, and one in those after them
+  pub breaks_first : (f : Finding) (db : Database) → Breaks xs f db → Breaks (xs ++ ys) f db
+  breaks_first f db b = record {
+    before = b.before;
+    after = b.after ++ ys;
+    read = ap (λ (l : List TableName). l ++ ys) b.read ∙ append_assoc b.before (f.table ∷ b.after) ys;
+    whole = b.whole;
+    there = b.there;
+    row = b.row;
+    first = b.first;
+    breaks = b.breaks;
+  }
 
--- one that succeeds, whatever is made of its value
-pub passed_on : {K : State → Type 0} {T U E : Type 0} {F G : State → State → E → Type 0} {x : T} {y : U} {old new : State} → ReadsOnly K IsUnchanged F old new (Ok x) → ReadsOnly K IsUnchanged G old new (Ok y)
-passed_on this = record { same = this.same; kept = λ _ _. tt; mode = this.mode; faults = λ _ _. tt; survives = this.survives }
+  breaks_after : (f : Finding) (db : Database) → All (HasTrueRows db) xs → Breaks ys f db → Breaks (xs ++ ys) f db
+  breaks_after f db whole b = record {
+    before = xs ++ b.before;
+    after = b.after;
+    read = ap (λ (l : List TableName). xs ++ l) b.read ∙ sym (append_assoc xs b.before (f.table ∷ b.after));
+    whole = All-append (HasTrueRows db) xs b.before whole b.whole;
+    there = b.there;
+    row = b.row;
+    first = b.first;
+    breaks = b.breaks;
+  }
 
--- what the first of two reads gave, after the second
-module _ (Known : Database → Type 0) {T U : Type 0} {x : T} {r : Result U AuditFault} {old mid new : State} (first : ReadsOnly (IsKnown Known) IsUnchanged FailsToAudit old mid (Ok x)) (shut : mid.is_clean ≡ false → mid.is_open ≡ false)
-    (this : ReadsOnly (IsKnown Known) IsUnchanged FailsToAudit mid new r) (known : IsKnown Known old) (clean : HasCleanDisk new) where
-  pub clean_between : HasCleanDisk mid
-  clean_between = omega (arith, (this.survives (known_after Known first shut known)).clean, clean)
+  -- ---- the first read fails
 
-  pub known_between : IsKnown Known mid
-  known_between = known_after Known first shut known
+  fails_first : (old new : State) (e : AuditFault) → FailsToRead xs old new e → FailsToRead (xs ++ ys) old new e
+  fails_first old new (Found f) why = (breaks_first f old.now why.0, why.1)
+  fails_first old new NoOffice why = why
+  fails_first old new (Failed e) why = why
 
-  pub same_between : mid.now ≡ old.now
-  same_between = (first.same clean_between known).0.now_is
+  pub read_first : {T U : Type 0} {old new : State} (e : AuditFault) → ReadsOnly {T = T} (IsKnown (HaveTables xs)) IsUnchanged (FailsToRead xs) old new (Err e)
+      → ReadsOnly {T = U} (IsKnown (HaveTables (xs ++ ys))) IsUnchanged (FailsToRead (xs ++ ys)) old new (Err e)
+  read_first {old = old} {new} e this = record {
+    same = λ _ _. tt;
+    kept = λ clean known. this.kept clean (λ runs. have_first xs ys old.now (known runs));
+    mode = this.mode;
+    faults = λ clean known. fails_first old new e (this.faults clean (λ runs. have_first xs ys old.now (known runs)));
+    survives = λ known. this.survives (λ runs. have_first xs ys old.now (known runs));
+  }
+
+  -- ---- the first read succeeds
+
+  module _ {T U : Type 0} {x : T} {old mid new : State} (first : ReadsOnly (IsKnown (HaveTables xs)) IsUnchanged (FailsToRead xs) old mid (Ok x)) (shut : mid.is_clean ≡ false → mid.is_open ≡ false)
+      {r : Result U AuditFault} (second : ReadsOnly (IsKnown (HaveTables ys)) IsUnchanged (FailsToRead ys) mid new r) where
+    pub known_first : IsKnown (HaveTables (xs ++ ys)) old → IsKnown (HaveTables xs) old
+    known_first known runs = have_first xs ys old.now (known runs)
+
+    pub known_between : IsKnown (HaveTables (xs ++ ys)) old → IsKnown (HaveTables ys) mid
+    known_between known runs =
+        let same = first.same (no_doubt mid.is_clean (true_from_ne_false mid.is_clean (λ dirty. both_ways mid.is_open (shut dirty) runs))) (known_first known) in
+        subst (HaveTables ys) (sym same.0.now_is) (have_after xs ys old.now (known same.0.was_open))
+
+    pub clean_between : IsKnown (HaveTables (xs ++ ys)) old → HasCleanDisk new → HasCleanDisk mid
+    clean_between known clean = omega (arith, (second.survives (known_between known)).clean, clean)
+
+    pub same_between : IsKnown (HaveTables (xs ++ ys)) old → HasCleanDisk new → IsUnchanged old mid
+    same_between known clean = first.same (clean_between known clean) (known_first known)
+
+    fails_after : All (HasTrueRows old.now) xs → IsUnchanged old mid → Survives old mid (λ _. ⊥) → (e : AuditFault) → FailsToRead ys mid new e → FailsToRead (xs ++ ys) old new e
+    fails_after whole same survives (Found f) why = (breaks_after f old.now whole (subst (Breaks ys f) same.0.now_is why.0), unchanged_then old mid new same why.1)
+    fails_after whole same survives NoOffice why = (subst HasNoFormat same.0.now_is why.0, unchanged_then old mid new same why.1)
+    fails_after whole same survives (Failed e) why = lists_after old mid new same survives e why
+
+    -- both reads, where each row of the first tables shows a record
+    pub read_after : (HasCleanDisk mid → IsKnown (HaveTables xs) old → All (HasTrueRows old.now) xs) → ReadsOnly (IsKnown (HaveTables (xs ++ ys))) IsUnchanged (FailsToRead (xs ++ ys)) old new r
+    read_after whole = reads_then {A = FailsToRead xs} {x = x} (read_so known_first first) known_between r second (λ was known same survives e why. fails_after (whole was (known_first known)) same survives e why)

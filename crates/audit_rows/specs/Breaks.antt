@@ -1,20 +1,17 @@
--- A row that breaks a rule, so that the database stands for no office.
-use Rattle.std.specs.Prelude.{◌≡◌, ◌<◌, ◌≢◌, ◌+◌, ℕ, List, Contains, IsPermutation, IsSorted, Some, slice_get}
+-- A row that by itself is none of an office's, and is the first such row of the tables.
+use Rattle.std.specs.Prelude.{◌≡◌, ◌++◌, ℕ, List, ◌∷◌, All}
 use Rattle.sqlite.specs.Effect.{Database}
-use Rattle.sqlite.specs.Order.{Row, column}
-use Rattle.sqlite_value.specs.Order.{value_cmp}
-use Rattle.sts_fields.specs.Calendar.{month_at}
+use Rattle.sqlite.specs.Order.{Row}
 use Rattle.vend_core.specs.Name.{IsName}
 use Rattle.book_tables.specs.Holds.{IsKept}
-use Rattle.book_tables.specs.Kept.{Kept, bases_kept, dated_steps_kept, last_ids_kept, meters_kept, month_tenths_kept, sales_kept, shift_totals_kept, shifts_kept, steps_kept, tariffs_kept}
-use Rattle.book_tables.specs.row.Rows.{number, shown_shift, tariff_columns}
+use Rattle.book_tables.specs.reading.Reading.{ShowsRecord}
+use Rattle.book_tables.specs.row.Rows.{shown_shift, tariff_columns}
 use Rattle.book_tables.specs.row.Values.{AreShiftValues}
-use Rattle.audit_rows.specs.OpenShifts.{HasTwoOpen}
 use Rattle.audit_rows.specs.Records.{shown_base, shown_dated_step, shown_last_id, shown_meter_row, shown_month, shown_shift_totals, shown_step_row}
-use Rattle.audit_rows.specs.Sales.{AreSaleRowValues, shown_sale_row}
+use Rattle.audit_rows.specs.Sales.{AreBookedValues, AreSaleRowValues, IsInItsMonth, shown_sale_row}
 use Rattle.audit_rows.specs.Tables.{kept_of}
 use Rattle.audit_rows.specs.Values.{AreBaseValues, AreDatedStepValues, AreLastIdValues, AreMeterRowValues, AreMonthValues, AreShiftTotalsValues, AreStepRowValues}
-use Rattle.audit_rows.specs.Whole.{IsFalse, all_columns}
+use Rattle.audit_rows.specs.Whole.{IsListing, all_columns}
 use Rattle.audit_rows.specs.declared.finding.Finding.{Finding}
 use Rattle.audit_rows.specs.declared.finding.RowKey.{RowKey}
 use Rattle.audit_rows.specs.declared.finding.RowKey.TheVariants as key
@@ -24,57 +21,62 @@ use Rattle.audit_rows.specs.declared.sale_row.SaleRow.{SaleRow}
 use Rattle.audit_rows.specs.declared.table_name.TableName.{TableName}
 use Rattle.audit_rows.specs.declared.table_name.TableName.TheVariants as table
 
--- a row of the table whose columns are those of no record that keeps the rules of its values
-abbrev pub IsFalseRow : TableName → Database → Row → Type 0
-IsFalseRow table.About db row = ⊥
-IsFalseRow table.Tariffs db row = IsFalse tariff_columns IsName tariffs_kept db row
-IsFalseRow table.TariffSteps db row = IsFalse shown_step_row AreStepRowValues steps_kept db row
-IsFalseRow table.Meters db row = IsFalse shown_meter_row AreMeterRowValues meters_kept db row
-IsFalseRow table.Shifts db row = IsFalse shown_shift AreShiftValues shifts_kept db row
-IsFalseRow table.Sales db row = IsFalse shown_sale_row AreSaleRowValues sales_kept db row
-IsFalseRow table.LastIds db row = IsFalse shown_last_id AreLastIdValues last_ids_kept db row
-IsFalseRow table.MonthTenths db row = IsFalse shown_month AreMonthValues month_tenths_kept db row
-IsFalseRow table.ShiftTotals db row =
-    IsFalse shown_shift_totals AreShiftTotalsValues shift_totals_kept db row
-IsFalseRow table.MeterBases db row = IsFalse shown_base AreBaseValues bases_kept db row
-IsFalseRow table.DatedSteps db row =
-    IsFalse shown_dated_step AreDatedStepValues dated_steps_kept db row
+-- ---- one table
 
--- ---- sales
+-- the columns are those of a record whose values keep their rules
+abbrev pub ShowsOf : TableName → Row → Type 0
+ShowsOf table.Tariffs row = ShowsRecord tariff_columns IsName row
+ShowsOf table.TariffSteps row = ShowsRecord shown_step_row AreStepRowValues row
+ShowsOf table.Meters row = ShowsRecord shown_meter_row AreMeterRowValues row
+ShowsOf table.Shifts row = ShowsRecord shown_shift AreShiftValues row
+ShowsOf table.Sales row = ShowsRecord shown_sale_row AreBookedValues row
+ShowsOf table.LastIds row = ShowsRecord shown_last_id AreLastIdValues row
+ShowsOf table.MonthTenths row = ShowsRecord shown_month AreMonthValues row
+ShowsOf table.ShiftTotals row = ShowsRecord shown_shift_totals AreShiftTotalsValues row
+ShowsOf table.MeterBases row = ShowsRecord shown_base AreBaseValues row
+ShowsOf table.DatedSteps row = ShowsRecord shown_dated_step AreDatedStepValues row
 
--- the row of the sale of this number tells another month than that of its moment
-abbrev pub IsFalseMonth : Database → ℕ → Type 0
-IsFalseMonth db n =
-    (r : SaleRow) × (r.sale.number ≡ n) × (r.month ≢ month_at r.sale.moment)
-    × Contains (all_columns sales_kept db) (shown_sale_row r)
+-- each row of the table shows one
+abbrev pub HasTrueRows : Database → TableName → Type 0
+HasTrueRows db t = All (ShowsOf t) (all_columns (kept_of t) db)
 
--- the rows, in an order in which their first columns rise
-pub record AreByNumber (rows ordered : List Row) : Type 0 where
-  pub same : IsPermutation rows ordered
-  pub rises : IsSorted (λ a b. value_cmp (column a 0) (column b 0)) ordered
+-- as the table is listed, each row before this one shows one, and this row shows none
+pub record IsFirstFalse (t : TableName) (db : Database) (row : Row) : Type 0 where
+  pub before : List Row
+  pub after : List Row
+  pub listed : IsListing (kept_of t) db (before ++ (row ∷ after))
+  pub shown : All (ShowsOf t) before
+  pub shows_none : ¬ ShowsOf t row
 
--- of the rows in the order of their numbers, the nth from 1 is the first that has another number
-abbrev pub IsGap : Kept → Database → ℕ → Type 0
-IsGap k db n =
-    (ordered : List Row) × AreByNumber (all_columns k db) ordered
-    × ((row : Row) × (before : ℕ) × (n ≡ before + 1) × (slice_get ordered before ≡ Some row)
-    × (column row 0 ≢ number n)
-    × ((i : ℕ) (other : Row) → i < before → slice_get ordered i ≡ Some other
-    → column other 0 ≡ number (i + 1)))
+-- the row is that of the sale of this number, and tells another month than that of its moment
+abbrev pub IsOtherMonth : ℕ → TableName → Row → Type 0
+IsOtherMonth n t row =
+    (t ≡ table.Sales) × ((r : SaleRow) × (r.sale.number ≡ n) × (shown_sale_row r ≡ row)
+    × AreSaleRowValues r × ¬ IsInItsMonth r)
 
--- what the row breaks
-abbrev pub BreaksRule : Rule → RowKey → TableName → Database → Type 0
-BreaksRule rule.Value (key.Columns row) table db = IsFalseRow table db row
-BreaksRule rule.Value (key.Number n) table db = ⊥
-BreaksRule rule.Month (key.Number n) table.Sales db = IsFalseMonth db n
-BreaksRule rule.Month _ _ db = ⊥
-BreaksRule rule.Gap (key.Number n) table.Sales db = IsGap sales_kept db n
-BreaksRule rule.Gap (key.Number n) table.Shifts db = IsGap shifts_kept db n
-BreaksRule rule.Gap _ _ db = ⊥
-BreaksRule rule.TwoOpen (key.Number n) table.Shifts db = HasTwoOpen db n
-BreaksRule rule.TwoOpen _ _ db = ⊥
+-- what a row breaks that shows no record: the rule of the month, or else its values are those of
+-- none, whatever the month
+abbrev pub BreaksByItself : Rule → RowKey → TableName → Row → Type 0
+BreaksByItself rule.Month (key.Number n) t row = IsOtherMonth n t row
+BreaksByItself rule.Value (key.Columns columns) t row =
+    (columns ≡ row) × ((n : ℕ) → ¬ IsOtherMonth n t row)
+BreaksByItself _ _ t row = ⊥
 
--- the table is there, and a row of it breaks the rule
-pub record Breaks (f : Finding) (db : Database) : Type 0 where
+-- a finding of the row
+pub record IsBroken (t : TableName) (row : Row) (f : Finding) : Type 0 where
+  pub of_table : f.table ≡ t
+  pub breaks : BreaksByItself f.rule f.row t row
+
+-- ---- some tables, one after another
+
+-- each row of the tables before shows a record, and of this table the finding names the first that
+-- shows none
+pub record Breaks (tables : List TableName) (f : Finding) (db : Database) : Type 0 where
+  pub before : List TableName
+  pub after : List TableName
+  pub read : tables ≡ before ++ (f.table ∷ after)
+  pub whole : All (HasTrueRows db) before
   pub there : IsKept db.schema (kept_of f.table)
-  pub breaks : BreaksRule f.rule f.row f.table db
+  pub row : Row
+  pub first : IsFirstFalse f.table db row
+  pub breaks : BreaksByItself f.rule f.row f.table row

@@ -1,13 +1,12 @@
+pub mod AllRows
 pub mod Breaks
+pub mod Entries
 pub mod Fails
-pub mod Gaps
-pub mod ListTexts
 pub mod Listing
-pub mod OpenShifts
+pub mod Order
 pub mod Parts
 pub mod Records
 pub mod Sales
 pub mod Tables
-pub mod Texts
 pub mod Values
 pub mod Whole

@@ -1,18 +1,15 @@
--- A table as it is read whole: a record of each row, or a row that shows none.
-use Rattle.std.specs.Prelude.{◌≡◌, ◌+◌, ℕ, List, [], ◌∷◌, true, All, Contains, IsPermutation, IsSorted, drop, if◌then◌else◌, map}
+-- A table as it is read whole: a record of each row, or the first row that shows none.
+use Rattle.std.specs.Prelude.{◌≡◌, ◌+◌, ◌++◌, ℕ, List, [], ◌∷◌, true, All, IsPermutation, IsSorted, Result, Ok, Err, drop, if◌then◌else◌, map}
+use Rattle.std.specs.declared.alloc.Global.{Global}
+use Rattle.std.specs.declared.vec.Vec.{Vec}
 use Rattle.sqlite.specs.Effect.{Database}
 use Rattle.sqlite.specs.Order.{Row, column}
-use Rattle.sqlite_sql.specs.Term.{Term}
-use Rattle.sqlite_value.specs.declared.keys.Key.{Key}
 use Rattle.sqlite_value.specs.Order.{value_cmp}
-use Rattle.one_table.specs.Listed.{rising}
 use Rattle.book_tables.specs.Holds.{rows_in}
 use Rattle.book_tables.specs.Kept.{Kept}
 use Rattle.book_tables.specs.reading.Reading.{IsShown, ShowsRecord}
 use Rattle.audit_rows.specs.declared.seen.Seen.{Seen}
 use Rattle.audit_rows.specs.declared.seen.Seen.TheVariants as seen
-use Rattle.audit_rows.specs.declared.whole.Whole.{Whole}
-use Rattle.audit_rows.specs.declared.whole.Whole.TheVariants as whole
 
 -- ---- what a row shows
 
@@ -35,38 +32,27 @@ columns_of k row = map (column row) (places k)
 abbrev pub all_columns : Kept → Database → List Row
 all_columns k db = map (columns_of k) (rows_in db k.table.name)
 
+-- these are the columns of all rows of the table, in some order: by their numbers where they have
+-- any
+pub record IsListing (k : Kept) (db : Database) (rows : List Row) : Type 0 where
+  pub same : IsPermutation rows (all_columns k db)
+  pub rises : k.is_numbered ≡ true
+      → IsSorted (λ a b. value_cmp (column a 0) (column b 0)) rows
+
 module _ {T : Type 0} (shown : T → Row) (keeps : T → Type 0) where
   -- a row shows this record; or it shows none, and is this
   abbrev pub Sees : Row → Seen T → Type 0
   Sees row (seen.Whole x) = IsShown shown keeps row x
   Sees row (seen.False same) = (same ≡ row) × ¬ ShowsRecord shown keeps row
 
-  -- ---- the table
-
-  -- the rows of the table are those of these records, in some order, and the values of each keep
-  -- their rules
-  pub record AreRecords (k : Kept) (db : Database) (xs : List T) : Type 0 where
-    pub rows : IsPermutation (map shown xs) (all_columns k db)
+  -- the rows of the table are those of these records, and the values of each keep their rules
+  pub record AreListed (k : Kept) (db : Database) (xs : List T) : Type 0 where
+    pub listed : IsListing k db (map shown xs)
     pub kept : All keeps xs
 
-  -- the same, and they come by their numbers where the order asks for that
-  pub record AreListed (order : List (Term × Key)) (k : Kept) (db : Database) (xs : List T)
-      : Type 0 where
-    pub records : AreRecords k db xs
-    pub rises : order ≡ rising 0 → k.is_numbered ≡ true
-        → IsSorted (λ a b. value_cmp (column a 0) (column b 0)) (map shown xs)
-
-  -- the row is one of the table, and shows no record whose values keep their rules
-  pub record IsFalse (k : Kept) (db : Database) (row : Row) : Type 0 where
-    pub there : Contains (all_columns k db) row
-    pub shows_none : ¬ ShowsRecord shown keeps row
-
-  -- what is read of the table
-  abbrev pub IsWhole : List (Term × Key) → Kept → Database → Whole T → Type 0
-  IsWhole order k db (whole.Records xs) = AreListed order k db xs.items
-  IsWhole order k db (whole.False row) = IsFalse k db row
-
--- what is made of the rows that were seen: all are records, or one is none
-abbrev pub IsMadeOf : {T : Type 0} → List (Seen T) → Whole T → Type 0
-IsMadeOf all (whole.Records xs) = all ≡ map seen.Whole xs.items
-IsMadeOf all (whole.False row) = Contains all (seen.False row)
+-- what is made of the rows that were seen: all are records, or this one is the first that is none
+abbrev pub IsMadeOf : {T : Type 0} → List (Seen T) → Result (Vec T Global) Row → Type 0
+IsMadeOf all (Ok xs) = all ≡ map seen.Whole xs.items
+IsMadeOf {T} all (Err row) =
+    (before : List T) × (after : List (Seen T))
+    × (all ≡ map seen.Whole before ++ (seen.False row ∷ after))

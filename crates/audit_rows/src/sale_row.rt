@@ -1,13 +1,15 @@
 //! The whole row of a sale.
 
+ghost use Rattle.std.specs.Prelude.{◌≡◌, ◌==◌};
+ghost use Rattle.sts_fields.specs.Calendar.{month_at};
 ghost use Rattle.vend_core.specs.Decision.Requests.{IsOrder};
 ghost use Rattle.book_tables.specs.row.ReadBack.{ReadsBack};
 ghost use Rattle.audit_rows.specs.Parts.{AreEntryValues, AreTokenValues, entry_columns, order_columns, shown_entry, shown_order, shown_token, token_columns};
-ghost use Rattle.audit_rows.specs.Sales.{AreSaleRowValues, shown_sale_row};
+ghost use Rattle.audit_rows.specs.Sales.{AreBookedValues, AreSaleRowValues, shown_sale_row};
 
 use book_tables::{Record, cells};
 use sqlite::Row;
-use sts_fields::{Amount, Base, Moment};
+use sts_fields::{Amount, Base, Moment, month_of};
 use vend_core::{Order, Sale};
 
 /// A sale, and the month that its row tells.
@@ -72,46 +74,67 @@ fn token_of(row: &Row) -> Option<Token>
     })
 }
 
+// The sale of a row, and the month that it tells, whichever it is.
+pub(crate) fn sale_row_of(row: &Row) -> Option<SaleRow>
+    ensures { ReadsBack shown_sale_row AreSaleRowValues row.now result }
+{
+    if row.column_count() != 14 {
+        return None;
+    }
+    let Some(entry) = entry_of(row) else {
+        return None;
+    };
+    let Some(order) = order_of(row) else {
+        return None;
+    };
+    let Some(token) = token_of(row) else {
+        return None;
+    };
+    let (tender, digits) = (order.tender, token.digits);
+    let Some(price) = cells::between_at(row, 11, 0, tender.cents()) else {
+        return None;
+    };
+    let sale = Sale {
+        number: entry.number,
+        moment: entry.moment,
+        shift: entry.shift,
+        operator: order.operator,
+        order_ref: order.order_ref,
+        meter: order.meter,
+        base: token.base,
+        tid: token.tid,
+        rnd: token.rnd,
+        tenths: token.tenths,
+        price,
+        tender,
+        digits,
+    };
+    Some(SaleRow {
+        sale,
+        month: entry.month,
+    })
+}
+
+fn is_in_its_month(row: &SaleRow) -> bool
+    ensures { result ≡ (row.now.month == month_at row.now.sale.moment) }
+{
+    row.month == month_of(row.sale.moment).unwrap()
+}
+
+// A row in another month than that of its moment is none of an office's.
 impl Record for SaleRow {
     ghost shown = { shown_sale_row };
 
-    ghost keeps = { AreSaleRowValues };
+    ghost keeps = { AreBookedValues };
 
     fn of_row(row: &Row) -> Option<SaleRow> {
-        if row.column_count() != 14 {
+        let Some(read) = sale_row_of(row) else {
             return None;
+        };
+        if is_in_its_month(&read) {
+            Some(read)
+        } else {
+            None
         }
-        let Some(entry) = entry_of(row) else {
-            return None;
-        };
-        let Some(order) = order_of(row) else {
-            return None;
-        };
-        let Some(token) = token_of(row) else {
-            return None;
-        };
-        let (tender, digits) = (order.tender, token.digits);
-        let Some(price) = cells::between_at(row, 11, 0, tender.cents()) else {
-            return None;
-        };
-        let sale = Sale {
-            number: entry.number,
-            moment: entry.moment,
-            shift: entry.shift,
-            operator: order.operator,
-            order_ref: order.order_ref,
-            meter: order.meter,
-            base: token.base,
-            tid: token.tid,
-            rnd: token.rnd,
-            tenths: token.tenths,
-            price,
-            tender,
-            digits,
-        };
-        Some(SaleRow {
-            sale,
-            month: entry.month,
-        })
     }
 }

@@ -9,7 +9,7 @@ use sqlite::Row;
 
 /// The record that a row shows, or the row as it stands where it shows none.
 #[derive(Drop)]
-pub enum Seen<T> {
+pub(crate) enum Seen<T> {
     Whole(T),
     False(Row),
 }

@@ -1,0 +1,6 @@
+use Rattle.audit_rows.specs.Entries.{rows_of}
+use Rattle.audit_rows.proofs.ReadLemmas.{fourth_read}
+use Rattle.audit_rows.proofs.tables.FourthTables.into_rows.Goals as goal
+
+pub returns : goal.returns
+returns g c db says = fourth_read db (rows_of c.in_ok-rows.rows) (c.in_ok-rows.ensures db says.0) c.args.self.1.items says.1

@@ -1,5 +1,0 @@
-pub mod AllStoredLemmas
-pub mod OnlyLemmas
-pub mod ReadLemmas
-pub mod ReorderLemmas
-pub mod TableLemmas

@@ -1,6 +1,0 @@
-use Rattle.std.proofs.Common.{◌≡◌, map, take}
-use Rattle.audit_stored.specs.Entries.{present_base}
-use Rattle.audit_stored.proofs.tables.present_bases.Given as goal
-
-abbrev pub invariant-meters : goal.invariant-meters
-invariant-meters l = l.bases.items ≡ map present_base (take l.row-index l.meters)

@@ -1,3 +1,0 @@
-pub mod AllRows
-pub mod Entries
-pub mod Order
