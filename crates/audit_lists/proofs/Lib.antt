@@ -1,0 +1,13 @@
+pub mod EachLemmas
+pub mod FindLemmas
+pub mod KeptLemmas
+pub mod KeyLemmas
+pub mod ListLemmas
+pub mod MadeLemmas
+pub mod OfficeLemmas
+pub mod PlacesLemmas
+pub mod ReachedLemmas
+pub mod StepLemmas
+pub mod TieLemmas
+pub mod ToldLemmas
+pub mod TotalLemmas

@@ -1,0 +1,12 @@
+pub mod BaseLemmas
+pub mod ClassLemmas
+pub mod FaultLemmas
+pub mod LastLemmas
+pub mod ListedLemmas
+pub mod OwnLemmas
+pub mod PlausibleLemmas
+pub mod PriceLemmas
+pub mod ShiftLemmas
+pub mod TextLemmas
+pub mod TidLemmas
+pub mod WalkLemmas

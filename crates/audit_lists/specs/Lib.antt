@@ -1,0 +1,9 @@
+pub mod Keys
+pub mod RowKeys
+pub mod Rules
+pub mod Steps
+pub mod Tables
+pub mod Ties
+pub mod Told
+pub mod reached
+pub mod totals

@@ -1,4 +1,0 @@
-pub mod Finds
-pub mod Lasts
-pub mod Walk
-pub mod Walked

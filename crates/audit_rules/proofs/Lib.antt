@@ -1,9 +1,0 @@
-pub mod BrokenLemmas
-pub mod EachLemmas
-pub mod FindLemmas
-pub mod FirstLemmas
-pub mod KeyLemmas
-pub mod ListLemmas
-pub mod OfficeLemmas
-pub mod PlacesLemmas
-pub mod StepLemmas

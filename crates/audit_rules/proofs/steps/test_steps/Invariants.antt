@@ -1,6 +1,0 @@
-use Rattle.audit_rules.specs.Steps.{AreSteps}
-use Rattle.audit_rules.specs.Keys.{EachBelow}
-use Rattle.audit_rules.proofs.steps.test_steps.Given as goal
-
-abbrev pub invariant-others : goal.invariant-others
-invariant-others g l = EachBelow (λ i other. AreSteps g.T.HasStep.step g.K.KeyOf.key l.rows (g.G.KeyOf.key other)) l.others l.at

@@ -1,9 +1,0 @@
-use Rattle.std.proofs.Common.{◌+◌, ◌≤◌, ◌^◌, List, [], arith, length}
-use Rattle.vend_core.specs.declared.office.sale.Sale.{Sale}
-use Rattle.audit_totals.proofs.test.gathered_of.Goals as goal
-
-pub returns-in-Ok-clause-gathered : goal.returns-in-Ok-clause-gathered
-returns-in-Ok-clause-gathered c =
-    let none : List Sale = [] in
-    let few : 0 + length c.args.sales.now ≤ 2 ^ 32 = omega (arith, c.requires) in
-    c.in-Ok.ensures none few c.new-gathered.ensures
