@@ -1,4 +1,3 @@
-pub mod ClosingLemmas
-pub mod FaultLemmas
-pub mod LookLemmas
+pub mod ShownLemmas
+pub mod SoundLemmas
 pub mod ToldLemmas

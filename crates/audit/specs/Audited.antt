@@ -1,30 +1,26 @@
--- What is known of a database that passes an audit.
-use Rattle.std.specs.Prelude.{◌≡◌, ◌≤◌, ℕ, zero, suc, length}
+-- What is known of a database once it was audited.
+use Rattle.std.specs.Prelude.{◌≡◌, ◌≤◌, ℕ, zero, suc, length, false, Result, IfErr, IfOk, IsTrue}
 use Rattle.sqlite.specs.Effect.{Database}
-use Rattle.vend_core.specs.Office.{Office}
-use Rattle.book_tables.specs.Holds.{HasOfficeOf, IsKept, StandsFor, rows_in}
-use Rattle.book_tables.specs.Kept.{Kept, meters_kept, shifts_kept, tariffs_kept}
-use Rattle.book_tables.specs.format.Format.{HasFormat, TellsFormat}
-use Rattle.book_tables.specs.row.Rows.{present_format}
-use Rattle.audit_office.specs.Told.{ShowOffice}
-use Rattle.audit_stored.specs.AllRows.{IsReadAs}
-use Rattle.audit_stored.specs.Entries.{rows_of}
-use Rattle.audit_stored.specs.Order.{HaveAllColumns}
-use Rattle.audit_stored.specs.declared.office_rows.OfficeRows.{OfficeRows}
+use Rattle.sqlite.specs.State.{HasCleanDisk, IsUnchanged, State, Survives}
+use Rattle.one_table.specs.ReadsOnly.{ReadsOnly}
+use Rattle.kept_order.specs.InOrder.{HasTablesInOrder}
+use Rattle.vend_core.specs.Law.Reached.{IsPlausible}
+use Rattle.vend_core.specs.Office.{IsOffice, Office}
+use Rattle.book_tables.specs.Holds.{HasOfficeOf, StandsFor, rows_in}
+use Rattle.book_tables.specs.Kept.{Kept, meters_kept, tariffs_kept}
+use Rattle.book_tables.specs.Stands.{AreMembersOf}
+use Rattle.book_tables.specs.format.Format.{TellsFormat}
+use Rattle.book_tables.specs.row.Rows.{Rows, present_format}
+use Rattle.audit_rows.specs.AllRows.{HasAllRows}
+use Rattle.audit_rows.specs.declared.finding.AuditFault.{AuditFault}
+use Rattle.audit_rows.specs.declared.office_rows.OfficeRows.{OfficeRows}
+use Rattle.audit.specs.Fails.{Denies, IsFailure, StopsBy}
+use Rattle.audit.specs.Shown.{HaveWholeShifts}
 use Rattle.audit.specs.declared.audited.Audited.{Audited}
 
--- where the table of the shifts is there, each of its rows has all its columns
-abbrev pub HaveWholeShifts : Database → Type 0
-HaveWholeShifts db = IsKept db.schema shifts_kept → HaveAllColumns db
+-- ---- the counts
 
--- ---- on the way
-
--- the tables tell this format, and were read whole as these rows
-pub record IsToldAs (n : ℕ) (db : Database) (rows : OfficeRows) : Type 0 where
-  pub tells : HasFormat db n
-  pub read : IsReadAs n db (rows_of rows)
-
--- what is counted of the rows of a format
+-- those of the rows of a format
 abbrev pub counted : ℕ → OfficeRows → Audited
 counted n rows = record {
   format = n;
@@ -34,33 +30,49 @@ counted n rows = record {
   sales = length rows.sales.items;
 }
 
--- what is counted where there are no tables
+-- those where there are no tables
 abbrev pub no_tables : Audited
 no_tables = record { format = 0; tariffs = 0; meters = 0; shifts = 0; sales = 0 }
-
--- the rows of the tables of a format are those of an office, and these are the counts
-pub record IsTested (n : ℕ) (db : Database) (a : Audited) : Type 0 where
-  pub rows : OfficeRows
-  pub told : IsToldAs n db rows
-  pub shows : ShowOffice n (rows_of rows)
-  pub counts : a ≡ counted n rows
-
--- ---- at last
 
 -- how many rows a table has, where the format has tables
 abbrev pub count_in : ℕ → Kept → Database → ℕ
 count_in zero k db = 0
 count_in (suc n) k db = length (rows_in db k.table.name)
 
--- the tables are those of the format that is told, which `about` tells too; the database stands for
--- an office, and the counts are its own
-pub record Passes (db : Database) (a : Audited) : Type 0 where
+-- ---- it passes
+
+-- The tables are those of the format that is told, which `about` tells too. Their rows are the
+-- members of an office that requests may lead to, and the counts are its own. The database stands
+-- for it where its rows are in the order of their numbers and no row of a shift lacks a column,
+-- neither of which a statement can see; and each office that it stands for is one that requests may
+-- lead to.
+pub record IsSound (db : Database) (a : Audited) : Type 0 where
   pub known : a.format ≤ present_format
   pub has : HasOfficeOf a.format db.schema
   pub tells : TellsFormat a.format db
+  pub rows : Rows
+  pub read : 1 ≤ a.format → HasAllRows a.format db rows
   pub office : Office
-  pub stands : StandsFor db office
+  pub is : IsOffice office
+  pub members : AreMembersOf rows office
+  pub plausible : IsPlausible office
+  pub stands : HasTablesInOrder db → HaveWholeShifts db → StandsFor db office
+  pub only : (o : Office) → StandsFor db o → IsPlausible o
   pub tariffs : count_in a.format tariffs_kept db ≡ a.tariffs
   pub meters : count_in a.format meters_kept db ≡ a.meters
   pub shifts : length office.shifts ≡ a.shifts
   pub sales : length office.sales ≡ a.sales
+
+-- ---- both ways
+
+-- What an audit answers is true of the database that the connection had, which is as it was: it is
+-- sound, or what is found denies it. So one that stands for an office that requests may lead to
+-- passes, unless a read fails or memory is lacking. Outside a transaction its rows are in the order
+-- of their numbers. A crash leaves nothing that it did not leave before.
+pub record IsAuditOf (old new : State) (answer : Result Audited AuditFault) : Type 0 where
+  pub passes : HasCleanDisk new → IsTrue old.is_open → IfOk answer (IsSound old.now)
+  pub reads : ReadsOnly (λ s. IsTrue s.is_open) IsUnchanged (StopsBy Denies) old new answer
+  pub honest : HasCleanDisk new → IsTrue old.is_open → (o : Office) → StandsFor old.now o
+      → IsPlausible o → IfErr answer IsFailure
+  pub ordered : IsTrue old.is_open → old.in_transaction ≡ false → HasTablesInOrder old.now
+  pub survives : Survives old new (λ _. ⊥)

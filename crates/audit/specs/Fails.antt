@@ -1,65 +1,39 @@
--- What is known of the tables while they are read, and why an audit stops.
+-- Why an audit stops, and what that says of the database.
 use Rattle.std.specs.Prelude.{◌≡◌, ◌≤◌, ℕ}
-use Rattle.sqlite.specs.Effect.{Database, IsDatabase}
+use Rattle.sqlite.specs.Effect.{Database}
 use Rattle.sqlite.specs.State.{IsUnchanged, State}
 use Rattle.sqlite.specs.declared.error.Error.TheVariants.{SqliteFailure}
 use Rattle.sqlite.specs.declared.error.ErrorCode.TheVariants.{OutOfMemory}
 use Rattle.sqlite_schema.specs.declared.schema.Schema.{Schema}
-use Rattle.book_tables.specs.Holds.{HasOfficeOf}
+use Rattle.vend_core.specs.Law.Reached.{IsPlausible}
+use Rattle.vend_core.specs.Office.{Office}
+use Rattle.book_tables.specs.Holds.{HasOfficeOf, StandsFor}
 use Rattle.book_tables.specs.row.Rows.{present_format}
 use Rattle.book_tables.specs.declared.error.TableError.{TableError}
 use Rattle.book_tables.specs.declared.error.TableError.TheVariants as table
-use Rattle.audit_office.specs.Told.{IsBroken}
-use Rattle.audit_office.specs.declared.finding.Finding.{Finding}
-use Rattle.audit_office.specs.declared.finding.Rule.{Rule}
-use Rattle.audit_office.specs.declared.finding.Rule.TheVariants as rule
-use Rattle.audit_office.specs.declared.finding.RowKey.{RowKey}
-use Rattle.audit_office.specs.declared.finding.RowKey.TheVariants as key
 use Rattle.audit_rows.specs.Breaks.{Breaks}
+use Rattle.audit_rows.specs.Tables.{tables_of}
 use Rattle.audit_rows.specs.Fails.{HasNoFormat}
 use Rattle.audit_rows.specs.Listing.{FailsToList}
-use Rattle.audit_rows.specs.declared.finding.AuditFault.{AuditFault as ReadFault}
-use Rattle.audit_rows.specs.declared.finding.AuditFault.TheVariants as read
-use Rattle.audit_rows.specs.declared.finding.Finding.{Finding as ReadFinding}
-use Rattle.audit_rows.specs.declared.finding.Rule.{Rule as ReadRule}
-use Rattle.audit_rows.specs.declared.finding.Rule.TheVariants as broken
-use Rattle.audit_rows.specs.declared.finding.RowKey.{RowKey as ReadKey}
-use Rattle.audit_rows.specs.declared.finding.RowKey.TheVariants as row
-use Rattle.audit_stored.specs.AllRows.{IsReadAs}
-use Rattle.audit_stored.specs.Entries.{rows_of}
-use Rattle.audit_stored.specs.declared.office_rows.OfficeRows.{OfficeRows}
-use Rattle.audit.specs.declared.fault.AuditFault.{AuditFault}
-use Rattle.audit.specs.declared.fault.AuditFault.TheVariants.{Failed, Found, NoOffice}
-
--- the tables of a format are there, and the database obeys its schema
-pub record IsSoundOf (n : ℕ) (db : Database) : Type 0 where
-  pub has : HasOfficeOf n db.schema
-  pub sound : IsDatabase db
-
--- ---- what the reading found, as a finding of the audit
-
-abbrev pub rule_of : ReadRule → Rule
-rule_of broken.Value = rule.Value
-rule_of broken.Gap = rule.Gap
-rule_of broken.Month = rule.Month
-rule_of broken.TwoOpen = rule.TwoOpen
-
-abbrev pub key_of : ReadKey → RowKey
-key_of (row.Number n) = key.Number n
-key_of (row.Columns r) = key.Columns r
-
-abbrev pub found_of : ReadFinding → Finding
-found_of g = record { table = g.table; rule = rule_of g.rule; row = key_of g.row }
-
-abbrev pub read_fault : ReadFault → AuditFault
-read_fault (read.Found g) = Found (found_of g)
-read_fault read.NoOffice = NoOffice
-read_fault (read.Failed e) = Failed e
+use Rattle.audit_rows.specs.declared.finding.AuditFault.{AuditFault}
+use Rattle.audit_rows.specs.declared.finding.AuditFault.TheVariants.{Failed, Found, NoOffice}
+use Rattle.audit_rows.specs.declared.finding.Finding.{Finding}
+use Rattle.audit_rows.specs.declared.office_rows.OfficeRows.{OfficeRows}
+use Rattle.audit_lists.specs.Told.{IsBroken}
+use Rattle.audit_lists.specs.reached.Finds.{AreRowsOfOffice, Finds}
+use Rattle.audit_lists.specs.declared.fault.OfficeFault.{OfficeFault}
+use Rattle.audit_lists.specs.declared.fault.OfficeFault.TheVariants as office
+use Rattle.audit.specs.Shown.{AreOfficeRows, IsToldAs, TellsOwn}
 
 -- what is told of a fault of the tables
-abbrev pub failed : TableError → ReadFault
-failed (table.Database e) = read.Failed e
-failed table.RowOfNoOffice = read.Failed (SqliteFailure OutOfMemory)
+abbrev pub cause_of : TableError → AuditFault
+cause_of (table.Database e) = Failed e
+cause_of table.RowOfNoOffice = Failed (SqliteFailure OutOfMemory)
+
+-- a fault of the rows, as one of the audit
+abbrev pub fault_of : OfficeFault → AuditFault
+fault_of (office.Found f) = Found f
+fault_of office.Memory = Failed (SqliteFailure OutOfMemory)
 
 -- the tables are those of no format, or there was no memory
 abbrev pub FailsToKnow : Schema → AuditFault → Type 0
@@ -67,18 +41,40 @@ FailsToKnow schema (Found f) = ⊥
 FailsToKnow schema NoOffice = (n : ℕ) → n ≤ present_format → ¬ HasOfficeOf n schema
 FailsToKnow schema (Failed e) = e ≡ SqliteFailure OutOfMemory
 
--- ---- a finding
+-- ---- what is found
 
--- a row breaks a rule of its own; or the tables of a format were read whole, and one of their rows
--- breaks a rule of whole lists or is not what the sales say
+abbrev pub StandsForNone : Database → Type 0
+StandsForNone db = (o : Office) → ¬ StandsFor db o
+
+-- Of tables that tell their format the finding names the first row that by itself is none of an
+-- office's; or they were read whole, and it names the first row that breaks a rule of whole lists,
+-- or is not what the sales say. So the database stands for no office.
 pub data IsNoOffices (f : Finding) (db : Database) : Type 0 where
-  by_row : (g : ReadFinding) → Breaks g db → f ≡ found_of g → IsNoOffices f db
-  by_office : (n : ℕ) → 1 ≤ n → n ≤ present_format → HasOfficeOf n db.schema
-      → (rows : OfficeRows) → IsReadAs n db (rows_of rows) → IsBroken n rows f → IsNoOffices f db
+  by_row : (n : ℕ) → TellsOwn n db → Breaks (tables_of n) f db → StandsForNone db
+      → IsNoOffices f db
+  by_lists : (n : ℕ) (rows : OfficeRows) → IsToldAs n db rows → IsBroken n rows f
+      → StandsForNone db → IsNoOffices f db
 
--- a row of the database is no office's, or its tables are of no format, and all is as it was; or a
--- table is not read
-abbrev pub FailsToAudit : State → State → AuditFault → Type 0
-FailsToAudit old new (Found f) = IsNoOffices f old.now × IsUnchanged old new
-FailsToAudit old new NoOffice = HasNoFormat old.now × IsUnchanged old new
-FailsToAudit old new (Failed e) = FailsToList old new e
+-- That; or the rows are those of an office, and the finding names the first that no requests lead
+-- to. So the database stands for no office that requests may lead to.
+pub data Denies (f : Finding) (db : Database) : Type 0 where
+  by_rows : IsNoOffices f db → Denies f db
+  by_requests : (n : ℕ) (rows : OfficeRows) → AreOfficeRows n db rows
+      → ((o : Office) → AreRowsOfOffice rows o → Finds o f)
+      → ((o : Office) → StandsFor db o → ¬ IsPlausible o) → Denies f db
+
+-- ---- why an audit stops
+
+-- for a row of which the finding says this; or the tables are of no format, or do not tell theirs:
+-- then all is as it was; or a table is not read, or there was no memory
+abbrev pub StopsBy : (Finding → Database → Type 0) → State → State → AuditFault → Type 0
+StopsBy Says old new (Found f) = Says f old.now × IsUnchanged old new
+StopsBy Says old new NoOffice =
+    (HasNoFormat old.now × StandsForNone old.now) × IsUnchanged old new
+StopsBy Says old new (Failed e) = FailsToList old new e
+
+-- nothing is said of the database
+abbrev pub IsFailure : AuditFault → Type 0
+IsFailure (Found f) = ⊥
+IsFailure NoOffice = ⊥
+IsFailure (Failed e) = Unit {0}

@@ -1,3 +1,3 @@
 pub mod Audited
 pub mod Fails
-pub mod Looked
+pub mod Shown

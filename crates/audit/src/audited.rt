@@ -3,7 +3,7 @@
 ghost use Rattle.std.specs.Prelude.{◌≡◌};
 ghost use Rattle.audit.specs.Audited.{counted, no_tables};
 
-use audit_stored::OfficeRows;
+use audit_rows::OfficeRows;
 
 /// What an audit counted, and the format of the tables.
 #[derive(Clone, Copy, Debug, PartialEq, Eq)]

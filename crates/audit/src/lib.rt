@@ -1,20 +1,14 @@
-//! The audit of a database: whether it stands for an office.
+//! The audit of a database: whether it stands for an office that requests lead to.
 //!
-//! `specs/Audited.antt` says what is known where it passes (`Passes`): that it does, and which
-//! counts are told. `specs/Fails.antt` says what a finding says of the database (`IsNoOffices`).
-//! `specs/Looked.antt` says the same of an audit that also looks whether requests lead there.
+//! `specs/Audited.antt` says what is known where it passes (`IsSound`), `specs/Fails.antt` what a
+//! finding says of the database (`Denies`).
 #![tactic(auto)]
 
-pub use audit_office::{Finding, RowKey, Rule};
-pub use audit_rows::TableName;
+pub use audit_rows::{AuditFault, Finding, RowKey, Rule, TableName};
 pub use audited::Audited;
-pub use auditing::audit_tables;
-pub use fault::AuditFault;
-pub use laws::{audit_law, look_law};
-pub use looking::audit;
+pub use auditing::audit;
+pub use reading::{office_rows, test_told};
 
 mod audited;
 mod auditing;
-mod fault;
-mod laws;
-mod looking;
+mod reading;

@@ -1,4 +1,3 @@
-mod BringingLemmas
-mod BroughtLemmas
-mod OlderLemmas
-mod OpeningLemmas
+pub mod BringingLemmas
+pub mod EndingLemmas
+pub mod LookingLemmas

@@ -1,44 +1,54 @@
 -- What the opening of an office makes of a database.
-use Rattle.std.specs.Prelude.{◌≡◌, ◌<◌, ◌⊎◌, ℕ, ◌+◌, length, Result, IfErr, IfOk, IsTrue, OnErr, OnOk}
+use Rattle.std.specs.Prelude.{◌≡◌, ◌<◌, ◌⊎◌, ℕ, zero, suc, ◌+◌, List, length, Result, IfErr, IfOk, IsTrue, OnErr, OnOk}
 use Rattle.sqlite.specs.Effect.{Database, IsDatabase}
 use Rattle.sqlite.specs.State.{HasCleanDisk, IsUnchanged, State, Survives}
 use Rattle.sqlite.specs.declared.error.Error.{Error}
 use Rattle.sqlite.specs.declared.error.Error.TheVariants.{SqliteFailure}
 use Rattle.sqlite.specs.declared.error.ErrorCode.TheVariants.{OutOfMemory}
 use Rattle.sqlite_trees.specs.Tree.{Trees}
-use Rattle.one_table.specs.Answer.{IsLeft}
 use Rattle.one_table.specs.Committing.{LeavesMade}
-use Rattle.kept_order.specs.InOrder.{HasTablesInOrder}
+use Rattle.one_table.specs.ReadsOnly.{ReadsOnly}
 use Rattle.vend_core.specs.Office.{Office}
-use Rattle.book_tables.specs.format.Format.{HasFormat, TellsFormat}
-use Rattle.book_tables.specs.Holds.{HasOffice, HasOfficeOf, StandsFor}
-use Rattle.book_tables.specs.format.Making.{BringsOffice}
+use Rattle.vend_core.specs.declared.office.sale.Sale.{Sale}
+use Rattle.book_tables.specs.format.Format.{HasFormat}
+use Rattle.book_tables.specs.Holds.{HasOffice, HasOfficeOf}
+use Rattle.book_tables.specs.format.Making.{BringsOffice, HandsOver}
 use Rattle.book_tables.specs.row.Rows.{present_format}
+use Rattle.book_tables.specs.declared.reading.pages.MeterRow.{MeterRow}
 use Rattle.book_tables.specs.declared.error.TableError.{TableError}
 use Rattle.book_tables.specs.declared.error.TableError.TheVariants as table
-use Rattle.audit.specs.Audited.{HaveWholeShifts}
-use Rattle.audit.specs.declared.fault.AuditFault.{AuditFault}
-use Rattle.audit.specs.declared.fault.AuditFault.TheVariants as audit
+use Rattle.audit.specs.Shown.{AreOfficeRows}
+use Rattle.audit_rows.specs.declared.finding.AuditFault.{AuditFault}
+use Rattle.audit_rows.specs.declared.finding.AuditFault.TheVariants as audit
+use Rattle.audit_rows.specs.declared.office_rows.OfficeRows.{OfficeRows}
 use Rattle.book_states.specs.Stores.{Stores, StoreStandsFor}
 use Rattle.book_states.specs.Same.{IsSame}
 use Rattle.book_opening.specs.declared.fault.OpenFault.{OpenFault}
 use Rattle.book_opening.specs.declared.fault.OpenFault.TheVariants.{NotAnOffice, Store, Memory}
 
--- The database is an office's: it stands for one, where its rows are in the order of their numbers
--- and no row of a shift lacks a column, neither of which a statement can see.
-abbrev pub IsAnOffices : Database → Type 0
-IsAnOffices db = HasTablesInOrder db → HaveWholeShifts db → (o : Office) × StandsFor db o
+-- the tables of a format, where there are any, tell it, and their rows are those of an office
+abbrev pub HasOfficesRows : ℕ → Database → Type 0
+HasOfficesRows zero db = Unit {0}
+HasOfficesRows (suc n) db = (rows : OfficeRows) × AreOfficeRows (suc n) db rows
 
 -- The tables of a format were brought to the present one, in place of none or of those of an older
--- format; they had told their format, and were an office's.
+-- format, whose rows were an office's.
 abbrev pub BringsTold : Database → Database → Type 0
-BringsTold old new = (from : ℕ) × (from < present_format) × BringsOffice from old new
-    × TellsFormat from old × IsAnOffices old
+BringsTold old new =
+    (from : ℕ) × (from < present_format) × BringsOffice from old new × HasOfficesRows from old
 
--- the office may be brought to the present format in a sound database that has the tables of a
--- format
-abbrev pub BringsSound : ℕ → Database → Database → Type 0
-BringsSound from old new = IsDatabase old → HasOfficeOf from old.schema → BringsOffice from old new
+-- while the connection is open, its database is sound and has the tables of a format, and these are
+-- the meters and the sales of its office
+abbrev pub IsSoundWith : ℕ → List MeterRow → List Sale → State → Type 0
+IsSoundWith from meters sales s =
+    IsTrue s.is_open → IsDatabase s.now × HasOfficeOf from s.now.schema
+    × HandsOver s.now meters sales
+
+-- the office may be brought to the present format in such a database
+abbrev pub BringsSound : ℕ → List MeterRow → List Sale → Database → Database → Type 0
+BringsSound from meters sales old new =
+    IsDatabase old → HasOfficeOf from old.schema → HandsOver old meters sales
+    → BringsOffice from old new
 
 -- an open connection has the office in the present format
 pub record IsBrought (from : ℕ) (old new : State) : Type 0 where
@@ -54,10 +64,6 @@ pub record OpensAs (old new : State) : Type 0 where
   pub is_open : IsTrue new.is_open
   pub now : BringsTold old.now new.now
       ⊎ (HasOffice old.now.schema × HasFormat old.now present_format × (new.now ≡ old.now))
-
--- while the connection is open, it has a sound database
-abbrev pub HasSoundDatabase : State → Type 0
-HasSoundDatabase s = IsTrue s.is_open → IsDatabase s.now
 
 -- what an error of the database is answered as
 abbrev pub fault_of : Error → OpenFault
@@ -81,30 +87,14 @@ FaultFitsStore s NotAnOffice = (o : Office) → ¬ StoreStandsFor s o
 FaultFitsStore s Store = Unit {0}
 FaultFitsStore s Memory = Unit {0}
 
--- the same, by the database of a connection that was open
-abbrev pub FaultFitsDatabase : State → OpenFault → Type 0
-FaultFitsDatabase s NotAnOffice = IsTrue s.is_open × ((o : Office) → ¬ StandsFor s.now o)
-FaultFitsDatabase s Store = Unit {0}
-FaultFitsDatabase s Memory = Unit {0}
-
 -- of the office that the store stands for, this is the number of the next sale
 abbrev pub IsNextSale : State → ℕ → Type 0
 IsNextSale s next = (o : Office) → StoreStandsFor s o → next ≡ length o.sales + 1
 
--- while the connection is open, it has the tables of a format
-abbrev pub HasTablesOfFormat : ℕ → State → Type 0
-HasTablesOfFormat n s = IsTrue s.is_open → HasOfficeOf n s.now.schema
-
--- The tables of a format were only looked at, where they are there: this holds of what was found,
--- and a fault that names the file is true of it.
-pub record LooksAt {T : Type 0} (n : ℕ) (Says : T → Type 0) (old new : State)
-    (result : Result T OpenFault) : Type 0 where
-  pub finds : HasCleanDisk new → HasTablesOfFormat n old → HasSoundDatabase old → IfOk result Says
-  pub same : HasCleanDisk new → HasTablesOfFormat n old → OnOk result (IsUnchanged old new)
-  pub kept : HasCleanDisk new → HasTablesOfFormat n old → OnErr result (IsLeft old new)
-  pub other : HasCleanDisk new → HasTablesOfFormat n old → HasSoundDatabase old
-      → IfErr result (FaultFitsStore old)
-  pub survives : HasTablesOfFormat n old → Survives old new (λ _. ⊥)
+-- Where this is known the store was only looked at, and a fault that names the file is true of it.
+abbrev pub Looks : {T : Type 0} → (State → Type 0) → State → State → Result T OpenFault → Type 0
+Looks IsKnown old new result =
+    ReadsOnly IsKnown IsUnchanged (λ (s _ : State). FaultFitsStore s) old new result
 
 -- The office that the store stood for is held now, and this is the number of its next sale.
 abbrev pub OpensAt : State → State → ℕ → Type 0

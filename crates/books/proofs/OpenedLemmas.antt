@@ -25,4 +25,4 @@ keeps_opened forward o books running leaves same at = record {
 
 -- what is opened has the office's tables
 pub opened_tables : (old new : State) → OpensAs old new → HasAllTables new
-opened_tables old new h = λ _. elim h.now [ inl brought ↦ brought.2.has | inr found ↦ subst (λ (db : Database). HasOffice db.schema) (sym found.2) found.0 ]
+opened_tables old new h = λ _. elim h.now [ inl brought ↦ brought.2.tables.has | inr found ↦ subst (λ (db : Database). HasOffice db.schema) (sym found.2) found.0 ]

@@ -1,60 +1,60 @@
-use Rattle.std.proofs.Common.{rules, IsTrue}
+use Rattle.std.proofs.Common.{rules, Err, IsTrue, ap, arith, length, refl}
 use Rattle.sqlite.specs.Held.{state}
-use Rattle.sqlite.specs.State.{HasCleanDisk, IsUnchanged, Survives}
-use Rattle.book_opening.specs.Opening.{HasTablesOfFormat}
-use Rattle.book_opening.proofs.BroughtLemmas.{ends_looked}
-use Rattle.book_opening.proofs.OlderLemmas.{audit_refuses, audited_offices, audited_same, ends_not_brought, ends_older}
-use Rattle.book_opening.proofs.OpeningLemmas.{clean_between, survives_both}
+use Rattle.sqlite.specs.Effect.{Database, IsDatabase}
+use Rattle.sqlite.specs.State.{HasCleanDisk, IsUnchanged}
+use Rattle.one_table.proofs.ReadsOnlyLemmas.{fail_as}
+use Rattle.book_tables.specs.Holds.{HasOfficeOf}
+use Rattle.audit.specs.Fails.{IsNoOffices}
+use Rattle.audit.specs.Shown.{AreOfficeRows}
+use Rattle.book_opening.proofs.BringingLemmas.{audit_tells, next_of_rows, none_of, rows_after, rows_there, sound_with}
+use Rattle.book_opening.proofs.EndingLemmas.{ends_after, ends_brought, ends_looked, ends_unbrought, known_after}
 use Rattle.book_opening.proofs.opening.next_of_older.Goals as goal
 
-pub returns-clause-ends : goal.returns-clause-ends
-returns-clause-ends g c = λ opens has.
+pub returns-in-Err-clause-ends : goal.returns-in-Err-clause-ends
+returns-in-Err-clause-ends g c has =
     let old = state g.S.Store c.args.conn.now in
-    let mid = state g.S.Store c.next_of_office.new.conn in
-    let after = state g.S.Store c.test_rows.new.conn in
-    let looks = c.in_ok-next.ensures.looks in
-    let audits = c.in_ok-test_rows.ensures in
-    let tables : HasTablesOfFormat c.args.from old = λ is_open. (has is_open).1 in
-    let same : HasCleanDisk mid → IsUnchanged old mid = λ clean. looks.same clean tables in
-    let one : Survives old mid (λ _. ⊥) = looks.survives tables in
-    ends_older c.args.from c.in_ok-next.next old after (state g.S.Store c.bring_office.new.conn) c.requires.older (g.met.S.Store.shut_if_dirty c.test_rows.new.conn.store) has
-    (audited_same old mid after same one audits.survives audits.reads.same) (survives_both old mid after same one audits.survives)
-    (λ clean. looks.finds (clean_between old mid after same one audits.survives clean) tables (λ is_open. (has is_open).0)) (audited_offices old mid after same one audits.survives audits.given) c.bring_office.ensures.survives c.in_ok-bring_office.ensures.brought
+    let new = state g.S.Store c.office_rows.new.conn in
+    let outside : IsTrue c.is_autocommit-outside.result = search rules in
+    let fault = c.fault_of_audit.result in
+    ends_looked old new {T = Unit {0}} fault (Err fault) refl has (c.is_autocommit-outside.ensures.settled outside)
+    (fail_as fault (Err fault) refl c.in-Err.ensures.reads (audit_tells IsNoOffices old new (λ f. none_of f old.now) c.in-Err.fault fault c.fault_of_audit.ensures.kind
+    c.fault_of_audit.ensures.value))
+
+pub returns-clause-ends : goal.returns-clause-ends
+returns-clause-ends g c has =
+    let old = state g.S.Store c.args.conn.now in
+    let mid = state g.S.Store c.office_rows.new.conn in
+    let new = state g.S.Store c.bring_office.new.conn in
+    let rows = c.in-Ok.rows in
+    let reads = c.in-Ok.ensures.reads in
+    let shut = g.met.S.Store.shut_if_dirty c.office_rows.new.conn.store in
+    let same : HasCleanDisk mid → IsUnchanged old mid = λ clean. reads.same clean has in
+    let given : HasCleanDisk mid → AreOfficeRows c.args.from old.now rows = λ clean. c.in-Ok.ensures.given clean has in
+    let opens : HasCleanDisk mid → IsTrue mid.is_open = λ clean. (same clean).0.is_open in
+    let after = rows_after c.args.from rows old mid shut same has given in
+    let with = sound_with c.args.from rows old mid shut same has given c.deref.result.now c.deref-2.result.now c.deref.ensures.value c.deref-2.ensures.value in
+    ends_after old mid new _ same (reads.survives has)
+    (ends_brought c.args.from mid new c.requires.older opens (λ clean. rows_there c.args.from mid.now rows (after clean))
+    (c.bring_office.ensures.survives opens with) _ (λ clean. next_of_rows c.args.from rows mid _ (omega (arith, c.len.ensures, c.deref-2.ensures.len, ap length c.deref-2.ensures.value)) (opens clean) (after clean))
+    (λ clean. c.in_ok-bring_office.ensures.brought clean with))
 
 pub returns-in_err-bring_office-clause-ends : goal.returns-in_err-bring_office-clause-ends
-returns-in_err-bring_office-clause-ends g c = λ opens has.
+returns-in_err-bring_office-clause-ends g c has =
     let old = state g.S.Store c.args.conn.now in
-    let mid = state g.S.Store c.next_of_office.new.conn in
-    let after = state g.S.Store c.test_rows.new.conn in
-    let looks = c.in_ok-next.ensures.looks in
-    let audits = c.in_ok-test_rows.ensures in
+    let mid = state g.S.Store c.office_rows.new.conn in
+    let new = state g.S.Store c.bring_office.new.conn in
+    let rows = c.in-Ok.rows in
+    let reads = c.in-Ok.ensures.reads in
+    let shut = g.met.S.Store.shut_if_dirty c.office_rows.new.conn.store in
+    let same : HasCleanDisk mid → IsUnchanged old mid = λ clean. reads.same clean has in
+    let given : HasCleanDisk mid → AreOfficeRows c.args.from old.now rows = λ clean. c.in-Ok.ensures.given clean has in
+    let opens : HasCleanDisk mid → IsTrue mid.is_open = λ clean. (same clean).0.is_open in
+    let after = rows_after c.args.from rows old mid shut same has given in
+    let there = known_after old mid shut same (λ (db : Database). IsDatabase db × HasOfficeOf c.args.from db.schema) (λ _. has) in
+    let with = sound_with c.args.from rows old mid shut same has given c.deref.result.now c.deref-2.result.now c.deref.ensures.value c.deref-2.ensures.value in
     let told = c.in_err-bring_office.ensures in
-    let tables : HasTablesOfFormat c.args.from old = λ is_open. (has is_open).1 in
-    let same : HasCleanDisk mid → IsUnchanged old mid = λ clean. looks.same clean tables in
-    let one : Survives old mid (λ _. ⊥) = looks.survives tables in
-    ends_not_brought c.args.from c.in_ok-next.next old after (state g.S.Store c.bring_office.new.conn) c.requires.older (g.met.S.Store.shut_if_dirty c.test_rows.new.conn.store) has
-    (audited_same old mid after same one audits.survives audits.reads.same) (survives_both old mid after same one audits.survives)
-    (λ clean. looks.finds (clean_between old mid after same one audits.survives clean) tables (λ is_open. (has is_open).0)) (audited_offices old mid after same one audits.survives audits.given) c.bring_office.ensures.survives
-    c.in_err-bring_office.field-0.0 c.from_residual-in_err-bring_office.result c.from_residual-in_err-bring_office.ensures.1 told.told told.undone told.risks
-
-pub returns-in_err-test_rows-clause-ends : goal.returns-in_err-test_rows-clause-ends
-returns-in_err-test_rows-clause-ends g c = λ opens has.
-    let old = state g.S.Store c.args.conn.now in
-    let mid = state g.S.Store c.next_of_office.new.conn in
-    let after = state g.S.Store c.test_rows.new.conn in
-    let looks = c.in_ok-next.ensures.looks in
-    let audits = c.in_err-test_rows.ensures in
-    let tables : HasTablesOfFormat c.args.from old = λ is_open. (has is_open).1 in
-    let same : HasCleanDisk mid → IsUnchanged old mid = λ clean. looks.same clean tables in
-    let one : Survives old mid (λ _. ⊥) = looks.survives tables in
-    let outside : IsTrue c.is_autocommit-outside.result = search rules in
-    ends_looked old after c.args.from c.in_err-test_rows.field-0.0 c.from_residual-in_err-test_rows.result c.from_residual-in_err-test_rows.ensures.1 tables (λ is_open. (has is_open).0)
-    (c.is_autocommit-outside.ensures.settled outside) (audit_refuses old mid after same one audits.survives c.args.from c.in_err-test_rows.field-0.0 audits.reads)
-
-pub returns-in_err-next-clause-ends : goal.returns-in_err-next-clause-ends
-returns-in_err-next-clause-ends g c = λ opens has.
-    let old = state g.S.Store c.args.conn.now in
-    let new = state g.S.Store c.next_of_office.new.conn in
-    let outside : IsTrue c.is_autocommit-outside.result = search rules in
-    ends_looked old new c.args.from c.in_err-next.field-0.0 c.from_residual.result c.from_residual.ensures.1 (λ is_open. (has is_open).1) (λ is_open. (has is_open).0)
-    (c.is_autocommit-outside.ensures.settled outside) c.in_err-next.ensures.looks
+    let survives = c.bring_office.ensures.survives opens with in
+    ends_after old mid new c.from_residual.result same (reads.survives has)
+    (ends_unbrought c.args.from mid new c.requires.older opens (λ clean. rows_there c.args.from mid.now rows (after clean)) survives
+    c.in_err-bring_office.field-0.0 c.from_residual.result c.from_residual.ensures.1
+    (λ clean. told.told clean (opens (omega (arith, survives.clean, clean))) there) told.undone (told.risks opens with))
