@@ -7,7 +7,7 @@ use Rattle.std.proofs.lemmas.Grind.{flat_map-append}
 use Rattle.std.proofs.lemmas.List.{length-map, map-id, map-append, take-append-drop, take_all}
 use Rattle.std.proofs.lemmas.Option.{slice_get-map}
 use Rattle.sqlite.proofs.MarkLemmas.{slice_get-take}
-use Rattle.book_tables.proofs.FormatLemmas.FillingLemmas.{after_numbered}
+use Rattle.book_tables.proofs.ListLemmas.{after_numbered}
 use Rattle.book_lists.specs.Pages.{page_size}
 use Rattle.book_facts.specs.Lookups.{Finds, listed_shift}
 use Rattle.book_facts.specs.declared.lookup.Found.{Found}

@@ -1,11 +1,12 @@
 ghost use Rattle.std.specs.Prelude.{◌≡◌, ◌≢◌, ◌≤◌, ◌⊎◌, ◌<◌, ◌^◌, ℕ, List, [], Option, Some};
-ghost use Rattle.std.specs.Prelude.{None, Ok, Err, Contains, false, true, filter, map, nat_lt};
+ghost use Rattle.std.specs.Prelude.{None, Ok, Contains, false, true, filter, map, nat_lt};
 ghost use Rattle.std.specs.Prelude.{unwrap_or, Result, IfErr, All, ℤ, pos, Bool, length};
 ghost use Rattle.sqlite.specs.Files.{file_state};
 ghost use Rattle.sqlite.specs.State.{HasCleanDisk};
 ghost use Rattle.sqlite_wal.specs.Recovery.{Image};
-ghost use Rattle.audit.specs.declared.fault.AuditFault.TheVariants.{Found};
-ghost use Rattle.audit_office.specs.declared.finding.Finding.{Finding};
+ghost use Rattle.audit.specs.Fails.{IsFailure};
+ghost use Rattle.audit.specs.declared.audited.Audited.{Audited};
+ghost use Rattle.audit_rows.specs.declared.finding.AuditFault.{AuditFault};
 ghost use Rattle.sts_fields.specs.Day.{day_at};
 ghost use Rattle.sts_fields.specs.Text.{Text};
 ghost use Rattle.sts_token.specs.Token.{BlockFunction};
@@ -81,7 +82,6 @@ ghost use Rattle.vend_commands.specs.print.Printed.{clock_line};
 use crate::port::door::Door;
 use crate::port::loopback::Loopback;
 use crate::port::ports::{OfficeFile, TextFiles};
-use audit::look_law;
 use books::{found_law, opening_law};
 use command_line::{DeskQuestion, Listed};
 use desk::{Clock, conversation_law, reply_law, route_law};
@@ -91,7 +91,7 @@ use sqlite::FileStore;
 use sqlite_trees::store::Store;
 use sts_fields::amount_law;
 use tariff::purchase_law;
-use vend_core::{history_law, life_law, office_law, store_law};
+use vend_core::{history_law, life_law, office_law, reached_law, store_law};
 
 /// What the pages of a list print together where the last one is not full: the lines of all
 /// tariffs after a name and of all meters after a number, each once, in the order of their bytes;
@@ -153,8 +153,7 @@ pub fn offer_law()
 
 /// What `audit` has shown where it ends as done: it printed what it counted. Where the disk
 /// returned what was written, that is the count of a database that an opening of the files may
-/// find, which passes, and whose rows keep the rules of the offices that requests lead to, but for
-/// prices.
+/// find, whose rows are those of an office that requests may lead to.
 pub fn sound_law<H: OfficeFile>()
     ensures { (file : H) (path : Text) (wait : ℕ) (o : Outputs)
         → IsAudited (places_of H.Medium.Disk H.Salts.SaltSource H.OfficeFile file path wait) o
@@ -162,17 +161,17 @@ pub fn sound_law<H: OfficeFile>()
         → EndsSound H.Medium.Disk (H.image file path) H.lets_go o }
 {}
 
-/// What `audit` has shown where it tells of a row that breaks a rule: the files stand for no office
-/// that requests lead to, whatever lives it is of, as long as the disk returned what was written.
-/// So of files that nothing else wrote it tells of none.
+/// What `audit` tells of files that stand for an office that requests lead to, whatever lives it is
+/// of, as long as the disk returned what was written: what it counted, or that they were not read.
+/// So of files that nothing else wrote it tells no row that breaks a rule.
 pub fn broken_law<H: OfficeFile>()
-    ensures { (image : Image) (finding : Finding) (lives : List Life) (office : Office)
-        → AreLives lives office → StandsIn image office
-        → (told : AuditsIn H.Medium.Disk image H.lets_go (Err (Found finding)))
-        → ¬ HasCleanDisk (file_state told.last) }
+    ensures { (image : Image) (answer : Result Audited AuditFault) (lives : List Life)
+        (office : Office) → AreLives lives office → StandsIn image office
+        → (told : AuditsIn H.Medium.Disk image H.lets_go answer)
+        → HasCleanDisk (file_state told.last) → IfErr answer IsFailure }
 {
     found_law::<FileStore<H::Medium>>();
-    look_law();
+    reached_law();
 }
 
 /// What holds of connections that are served one after another, and of the openings between them:

@@ -238,7 +238,8 @@ fn answer<
         }
         Asked::Audit(words) => {
             go_offline(ports.door, ports.loopback);
-            commands::file_audit::run(&words, alloc, ports.office, out, err)
+            let mut progress = ports.progress;
+            commands::file_audit::run(&words, alloc, ports.office, &mut progress, out, err)
         }
     }
 }

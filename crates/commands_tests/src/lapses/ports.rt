@@ -213,4 +213,6 @@ pub(crate) struct Unseen;
 
 impl Progress for Unseen {
     fn tell(&mut self, _printed: u64, _all: u64) {}
+
+    fn tell_opened(&mut self) {}
 }

@@ -1,8 +1,8 @@
 -- What `audit` prints of the file that it is asked to look at.
-use Rattle.std.specs.Prelude.{[], Result, Ok, Err}
+use Rattle.std.specs.Prelude.{List, [], Result, Ok, Err}
 use Rattle.audit.specs.declared.audited.Audited.{Audited}
-use Rattle.audit.specs.declared.fault.AuditFault.{AuditFault}
-use Rattle.audit.specs.declared.fault.AuditFault.TheVariants.{Failed, Found, NoOffice}
+use Rattle.audit_rows.specs.declared.finding.AuditFault.{AuditFault}
+use Rattle.audit_rows.specs.declared.finding.AuditFault.TheVariants.{Failed, Found, NoOffice}
 use Rattle.book_opening.specs.Opening.{fault_of}
 use Rattle.book_opening.specs.declared.fault.OpenFault.{OpenFault}
 use Rattle.book_opening.specs.declared.fault.OpenFault.TheVariants.{NotAnOffice}
@@ -19,7 +19,7 @@ use Rattle.vend_commands.specs.declared.command_end.CommandEnd.TheVariants.{Done
 abbrev pub TellsAudit : Result Audited AuditFault → Outputs → CommandEnd → Type 0
 TellsAudit (Ok audited) o end = IsTold o (sound_line audited) [] Done end
 TellsAudit (Err (Found finding)) o end =
-    (row : Text) × TellsRow finding.row row × IsTold o (broken_line finding row) [] Refused end
+    (row : List Text) × TellsRow finding.row row × IsTold o (broken_line finding row) [] Refused end
 TellsAudit (Err NoOffice) o end = IsTold o [] (opening_line NotAnOffice) Refused end
 TellsAudit (Err (Failed error)) o end = IsTold o [] (opening_line (fault_of error)) Refused end
 

@@ -1,26 +1,16 @@
 -- What comes of the audit of two files.
-use Rattle.std.specs.Prelude.{◌≡◌, false, Result, IfOk, IsTrue}
+use Rattle.std.specs.Prelude.{Result}
 use Rattle.sqlite.specs.Files.{file_state}
 use Rattle.sqlite.specs.Held.{Held}
-use Rattle.sqlite.specs.State.{HasCleanDisk, IsUnchanged, State, Survives}
+use Rattle.sqlite.specs.State.{HasCleanDisk}
 use Rattle.sqlite_disk.specs.declared.Disk.{Ghosts}
 use Rattle.sqlite_store.specs.declared.store.FileStore.{FileStore}
 use Rattle.sqlite_wal.specs.Recovery.{Image}
-use Rattle.one_table.specs.ReadsOnly.{ReadsOnly}
-use Rattle.audit.specs.Audited.{HaveWholeShifts}
-use Rattle.audit.specs.Looked.{FailsToLook, IsSound}
+use Rattle.audit.specs.Audited.{IsAuditOf}
 use Rattle.audit.specs.declared.audited.Audited.{Audited}
-use Rattle.audit.specs.declared.fault.AuditFault.{AuditFault}
+use Rattle.audit_rows.specs.declared.finding.AuditFault.{AuditFault}
 use Rattle.books.specs.Path.{IsConnected}
 use Rattle.vend_commands.specs.office.Closed.{AreClosed}
-
--- What an audit answers is true of the database that the connection had, which is as it was. A
--- crash leaves nothing that it did not leave before.
-pub record IsAuditOf (old new : State) (answer : Result Audited AuditFault) : Type 0 where
-  pub passes : HasCleanDisk new → IsTrue old.is_open → old.in_transaction ≡ false
-      → HaveWholeShifts old.now → IfOk answer (IsSound old.now)
-  pub reads : ReadsOnly (λ s. IsTrue s.is_open) IsUnchanged FailsToLook old new answer
-  pub survives : Survives old new (λ trees. ⊥)
 
 -- A connection was just made to the files, an audit of it answered this, and they were closed with
 -- nothing done beside.

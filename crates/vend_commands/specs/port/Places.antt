@@ -5,7 +5,7 @@ use Rattle.sqlite_disk.specs.declared.Disk as disk
 use Rattle.sqlite_disk.specs.declared.Files.{Files}
 use Rattle.sqlite_wal.specs.Recovery.{Image}
 use Rattle.audit.specs.declared.audited.Audited.{Audited}
-use Rattle.audit.specs.declared.fault.AuditFault.{AuditFault}
+use Rattle.audit_rows.specs.declared.finding.AuditFault.{AuditFault}
 use Rattle.books.specs.Keeps.{Seen, seen}
 use Rattle.books.specs.Path.{AreTakenFrom, RefusesFiles}
 use Rattle.book_opening.specs.declared.fault.OpenFault.{OpenFault}

@@ -1,16 +1,17 @@
 -- What is printed of an audit.
-use Rattle.std.specs.Prelude.{◌≡◌, ◌⊎◌, [], ◌∷◌, codes, decimal}
+use Rattle.std.specs.Prelude.{◌≡◌, ◌⊎◌, List, [], ◌∷◌, ◌++◌, codes, decimal}
 use Rattle.std.specs.Fmt.{signed_decimal}
 use Rattle.sqlite_value.specs.Order.{column}
 use Rattle.sqlite_value.specs.declared.value.Value.{Value}
 use Rattle.sqlite_value.specs.declared.value.Value.TheVariants.{Int, Text as IsText}
 use Rattle.audit_rows.specs.Tables.{name_of}
 use Rattle.audit.specs.declared.audited.Audited.{Audited}
-use Rattle.audit_office.specs.declared.finding.Finding.{Finding}
-use Rattle.audit_office.specs.declared.finding.RowKey.{RowKey}
-use Rattle.audit_office.specs.declared.finding.RowKey.TheVariants.{Number, Tariff, Meter, Columns}
-use Rattle.audit_office.specs.declared.finding.Rule.{Rule}
-use Rattle.audit_office.specs.declared.finding.Rule.TheVariants as rule
+use Rattle.audit_rows.specs.declared.finding.Finding.{Finding}
+use Rattle.audit_rows.specs.declared.finding.RowKey.{RowKey}
+use Rattle.audit_rows.specs.declared.finding.RowKey.TheVariants.{Number, Tariff, Step, DatedStep, Meter, Base, Month, Columns}
+use Rattle.audit_rows.specs.declared.finding.Rule.{Rule}
+use Rattle.audit_rows.specs.declared.finding.Rule.TheVariants as rule
+use Rattle.sts_fields.specs.Base.{year_of}
 use Rattle.sts_fields.specs.Text.{Text}
 use Rattle.vend_core.specs.Name.{IsName}
 use Rattle.vend_commands.specs.print.Printed.{line_of}
@@ -36,23 +37,29 @@ rule_text rule.Total = codes "total"
 rule_text rule.Operator = codes "operator"
 rule_text rule.Order = codes "order"
 rule_text rule.Identifier = codes "identifier"
+rule_text rule.Price = codes "price"
 rule_text rule.Token = codes "token"
 
--- a key is told where it is a number, or a text of 1 to 32 letters, digits or hyphens
-abbrev pub TellsKey : Value → (told : Text) → Type 0
-TellsKey (Int number) told = told ≡ signed_decimal number
-TellsKey (IsText text) told =
+-- a value is told where it is a number, or a text of 1 to 32 letters, digits or hyphens
+abbrev pub TellsValue : Value → (told : Text) → Type 0
+TellsValue (Int number) told = told ≡ signed_decimal number
+TellsValue (IsText text) told =
     (IsName text × (told ≡ text)) ⊎ ((¬ IsName text) × (told ≡ codes "?"))
-TellsKey value told = told ≡ codes "?"
+TellsValue value told = told ≡ codes "?"
 
--- a row is told by its number, by its tariff or its meter, or by its first column
-abbrev pub TellsRow : RowKey → (told : Text) → Type 0
-TellsRow (Number n) told = told ≡ decimal n
-TellsRow (Tariff name) told = told ≡ name
-TellsRow (Meter number) told = told ≡ number
-TellsRow (Columns row) told = TellsKey (column row 0) told
+-- a row is told by its key, as the columns of the table have it; one whose values are of no record
+-- by its first column
+abbrev pub TellsRow : RowKey → (told : List Text) → Type 0
+TellsRow (Number n) told = told ≡ decimal n ∷ []
+TellsRow (Tariff name) told = told ≡ name ∷ []
+TellsRow (Step tariff place) told = told ≡ tariff ∷ decimal place ∷ []
+TellsRow (DatedStep tariff day place) told = told ≡ tariff ∷ decimal day ∷ decimal place ∷ []
+TellsRow (Meter number) told = told ≡ number ∷ []
+TellsRow (Base meter base) told = told ≡ meter ∷ decimal (year_of base) ∷ []
+TellsRow (Month meter month) told = told ≡ meter ∷ decimal month ∷ []
+TellsRow (Columns row) told = (word : Text) × (told ≡ word ∷ []) × TellsValue (column row 0) word
 
 -- this row of a table breaks a rule
-abbrev pub broken_line : Finding → (row : Text) → Text
+abbrev pub broken_line : Finding → (row : List Text) → Text
 broken_line f row =
-    line_of (codes "broken" ∷ name_of f.table ∷ row ∷ rule_text f.rule ∷ [])
+    line_of (codes "broken" ∷ name_of f.table ∷ (row ++ (rule_text f.rule ∷ [])))

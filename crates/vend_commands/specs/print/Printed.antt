@@ -73,8 +73,8 @@ abbrev pub opening_line : OpenFault → Text
 opening_line fault =
     line_of (codes "open" ∷ decimal (open_fault_number fault) ∷ open_fault_name fault ∷ [])
 
--- that it is done, how many rows an import added, the number of a shift, and a selfcheck that found
--- no fault
+-- that it is done, how many rows an import added, how far an export is, that a file is open, the
+-- number of a shift, and a selfcheck that found no fault
 abbrev pub done_line : Text
 done_line = line_of (codes "done" ∷ [])
 
@@ -84,6 +84,9 @@ added_line count = line_of (codes "added" ∷ decimal count ∷ [])
 abbrev pub progress_line : ℕ → ℕ → Text
 progress_line printed all =
     line_of (decimal printed ∷ codes "of" ∷ decimal all ∷ codes "sales" ∷ [])
+
+abbrev pub opened_line : Text
+opened_line = line_of (codes "opened" ∷ [])
 
 abbrev pub shift_line : ℕ → Text
 shift_line number = line_of (codes "shift" ∷ decimal number ∷ [])

@@ -6,6 +6,7 @@ use crate::command_end::CommandEnd;
 use crate::office::auditing::{audit_files, connect};
 use crate::office::opening::close_connection;
 use crate::port::ports::OfficeFile;
+use crate::port::progress::Progress;
 use crate::print::audit_lines::{put_broken, put_sound};
 use crate::print::lines::{put_line, put_opening};
 use crate::print::watched::Watched;
@@ -17,11 +18,12 @@ use std::alloc::Global;
 use std::io::Write;
 
 /// Looks at the file of the words, where it is there, and prints what it keeps, or the first row
-/// that is no office's; and closes it as it was.
-pub(crate) fn run<H: OfficeFile, O: Write, E: Write>(
+/// that is no office's; and closes it as it was. It tells once that the file is open.
+pub(crate) fn run<H: OfficeFile, P: Progress, O: Write, E: Write>(
     words: &AuditWords,
     alloc: Global,
     office: H,
+    progress: &mut P,
     out: &mut Watched<'_, O>,
     err: &mut Watched<'_, E>,
 ) -> CommandEnd
@@ -34,6 +36,7 @@ pub(crate) fn run<H: OfficeFile, O: Write, E: Write>(
     let salts = office.salts();
     match connect(alloc, office, &salts, words.file, words.wait) {
         Ok(Some(mut conn)) => {
+            progress.tell_opened();
             let answer = audit_files(alloc, &mut conn);
             let end = tell(answer, out, err);
             close_connection::<H>(conn);

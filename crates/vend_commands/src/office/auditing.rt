@@ -3,8 +3,8 @@
 ghost use Rattle.std.specs.Prelude.{◌≡◌, false, IfErr, IfNone, IfOk, IfSome};
 ghost use Rattle.sqlite.specs.Files.{file_state};
 ghost use Rattle.sqlite.specs.State.{HasCleanDisk};
+ghost use Rattle.audit.specs.Audited.{IsAuditOf};
 ghost use Rattle.books.specs.Path.{IsConnected};
-ghost use Rattle.vend_commands.specs.office.Audits.{IsAuditOf};
 ghost use Rattle.vend_commands.specs.port.Places.{places_of};
 
 use crate::office::opening::options_of;

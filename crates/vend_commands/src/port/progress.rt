@@ -1,6 +1,6 @@
 //! Whom a command that takes long tells how far it is.
 
-use crate::print::lines::put_progress;
+use crate::print::lines::{put_opened, put_progress};
 use crate::print::watched::Watched;
 use std::io::IsTerminal;
 use std::time::{Duration, Instant};
@@ -12,10 +12,13 @@ const PAUSE: u64 = 1;
 pub trait Progress: Drop {
     /// So many of all sales are printed.
     fn tell(&mut self, printed: u64, all: u64);
+
+    /// The file of an audit is open, and is looked at.
+    fn tell_opened(&mut self);
 }
 
 /// The terminal where the error output goes. Where the output goes to a terminal too, what it shows
-/// tells how far it is.
+/// tells how far an export is.
 #[derive(Drop)]
 pub(crate) struct TerminalProgress<'a> {
     rt: &'a HostRuntime,
@@ -30,20 +33,32 @@ impl<'a> TerminalProgress<'a> {
             last: Instant::now(rt).ok(),
         }
     }
+
+    // Whether the next line may come now.
+    fn is_due(&mut self) -> bool {
+        let (Some(last), Ok(now)) = (self.last, Instant::now(self.rt)) else {
+            return false;
+        };
+        if now.duration_since(last) < Duration::from_secs(PAUSE) {
+            return false;
+        }
+        self.last = Some(now);
+        true
+    }
 }
 
 impl Progress for TerminalProgress<'_> {
     fn tell(&mut self, printed: u64, all: u64) {
         let mut terminal = self.rt.stderr();
-        if !terminal.is_terminal() || self.rt.stdout().is_terminal() {
-            return;
-        }
-        let (Some(last), Ok(now)) = (self.last, Instant::now(self.rt)) else {
-            return;
-        };
-        if now.duration_since(last) >= Duration::from_secs(PAUSE) {
-            self.last = Some(now);
+        if terminal.is_terminal() && !self.rt.stdout().is_terminal() && self.is_due() {
             put_progress(printed, all, &mut Watched::new(&mut terminal));
+        }
+    }
+
+    fn tell_opened(&mut self) {
+        let mut terminal = self.rt.stderr();
+        if terminal.is_terminal() && self.is_due() {
+            put_opened(&mut Watched::new(&mut terminal));
         }
     }
 }

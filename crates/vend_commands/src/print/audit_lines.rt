@@ -1,11 +1,11 @@
-//! The lines of an audit (`specs/AuditLines.antt`). None takes memory.
+//! The lines of an audit (`specs/print/AuditLines.antt`). None takes memory.
 
-ghost use Rattle.std.specs.Prelude.{◌≡◌};
+ghost use Rattle.std.specs.Prelude.{◌≡◌, List, [], ◌∷◌};
 ghost use Rattle.sqlite_value.specs.Order.{column};
 ghost use Rattle.sqlite_value.specs.Value.{owned};
 ghost use Rattle.sts_fields.specs.Text.{Text};
-ghost use Rattle.vend_commands.specs.print.AuditLines.{TellsKey, TellsRow, broken_line, rule_text};
-ghost use Rattle.vend_commands.specs.print.AuditLines.{sound_line};
+ghost use Rattle.vend_commands.specs.print.AuditLines.{TellsRow, TellsValue, broken_line};
+ghost use Rattle.vend_commands.specs.print.AuditLines.{rule_text, sound_line};
 ghost use Rattle.vend_commands.specs.print.Told.{Takes, sink};
 
 use crate::print::lines::put_line;
@@ -40,39 +40,63 @@ pub(crate) fn put_sound<W: Write>(audited: Audited, out: &mut Watched<'_, W>)
     );
 }
 
-/// Prints which row breaks which rule.
+/// Prints which row breaks which rule: its key, as the file has it, or of a row of no record the
+/// first column.
 pub(crate) fn put_broken<W: Write>(finding: &Finding, out: &mut Watched<'_, W>)
-    ensures { (row : Text) × TellsRow finding.now.row row
+    ensures { (row : List Text) × TellsRow finding.now.row row
         × Takes (sink W.contents out.old) (sink W.contents out.new) (broken_line finding.now row) }
 {
     let table = finding.table.name().as_bytes();
     let rule = rule_name(finding.rule);
+    let mut number = Buffer::new();
+    let mut place = Buffer::new();
     match &finding.row {
-        RowKey::Number(place) => {
-            let mut number = Buffer::new();
-            let place = number.format(*place).as_bytes();
-            put_line(&[b"broken", table, place, rule], out);
+        RowKey::Number(row) => {
+            let row = number.format(*row).as_bytes();
+            put_line(&[b"broken", table, row, rule], out);
         }
         RowKey::Tariff(name) => {
             let name = *name;
             put_line(&[b"broken", table, name.as_bytes(), rule], out);
         }
+        RowKey::Step(tariff, step) => {
+            let tariff = *tariff;
+            let step = place.format(*step).as_bytes();
+            put_line(&[b"broken", table, tariff.as_bytes(), step, rule], out);
+        }
+        RowKey::DatedStep(tariff, day, step) => {
+            let tariff = *tariff;
+            let day = number.format(day.days()).as_bytes();
+            let step = place.format(*step).as_bytes();
+            put_line(&[b"broken", table, tariff.as_bytes(), day, step, rule], out);
+        }
         RowKey::Meter(meter) => {
             let meter = *meter;
             put_line(&[b"broken", table, meter.as_bytes(), rule], out);
         }
-        RowKey::Columns(row) => put_key(finding, first_of(row), out),
+        RowKey::Base(meter, base) => {
+            let meter = *meter;
+            let year = number.format(base.year()).as_bytes();
+            put_line(&[b"broken", table, meter.as_bytes(), year, rule], out);
+        }
+        RowKey::Month(meter, month) => {
+            let meter = *meter;
+            let month = number.format(*month).as_bytes();
+            put_line(&[b"broken", table, meter.as_bytes(), month, rule], out);
+        }
+        RowKey::Columns(row) => put_value(finding, first_of(row), out),
     }
 }
 
-// The same of a row by its key: a number, a name, or `?` for whatever else.
-fn put_key<W: Write>(finding: &Finding, key: ValueRef<'_>, out: &mut Watched<'_, W>)
-    ensures { (row : Text) × TellsKey (owned key.entry) row
-        × Takes (sink W.contents out.old) (sink W.contents out.new) (broken_line finding.now row) }
+// The same of a row by one value: a number, a name, or `?` for whatever else.
+fn put_value<W: Write>(finding: &Finding, value: ValueRef<'_>, out: &mut Watched<'_, W>)
+    ensures { (told : Text) × TellsValue (owned value.entry) told
+        × Takes (sink W.contents out.old) (sink W.contents out.new)
+        (broken_line finding.now (told ∷ [])) }
 {
     let table = finding.table.name().as_bytes();
     let rule = rule_name(finding.rule);
-    match key {
+    match value {
         ValueRef::Int(whole) => {
             let mut number = Buffer::new();
             let whole = number.format(whole).as_bytes();
@@ -114,6 +138,7 @@ fn rule_name(rule: Rule) -> &'static [u8]
         Rule::Operator => b"operator",
         Rule::Order => b"order",
         Rule::Identifier => b"identifier",
+        Rule::Price => b"price",
         Rule::Token => b"token",
     }
 }

@@ -1,9 +1,9 @@
-//! The lines that the program prints (`specs/Printed.antt`). None takes memory.
+//! The lines that the program prints (`specs/print/Printed.antt`). None takes memory.
 ghost use Rattle.std.specs.Prelude.{◌≡◌, ◌≢◌, ℕ, IfOk, map, string_bytes};
 ghost use Rattle.vend_core.specs.Decision.RowCauses.{cause_text};
 ghost use Rattle.vend_commands.specs.print.Printed.{added_line, address_text, answer_line, clock_line, credit_line};
 ghost use Rattle.vend_commands.specs.print.FoundTexts.{row_of};
-ghost use Rattle.vend_commands.specs.print.Printed.{host_text, joined_line, line_of, open_line};
+ghost use Rattle.vend_commands.specs.print.Printed.{host_text, joined_line, line_of, open_line, opened_line};
 ghost use Rattle.vend_commands.specs.print.Printed.{opening_line, pair_text, progress_line};
 ghost use Rattle.vend_commands.specs.print.Printed.{quote_line, refusal_line, shift_line, stopped_line, token_line};
 ghost use Rattle.vend_commands.specs.print.Told.{IsPutOn, Takes, sink};
@@ -137,6 +137,13 @@ pub(crate) fn put_progress<W: Write>(printed: u64, all: u64, out: &mut Watched<'
     let printed = some.format(printed).as_bytes();
     let all = whole.format(all).as_bytes();
     put_line(&[printed, b"of", all, b"sales"], out);
+}
+
+/// Prints that a file is open.
+pub(crate) fn put_opened<W: Write>(out: &mut Watched<'_, W>)
+    ensures { Takes (sink W.contents out.old) (sink W.contents out.new) opened_line }
+{
+    put_line(&[b"opened"], out);
 }
 
 /// Prints the number of a shift.
