@@ -1,14 +1,16 @@
 """Files that `audit` is asked about, offices and others: a part of tools/check_program. It is no script
 of its own."""
 import http.client
+import itertools
 import json
 import random
+import re
 import shutil
 import subprocess
 
 from many_sales import meter_of
 from program import METER, OTHER_METER, VEND, change, expect, vend
-from shared import FORMAT, back_to
+from shared import FORMAT, back_to, tables_of
 
 AT = 1388534430
 DAY = 86400
@@ -20,6 +22,10 @@ METERS_DRAWN = [meter_of(f"{30 + number:010}") for number in range(12)]
 COUNTS = "tariffs 2 meters 2 shifts 3 sales 4"
 NEW_SALE = ("INSERT INTO sales VALUES (5, 1391990460, 253, 1, 'ann', 'A-3', '12345678903', 2014, 57601, 5,"
             " 2, 20, 20, '00288477766268123565');")
+# The first sale, by the later steps of its tariff, if these begin on such a day.
+BY_DATED_STEPS = (
+    "UPDATE dated_steps SET day = {} WHERE tariff = 'flat'; UPDATE sales SET price = 11, tender = 11 WHERE"
+    " number = 1; UPDATE shift_totals SET cash = 31 WHERE shift = 1;")
 # What is done to the rows of the office, a table after another, and the row that is found to break
 # a rule. Each column is spoilt in turn; then there is a row too many, or one too few.
 SPOILT = [
@@ -32,16 +38,16 @@ SPOILT = [
     ("UPDATE tariff_steps SET ends = -1 WHERE tariff = 'flat';", "tariff_steps flat value"),
     ("UPDATE tariff_steps SET price = 0 WHERE tariff = 'flat';", "tariff_steps flat value"),
     ("UPDATE tariff_steps SET price = 1000001 WHERE tariff = 'flat';", "tariff_steps flat value"),
-    ("UPDATE tariff_steps SET place = 1 WHERE tariff = 'flat';", "tariff_steps flat steps"),
+    ("UPDATE tariff_steps SET place = 1 WHERE tariff = 'flat';", "tariff_steps flat 1 steps"),
     ("UPDATE tariff_steps SET place = 3 WHERE tariff = 'block' AND place = 2;",
-     "tariff_steps block steps"),
+     "tariff_steps block 3 steps"),
     ("UPDATE tariff_steps SET ends = NULL WHERE tariff = 'block' AND place = 0;",
      "tariffs block steps"),
     ("UPDATE tariff_steps SET ends = 50 WHERE tariff = 'block' AND place = 0;", "tariffs block steps"),
     ("UPDATE tariff_steps SET ends = 200 WHERE tariff = 'block' AND place = 2;",
      "tariffs block steps"),
     ("DELETE FROM tariff_steps WHERE tariff = 'flat';", "tariffs flat steps"),
-    ("DELETE FROM tariff_steps WHERE tariff = 'block' AND place = 1;", "tariff_steps block steps"),
+    ("DELETE FROM tariff_steps WHERE tariff = 'block' AND place = 1;", "tariff_steps block 2 steps"),
     ("DELETE FROM tariff_steps WHERE tariff = 'block' AND place = 2;", "tariffs block steps"),
     ("INSERT INTO tariff_steps VALUES ('flat', 1, NULL, 50);", "tariffs flat steps"),
     ("DELETE FROM tariff_steps WHERE tariff = 'flat';" + "".join(
@@ -55,7 +61,7 @@ SPOILT = [
     (f"UPDATE meters SET secret = '0123456789ABCDEF' WHERE meter = '{METER}';",
      f"meters {METER} value"),
     (f"UPDATE meters SET base = 2035 WHERE meter = '{METER}';", f"meters {METER} base"),
-    (f"UPDATE meters SET base = 1993 WHERE meter = '{OTHER_METER}';", f"meter_bases {OTHER_METER} base"),
+    (f"UPDATE meters SET base = 1993 WHERE meter = '{OTHER_METER}';", f"meter_bases {OTHER_METER} 2014 base"),
     ("INSERT INTO meters VALUES ('20000000008', 2014, 'flat', '0000000000000000');",
      "meters 20000000008 base"),
     # Shifts.
@@ -76,51 +82,42 @@ SPOILT = [
     ("UPDATE sales SET base = 2015 WHERE number = 1;", "sales 1 value"),
     ("UPDATE sales SET base = 2035 WHERE number = 1;", "sales 1 base"),
     ("UPDATE sales SET tid = 16777216 WHERE number = 1;", "sales 1 value"),
-    ("UPDATE sales SET tid = 57601 WHERE number = 4;", f"last_ids {METER} total"),
+    ("UPDATE sales SET tid = 57601 WHERE number = 4;", f"last_ids {METER} 2014 total"),
     ("UPDATE sales SET rnd = 16 WHERE number = 1;", "sales 1 value"),
     ("UPDATE sales SET tenths = 16385 WHERE number = 1;", "sales 1 value"),
-    ("UPDATE sales SET tenths = 2 WHERE number = 1;", f"month_tenths {METER} total"),
+    ("UPDATE sales SET tenths = 2 WHERE number = 1;", f"month_tenths {METER} 252 total"),
     ("UPDATE sales SET price = 11 WHERE number = 1;", "sales 1 value"),
     ("UPDATE sales SET price = 9 WHERE number = 1;", "shift_totals 1 total"),
     ("UPDATE sales SET shift = 2 WHERE number = 1;", "shift_totals 1 total"),
     ("UPDATE sales SET tender = 100000001 WHERE number = 1;", "sales 1 value"),
     ("UPDATE sales SET digits = '0007205760262798169' WHERE number = 1;", "sales 1 value"),
     ("DELETE FROM sales WHERE number = 2;", "sales 2 gap"),
-    ("DELETE FROM sales WHERE number = 4;", f"last_ids {METER} total"),
-    (NEW_SALE, f"last_ids {METER} total"),
-    # Shifts and sales of an office that no requests lead to: in the totals nothing is wrong.
-    ("UPDATE shifts SET closed = NULL WHERE number = 1; UPDATE shifts SET closed = opened WHERE number = 3;",
-     "shifts 3 order"),
-    ("UPDATE sales SET operator = 'bob' WHERE number = 4;", "sales 4 operator"),
-    ("UPDATE sales SET shift = 3 WHERE number = 1; INSERT INTO shift_totals VALUES (3, 1, 1, 10);"
-     "UPDATE shift_totals SET sales = 1, tenths = 2, cash = 20 WHERE shift = 1;", "sales 4 order"),
-    (f"UPDATE sales SET base = 2014, tid = 2 WHERE number = 2; UPDATE sales SET base = 1993, tid = 11044803"
-     f" WHERE number = 3; UPDATE last_ids SET tid = CASE base WHEN 1993 THEN 11044803 ELSE 2 END WHERE"
-     f" meter = '{OTHER_METER}';", "sales 3 base"),
-    (f"UPDATE sales SET tid = 147600 WHERE number = 4; UPDATE last_ids SET tid = 147600 WHERE meter ="
-     f" '{METER}';", "sales 4 identifier"),
-    ("UPDATE sales SET tid = 0 WHERE number = 4; UPDATE sales SET tid = 57600 WHERE number = 1;"
-     "UPDATE sales SET tid = 2 WHERE number = 4;", "sales 1 identifier"),
-    ("UPDATE sales SET digits = '99999999999999999999' WHERE number = 1;", "sales 1 token"),
-    ("UPDATE sales SET digits = '00000000000134217728' WHERE number = 4;", "sales 4 token"),
+    ("DELETE FROM sales WHERE number = 4;", f"last_ids {METER} 2014 total"),
+    (NEW_SALE, f"last_ids {METER} 2014 total"),
     # Totals.
     (f"UPDATE last_ids SET meter = '12345678904' WHERE meter = '{METER}';",
      "last_ids 12345678904 value"),
     (f"UPDATE last_ids SET base = 2015 WHERE meter = '{METER}';", f"last_ids {METER} value"),
-    (f"UPDATE last_ids SET base = 2035 WHERE meter = '{METER}';", f"last_ids {METER} surplus"),
+    (f"UPDATE last_ids SET base = 2035 WHERE meter = '{METER}';", f"last_ids {METER} 2035 surplus"),
     (f"UPDATE last_ids SET tid = 16777216 WHERE meter = '{METER}';", f"last_ids {METER} value"),
-    (f"UPDATE last_ids SET tid = 57599 WHERE meter = '{METER}';", f"last_ids {METER} total"),
-    (f"INSERT INTO last_ids VALUES ('{METER}', 1993, 2);", f"last_ids {METER} surplus"),
-    (f"DELETE FROM last_ids WHERE meter = '{METER}';", f"last_ids {METER} missing"),
+    (f"UPDATE last_ids SET tid = 57599 WHERE meter = '{METER}';", f"last_ids {METER} 2014 total"),
+    (f"INSERT INTO last_ids VALUES ('{METER}', 1993, 2);", f"last_ids {METER} 1993 surplus"),
+    (f"DELETE FROM last_ids WHERE meter = '{METER}';", f"last_ids {METER} 2014 missing"),
+    ("DELETE FROM last_ids WHERE base = 1993;", f"last_ids {OTHER_METER} 1993 missing"),
     (f"UPDATE month_tenths SET meter = '12345678904' WHERE meter = '{OTHER_METER}';",
      "month_tenths 12345678904 value"),
-    (f"UPDATE month_tenths SET month = -1 WHERE meter = '{OTHER_METER}';", f"month_tenths {OTHER_METER} value"),
+    (f"UPDATE month_tenths SET month = -1 WHERE meter = '{OTHER_METER}';",
+     f"month_tenths {OTHER_METER} value"),
     (f"UPDATE month_tenths SET month = 254 WHERE meter = '{OTHER_METER}';",
-     f"month_tenths {OTHER_METER} surplus"),
-    (f"UPDATE month_tenths SET tenths = -1 WHERE meter = '{OTHER_METER}';", f"month_tenths {OTHER_METER} value"),
-    (f"UPDATE month_tenths SET tenths = 59 WHERE meter = '{OTHER_METER}';", f"month_tenths {OTHER_METER} total"),
-    (f"INSERT INTO month_tenths VALUES ('{OTHER_METER}', 253, 1);", f"month_tenths {OTHER_METER} surplus"),
-    (f"DELETE FROM month_tenths WHERE meter = '{OTHER_METER}';", f"month_tenths {OTHER_METER} missing"),
+     f"month_tenths {OTHER_METER} 254 surplus"),
+    (f"UPDATE month_tenths SET tenths = -1 WHERE meter = '{OTHER_METER}';",
+     f"month_tenths {OTHER_METER} value"),
+    (f"UPDATE month_tenths SET tenths = 59 WHERE meter = '{OTHER_METER}';",
+     f"month_tenths {OTHER_METER} 252 total"),
+    (f"INSERT INTO month_tenths VALUES ('{OTHER_METER}', 253, 1);",
+     f"month_tenths {OTHER_METER} 253 surplus"),
+    (f"DELETE FROM month_tenths WHERE meter = '{OTHER_METER}';",
+     f"month_tenths {OTHER_METER} 252 missing"),
     ("UPDATE shift_totals SET shift = 3 WHERE shift = 2;", "shift_totals 3 surplus"),
     ("UPDATE shift_totals SET shift = 0 WHERE shift = 2;", "shift_totals 0 value"),
     ("UPDATE shift_totals SET sales = 3 WHERE shift = 2;", "shift_totals 2 total"),
@@ -132,20 +129,78 @@ SPOILT = [
     # Bases.
     (f"UPDATE meter_bases SET base = 2000 WHERE meter = '{METER}';", f"meter_bases {METER} value"),
     (f"UPDATE meter_bases SET base = 1993 WHERE meter = '{METER}';", f"meters {METER} base"),
-    (f"INSERT INTO meter_bases VALUES ('{METER}', 2035);", f"meter_bases {METER} base"),
+    (f"INSERT INTO meter_bases VALUES ('{METER}', 2035);", f"meter_bases {METER} 2035 base"),
     (f"DELETE FROM meter_bases WHERE meter = '{METER}';", f"meters {METER} base"),
     (f"DELETE FROM meter_bases WHERE meter = '{OTHER_METER}' AND base = 1993;", "sales 2 base"),
     # Steps of later days.
     ("UPDATE dated_steps SET day = -1 WHERE tariff = 'flat';", "dated_steps flat value"),
     ("UPDATE dated_steps SET day = 39081 WHERE tariff = 'flat';", "dated_steps flat value"),
     ("UPDATE dated_steps SET day = 13515 WHERE tariff = 'block' AND place = 1;",
-     "dated_steps block steps"),
-    ("UPDATE dated_steps SET place = 1 WHERE tariff = 'flat';", "dated_steps flat steps"),
-    ("UPDATE dated_steps SET ends = 10 WHERE tariff = 'flat';", "dated_steps flat steps"),
+     "dated_steps block 13515 1 steps"),
+    ("UPDATE dated_steps SET place = 1 WHERE tariff = 'flat';", "dated_steps flat 13514 1 steps"),
+    ("UPDATE dated_steps SET ends = 10 WHERE tariff = 'flat';", "dated_steps flat 13514 0 steps"),
     ("UPDATE dated_steps SET price = 0 WHERE tariff = 'flat';", "dated_steps flat value"),
-    ("INSERT INTO dated_steps VALUES ('flat', 13514, 1, NULL, 5);", "dated_steps flat steps"),
-    ("DELETE FROM dated_steps WHERE tariff = 'block' AND place = 0;", "dated_steps block steps"),
-    ("DELETE FROM dated_steps WHERE tariff = 'block' AND place = 1;", "dated_steps block steps"),
+    ("INSERT INTO dated_steps VALUES ('flat', 13514, 1, NULL, 5);", "dated_steps flat 13514 0 steps"),
+    ("DELETE FROM dated_steps WHERE tariff = 'block' AND place = 0;", "dated_steps block 14030 1 steps"),
+    ("DELETE FROM dated_steps WHERE tariff = 'block' AND place = 1;", "dated_steps block 14030 0 steps"),
+]
+# Rows of an office that no requests lead to; in the totals nothing is wrong.
+FORGED = [
+    ("UPDATE shifts SET closed = NULL WHERE number = 1; UPDATE shifts SET closed = opened WHERE number = 3;",
+     "shifts 3 order"),
+    ("UPDATE sales SET operator = 'bob' WHERE number = 4;", "sales 4 operator"),
+    ("UPDATE sales SET shift = 3 WHERE number = 1; INSERT INTO shift_totals VALUES (3, 1, 1, 10);"
+     "UPDATE shift_totals SET sales = 1, tenths = 2, cash = 20 WHERE shift = 1;", "sales 4 order"),
+    (f"UPDATE sales SET tid = 147600 WHERE number = 4; UPDATE last_ids SET tid = 147600 WHERE meter ="
+     f" '{METER}';", "sales 4 identifier"),
+    ("UPDATE sales SET tid = 0 WHERE number = 4; UPDATE sales SET tid = 57600 WHERE number = 1;"
+     "UPDATE sales SET tid = 2 WHERE number = 4;", "sales 1 identifier"),
+    ("UPDATE sales SET price = 8 WHERE number = 1; UPDATE shift_totals SET cash = 28 WHERE shift = 1;",
+     "sales 1 price"),
+    (f"UPDATE sales SET tenths = 2 WHERE number = 1; UPDATE month_tenths SET tenths = 2 WHERE meter ="
+     f" '{METER}' AND month = 252; UPDATE shift_totals SET tenths = 4 WHERE shift = 1;", "sales 1 price"),
+    ("UPDATE sales SET tender = 20 WHERE number = 1;", "sales 1 price"),
+    ("UPDATE tariff_steps SET price = 200 WHERE tariff = 'flat';", "sales 1 price"),
+    # As if nothing had been sold in the month before.
+    (f"UPDATE sales SET tenths = 50, price = 495 WHERE number = 3; UPDATE month_tenths SET tenths = 60"
+     f" WHERE meter = '{OTHER_METER}'; UPDATE shift_totals SET tenths = 60, cash = 590 WHERE shift = 2;",
+     "sales 3 price"),
+    ("UPDATE sales SET digits = '99999999999999999999' WHERE number = 1;", "sales 1 token"),
+    ("UPDATE sales SET digits = '00000000000134217728' WHERE number = 4;", "sales 4 token"),
+]
+# Only the newer formats have a meter with an earlier base, and steps from a day on.
+FORGED_NEWER = [
+    (f"UPDATE sales SET base = 2014, tid = 2 WHERE number = 2; UPDATE sales SET base = 1993, tid = 11044803"
+     f" WHERE number = 3; UPDATE last_ids SET tid = CASE base WHEN 1993 THEN 11044803 ELSE 2 END WHERE"
+     f" meter = '{OTHER_METER}';", "sales 3 base"),
+    (BY_DATED_STEPS.format(7671), "sales 1 price"),
+]
+# Breaks in the order in which they are found: of two in one file the earlier one.
+IN_ORDER = [
+    "tariffs ? value", "tariff_steps flat value", f"meters {METER} value", "shifts 2 value", "sales 1 month",
+    f"last_ids {METER} value", f"month_tenths {OTHER_METER} value", "shift_totals 2 value",
+    f"meter_bases {METER} value", "dated_steps flat value",
+    "tariff_steps block 2 steps", "tariffs block steps", "dated_steps flat 13514 1 steps",
+    "dated_steps flat 13514 0 steps", "meters 20000000008 base", f"meter_bases {METER} 2035 base",
+    "shifts 4 gap", "shifts 3 open", "sales 4 gap", "sales 1 base",
+    f"last_ids {METER} 1993 surplus", f"last_ids {METER} 2014 total", f"last_ids {OTHER_METER} 1993 missing",
+    f"month_tenths {OTHER_METER} 252 total", f"month_tenths {OTHER_METER} 252 missing",
+    "shift_totals 3 surplus", "shift_totals 2 total", "shift_totals 1 missing",
+    "shifts 3 order", "sales 1 identifier", "sales 1 price", "sales 1 token", "sales 4 operator",
+    "sales 4 order", "sales 4 identifier", "sales 4 token",
+]
+# Breaks of one kind, or of one row.
+FIRST_OF_TWO = [
+    ("UPDATE tariff_steps SET price = 0 WHERE tariff = 'block' AND place > 0;", "tariff_steps block value"),
+    ("UPDATE sales SET month = month + 1 WHERE number > 1;", "sales 2 month"),
+    ("UPDATE sales SET month = 251 WHERE number = 2; UPDATE sales SET ref = '' WHERE number = 3;",
+     "sales 2 month"),
+    ("UPDATE shifts SET number = number + 1 WHERE number = 3; UPDATE shifts SET closed = NULL;",
+     "shifts 3 gap"),
+    ("UPDATE sales SET number = number + 6 WHERE number > 2;", "sales 3 gap"),
+    ("UPDATE sales SET operator = 'eve', digits = '99999999999999999999' WHERE number > 1;",
+     "sales 2 operator"),
+    ("UPDATE sales SET digits = '99999999999999999999', tender = 99999 WHERE number > 1;", "sales 2 price"),
 ]
 # What leaves an office: the rules ask nothing of it.
 STILL_SOUND = [
@@ -156,6 +211,11 @@ STILL_SOUND = [
     ("DELETE FROM dated_steps WHERE tariff = 'block';", COUNTS),
     ("INSERT INTO dated_steps VALUES ('flat', 13600, 0, NULL, 5);", COUNTS),
     ("CREATE TABLE other (id INTEGER PRIMARY KEY); INSERT INTO other VALUES (7);", COUNTS),
+    # A purchase by the steps of another tariff, and by steps that begin on the day of the sale.
+    ("UPDATE sales SET price = 9 WHERE number = 1; UPDATE shift_totals SET cash = 29 WHERE shift = 1;",
+     COUNTS),
+    (BY_DATED_STEPS.format(7670), COUNTS),
+    ("UPDATE sales SET tender = 19 WHERE number = 1;", COUNTS),
 ]
 # What an opening refuses for every command.
 REFUSED = [
@@ -206,22 +266,49 @@ def is_sound_office(file, number, counts):
     is_told(file, 0, f"sound format {number} {counts}\n".encode())
 
 
+def spoil(whole, file, text):
+    """A copy of an office with other rows, in a file alone."""
+    shutil.copy(whole, file)
+    change(file, text + "PRAGMA wal_checkpoint(TRUNCATE);")
+
+
 def check_formats(whole, folder):
+    """Sound and forged offices of each format."""
+    file = folder / "older.db"
     for number in range(1, FORMAT + 1):
-        file = folder / f"format-{number}.db"
-        shutil.copy(whole, file)
-        text = back_to(number)
+        back = back_to(number)
         if number < 3:
             # A meter has one base in them; under this one the identifier is that of the minute.
-            text += "UPDATE sales SET base = 2014, tid = 2 WHERE base = 1993;"
+            back += "UPDATE sales SET base = 2014, tid = 2 WHERE base = 1993;"
         if number == 2:
-            text += "DELETE FROM last_ids WHERE base = 1993;"
-        change(file, text + "PRAGMA wal_checkpoint(TRUNCATE);")
+            back += "DELETE FROM last_ids WHERE base = 1993;"
+        spoil(whole, file, back)
         is_sound_office(file, number, COUNTS)
+        for text, found in FORGED + (FORGED_NEWER if number > 2 else []):
+            spoil(whole, file, text + back)
+            is_told(file, 1, f"broken {found}\n".encode())
 
 
-def drawn(generator, refs):
-    """A request of a till: its path and its body."""
+def check_pairs(whole, folder):
+    """Two breaks in one file, of other tables: the earlier one is found. How many such files there were."""
+    texts, file = {}, folder / "twice.db"
+    for text, found in SPOILT + FORGED:
+        texts.setdefault(found, text)
+    tables = {found: {table for table in tables_of(FORMAT) if re.search(rf"\b{table}\b", texts[found])}
+              for found in IN_ORDER}
+    pairs = [(one, other) for one, other in itertools.combinations(IN_ORDER, 2)
+             if not tables[one] & tables[other]]
+    for one, other in pairs:
+        spoil(whole, file, texts[one] + texts[other])
+        is_told(file, 1, f"broken {one}\n".encode())
+    for text, found in FIRST_OF_TWO:
+        spoil(whole, file, text)
+        is_told(file, 1, f"broken {found}\n".encode())
+    return len(pairs) + len(FIRST_OF_TWO)
+
+
+def drawn(generator, refs, moves):
+    """A request of a till: its path and its body. Where bases are not moved, the tariff of a meter is set."""
     operator = generator.choice("abc")
     kind = generator.random()
     if kind < 0.04:
@@ -238,7 +325,7 @@ def drawn(generator, refs):
     if kind < 0.13:
         return "/meters", {"base": generator.choice((1993, 2014)), "key": "00" * 8, "meter": meter,
                            "tariff": f"t{generator.randrange(9)}"}
-    if kind < 0.15:
+    if moves and kind < 0.15:
         return f"/meters/{meter}/base", {"base": generator.choice((1993, 2014, 2035))}
     if kind < 0.17:
         return f"/meters/{meter}/tariff", {"tariff": f"t{generator.randrange(9)}"}
@@ -249,18 +336,20 @@ def drawn(generator, refs):
 
 
 
-
 def check_drawn(folder, count):
-    """Requests that are drawn, asked of a desk in six lives. After each an audit counts what the desk has answered."""
-    file, generator, refs = folder / "drawn.db", random.Random(7), []
+    """Requests that are drawn, asked of a desk in six lives. After each an audit counts what the desk has
+    answered, also where the file is taken back to an older format: in the later lives, in which meters are
+    moved to later bases, to one that has these."""
+    file, older = folder / "drawn.db", folder / "older.db"
+    generator, refs = random.Random(7), []
     made = {"tariffs": set(), "meters": set(), "shifts": set(), "sales": set()}
-    for _ in range(6):
+    for life in range(6):
         words = [VEND, "serve", "--file", str(file), "--listen", "127.0.0.1:0", "--connections", "1"]
         with subprocess.Popen(words, stderr=subprocess.PIPE, text=True) as desk:
             port = int(desk.stderr.readline().rpartition(":")[2])
             talk = http.client.HTTPConnection("127.0.0.1", port, timeout=30)
             for _ in range(count // 6):
-                path, body = drawn(generator, refs)
+                path, body = drawn(generator, refs, life >= 3)
                 talk.request("POST", path, json.dumps(body))
                 reply = talk.getresponse()
                 said = json.loads(reply.read())
@@ -272,6 +361,9 @@ def check_drawn(folder, count):
                 raise SystemExit(f"wrong: a desk ended with {desk.returncode}")
         counts = " ".join(f"{kind} {len(them)}" for kind, them in made.items())
         is_sound_office(file, FORMAT, counts)
+        for number in range(1 if life < 3 else 3, FORMAT):
+            spoil(file, older, back_to(number))
+            is_sound_office(older, number, counts)
     if len(made["sales"]) < count // 10:
         raise SystemExit(f"only {len(made['sales'])} of {count} drawn requests sold")
     return len(made["sales"])
@@ -288,19 +380,18 @@ def check_audits(folder):
     whole, file = folder / "whole.db", folder / "office.db"
     full_office(whole, folder)
     is_sound_office(whole, FORMAT, COUNTS)
-    for text, found in SPOILT:
-        shutil.copy(whole, file)
-        change(file, text + "PRAGMA wal_checkpoint(TRUNCATE);")
+    for text, found in SPOILT + FORGED + FORGED_NEWER:
+        spoil(whole, file, text)
         is_told(file, 1, f"broken {found}\n".encode())
     for text, counts in STILL_SOUND:
-        shutil.copy(whole, file)
-        change(file, text + "PRAGMA wal_checkpoint(TRUNCATE);")
+        spoil(whole, file, text)
         is_sound_office(file, FORMAT, counts)
     for text, said in REFUSED:
-        shutil.copy(whole, file)
-        change(file, text + "PRAGMA wal_checkpoint(TRUNCATE);")
+        spoil(whole, file, text)
         is_told(file, 1, err=said)
     check_formats(whole, folder)
+    twice = check_pairs(whole, folder)
     sold = check_drawn(folder, 3000)
-    print(f"audits: {len(SPOILT)} spoilt offices, each found and named; {len(STILL_SOUND) + FORMAT} sound"
-          f" ones; 3000 drawn requests, {sold} of them sales, sound")
+    print(f"audits: {len(SPOILT)} spoilt offices and {len(FORGED + FORGED_NEWER)} forged ones in each format,"
+          f" {twice} with two breaks, each named by the first; {len(STILL_SOUND) + FORMAT} sound ones; 3000"
+          f" drawn requests, {sold} of them sales, sound in each format")

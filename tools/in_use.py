@@ -3,6 +3,7 @@ import subprocess
 import time
 
 from desk_client import Desk
+from long_work import check_opened
 from program import METER, VEND, WAIT, expect, is_sound, prepare, query, sell_words, vend
 from shared import FORMAT
 
@@ -80,6 +81,9 @@ def check_held(folder):
             expect(ended(sale), 0, err=b"")
         totals = f"shift 1 sales {number} tenths {number} cash {10 * number}\n"
         expect(vend(*report), 0, totals.encode(), b"")
+    with Desk(file, 1) as desk:
+        counts = f"sound format {FORMAT} tariffs 1 meters 2 shifts 1 sales 2\n"
+        check_opened(desk, ["audit", "--file", str(file)], counts.encode())
     is_sound(file)
 
 

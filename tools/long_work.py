@@ -1,5 +1,5 @@
-"""What an export that takes long tells a terminal: a part of tools/check_program. It is no script of its
-own."""
+"""What an export and an audit that take long tell a terminal: a part of tools/check_program. It is no
+script of its own."""
 import os
 import subprocess
 import time
@@ -23,15 +23,17 @@ def read_all(reader):
     return text
 
 
-def run_slowly(words, out, err=None):
+def run_slowly(words, out, err=None, then=lambda: None):
     """How a run ends whose output nobody takes at first, and what came of its outputs, each of which is a
-    reader and a writer. Without its own the error output goes where the output does."""
+    reader and a writer. Without its own the error output goes where the output does. Something may be done
+    before it is taken."""
     writers = [end[1] for end in (out, err) if end]
     running = subprocess.Popen([VEND, *words], stdin=subprocess.DEVNULL, stdout=writers[0],
                                stderr=writers[-1])
     for writer in writers:
         os.close(writer)
     time.sleep(PAUSE)
+    then()
     texts = [read_all(end[0]) for end in (out, err) if end]
     return running.wait(WAIT), texts
 
@@ -51,3 +53,10 @@ def check_told(words, whole, sales):
     ):
         if ran[0] != 0 or ran[1] not in expected:
             raise SystemExit(f"wrong: an export to {what} ends {ran[0]}, and tells {ran[1][-1][:200]}")
+
+
+def check_opened(desk, words, whole):
+    """An audit that has waited for its file until a desk ends says on a terminal that it is open."""
+    told = run_slowly(words, os.pipe(), os.openpty(), desk.finish)
+    if told != (0, [whole, on_terminal(b"opened\n")]):
+        raise SystemExit(f"wrong: an audit that waits ends so: {told}")
