@@ -10,7 +10,7 @@ import time
 from pathlib import Path
 
 from client import Client, reprint
-from servers import Server
+from servers import Server, memory_of
 from tables import how_busy, machine, put_into, put_parts
 
 CHANGING = "moment", "tid", "token"  # of a sale, from one moment to the next
@@ -57,6 +57,19 @@ class Room:
         if ran.returncode != 0 or ran.stderr:
             raise SystemExit(f"wrong: {ran}")
         return taken, ran.stdout
+
+    def most_memory(self, side, *words):
+        """Runs a command of a side; the most memory that it held, in KiB, as the system told it last, a
+        millisecond or two before its end. (What `wait` tells begins with the memory of this script.)"""
+        held = ()
+        with subprocess.Popen([*side, *map(str, words)], stdin=subprocess.DEVNULL,
+                              stdout=subprocess.DEVNULL) as running:
+            while running.poll() is None:
+                held = memory_of(running.pid) or held
+                time.sleep(0.001)
+        if running.returncode != 0:
+            raise SystemExit(f"wrong: {running.args} ended with {running.returncode}")
+        return held[1]
 
     def serve(self, side, office, connections=1):
         return Server([*side, "serve", "--file", str(office), "--listen", "127.0.0.1:0",

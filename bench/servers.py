@@ -6,6 +6,13 @@ import time
 WAIT = 60  # seconds, for a server to listen or to end
 
 
+def memory_of(pid):
+    """What a process holds now and what it held at most, in KiB; nothing once it has ended."""
+    with open(f"/proc/{pid}/status") as lines:
+        told = dict(line.split(":", 1) for line in lines)
+    return tuple(int(told[name].split()[0]) for name in ("VmRSS", "VmHWM") if name in told)
+
+
 class Server:
     """A program that listens on a port of 127.0.0.1, says so on its error output, and ends by
     itself with status 0 once its connections have ended."""
@@ -38,9 +45,7 @@ class Server:
 
     def memory(self):
         """What it holds now and what it held at most, in KiB."""
-        with open(f"/proc/{self.process.pid}/status") as lines:
-            told = dict(line.split(":", 1) for line in lines)
-        return int(told["VmRSS"].split()[0]), int(told["VmHWM"].split()[0])
+        return memory_of(self.process.pid)
 
     def kill(self):
         self.process.kill()
