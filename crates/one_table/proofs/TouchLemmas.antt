@@ -14,7 +14,7 @@ use Rattle.sqlite.specs.Rows.{Edited, Meets, Puts, Task, Tries, Updates, Upserts
 use Rattle.sqlite.specs.State.{Shown, Shows, State, Writes}
 use Rattle.sqlite.specs.declared.error.Error.{Error}
 use Rattle.sqlite.proofs.Callers.{one_step}
-use Rattle.one_table.specs.InTransaction.{FailsToShow, IsUnderWay}
+use Rattle.one_table.specs.InTransaction.{CarriesOut, FailsToShow, IsUnderWay}
 use Rattle.one_table.specs.Inserting.{source_of_row}
 use Rattle.one_table.specs.Merges.{FailsToTouch, StandsForUpserts, Touches, given_row}
 use Rattle.one_table.specs.ReadFaults.{OnlyWhere}
@@ -88,6 +88,18 @@ module _ (sql : List ℕ) (params : Row) (old new : State) (t : Table) (at : ℕ
         let k = stands (shown_open sql params old new rows h) in
         let wrote = was_written sql params old new t at m is k.has k.keys rows h in
         touched_so k (shown_stays sql params old new rows h way) wrote.text wrote.count wrote.writes
+
+    pub carried : (rows : List Row) → Shown sql params old new rows → CarriesOut sql params old new
+    carried rows h =
+        let k = stands (shown_open sql params old new rows h) in
+        let wrote = was_written sql params old new t at m is k.has k.keys rows h in
+        record {
+          command = upsert_as at t m;
+          shows = Some (returning_as m);
+          means = (means_upsert old.now.schema at t k.has k.keys m sql is).0;
+          tally = wrote.writes.tally;
+          does = wrote.writes.changed;
+        }
 
     -- why it fails, from why its value is not read
     pub touched_unread : {P : Type 0} (why : ReadFault) → HasTouched → OnlyWhere P why → FailsToTouch t m params old new at why

@@ -1,5 +1,5 @@
 -- What a statement inside a transaction leaves.
-use Rattle.std.specs.Prelude.{◌≡◌, ◌≢◌, ◌⊎◌, ℕ, true, false, List, [], None, Err, OnOk, Option, Result, Some, IsTrue}
+use Rattle.std.specs.Prelude.{◌≡◌, ◌≢◌, ◌⊎◌, ℕ, true, false, List, [], None, Err, Ok, OnOk, Option, Result, Some, IsTrue}
 use Rattle.std.specs.List.{AllByRecursion}
 use Rattle.sqlite_value.specs.Order.{Row}
 use Rattle.sqlite_trees.specs.Tree.{put_row}
@@ -8,7 +8,7 @@ use Rattle.sqlite_sql.specs.Query.{Query, IsAnswer}
 use Rattle.sqlite_rules.specs.declared.error.Rowids.TheVariants.{Given}
 use Rattle.sqlite_rules.specs.Calls.{ids_of}
 use Rattle.sqlite_rules.specs.Edit.{edit_of, edited, is_taken, IsNoIndex}
-use Rattle.sqlite.specs.Does.{Does}
+use Rattle.sqlite.specs.Does.{Does, Tally}
 use Rattle.sqlite.specs.Effect.{IsDatabase, SparesFrozen}
 use Rattle.sqlite.specs.State.{ExecutesInside, Fails, FailsToQuery, HasCleanDisk, IsTooLate, IsUnchanged, KeepsCommit, Shows, State, Survives, mode_of}
 use Rattle.sqlite.specs.declared.error.Error.{Error}
@@ -16,6 +16,7 @@ use Rattle.sqlite.specs.declared.error.Error.TheVariants.{SqliteFailure}
 use Rattle.sqlite.specs.declared.error.ErrorCode.TheVariants.{TransactionState}
 use Rattle.sqlite_schema.specs.declared.command.Command.{Command}
 use Rattle.sqlite_schema.specs.declared.command.Returning.{Returning}
+use Rattle.one_table.specs.Reading.{MeansAs}
 
 -- a transaction is under way: no failure has ended it
 abbrev pub IsUnderWay : State → Type 0
@@ -69,6 +70,16 @@ FailsToWriteAs shows command params old new e =
 -- the same of one that shows nothing
 abbrev pub FailsToWrite : Command → Row → State → State → Error → Type 0
 FailsToWrite = FailsToWriteAs None
+
+-- a text was carried out: as the command that it means it made what the connection has of what it
+-- had
+pub record CarriesOut (sql : List ℕ) (params : Row) (old new : State) : Type 0 where
+  pub command : Command
+  pub shows : Option Returning
+  pub means : MeansAs old.now.schema sql command shows
+  pub tally : Tally
+  pub does : Does old.step_limit (mode_of old) params old.now [] shows command
+      (Ok (tally, new.now))
 
 -- The table has these rows. The schema and every other table are as they were, and so is what SQL
 -- here does not understand. It is a database, and nothing is committed.

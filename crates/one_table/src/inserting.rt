@@ -6,7 +6,7 @@ ghost use Rattle.sqlite.specs.Table.{Table};
 ghost use Rattle.sqlite.specs.Term.{Term};
 ghost use Rattle.one_table.specs.Place.{Has};
 ghost use Rattle.one_table.specs.Inserting.{IsInsert, insert_as, new_row};
-ghost use Rattle.one_table.specs.InTransaction.{FailsToWrite, KeepsTransaction, PutsRow};
+ghost use Rattle.one_table.specs.InTransaction.{CarriesOut, FailsToWrite, KeepsTransaction, PutsRow};
 ghost use Rattle.one_table.specs.Reading.{is_whole};
 
 use crate::writing::run;
@@ -25,6 +25,10 @@ pub fn insert<S: Alter>(
         → (IsTrue old.is_open → Has old.now.schema at t)
         → OnOk result (PutsRow t (new_row t terms (bound params.now) (old.now.trees t.tree)) old
         new)) }
+    ensures ran { Inside S.Store tx (λ old new. HasCleanDisk new
+        → (t : Table) (at : ℕ) (terms : List Term) → IsInsert t terms sql.now
+        → (IsTrue old.is_open → Has old.now.schema at t)
+        → OnOk result (CarriesOut sql.now (bound params.now) old new)) }
     ensures transaction { Inside S.Store tx (λ old new. KeepsTransaction old new result) }
     ensures refused { Inside S.Store tx (λ old new. HasCleanDisk new
         → (t : Table) (at : ℕ) (terms : List Term) → IsInsert t terms sql.now

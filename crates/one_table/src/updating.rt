@@ -8,7 +8,7 @@ ghost use Rattle.one_table.specs.Place.{Has};
 ghost use Rattle.one_table.specs.Changing.{IsUpdate, update_as};
 ghost use Rattle.one_table.specs.Reading.{is_whole};
 ghost use Rattle.one_table.specs.Referring.{is_left_alone};
-ghost use Rattle.one_table.specs.InTransaction.{FailsToWrite, KeepsTransaction, SetsRows};
+ghost use Rattle.one_table.specs.InTransaction.{CarriesOut, FailsToWrite, KeepsTransaction, SetsRows};
 
 use crate::writing::run;
 use sqlite::types::ValueRef;
@@ -25,6 +25,10 @@ pub fn update<S: Alter>(
         → (t : Table) (at : ℕ) (q : Query) → IsUpdate t q sql.now → (IsTrue old.is_open
         → Has old.now.schema at t × (is_left_alone old.now.schema t.tree ≡ true))
         → OnOk result (SetsRows t q (bound params.now) old new)) }
+    ensures ran { Inside S.Store tx (λ old new. HasCleanDisk new
+        → (t : Table) (at : ℕ) (q : Query) → IsUpdate t q sql.now
+        → (IsTrue old.is_open → Has old.now.schema at t)
+        → OnOk result (CarriesOut sql.now (bound params.now) old new)) }
     ensures transaction { Inside S.Store tx (λ old new. KeepsTransaction old new result) }
     ensures refused { Inside S.Store tx (λ old new. HasCleanDisk new
         → (t : Table) (at : ℕ) (q : Query) → IsUpdate t q sql.now

@@ -4,7 +4,7 @@ ghost use Rattle.sqlite.specs.State.{HasCleanDisk};
 ghost use Rattle.one_table.specs.Over.{Inside};
 ghost use Rattle.sqlite_value.specs.Order.{Row as Stored};
 ghost use Rattle.sqlite.specs.Table.{Table};
-ghost use Rattle.one_table.specs.InTransaction.{IsUnderWay, KeepsTransaction};
+ghost use Rattle.one_table.specs.InTransaction.{CarriesOut, IsUnderWay, KeepsTransaction};
 ghost use Rattle.one_table.specs.Merges.{FailsToTouch, FailsToUpsert, StandsForUpserts, TakesUpserts, Touches, Upserts, shown_row};
 ghost use Rattle.one_table.specs.Reading.{is_whole};
 ghost use Rattle.one_table.specs.Upserting.{IsUpsert, Merging};
@@ -36,6 +36,10 @@ pub fn upsert<S: Alter, X: FromRow>(
         → (t : Table) (at : ℕ) (m : Merging) → IsUpsert t m sql.now → (IsTrue old.is_open
         → StandsForUpserts old.now.schema at t)
         → OnOk result (Touches t m (bound params.now) old new)) }
+    ensures ran { Inside S.Store tx (λ old new. HasCleanDisk new
+        → (t : Table) (at : ℕ) (m : Merging) → IsUpsert t m sql.now → (IsTrue old.is_open
+        → StandsForUpserts old.now.schema at t)
+        → OnOk result (CarriesOut sql.now (bound params.now) old new)) }
     ensures transaction { Inside S.Store tx (λ old new. KeepsTransaction old new result) }
     ensures refused { Inside S.Store tx (λ old new. HasCleanDisk new → IsUnderWay old
         → (t : Table) (at : ℕ) (m : Merging) → IsUpsert t m sql.now

@@ -1,7 +1,7 @@
-use Rattle.std.proofs.Common.{[]}
+use Rattle.std.proofs.Common.{[], None}
 use Rattle.sqlite.specs.Values.{bound}
 use Rattle.sqlite.specs.Held.{state}
-use Rattle.one_table.proofs.ChangeLemmas.{if_err, on_ok}
+use Rattle.one_table.proofs.ChangeLemmas.{if_err, on_ok, ran_inside}
 use Rattle.one_table.proofs.UpdateLemmas.{sets_rows}
 use Rattle.one_table.specs.Changing.{update_as}
 use Rattle.one_table.proofs.UpdateTextLemmas.{updates}
@@ -19,3 +19,10 @@ returns-clause-refused g c clean t at q is whole has =
     (fails_to_write c.args.sql.now (bound c.args.params.now) old (state g.S.Store c.run.new.tx.conn.now) (update_as at q) (update_changes at (record { lets = []; body = q })) (λ runs. updates old.now.schema at t (has runs) q c.args.sql.now is)
     whole)
     (c.run.ensures.refused clean)
+
+pub returns-clause-ran : goal.returns-clause-ran
+returns-clause-ran g c clean t at q is has =
+    let old = state g.S.Store c.args.tx.now.conn.now in
+    let new = state g.S.Store c.run.new.tx.conn.now in
+    on_ok c.run.result (λ ran. let it = ran_inside c.args.sql.now (bound c.args.params.now) old new (update_as at q) (λ runs. updates old.now.schema at t (has runs) q c.args.sql.now is) ran.0 ran.1 in record { command = update_as at q; shows = None; means = it.0; tally = it.1.tally; does = it.1.changed })
+    (c.run.ensures.ran clean)

@@ -4,7 +4,7 @@ use Rattle.sqlite.specs.Values.{bound}
 use Rattle.sqlite.specs.Held.{state}
 use Rattle.one_table.specs.declared.read_fault.ReadFault.TheVariants.{Database}
 use Rattle.one_table.proofs.ChangeLemmas.{all_ok, if_err, if_ok, told_as, transaction_into, transaction_off}
-use Rattle.one_table.proofs.TouchLemmas.{fails_to_touch, touched, touched_unread}
+use Rattle.one_table.proofs.TouchLemmas.{carried, fails_to_touch, touched, touched_unread}
 use Rattle.one_table.proofs.UpsertLemmas.{fails_to_upsert, fails_unread, upserted}
 use Rattle.one_table.proofs.upserting.upsert.Goals as goal
 
@@ -70,3 +70,9 @@ returns-clause-refused g c clean way t at m is whole takes =
     let shown = subst (Shown c.args.sql.now (bound c.args.params.now) old new) (sym c.deref.ensures.value) (c.in_ok-rows.ensures.shown clean) in
     let done = upserted c.args.sql.now (bound c.args.params.now) old new t at m is takes _ shown way in
     absurd (let none = c.in-None.ensures.value ∙ ap (λ l. slice_get l 0) done.1 in cc)
+
+pub returns-in-Some-clause-ran : goal.returns-in-Some-clause-ran
+returns-in-Some-clause-ran g c clean t at m is stands =
+    let old = state g.S.Store c.args.tx.now.conn.now in
+    let new = state g.S.Store c.show.new.tx.conn.now in
+    all_ok c.from_row.result (carried c.args.sql.now (bound c.args.params.now) old new t at m is stands _ (c.in_ok-rows.ensures.shown clean))
