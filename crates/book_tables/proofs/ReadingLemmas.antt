@@ -15,6 +15,7 @@ pub mod SaleLemmas
 pub mod SaleListLemmas
 pub mod SaleListTexts
 pub mod SaleTexts
+pub mod SeenLemmas
 pub mod ShiftLemmas
 pub mod ShiftTexts
 pub mod StepLemmas

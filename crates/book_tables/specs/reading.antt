@@ -1,2 +1,4 @@
+pub mod Questions
 pub mod Found
 pub mod Reading
+pub mod Seen

@@ -14,14 +14,12 @@ use Rattle.one_table.specs.Listed.{falling, query_on, no_limit, rising}
 use Rattle.one_table.specs.Reading.{is_whole, meant, select_meant, text_meant}
 use Rattle.book_tables.specs.row.Rows.{number}
 use Rattle.book_tables.specs.Tables.{dated_steps_table}
+use Rattle.book_tables.specs.writing.Writes.{new_dated_text}
 use Rattle.book_tables.proofs.ReadingLemmas.ReadLemmas.{Asks}
 use Rattle.book_tables.proofs.ReadingLemmas.StepTexts.{step_names}
+pub use Rattle.book_tables.specs.reading.Questions.{first_day_text, steps_from_text}
 
 -- ---- the steps that begin on a day
-
-abbrev pub steps_from_text : List ℕ
-steps_from_text =
-    codes "SELECT ends, price FROM dated_steps WHERE tariff = ?1 AND day = ?2 ORDER BY place"
 
 abbrev is_from_day : List Term
 is_from_day = op2 (Compare Eq Binary) (col 1 1) (col 0 0) ∷ op2 (Compare Eq Binary) (col 1 2) (col 0 1) ∷ []
@@ -35,10 +33,6 @@ steps_from_asks name day =
     record { is = λ tree. record { means = refl; from = refl }; bare = λ tree. refl; typed = λ tree. refl; whole = refl }
 
 -- ---- the last first day until a day
-
-abbrev pub first_day_text : List ℕ
-first_day_text =
-    codes "SELECT day FROM dated_steps WHERE tariff = ?1 AND day <= ?2 ORDER BY day DESC LIMIT 1"
 
 abbrev is_until_day : List Term
 is_until_day = op2 (Compare Eq Binary) (col 1 1) (col 0 0) ∷ op2 (Compare Le Binary) (col 1 2) (col 0 1) ∷ []
@@ -55,10 +49,6 @@ first_day_asks name day =
     record { is = λ tree. record { means = refl; from = refl }; bare = λ tree. refl; typed = λ tree. refl; whole = refl }
 
 -- ---- a new step
-
-abbrev pub new_dated_text : List ℕ
-new_dated_text =
-    codes "INSERT INTO dated_steps (tariff, day, place, ends, price) VALUES (?1, ?2, ?3, ?4, ?5)"
 
 abbrev pub five_terms : List Term
 five_terms = lit Null ∷ col 0 0 ∷ col 0 1 ∷ col 0 2 ∷ col 0 3 ∷ col 0 4 ∷ []

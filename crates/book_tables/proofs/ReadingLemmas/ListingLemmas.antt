@@ -5,7 +5,7 @@ use Rattle.std.specs.List.{AllZip}
 use Rattle.std.proofs.lemmas.List.Elements.{All-cons, All-head, All-nil, All-same, All-tail}
 use Rattle.sqlite.specs.Effect.{Database}
 use Rattle.sqlite.specs.Order.{Row}
-use Rattle.sqlite.specs.State.{IsUnchanged, State}
+use Rattle.sqlite.specs.State.{HasCleanDisk, IsUnchanged, State}
 use Rattle.sqlite_resolve.specs.Scope.{Name}
 use Rattle.sqlite_schema.specs.declared.schema.Schema.{Schema}
 use Rattle.sqlite_schema.specs.declared.schema.Table.{Table}
@@ -16,10 +16,14 @@ use Rattle.one_table.specs.Standing.{place_in, tree_in}
 use Rattle.book_tables.specs.Holds.{IsKept}
 use Rattle.book_tables.specs.Kept.{Kept}
 use Rattle.book_tables.specs.reading.Reading.{AreOfOffice, FailsToReadOf, FailsToShowRow, HasTable, HasTableRows, IsShown, ReadsTable, ShowsRecord, TableHolds}
+use Rattle.book_tables.specs.reading.Questions.{Question, question}
+use Rattle.book_tables.specs.reading.Seen.{HasSpoilt, Sees, ShowsAll}
 use Rattle.book_tables.specs.row.Rows.{Rows}
 use Rattle.book_tables.specs.declared.error.TableError.{TableError}
+use Rattle.book_tables.specs.declared.error.TableError.TheVariants.{RowOfNoOffice}
 use Rattle.one_table.specs.ReadsOnly.{ReadsOnly}
 use Rattle.one_table.proofs.ReadsOnlyLemmas.{read_where}
+use Rattle.book_tables.proofs.ReadingLemmas.SeenLemmas.{seen_all, spoilt as row_spoilt}
 use Rattle.book_tables.proofs.ReadingLemmas.ReadLemmas as read
 use Rattle.book_tables.proofs.ReadingLemmas.ReadLemmas.{Asks}
 
@@ -98,3 +102,21 @@ module _ {M : Type 0} {k : Kept} {sql : List ℕ} {params : Row} {shown : M → 
   -- what it leaves of the tables
   pub reads : {A : Type 0} (old new : State) (r : Result A TableError) (values : Row) → values ≡ params → ReadsOnly (OnlyAsks sql) IsUnchanged (FailsToShowRow (ShowsRecord shown keeps) sql values) old new r → ReadsTable k old new r
   reads old new r values are this = read_where r (only_asks old) this (λ clean has. fails old new has r values are (this.faults clean (only_asks old has)))
+
+  -- what it has seen, whatever the rows are
+  abbrev pub asked : Question M
+  asked = question k shown keeps sql params
+
+  pub seen : {A : Type 0} (items : A → List M) (old new : State) → HasTable k old → (values : Row) → values ≡ params → (r : Result A TableError) → OnOk r (IsUnchanged old new) → IfOk r (λ x. GivesAll (IsShown shown keeps) sql values old new (items x)) → IfOk r (λ x. ShowsAll asked old.now (items x))
+  seen items old new has values are (Err e) same none = none
+  seen items old new has values are (Ok x) same given = seen_all asked l.asks l.stands old new has same values are (items x) given
+
+  pub spoilt : {A : Type 0} (old new : State) → HasTable k old → (values : Row) → values ≡ params → (r : Result A TableError) → IfErr r (FailsToShowRow (ShowsRecord shown keeps) sql values old new) → IfErr r (λ e. e ≡ RowOfNoOffice → HasSpoilt asked old.now)
+  spoilt old new has values are r = row_spoilt asked l.asks l.stands old new has r values are
+
+  pub sees : {A : Type 0} (items : A → List M) (old new : State) (r : Result A TableError) (values : Row) → values ≡ params → ReadsOnly (OnlyAsks sql) IsUnchanged (FailsToShowRow (ShowsRecord shown keeps) sql values) old new r
+      → (HasCleanDisk new → OnlyAsks sql old → IfOk r (λ x. GivesAll (IsShown shown keeps) sql values old new (items x))) → Sees k (λ db x. ShowsAll asked db (items x)) (HasSpoilt asked) old new r
+  sees items old new r values are this given = record {
+    seen = λ clean has. seen items old new has values are r (this.same clean (only_asks old has)) (given clean (only_asks old has));
+    spoilt = λ clean has. spoilt old new has values are r (this.faults clean (only_asks old has));
+  }

@@ -13,15 +13,13 @@ use Rattle.one_table.specs.Reading.{is_whole, meant, select_meant, text_meant}
 use Rattle.book_tables.specs.row.Rows.{number}
 use Rattle.book_tables.specs.Tables.{meters_table, tariffs_table}
 use Rattle.book_tables.proofs.ReadingLemmas.ReadLemmas.{Asks}
+pub use Rattle.book_tables.specs.reading.Questions.{meter_numbered_text, tariff_named_text}
 
 abbrev is_first : List Term
 is_first = op2 (Compare Eq Binary) (col 1 1) (col 0 0) ∷ []
 
 abbrev pub meter_names : List Name
 meter_names = codes "base" ∷ codes "tariff" ∷ codes "secret" ∷ []
-
-abbrev pub meter_numbered_text : List ℕ
-meter_numbered_text = codes "SELECT base, tariff, secret FROM meters WHERE meter = ?1"
 
 abbrev pub meter_numbered_query : ℕ → Query
 meter_numbered_query tree = query_on tree is_first (col 1 2 ∷ col 1 3 ∷ col 1 4 ∷ []) [] no_limit
@@ -30,9 +28,6 @@ pub meter_numbered_asks : (number : List ℕ) → Asks meters_table meter_number
 unfolding everything is_whole meant select_meant text_meant
 meter_numbered_asks number =
     record { is = λ tree. record { means = refl; from = refl }; bare = λ tree. refl; typed = λ tree. refl; whole = refl }
-
-abbrev pub tariff_named_text : List ℕ
-tariff_named_text = codes "SELECT name FROM tariffs WHERE name = ?1"
 
 abbrev pub tariff_named_query : ℕ → Query
 tariff_named_query tree = query_on tree is_first (col 1 1 ∷ []) [] no_limit

@@ -1,5 +1,5 @@
 -- What each text that lists sales means.
-use Rattle.std.proofs.Common.{ℕ, List, [], ◌∷◌, refl, codes}
+use Rattle.std.proofs.Common.{ℕ, List, [], ◌∷◌, refl}
 use Rattle.sqlite_value.specs.declared.keys.Collation.TheVariants.{Binary}
 use Rattle.sqlite_sql.specs.Query.{Query}
 use Rattle.sqlite_sql.specs.Term.{Term, col, op2}
@@ -12,10 +12,7 @@ use Rattle.book_tables.specs.row.Rows.{number}
 use Rattle.book_tables.specs.Tables.{sales_table}
 use Rattle.book_tables.proofs.ReadingLemmas.ReadLemmas.{Asks}
 use Rattle.book_tables.proofs.ReadingLemmas.SaleTexts.{sale_names, sale_terms}
-
-abbrev pub sales_after_text : List ℕ
-sales_after_text =
-    codes "SELECT number, moment, shift, operator, ref, meter, base, tid, rnd, tenths, price, tender, digits FROM sales WHERE number > ?1 ORDER BY number LIMIT ?2"
+pub use Rattle.book_tables.specs.reading.Questions.{sales_after_text, sales_of_shift_text}
 
 abbrev is_after : List Term
 is_after = op2 (Compare Gt Binary) (col 1 0) (col 0 0) ∷ []
@@ -27,10 +24,6 @@ pub sales_after_asks : (after limit : ℕ) → Asks sales_table sales_after_quer
 unfolding everything is_whole meant select_meant text_meant
 sales_after_asks after limit =
     record { is = λ tree. record { means = refl; from = refl }; bare = λ tree. refl; typed = λ tree. refl; whole = refl }
-
-abbrev pub sales_of_shift_text : List ℕ
-sales_of_shift_text =
-    codes "SELECT number, moment, shift, operator, ref, meter, base, tid, rnd, tenths, price, tender, digits FROM sales WHERE shift = ?1 ORDER BY number"
 
 abbrev is_of_shift : List Term
 is_of_shift = op2 (Compare Eq Binary) (col 1 4) (col 0 0) ∷ []

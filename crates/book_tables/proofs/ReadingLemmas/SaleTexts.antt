@@ -13,6 +13,7 @@ use Rattle.one_table.specs.Reading.{is_whole, meant, select_meant, text_meant}
 use Rattle.book_tables.specs.row.Rows.{number}
 use Rattle.book_tables.specs.Tables.{sales_table}
 use Rattle.book_tables.proofs.ReadingLemmas.ReadLemmas.{Asks}
+pub use Rattle.book_tables.specs.reading.Questions.{last_sale_text, sale_numbered_text, sale_of_ref_text, sale_of_tid_text}
 
 -- all columns but the month
 abbrev pub sale_terms : List Term
@@ -23,10 +24,6 @@ abbrev pub sale_names : List Name
 sale_names =
     codes "number" ∷ codes "moment" ∷ codes "shift" ∷ codes "operator" ∷ codes "ref" ∷ codes "meter" ∷ codes "base"
     ∷ codes "tid" ∷ codes "rnd" ∷ codes "tenths" ∷ codes "price" ∷ codes "tender" ∷ codes "digits" ∷ []
-
-abbrev pub sale_numbered_text : List ℕ
-sale_numbered_text =
-    codes "SELECT number, moment, shift, operator, ref, meter, base, tid, rnd, tenths, price, tender, digits FROM sales WHERE number = ?1"
 
 abbrev pub has_number : List Term
 has_number = op2 (Compare Eq Binary) (col 1 0) (col 0 0) ∷ []
@@ -39,10 +36,6 @@ unfolding everything is_whole meant select_meant text_meant
 sale_numbered_asks n =
     record { is = λ tree. record { means = refl; from = refl }; bare = λ tree. refl; typed = λ tree. refl; whole = refl }
 
-abbrev pub sale_of_ref_text : List ℕ
-sale_of_ref_text =
-    codes "SELECT number, moment, shift, operator, ref, meter, base, tid, rnd, tenths, price, tender, digits FROM sales WHERE operator = ?1 AND ref = ?2"
-
 abbrev has_operator_and_ref : List Term
 has_operator_and_ref = op2 (Compare Eq Binary) (col 1 5) (col 0 0) ∷ op2 (Compare Eq Binary) (col 1 6) (col 0 1) ∷ []
 
@@ -53,10 +46,6 @@ pub sale_of_ref_asks : (operator order_ref : List ℕ) → Asks sales_table sale
 unfolding everything is_whole meant select_meant text_meant
 sale_of_ref_asks operator order_ref =
     record { is = λ tree. record { means = refl; from = refl }; bare = λ tree. refl; typed = λ tree. refl; whole = refl }
-
-abbrev pub sale_of_tid_text : List ℕ
-sale_of_tid_text =
-    codes "SELECT number, moment, shift, operator, ref, meter, base, tid, rnd, tenths, price, tender, digits FROM sales WHERE meter = ?1 AND base = ?2 AND tid = ?3"
 
 abbrev has_tid : List Term
 has_tid =
@@ -69,9 +58,6 @@ pub sale_of_tid_asks : (meter : List ℕ) (year tid : ℕ) → Asks sales_table 
 unfolding everything is_whole meant select_meant text_meant
 sale_of_tid_asks meter year tid =
     record { is = λ tree. record { means = refl; from = refl }; bare = λ tree. refl; typed = λ tree. refl; whole = refl }
-
-abbrev pub last_sale_text : List ℕ
-last_sale_text = codes "SELECT number FROM sales ORDER BY number DESC LIMIT 1"
 
 abbrev pub last_sale_query : ℕ → Query
 last_sale_query tree = query_on tree [] (col 1 0 ∷ []) (falling 0) (lit (Int (pos 1)))

@@ -13,15 +13,13 @@ use Rattle.one_table.specs.Reading.{is_whole, meant, select_meant, text_meant}
 use Rattle.book_tables.specs.row.Rows.{number}
 use Rattle.book_tables.specs.Tables.{shifts_table}
 use Rattle.book_tables.proofs.ReadingLemmas.ReadLemmas.{Asks}
+pub use Rattle.book_tables.specs.reading.Questions.{last_shift_text, open_shift_text, shift_numbered_text}
 
 abbrev pub shift_terms : List Term
 shift_terms = col 1 0 ∷ col 1 2 ∷ col 1 3 ∷ col 1 4 ∷ []
 
 abbrev pub shift_names : List Name
 shift_names = codes "number" ∷ codes "operator" ∷ codes "opened" ∷ codes "closed" ∷ []
-
-abbrev pub shift_numbered_text : List ℕ
-shift_numbered_text = codes "SELECT number, operator, opened, closed FROM shifts WHERE number = ?1"
 
 abbrev has_number : List Term
 has_number = op2 (Compare Eq Binary) (col 1 0) (col 0 0) ∷ []
@@ -34,10 +32,6 @@ unfolding everything is_whole meant select_meant text_meant
 shift_numbered_asks n =
     record { is = λ tree. record { means = refl; from = refl }; bare = λ tree. refl; typed = λ tree. refl; whole = refl }
 
-abbrev pub open_shift_text : List ℕ
-open_shift_text =
-    codes "SELECT number, operator, opened, closed FROM shifts WHERE operator = ?1 AND closed IS NULL ORDER BY number DESC LIMIT 1"
-
 abbrev is_open : List Term
 is_open = op2 (Compare Eq Binary) (col 1 2) (col 0 0) ∷ op2 (Is Binary) (col 1 4) (lit Null) ∷ []
 
@@ -48,9 +42,6 @@ pub open_shift_asks : (operator : List ℕ) → Asks shifts_table open_shift_que
 unfolding everything is_whole meant select_meant text_meant
 open_shift_asks operator =
     record { is = λ tree. record { means = refl; from = refl }; bare = λ tree. refl; typed = λ tree. refl; whole = refl }
-
-abbrev pub last_shift_text : List ℕ
-last_shift_text = codes "SELECT number FROM shifts ORDER BY number DESC LIMIT 1"
 
 abbrev pub last_shift_query : ℕ → Query
 last_shift_query tree = query_on tree [] (col 1 0 ∷ []) (falling 0) (lit (Int (pos 1)))

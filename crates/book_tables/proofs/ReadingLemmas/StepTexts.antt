@@ -12,9 +12,7 @@ use Rattle.one_table.specs.Listed.{query_on, no_limit, rising}
 use Rattle.one_table.specs.Reading.{is_whole, meant, select_meant, text_meant}
 use Rattle.book_tables.specs.Tables.{tariff_steps_table}
 use Rattle.book_tables.proofs.ReadingLemmas.ReadLemmas.{Asks}
-
-abbrev pub steps_of_text : List ℕ
-steps_of_text = codes "SELECT ends, price FROM tariff_steps WHERE tariff = ?1 ORDER BY place"
+pub use Rattle.book_tables.specs.reading.Questions.{steps_of_text}
 
 abbrev pub step_names : List Name
 step_names = codes "ends" ∷ codes "price" ∷ []

@@ -5,14 +5,9 @@ use Rattle.sqlite.specs.Order.{Row}
 use Rattle.sqlite.specs.State.{HasCleanDisk, IsUnchanged, State}
 use Rattle.sqlite.specs.declared.error.Error.TheVariants.{SqliteFailure}
 use Rattle.sqlite.specs.declared.error.ErrorCode.TheVariants.{OutOfMemory}
-use Rattle.sqlite_schema.specs.declared.command.Command.{Command}
-use Rattle.sqlite_schema.specs.declared.schema.Table.{Table}
 use Rattle.one_table.specs.Answer.{FailsToRead as FailsToAnswer}
-use Rattle.one_table.specs.InTransaction.{FailsToWrite}
-use Rattle.one_table.specs.Merges.{FailsToTouch}
 use Rattle.one_table.specs.Reading.{FailsPlainly}
 use Rattle.one_table.specs.ReadsOnly.{ReadsOnly}
-use Rattle.one_table.specs.Upserting.{Merging}
 use Rattle.one_table.specs.declared.read_fault.ReadFault.{ReadFault}
 use Rattle.one_table.specs.declared.read_fault.ReadFault.TheVariants as fault
 use Rattle.tariff.specs.declared.step.Step.{Step}
@@ -100,22 +95,7 @@ abbrev pub OnlyReads : {T : Type 0} → (State → State → Type 0) → State �
     → Result T TableError → Type 0
 OnlyReads Same old new result = ReadsOnly HasAllTables Same FailsToRead old new result
 
--- ---- writes
-
--- a write fails as a write of one table does
-abbrev pub FailsToStore : State → State → TableError → Type 0
-FailsToStore old new (fails.Database e) =
-    (command : Command) × (params : Row) × FailsToWrite command params old new e
-FailsToStore old new fails.RowOfNoOffice = ⊥
-
--- the same of an upsert, of which a row comes back: this may be no office's
-abbrev pub FailsToMerge : State → State → TableError → Type 0
-FailsToMerge old new (fails.Database e) =
-    (t : Table) × (m : Merging) × (params : Row) × (at : ℕ)
-    × FailsToTouch t m params old new at (fault.Database e)
-FailsToMerge old new fails.RowOfNoOffice =
-    (t : Table) × (m : Merging) × (params : Row) × (at : ℕ)
-    × FailsToTouch t m params old new at fault.Row
+-- ---- records
 
 -- what is told of a reader's fault
 abbrev pub told : ReadFault → TableError

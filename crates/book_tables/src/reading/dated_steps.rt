@@ -7,7 +7,9 @@ ghost use Rattle.sts_fields.specs.Day.{IsDay};
 ghost use Rattle.vend_core.specs.Office.Lookup.{latest};
 ghost use Rattle.vend_core.specs.Office.{IsOffice, Office};
 ghost use Rattle.book_tables.specs.Kept.{dated_steps_kept};
+ghost use Rattle.book_tables.specs.reading.Questions.{the_first_day, the_steps_from};
 ghost use Rattle.book_tables.specs.reading.Reading.{HasTableRows, IsFirstDay, ReadsTable};
+ghost use Rattle.book_tables.specs.reading.Seen.{SeesFirst, SeesLatest, SeesSteps};
 ghost use Rattle.book_tables.specs.row.Rows.{Rows, shown_number};
 ghost use Rattle.book_tables.specs.Stands.{AreMembersOf};
 
@@ -53,6 +55,8 @@ pub fn steps_from<S: Alter>(
         → HasTableRows dated_steps_kept old rows → IsOffice o → AreMembersOf rows o
         → IfOk result (λ found. found ≡ o.dated_steps name.now day)) }
     ensures reads { Over S.Store conn (λ old new. ReadsTable dated_steps_kept old new result) }
+    ensures sees { Over S.Store conn (λ old new. SeesSteps (the_steps_from name.now day) old new
+        result) }
 {
     let shown: Vec<Step> = all_records(alloc, conn, STEPS_FROM, &dated_values(name, day))?;
     tariff_of(alloc, &shown)
@@ -72,6 +76,8 @@ pub fn first_day_until<S: Alter>(
         → HasTableRows dated_steps_kept old rows → IsOffice o → AreMembersOf rows o
         → IfOk result (IsFirstDay (o.dated_steps name.now) day)) }
     ensures reads { Over S.Store conn (λ old new. ReadsTable dated_steps_kept old new result) }
+    ensures sees { Over S.Store conn (λ old new. SeesFirst (the_first_day name.now day) old new
+        result) }
 {
     store_law();
     first_record(conn, FIRST_DAY_UNTIL, &dated_values(name, day))
@@ -91,6 +97,7 @@ pub fn latest_steps<S: Alter>(
         → HasTableRows dated_steps_kept old rows → IsOffice o → AreMembersOf rows o
         → IfOk result (λ found. found ≡ latest (o.dated_steps name.now) day)) }
     ensures reads { Over S.Store conn (λ old new. ReadsTable dated_steps_kept old new result) }
+    ensures sees { Over S.Store conn (λ old new. SeesLatest name.now day old new result) }
 {
     store_law();
     let begun = first_day_until(conn, name, day)?;

@@ -3,7 +3,9 @@
 ghost use Rattle.std.specs.Prelude.{◌≡◌, ◌==◌, filter, nat_lt, take};
 ghost use Rattle.one_table.specs.Over.{Over};
 ghost use Rattle.book_tables.specs.Kept.{sales_kept};
+ghost use Rattle.book_tables.specs.reading.Questions.{the_sales_after, the_sales_of_shift};
 ghost use Rattle.book_tables.specs.reading.Reading.{ReadsTable, SaysOfTable};
+ghost use Rattle.book_tables.specs.reading.Seen.{SeesAll};
 
 use crate::error::TableError;
 use crate::reading::lists::all_records;
@@ -27,6 +29,8 @@ pub fn sales_after<S: Alter>(
         found.items ≡ take limit (filter (λ s. nat_lt number s.number) rows.sales)) old new
         result) }
     ensures reads { Over S.Store conn (λ old new. ReadsTable sales_kept old new result) }
+    ensures sees { Over S.Store conn (λ old new. SeesAll (the_sales_after number limit) old new
+        result) }
 {
     all_records(alloc, conn, SALES_AFTER, &page_values(number, limit))
 }
@@ -43,6 +47,8 @@ pub fn sales_of_shift<S: Alter>(
     ensures given { Over S.Store conn (λ old new. SaysOfTable sales_kept (λ rows found.
         found.items ≡ filter (λ s. s.shift == shift) rows.sales) old new result) }
     ensures reads { Over S.Store conn (λ old new. ReadsTable sales_kept old new result) }
+    ensures sees { Over S.Store conn (λ old new. SeesAll (the_sales_of_shift shift) old new
+        result) }
 {
     all_records(alloc, conn, SALES_OF_SHIFT, &number_values(shift))
 }

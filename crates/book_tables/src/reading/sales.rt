@@ -5,7 +5,9 @@ ghost use Rattle.std.specs.List.{last_or};
 ghost use Rattle.one_table.specs.Over.{Over};
 ghost use Rattle.sts_fields.specs.Base.{base_eq};
 ghost use Rattle.book_tables.specs.Kept.{sales_kept};
+ghost use Rattle.book_tables.specs.reading.Questions.{the_last_sale, the_sale, the_sale_of_ref, the_sale_of_tid};
 ghost use Rattle.book_tables.specs.reading.Reading.{ReadsTable, SaysOfTable};
+ghost use Rattle.book_tables.specs.reading.Seen.{SeesFirst};
 
 use crate::error::TableError;
 use crate::row::record::first_record;
@@ -26,6 +28,7 @@ pub fn sale_numbered<S: Alter>(
     ensures given { Over S.Store conn (λ old new. SaysOfTable sales_kept (λ rows found. found ≡
         find (λ s. s.number == number) rows.sales) old new result) }
     ensures reads { Over S.Store conn (λ old new. ReadsTable sales_kept old new result) }
+    ensures sees { Over S.Store conn (λ old new. SeesFirst (the_sale number) old new result) }
 {
     first_record(conn, SALE_NUMBERED, &number_values(number))
 }
@@ -43,6 +46,8 @@ pub fn sale_of_ref<S: Alter>(
         find (λ s. bytes_eq s.operator operator.now && bytes_eq s.order_ref order_ref.now)
         rows.sales) old new result) }
     ensures reads { Over S.Store conn (λ old new. ReadsTable sales_kept old new result) }
+    ensures sees { Over S.Store conn (λ old new. SeesFirst (the_sale_of_ref operator.now
+        order_ref.now) old new result) }
 {
     first_record(conn, SALE_OF_REF, &ref_values(operator, order_ref))
 }
@@ -61,6 +66,8 @@ pub fn sale_of_tid<S: Alter>(
         find (λ s. bytes_eq s.meter meter.now && (base_eq s.base base && (s.tid == tid)))
         rows.sales) old new result) }
     ensures reads { Over S.Store conn (λ old new. ReadsTable sales_kept old new result) }
+    ensures sees { Over S.Store conn (λ old new. SeesFirst (the_sale_of_tid meter.now base tid) old
+        new result) }
 {
     first_record(conn, SALE_OF_TID, &last_id_values(meter, base, tid))
 }
@@ -76,6 +83,7 @@ pub fn last_sale_number<S: Alter>(conn: &mut Connection<S>) -> Result<Option<u32
     ensures counted { Over S.Store conn (λ old new. SaysOfTable sales_kept (λ rows found.
         unwrap_or found 0 ≡ length rows.sales) old new result) }
     ensures reads { Over S.Store conn (λ old new. ReadsTable sales_kept old new result) }
+    ensures sees { Over S.Store conn (λ old new. SeesFirst the_last_sale old new result) }
 {
     first_record(conn, LAST_SALE_NUMBER, &[])
 }

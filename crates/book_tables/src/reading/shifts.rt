@@ -4,7 +4,9 @@ ghost use Rattle.std.specs.Prelude.{◌≡◌, ◌&&◌, ◌==◌, bytes_eq, fin
 ghost use Rattle.std.specs.List.{last_or};
 ghost use Rattle.one_table.specs.Over.{Over};
 ghost use Rattle.book_tables.specs.Kept.{shifts_kept};
+ghost use Rattle.book_tables.specs.reading.Questions.{the_last_shift, the_open_shift, the_shift};
 ghost use Rattle.book_tables.specs.reading.Reading.{ReadsTable, SaysOfTable};
+ghost use Rattle.book_tables.specs.reading.Seen.{SeesFirst};
 
 use crate::error::TableError;
 use crate::row::record::first_record;
@@ -24,6 +26,7 @@ pub fn shift_numbered<S: Alter>(
     ensures given { Over S.Store conn (λ old new. SaysOfTable shifts_kept (λ rows found. found ≡
         find (λ s. s.number == number) rows.shifts) old new result) }
     ensures reads { Over S.Store conn (λ old new. ReadsTable shifts_kept old new result) }
+    ensures sees { Over S.Store conn (λ old new. SeesFirst (the_shift number) old new result) }
 {
     first_record(conn, SHIFT_NUMBERED, &number_values(number))
 }
@@ -40,6 +43,8 @@ pub fn open_shift<S: Alter>(
         find (λ s. bytes_eq s.operator operator.now && is_none s.closed) rows.shifts) old new
         result) }
     ensures reads { Over S.Store conn (λ old new. ReadsTable shifts_kept old new result) }
+    ensures sees { Over S.Store conn (λ old new. SeesFirst (the_open_shift operator.now) old new
+        result) }
 {
     first_record(conn, OPEN_SHIFT, &operator_values(operator))
 }
@@ -55,6 +60,7 @@ pub fn last_shift_number<S: Alter>(conn: &mut Connection<S>) -> Result<Option<u3
     ensures counted { Over S.Store conn (λ old new. SaysOfTable shifts_kept (λ rows found.
         unwrap_or found 0 ≡ length rows.shifts) old new result) }
     ensures reads { Over S.Store conn (λ old new. ReadsTable shifts_kept old new result) }
+    ensures sees { Over S.Store conn (λ old new. SeesFirst the_last_shift old new result) }
 {
     first_record(conn, LAST_SHIFT_NUMBER, &[])
 }

@@ -1,12 +1,14 @@
 //! The statements on the tables of tariffs.
 
-ghost use Rattle.std.specs.Prelude.{◌≡◌, ◌≢◌, ◌↔◌, ◌⊎◌, [], unwrap_or, Contains, IsTrue, IfOk, IfErr, IfSome};
+ghost use Rattle.std.specs.Prelude.{◌≡◌, ◌≢◌, ◌↔◌, ◌⊎◌, [], is_some, unwrap_or, Contains, IsTrue, IfOk, IfErr, IfSome};
 ghost use Rattle.sqlite.specs.State.{HasCleanDisk};
 ghost use Rattle.one_table.specs.Over.{Over};
 ghost use Rattle.tariff.specs.Steps.{IsSteps};
 ghost use Rattle.vend_core.specs.Office.{IsOffice, Office};
 ghost use Rattle.book_tables.specs.Kept.{steps_kept, tariffs_kept};
+ghost use Rattle.book_tables.specs.reading.Questions.{the_steps, the_tariff};
 ghost use Rattle.book_tables.specs.reading.Reading.{HasTableRows, ReadsTable, SaysOfTable};
+ghost use Rattle.book_tables.specs.reading.Seen.{SeesMade, SeesSteps};
 ghost use Rattle.book_tables.specs.row.Rows.{Rows};
 ghost use Rattle.book_tables.specs.Stands.{AreMembersOf};
 
@@ -28,6 +30,8 @@ pub fn has_tariff<S: Alter>(conn: &mut Connection<S>, name: &TariffName) -> Resu
     ensures given { Over S.Store conn (λ old new. SaysOfTable tariffs_kept (λ rows there. IsTrue
         there ↔ Contains rows.tariffs name.now) old new result) }
     ensures reads { Over S.Store conn (λ old new. ReadsTable tariffs_kept old new result) }
+    ensures sees { Over S.Store conn (λ old new. SeesMade (the_tariff name.now) is_some old new
+        result) }
 {
     let found: Option<TariffName> = first_record(conn, TARIFF_NAMED, &tariff_values(name))?;
     Ok(found.is_some())
@@ -67,6 +71,7 @@ pub fn steps_of<S: Alter>(
         → HasTableRows steps_kept old rows → IsOffice o → AreMembersOf rows o
         → IfOk result (λ found. found ≡ o.tariffs name.now)) }
     ensures reads { Over S.Store conn (λ old new. ReadsTable steps_kept old new result) }
+    ensures sees { Over S.Store conn (λ old new. SeesSteps (the_steps name.now) old new result) }
 {
     let shown: Vec<Step> = all_records(alloc, conn, STEPS_OF, &tariff_values(name))?;
     tariff_of(alloc, &shown)

@@ -6,7 +6,9 @@ ghost use Rattle.one_table.specs.Over.{Over};
 ghost use Rattle.vend_core.specs.Law.Cash.{cash_of};
 ghost use Rattle.vend_core.specs.Office.Lookup.{greatest_of};
 ghost use Rattle.book_tables.specs.Kept.{last_ids_kept, month_tenths_kept, shift_totals_kept};
+ghost use Rattle.book_tables.specs.reading.Questions.{the_last_id, the_month_tenths, the_shift_totals};
 ghost use Rattle.book_tables.specs.reading.Reading.{ReadsTable, SaysOfTable};
+ghost use Rattle.book_tables.specs.reading.Seen.{SeesFirst, SeesMade};
 ghost use Rattle.book_tables.specs.Stands.{sales_in_month, sales_in_shift, sales_under};
 ghost use Rattle.book_tables.specs.writing.Writing.{no_totals};
 
@@ -33,6 +35,8 @@ pub fn greatest_tid<S: Alter>(
         greatest ≡ greatest_of (map (λ s. s.tid) (sales_under rows.sales (meter.now, base)))) old
         new result) }
     ensures reads { Over S.Store conn (λ old new. ReadsTable last_ids_kept old new result) }
+    ensures sees { Over S.Store conn (λ old new. SeesFirst (the_last_id meter.now base) old new
+        result) }
 {
     let found: Option<Tid> = first_record(conn, LAST_ID, &base_values(meter, base))?;
     Ok(number_of(found))
@@ -60,6 +64,8 @@ pub fn tenths_in_month<S: Alter>(
         tenths ≡ sum_by (λ s. s.tenths) (sales_in_month rows.sales (meter.now, month))) old new
         result) }
     ensures reads { Over S.Store conn (λ old new. ReadsTable month_tenths_kept old new result) }
+    ensures sees { Over S.Store conn (λ old new. SeesMade (the_month_tenths meter.now month)
+        (λ o. unwrap_or o 0) old new result) }
 {
     amount_law();
     let found: Option<Tenths> = first_record(conn, MONTH_TENTHS, &month_values(meter, month))?;
@@ -89,6 +95,8 @@ pub fn totals_of_shift<S: Alter>(conn: &mut Connection<S>, shift: u32) -> Result
               shift);
         }) old new result) }
     ensures reads { Over S.Store conn (λ old new. ReadsTable shift_totals_kept old new result) }
+    ensures sees { Over S.Store conn (λ old new. SeesMade (the_shift_totals shift)
+        (λ o. unwrap_or o no_totals) old new result) }
 {
     amount_law();
     let found: Option<Totals> = first_record(conn, SHIFT_TOTALS, &number_values(shift))?;

@@ -1,6 +1,6 @@
 use Rattle.sqlite.specs.Held.{state}
 use Rattle.sqlite.specs.Values.{bound}
-use Rattle.book_tables.proofs.ReadingLemmas.ListingLemmas.{gives, only_asks, reads}
+use Rattle.book_tables.proofs.ReadingLemmas.ListingLemmas.{gives, only_asks, reads, sees}
 use Rattle.book_tables.proofs.ReadingLemmas.SaleListLemmas.{sales_after}
 use Rattle.book_tables.proofs.reading.sale_lists.sales_after.Goals as goal
 
@@ -15,3 +15,8 @@ pub returns-clause-reads : goal.returns-clause-reads
 returns-clause-reads g c =
     reads (sales_after c.args.number c.args.limit) (state g.S.Store c.args.conn.now) (state g.S.Store c.all_records.new.conn) c.all_records.result (bound c.page_values.result) c.page_values.ensures
     c.all_records.ensures.reads
+
+pub returns-clause-sees : goal.returns-clause-sees
+returns-clause-sees g c =
+    sees (sales_after c.args.number c.args.limit) (λ found. found.items) (state g.S.Store c.args.conn.now) (state g.S.Store c.all_records.new.conn) c.all_records.result (bound c.page_values.result) c.page_values.ensures
+    c.all_records.ensures.reads c.all_records.ensures.given

@@ -1,6 +1,6 @@
 use Rattle.sqlite.specs.Held.{state}
 use Rattle.sqlite.specs.Values.{bound}
-use Rattle.book_tables.proofs.ReadingLemmas.ListingLemmas.{gives, only_asks, reads}
+use Rattle.book_tables.proofs.ReadingLemmas.ListingLemmas.{gives, only_asks, reads, sees}
 use Rattle.book_tables.proofs.ReadingLemmas.SaleListLemmas.{sales_of_shift}
 use Rattle.book_tables.proofs.reading.sale_lists.sales_of_shift.Goals as goal
 
@@ -15,3 +15,8 @@ pub returns-clause-reads : goal.returns-clause-reads
 returns-clause-reads g c =
     reads (sales_of_shift c.args.shift) (state g.S.Store c.args.conn.now) (state g.S.Store c.all_records.new.conn) c.all_records.result (bound c.number_values.result) c.number_values.ensures
     c.all_records.ensures.reads
+
+pub returns-clause-sees : goal.returns-clause-sees
+returns-clause-sees g c =
+    sees (sales_of_shift c.args.shift) (λ found. found.items) (state g.S.Store c.args.conn.now) (state g.S.Store c.all_records.new.conn) c.all_records.result (bound c.number_values.result) c.number_values.ensures
+    c.all_records.ensures.reads c.all_records.ensures.given

@@ -1,6 +1,6 @@
 use Rattle.sqlite.specs.Held.{state}
 use Rattle.std.proofs.Common.{◌≡◌, [], length, refl, unwrap_or}
-use Rattle.book_tables.proofs.ReadingLemmas.FindLemmas.{gives, gives_such, only_asks, reads}
+use Rattle.book_tables.proofs.ReadingLemmas.FindLemmas.{gives, gives_such, only_asks, reads, sees}
 use Rattle.book_tables.proofs.ReadingLemmas.SaleLemmas.{last_sale_counts, last_sale_number}
 use Rattle.book_tables.proofs.reading.sales.last_sale_number.Goals as goal
 
@@ -22,3 +22,8 @@ pub returns-clause-reads : goal.returns-clause-reads
 returns-clause-reads g c =
     reads last_sale_number (state g.S.Store c.args.conn.now) (state g.S.Store c.first_record.new.conn) c.first_record.result [] refl
     c.first_record.ensures.reads
+
+pub returns-clause-sees : goal.returns-clause-sees
+returns-clause-sees g c =
+    sees last_sale_number (state g.S.Store c.args.conn.now) (state g.S.Store c.first_record.new.conn) c.first_record.result [] refl
+    c.first_record.ensures.reads c.first_record.ensures.given

@@ -1,6 +1,6 @@
 use Rattle.sqlite.specs.Held.{state}
 use Rattle.sqlite.specs.Values.{bound}
-use Rattle.book_tables.proofs.ReadingLemmas.FindLemmas.{gives, only_asks, reads}
+use Rattle.book_tables.proofs.ReadingLemmas.FindLemmas.{gives, only_asks, reads, sees}
 use Rattle.book_tables.proofs.ReadingLemmas.SaleLemmas.{sale_of_tid}
 use Rattle.book_tables.proofs.reading.sales.sale_of_tid.Goals as goal
 
@@ -15,3 +15,8 @@ pub returns-clause-reads : goal.returns-clause-reads
 returns-clause-reads g c =
     reads (sale_of_tid c.args.meter.now c.args.base c.args.tid) (state g.S.Store c.args.conn.now) (state g.S.Store c.first_record.new.conn) c.first_record.result (bound c.last_id_values.result) c.last_id_values.ensures
     c.first_record.ensures.reads
+
+pub returns-clause-sees : goal.returns-clause-sees
+returns-clause-sees g c =
+    sees (sale_of_tid c.args.meter.now c.args.base c.args.tid) (state g.S.Store c.args.conn.now) (state g.S.Store c.first_record.new.conn) c.first_record.result (bound c.last_id_values.result) c.last_id_values.ensures
+    c.first_record.ensures.reads c.first_record.ensures.given

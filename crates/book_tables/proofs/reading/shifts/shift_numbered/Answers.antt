@@ -1,6 +1,6 @@
 use Rattle.sqlite.specs.Held.{state}
 use Rattle.sqlite.specs.Values.{bound}
-use Rattle.book_tables.proofs.ReadingLemmas.FindLemmas.{gives, only_asks, reads}
+use Rattle.book_tables.proofs.ReadingLemmas.FindLemmas.{gives, only_asks, reads, sees}
 use Rattle.book_tables.proofs.ReadingLemmas.ShiftLemmas.{shift_numbered}
 use Rattle.book_tables.proofs.reading.shifts.shift_numbered.Goals as goal
 
@@ -15,3 +15,8 @@ pub returns-clause-reads : goal.returns-clause-reads
 returns-clause-reads g c =
     reads (shift_numbered c.args.number) (state g.S.Store c.args.conn.now) (state g.S.Store c.first_record.new.conn) c.first_record.result (bound c.number_values.result) c.number_values.ensures
     c.first_record.ensures.reads
+
+pub returns-clause-sees : goal.returns-clause-sees
+returns-clause-sees g c =
+    sees (shift_numbered c.args.number) (state g.S.Store c.args.conn.now) (state g.S.Store c.first_record.new.conn) c.first_record.result (bound c.number_values.result) c.number_values.ensures
+    c.first_record.ensures.reads c.first_record.ensures.given
