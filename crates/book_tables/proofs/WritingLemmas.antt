@@ -5,8 +5,10 @@ pub mod CauseLemmas
 pub mod DatedWriteLemmas
 pub mod EditLemmas
 pub mod HiddenWriteLemmas
+pub mod KeepingLemmas
 pub mod MeterEditLemmas
 pub mod OnlyLemmas
+pub mod OtherRowsLemmas
 pub mod PutLemmas
 pub mod PuttingLemmas
 pub mod RefusalLemmas
@@ -14,5 +16,6 @@ pub mod TariffEditLemmas
 pub mod TariffWriteLemmas
 pub mod TotallingLemmas
 pub mod TotalsTexts
+pub mod TurnLemmas
 pub mod WriteLemmas
 pub mod WriteTexts

@@ -1,5 +1,5 @@
 -- The tables of an older format are brought up to the present one: the same office.
-use Rattle.std.proofs.Common.{◌≡◌, ◌≢◌, ◌<◌, ◌↔◌, ◌∙◌, ℕ, true, List, [], ◌∷◌, codes, map, zero, suc, refl, sym, subst, inr, arith, Result, Ok, Err, IfErr, IsErrAnd, OnOk}
+use Rattle.std.proofs.Common.{◌≡◌, ◌≢◌, ◌<◌, ◌↔◌, ◌∙◌, ℕ, true, List, [], ◌∷◌, ◌++◌, codes, map, zero, suc, refl, sym, subst, inr, arith, Result, Ok, Err, IfErr, IsErrAnd, OnOk}
 use Rattle.std.specs.Prelude.{AllPairs, Contains}
 use Rattle.std.specs.List.{AllByRecursion}
 use Rattle.sqlite.specs.State.{HasCleanDisk, State, Survives}
@@ -19,6 +19,7 @@ use Rattle.book_tables.specs.row.Rows.{DatedStepRow, Rows, about_rows, present_f
 use Rattle.book_tables.specs.Stands.{AreDatedApart, AreMembersOf, AreTotalsOf, HasDatedStep, IsOfFormat}
 use Rattle.book_tables.specs.writing.Edited.{no_rows}
 use Rattle.book_tables.specs.writing.Failing.{FailsToWriteAll}
+use Rattle.book_tables.specs.writing.Writes.{Write, format_write}
 use Rattle.book_tables.specs.writing.Writing.{WritesOnly, WritesTables, totals_names, with_totals_of}
 use Rattle.book_tables.specs.declared.error.TableError.{TableError}
 use Rattle.book_tables.specs.declared.error.TableError.TheVariants.{Database as Failed, RowOfNoOffice}
@@ -27,7 +28,7 @@ use Rattle.book_tables.proofs.FormatLemmas.AboutLemmas.{IsAnother, told_left}
 use Rattle.book_tables.proofs.FormatLemmas.FillingBasesLemmas.{bases_are, bases_once}
 use Rattle.book_tables.proofs.FormatLemmas.FillingLemmas.{fills_off, fills_then, fills_write, nothing_written}
 use Rattle.book_tables.proofs.FormatLemmas.MakingLemmas.{missing_may, still_beside}
-use Rattle.book_tables.proofs.WritingLemmas.CauseLemmas.{Came, came_inside, of_later}
+use Rattle.book_tables.proofs.WritingLemmas.CauseLemmas.{Came, came_by, of_later}
 use Rattle.book_tables.proofs.WritingLemmas.EditLemmas.{no_members}
 use Rattle.book_tables.proofs.HoldsLemmas.{held_as}
 use Rattle.book_tables.proofs.OfficeTableLemmas.{bases_in, last_ids_in, month_tenths_in, shift_totals_in}
@@ -141,9 +142,9 @@ completes from meters sales old filled new fills tells = record {
 }
 
 -- so it is once the tables were filled, or it is not filled for a cause
-pub filled_on : (from : ℕ) (meters : List MeterRow) (sales : List Sale) (old filled new : State) (r : Result (Unit {0}) TableError) → Fills (FillsMissing from meters sales) old filled (Ok tt) → WritesTables (TellsPresent from) filled new r → Fills (Completes from meters sales) old new r
+pub filled_on : (from : ℕ) (meters : List MeterRow) (sales : List Sale) (old filled new : State) (r : Result (Unit {0}) TableError) → Fills (FillsMissing from meters sales) old filled (Ok tt) → WritesTables (format_write from) (TellsPresent from) filled new r → Fills (Completes from meters sales) old new r
 filled_on from meters sales old filled new r first second =
-    fills_then old filled new (kept_names (later from)) r (λ fills. fills.only) (λ _ _ fills tells. completes from meters sales old filled new fills tells) first (fills_write filled new r second)
+    fills_then old filled new (kept_names (later from)) r (λ fills. fills.only) (λ _ _ fills tells. completes from meters sales old filled new fills tells) first (fills_write (format_write from) filled new r second)
 
 pub filled_off : (from : ℕ) (meters : List MeterRow) (sales : List Sale) (old new : State) (e : TableError) (r : Result (Unit {0}) TableError) → IsErrAnd r (λ x. x ≡ e) → Fills (FillsMissing from meters sales) old new (Err e) → Fills (Completes from meters sales) old new r
 filled_off from meters sales old new e r is failed = fills_off old new e r is failed
@@ -188,8 +189,8 @@ module _ (from : ℕ) (meters : List MeterRow) (sales : List Sale) (old mid new 
   fails_bringing g clean sound =
       let made = makes (early clean) sound in
       let from_made : State = record old { now = mid.now } in
-      let came : Came from_made mid = came_inside from_made mid (stays_from (inside (early clean))) refl (survives_from first.survives) in
-      if_err r (why_not g made came) (rest.refused clean (ready_made clean sound))
+      let came : Came [] from_made mid = came_by [] from_made mid refl (stays_from (inside (early clean))) (survives_from first.survives) in
+      if_err r (why_not g made came) (rest.ends clean (ready_made clean sound)).1
     where
       stays_from : StaysInside old mid → StaysInside (record old { now = mid.now }) mid
       stays_from is = record { was_open = is.was_open; is_open = is.is_open; now_is = is.now_is; committed_is = is.committed_is; mode = is.mode }
@@ -197,9 +198,9 @@ module _ (from : ℕ) (meters : List MeterRow) (sales : List Sale) (old mid new 
       survives_from : Survives old mid (λ _. ⊥) → Survives (record old { now = mid.now }) mid (λ _. ⊥)
       survives_from s = record { clean = s.clean; shield = s.shield; counts = s.counts; limit = s.limit; closes = s.closes; crash = s.crash }
 
-      why_not : {S : Type 0} (g : Ghosts S) → MakesMissing from old.now mid.now → Came (record old { now = mid.now }) mid → (e : TableError) → FailsToWriteAll mid new e → FailsToBring g from old new e
-      why_not g made came (Failed e) why = inr (record { made = mid.now; makes = made; fails = of_later (record old { now = mid.now }) mid new came (Failed e) why })
-      why_not g made came RowOfNoOffice why = why
+      why_not : {S : Type 0} (g : Ghosts S) → MakesMissing from old.now mid.now → Came [] (record old { now = mid.now }) mid → (e : TableError) → (writes : List Write) × FailsToWriteAll writes mid new e → FailsToBring g from old new e
+      why_not g made came (Failed e) why = inr (record { made = mid.now; makes = made; writes = why.0 ++ []; fails = of_later [] (record old { now = mid.now }) mid new came why.0 [] (Failed e) why.1 })
+      why_not g made came RowOfNoOffice why = why.1
 
   pub keeps_bringing : KeepsTransaction old new r
   keeps_bringing = record {

@@ -1,5 +1,5 @@
 -- Steps that fill tables, one after another.
-use Rattle.std.proofs.Common.{◌≡◌, ℕ, List, IsTrue, IsErrAnd, Result, Ok, Err, arith, inl, refl, sym, subst}
+use Rattle.std.proofs.Common.{◌≡◌, ℕ, List, [], ◌∷◌, ◌++◌, IsTrue, IsErrAnd, Result, Ok, Err, arith, inl, refl, sym, subst}
 use Rattle.sqlite.specs.State.{HasCleanDisk, State}
 use Rattle.sqlite.proofs.StateLemmas.{survives_then}
 use Rattle.sqlite_rules.proofs.ListLemmas.{all_from}
@@ -9,9 +9,10 @@ use Rattle.one_table.proofs.ChangeLemmas.{if_err, keeps_inside, keeps_then, on_o
 use Rattle.book_tables.specs.Holds.{HasOffice}
 use Rattle.book_tables.specs.format.Filling.{Fills, IsReady}
 use Rattle.book_tables.specs.writing.Failing.{FailsToWriteAll}
+use Rattle.book_tables.specs.writing.Writes.{Write}
 use Rattle.book_tables.specs.writing.Writing.{IsOfNone, WritesOnly, WritesTables}
 use Rattle.book_tables.specs.declared.error.TableError.{TableError}
-use Rattle.book_tables.proofs.WritingLemmas.CauseLemmas.{came_after, came_here, of_later, of_store}
+use Rattle.book_tables.proofs.WritingLemmas.CauseLemmas.{came_by, came_here, of_later, of_store, written_then}
 
 still : (old : State) → IsTrue old.is_open → IsUnderWay old → StaysInside old old
 still old runs way = record { was_open = runs; is_open = runs; now_is = refl; committed_is = refl; mode = way }
@@ -41,7 +42,7 @@ pub fills_off : {A C : State → State → Type 0} (old new : State) (e : TableE
 fills_off old new e (Ok x) is step = absurd is
 fills_off old new e (Err x) is step = record {
   made = λ _ _. tt;
-  refused = λ clean ready. subst (FailsToWriteAll old new) (sym is) (step.refused clean ready);
+  ends = λ clean ready. (tt, subst (λ (x : TableError). (writes : List Write) × FailsToWriteAll writes old new x) (sym is) (step.ends clean ready).1);
   inside = λ _ _ _. tt;
   kept = step.kept;
   survives = step.survives;
@@ -51,17 +52,19 @@ fills_off old new e (Err x) is step = record {
 pub fills_as : {A C : State → State → Type 0} (old new : State) (r : Result (Unit {0}) TableError) → (IsReady old → A old new → C old new) → Fills A old new r → Fills C old new r
 fills_as old new r tells step = record {
   made = λ clean ready. on_ok r (tells ready) (step.made clean ready);
-  refused = step.refused;
+  ends = step.ends;
   inside = step.inside;
   kept = step.kept;
   survives = step.survives;
 }
 
 -- one write
-pub fills_write : {A : State → State → Type 0} (old new : State) (r : Result (Unit {0}) TableError) → WritesTables A old new r → Fills A old new r
-fills_write old new r write = record {
+pub fills_write : {A : State → State → Type 0} (w : Write) (old new : State) (r : Result (Unit {0}) TableError) → WritesTables w A old new r → Fills A old new r
+fills_write w old new r write = record {
   made = λ clean ready. write.made clean (λ _. ready.has);
-  refused = λ clean ready. if_err r (of_store old old new (came_here old ready.under_way)) (write.refused clean (λ _. ready.has));
+  ends = λ clean ready.
+      let it = write.ends clean (λ _. ready.has) in
+      (on_ok r (λ written. (w ∷ [], written)) it.0, if_err r (λ e why. (w ∷ [], of_store [] old old new (came_here old ready.under_way) w [] e why)) it.1);
   inside = λ clean way _. write.transaction.inside clean way;
   kept = λ clean way _. write.transaction.kept clean way;
   survives = write.transaction.survives;
@@ -71,7 +74,7 @@ fills_write old new r write = record {
 pub fills_none : {C : State → State → Type 0} (old : State) → (IsReady old → C old old) → Fills C old old (Ok tt)
 fills_none old made = record {
   made = λ _ ready. made ready;
-  refused = λ _ _. tt;
+  ends = λ _ _. (([], refl), tt);
   inside = λ _ way runs. still old runs way;
   kept = λ _ way runs. keeps_inside old old (still old runs way);
   survives = record { clean = omega arith; shield = λ is. is; counts = omega arith; limit = refl; closes = λ clean runs. inl runs; crash = λ clean db may. inl may };
@@ -87,9 +90,12 @@ fills_then old mid new names r only join first second =
           let made = first.made (early clean) ready in
           let then = ready_then names old mid (only made) ready in
           on_ok r (join ready then made) (second.made clean then);
-      refused = λ clean ready.
-          let written = only (first.made (early clean) ready) in
-          if_err r (of_later old mid new (came_after names old mid written first.survives)) (second.refused clean (ready_then names old mid written ready));
+      ends = λ clean ready.
+          let made = only (first.made (early clean) ready) in
+          let before = (first.ends (early clean) ready).0 in
+          let came = came_by before.0 old mid before.1 made.inside first.survives in
+          let it = second.ends clean (ready_then names old mid made ready) in
+          (on_ok r (λ later. (before.0 ++ later.0, written_then before.0 later.0 old mid new came later.1)) it.0, if_err r (λ e why. (before.0 ++ (why.0 ++ []), of_later before.0 old mid new came why.0 [] e why.1)) it.1);
       inside = λ clean way runs.
           let before = first.inside (early clean) way runs in
           on_ok r (stays_then old mid new before) (second.inside clean before.mode before.is_open);

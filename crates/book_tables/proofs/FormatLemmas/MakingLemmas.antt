@@ -37,7 +37,7 @@ use Rattle.book_tables.specs.format.Making.{LeavesBeside, MakesMissing, TellsPre
 use Rattle.book_tables.specs.row.Rows.{Rows, about_rows, number, present_format}
 use Rattle.book_tables.specs.Tables.{about_table}
 use Rattle.book_tables.specs.writing.Writing.{IsOfNone, WritesOnly}
-use Rattle.book_tables.specs.declared.error.TableError.TheVariants as fails
+use Rattle.book_tables.specs.writing.Writes.{new_format_text}
 use Rattle.book_tables.proofs.FormatLemmas.AboutLemmas.{told_made}
 use Rattle.book_tables.proofs.HoldsLemmas.{free_later, of_upto}
 use Rattle.book_tables.proofs.KeptLemmas.{about_changed}
@@ -142,9 +142,6 @@ lacks_some (suc (suc (suc zero))) below = omega arith
 lacks_some (suc (suc (suc (suc n)))) below = absurd (omega (arith, below))
 
 -- ---- the row of the format
-
-abbrev pub new_format_text : List ℕ
-new_format_text = codes "INSERT INTO about (id, format) VALUES (1, 4)"
 
 abbrev pub new_format_terms : List Term
 new_format_terms = lit (number 1) ∷ lit Null ∷ lit (number 4) ∷ []

@@ -24,13 +24,11 @@ use Rattle.one_table.proofs.UpdateLemmas.{sets_listed}
 use Rattle.book_tables.specs.format.Making.{TellsPresent}
 use Rattle.book_tables.specs.row.Rows.{about_row, number, present_format}
 use Rattle.book_tables.specs.Tables.{about_table}
+use Rattle.book_tables.specs.writing.Writes.{format_set_text}
 use Rattle.book_tables.proofs.KeptLemmas.{about_changed}
 use Rattle.book_tables.proofs.WritingLemmas.WriteLemmas.{changes_only, only_one}
 
 -- ---- the text
-
-abbrev pub format_set_text : List ℕ
-format_set_text = codes "UPDATE about SET format = 4 WHERE id = 1"
 
 abbrev pub is_the_row : List Term
 is_the_row = op2 (Compare Eq Binary) (col 1 0) (lit (number 1)) ∷ []

@@ -1,6 +1,6 @@
 -- What the tables are after the totals of a sale were added one by one, and after the sale with
 -- them.
-use Rattle.std.proofs.Common.{◌≡◌, ◌≤◌, ◌+◌, ℕ, List, [], ◌∷◌, ◌++◌, codes, length, map, unwrap_or, Some, sym, ap, subst, ◌∙◌}
+use Rattle.std.proofs.Common.{◌≡◌, ◌≤◌, ◌+◌, ℕ, List, [], ◌∷◌, ◌++◌, codes, length, map, unwrap_or, Some, refl, sym, ap, subst, ◌∙◌}
 use Rattle.std.specs.List.{AllByRecursion}
 use Rattle.sqlite_rules.specs.Edit.{IsNoIndex}
 use Rattle.sqlite.specs.State.{State}
@@ -22,6 +22,11 @@ use Rattle.book_tables.specs.row.Rows.{Rows, present_format}
 use Rattle.book_tables.specs.Stands.{AreMembersOf, AreTotalsOf, sales_in_month, sales_in_shift, sales_under, tenths_of, totals_of}
 use Rattle.book_tables.specs.writing.Writing.{AddsSale, AddsTenths, AddsToShift, AreSaleTotals, FitColumns, IsNextNumber, IsOfNone, MayAddSold, MayAddTenths, MayAddToShift, MayAddTotals, SetsLastId, TellsSold, TellsTotals, WritesOnly, totals_names, with_totals_of}
 use Rattle.book_tables.specs.declared.row.totals.SaleTotals.{SaleTotals}
+use Rattle.book_tables.specs.Kept.{last_ids_kept, month_tenths_kept, sales_kept, shift_totals_kept}
+use Rattle.book_tables.specs.writing.Keeping.{AreInOrder, KeepsRows, last_id_key, month_key, sale_key, shift_totals_key, totals_keys}
+use Rattle.book_tables.proofs.OfficeTableLemmas.{last_ids_in, month_tenths_in, sales_in, shift_totals_in}
+use Rattle.book_tables.proofs.WritingLemmas.KeepingLemmas.{keeps_then, still_in_order}
+use Rattle.book_tables.proofs.WritingLemmas.WriteLemmas.{changes_only}
 use Rattle.book_tables.proofs.RowsOfLemmas.{rows_of_same}
 use Rattle.book_tables.proofs.SalesOfLemmas.{fit_within, last_more, month_more, month_own, own_last, room_in_month, room_in_shift, sales_within, shift_more, shift_own, total_in_month, totals_in_shift}
 use Rattle.book_tables.proofs.WritingLemmas.TotallingLemmas.{total_fits}
@@ -85,10 +90,24 @@ module _ (s : Sale) (last : ℕ) (shown : SaleTotals) (old one two new : State) 
         shows = (month_own sales s ∙ ap Some (sym month.3), shift_own sales s ∙ ap Some (sym shift.4));
       }
 
-  pub tells_totals : TellsTotals s last shown old new
-  tells_totals = record {
+  -- each is made of a table that the ones before it left
+  keeps_totals : HasAllTables old → AreInOrder totals_names old.now → KeepsRows (totals_keys s) old.now new.now
+  keeps_totals has order =
+      let here = has first.only.inside.was_open in
+      let then : HasOffice one.now.schema = subst HasOffice (sym first.only.schema) here in
+      let to_one = changes_only (codes "last_ids") old one first.only in
+      let to_two = changes_only (codes "month_tenths") one two second.only in
+      let months = still_in_order month_tenths_kept last_ids_kept month_tenths_in last_ids_in old.now one.now here to_one refl order.1.0 in
+      let shifts = still_in_order shift_totals_kept last_ids_kept shift_totals_in last_ids_in old.now one.now here to_one refl order.1.1.0 in
+      let shifts_then = still_in_order shift_totals_kept month_tenths_kept shift_totals_in month_tenths_in one.now two.now then to_two refl shifts in
+      keeps_then (last_id_key (s.meter, s.base)) (month_key (s.meter, month_at s.moment) ++ shift_totals_key s.shift) old.now one.now new.now (first.kept (order.0, tt))
+      (keeps_then (month_key (s.meter, month_at s.moment)) (shift_totals_key s.shift) one.now two.now new.now (second.kept (months, tt)) (third.kept (shifts_then, tt)))
+
+  pub tells_totals : HasAllTables old → TellsTotals s last shown old new
+  tells_totals has = record {
     adds = record {
       only = only_totals;
+      kept = keeps_totals has;
       rows = λ format rows sales held are fit own. let it = after format rows sales held are fit in (it.totals, it.holds, it.are own);
     };
     tells = λ format rows sales held are fit. (after format rows sales held are fit).shows;
@@ -158,10 +177,20 @@ module _ (greatest : (t : ℕ) → IsRepresentable t → t ≤ 18201624) (s : Sa
         },
       )
 
-  pub tells_sold : TellsSold s shown old new
-  tells_sold = record {
+  keeps_sold : HasAllTables old → AreInOrder totals_names old.now → KeepsRows (sale_key s.number ++ totals_keys s) old.now new.now
+  keeps_sold has order =
+      let here = has first.only.inside.was_open in
+      let to_mid = changes_only (codes "sales") old mid first.only in
+      let ids = still_in_order last_ids_kept sales_kept last_ids_in sales_in old.now mid.now here to_mid refl order.0 in
+      let months = still_in_order month_tenths_kept sales_kept month_tenths_in sales_in old.now mid.now here to_mid refl order.1.0 in
+      let shifts = still_in_order shift_totals_kept sales_kept shift_totals_in sales_in old.now mid.now here to_mid refl order.1.1.0 in
+      keeps_then (sale_key s.number) (totals_keys s) old.now mid.now new.now first.kept (second.adds.kept (ids, (months, (shifts, tt))))
+
+  pub tells_sold : HasAllTables old → TellsSold s shown old new
+  tells_sold has = record {
     adds = record {
       only = only_then (codes "sales" ∷ totals_names) (codes "sales" ∷ []) totals_names (λ s tree none. ((none.0, tt), none.1)) old mid new first.only second.adds.only;
+      kept = keeps_sold has;
       members = members;
     };
     tells = λ o office meets held.

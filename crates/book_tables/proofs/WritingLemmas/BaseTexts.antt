@@ -10,12 +10,10 @@ use Rattle.one_table.specs.Inserting.{IsInsert, insert_in, insert_meant, puts_me
 use Rattle.one_table.specs.Listed.{no_limit, query_on}
 use Rattle.one_table.specs.Reading.{is_whole}
 use Rattle.book_tables.specs.Tables.{meter_bases_table, meters_table}
+use Rattle.book_tables.specs.writing.Writes.{base_set_text, new_base_text}
 use Rattle.book_tables.proofs.WritingLemmas.WriteTexts.{is_that_meter}
 
 -- ---- a base more
-
-abbrev pub new_base_text : List ℕ
-new_base_text = codes "INSERT INTO meter_bases (meter, base) VALUES (?1, ?2)"
 
 abbrev pub two_terms : List Term
 two_terms = lit Null ∷ col 0 0 ∷ col 0 1 ∷ []
@@ -29,9 +27,6 @@ unfolding everything is_whole
 new_base_whole = refl
 
 -- ---- the present base of a meter
-
-abbrev pub base_set_text : List ℕ
-base_set_text = codes "UPDATE meters SET base = ?2 WHERE meter = ?1"
 
 abbrev pub base_set_terms : List Term
 base_set_terms = col 1 0 ∷ col 1 0 ∷ col 1 1 ∷ col 0 1 ∷ col 1 3 ∷ col 1 4 ∷ []

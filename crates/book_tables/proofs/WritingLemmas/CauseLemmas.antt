@@ -1,115 +1,152 @@
--- Why one of several writes inside a transaction fails, told of all of them.
-use Rattle.std.proofs.Common.{◌≡◌, ◌≤◌, ℕ, false, List, [], IsTrue, Option, None, Some, Err, refl, sym, subst, ◌∙◌, inl, inr, arith}
+-- How one of several writes inside a transaction ends, told of all of them.
+use Rattle.std.proofs.Common.{◌≡◌, ◌≤◌, ◌⊎◌, false, List, [], ◌∷◌, ◌++◌, IsErrAnd, IsTrue, Option, None, Some, Result, Ok, Err, refl, sym, subst, ◌∙◌, inl, inr, arith, append_assoc, ap}
 use Rattle.std.proofs.lemmas.Bool.{cases_Bool, false≢true}
-use Rattle.sqlite.specs.Does.{Does}
-use Rattle.sqlite.specs.Order.{Row}
+use Rattle.sqlite.specs.Does.{Does, Tally}
+use Rattle.sqlite.specs.Effect.{Database}
+use Rattle.sqlite.specs.Rows.{Outcome}
 use Rattle.sqlite.specs.State.{HasCause, State, Survives, mode_of, store_error}
 use Rattle.sqlite.specs.declared.error.Error.{Error}
 use Rattle.sqlite_trees.specs.declared.error.StoreError.{StoreError}
 use Rattle.sqlite_trees.specs.declared.error.StoreError.TheVariants.{OutOfMemory, Io, Corrupt, Full, Broken, Unstorable}
 use Rattle.sqlite_schema.specs.declared.command.Command.{Command}
 use Rattle.sqlite_schema.specs.declared.command.Returning.{Returning}
-use Rattle.one_table.specs.InTransaction.{FailsToWriteAs, IsUnderWay, StaysInside}
+use Rattle.one_table.specs.InTransaction.{CarriesOut, FailsToWriteAs, IsUnderWay, StaysInside}
+use Rattle.one_table.specs.Reading.{MeansAs}
+use Rattle.one_table.proofs.ChangeLemmas.{if_err, on_ok}
 use Rattle.one_table.specs.Upserting.{returning_as, upsert_as}
-use Rattle.book_tables.specs.writing.Failing.{FailsToMergeAll, FailsToWriteAll, IsRefused}
-use Rattle.book_tables.specs.reading.Reading.{FailsToMerge, FailsToStore}
-use Rattle.book_tables.specs.writing.Writing.{WritesOnly}
+use Rattle.book_tables.specs.writing.Failing.{End, Ends, FailsToMerge, FailsToMergeAll, FailsToStore, FailsToWriteAll, IsRefused}
+use Rattle.book_tables.specs.writing.Writes.{AreCarriedOut, EndsWith, Make, Write}
 use Rattle.book_tables.specs.declared.error.TableError.{TableError}
-use Rattle.book_tables.specs.declared.error.TableError.TheVariants.{Database, RowOfNoOffice}
+use Rattle.book_tables.specs.declared.error.TableError.TheVariants.{Database as Told, RowOfNoOffice}
 
--- the transaction came to this state by writes that succeeded, or by none
-pub record Came (old mid : State) : Type 0 where
+-- ---- what writes make of a database
+
+-- those of two lists, one after the other
+pub make_then : (limit : Option _) (first second : List Write) (a b c : Database) → Make limit first a b → Make limit second b c → Make limit (first ++ second) a c
+make_then limit [] second a b c none then = subst (λ (db : Database). Make limit second db c) none then
+make_then limit (w ∷ more) second a b c (tally, mid, ends, made) then = (tally, mid, ends, make_then limit more second mid b c made then)
+
+-- one write that was carried out
+pub one_written : (w : Write) (old new : State) → CarriesOut w.sql w.params old new → AreCarriedOut (w ∷ []) old new
+one_written w old new it = (it.tally, new.now, record { command = it.command; shows = it.shows; means = it.means; does = it.does }, refl)
+
+-- ---- a transaction in which writes succeeded
+
+-- it came to this state by these writes
+pub record Came (writes : List Write) (old mid : State) : Type 0 where
   pub under_way : IsUnderWay mid
   pub was_shut : mid.is_open ≡ false → old.is_open ≡ false
-  pub schema : IsTrue mid.is_open → mid.now.schema ≡ old.now.schema
+  pub made : AreCarriedOut writes old mid
   pub limit : mid.step_limit ≡ old.step_limit
   pub counts : old.faults ≤ mid.faults
 
-pub came_here : (old : State) → IsUnderWay old → Came old old
-came_here old way = record { under_way = way; was_shut = λ shut. shut; schema = λ _. refl; limit = refl; counts = omega arith }
+pub came_here : (old : State) → IsUnderWay old → Came [] old old
+came_here old way = record { under_way = way; was_shut = λ shut. shut; made = refl; limit = refl; counts = omega arith }
 
-pub came_inside : (old mid : State) → StaysInside old mid → mid.now.schema ≡ old.now.schema → Survives old mid (λ _. ⊥) → Came old mid
-came_inside old mid inside schema survives = record {
+pub came_by : (writes : List Write) (old mid : State) → AreCarriedOut writes old mid → StaysInside old mid → Survives old mid (λ _. ⊥) → Came writes old mid
+came_by writes old mid written inside survives = record {
   under_way = inside.mode;
   was_shut = λ shut. absurd (false≢true (sym shut ∙ inside.is_open));
-  schema = λ _. schema;
+  made = written;
   limit = survives.limit;
   counts = survives.counts;
 }
 
-pub came_after : (names : List (List ℕ)) (old mid : State) → WritesOnly names old mid → Survives old mid (λ _. ⊥) → Came old mid
-came_after names old mid only survives = came_inside old mid only.inside only.schema survives
+-- and then by others
+pub written_then : (first second : List Write) (old mid new : State) → Came first old mid → AreCarriedOut second mid new → AreCarriedOut (first ++ second) old new
+written_then first second old mid new came then =
+    make_then old.step_limit first second old.now mid.now new.now came.made (subst (λ (l : Option _). Make l second mid.now new.now) came.limit then)
 
-module _ (old mid new : State) (came : Came old mid) where
-  refused : (shows : Option Returning) (command : Command) (params : Row) (e : Error) → IsTrue mid.is_open
-      → Does mid.step_limit (mode_of mid) params mid.now [] shows command (Err (Some e)) → IsRefused old e
-  refused shows command params e runs does = record {
-    db = mid.now;
-    schema = came.schema runs;
-    shows = shows;
-    command = command;
-    params = params;
-    refused = inl (subst (λ l. Does l (mode_of old) params mid.now [] shows command (Err (Some e))) came.limit does);
-  }
+-- all of them, the last ones after a state that they came to
+pub came_later : {before : List Write} (writes : List Write) (old mid new : State) → Came before old mid → AreCarriedOut writes old new → StaysInside mid new → Survives mid new (λ _. ⊥) → Came writes old new
+came_later writes old mid new came written inside survives = record {
+  under_way = inside.mode;
+  was_shut = λ shut. absurd (false≢true (sym shut ∙ inside.is_open));
+  made = written;
+  limit = survives.limit ∙ came.limit;
+  counts = omega (arith, survives.counts, came.counts);
+}
 
-  too_long : (shows : Option Returning) (command : Command) (params : Row) (e : Error) → e ≡ store_error Unstorable → (IsTrue mid.is_open → Does mid.step_limit (mode_of mid) params mid.now [] shows command (Err None))
-      → FailsToWriteAll old new (Database e)
-  too_long shows command params e same does = elim (cases_Bool mid.is_open) [
-    | inl runs ↦ inr (inr (inr (record {
-      db = mid.now;
-      schema = came.schema runs;
-      shows = shows;
+-- ---- why the write after them fails
+
+module _ (before : List Write) (old mid new : State) (came : Came before old mid) (w : Write) (after : List Write) where
+  abbrev Fail : TableError → Type 0
+  Fail e = FailsToWriteAll (before ++ w ∷ after) old new e
+
+  module _ (shows : Option Returning) (command : Command) (means : IsTrue mid.is_open → MeansAs mid.now.schema w.sql command shows) (e : Error) where
+    ends : (out : Outcome (Tally × Database)) → IsTrue mid.is_open → Does mid.step_limit (mode_of mid) w.params mid.now [] shows command out → EndsWith old.step_limit w mid.now out
+    ends out runs does = record {
       command = command;
-      params = params;
-      refused = inr (same, subst (λ l. Does l (mode_of old) params mid.now [] shows command (Err None)) came.limit (does runs));
-    })))
-    | inr shut ↦ inr (inr (inl (came.was_shut shut)))
-  ]
+      shows = shows;
+      means = means runs;
+      does = subst (λ (l : Option _). Does l (mode_of mid) w.params mid.now [] shows command out) came.limit does;
+    }
 
-  by_cause : (shows : Option Returning) (command : Command) (params : Row) (e : Error) (cause : StoreError) → e ≡ store_error cause
-      → HasCause mid new (IsTrue mid.is_open → Does mid.step_limit (mode_of mid) params mid.now [] shows command (Err None)) cause → FailsToWriteAll old new (Database e)
-  by_cause shows command params e OutOfMemory same why = inl same
-  by_cause shows command params e Io same why = inr (inl (omega (arith, why, came.counts)))
-  by_cause shows command params e Corrupt same why = inr (inl (omega (arith, why, came.counts)))
-  by_cause shows command params e Full same why = inr (inl (omega (arith, why, came.counts)))
-  by_cause shows command params e Broken same why = inr (inr (inl (came.was_shut why)))
-  by_cause shows command params e Unstorable same why = too_long shows command params e same why
+    refused : EndsWith old.step_limit w mid.now (Err (Some e)) ⊎ ((e ≡ store_error Unstorable) × EndsWith old.step_limit w mid.now (Err None)) → IsRefused (before ++ w ∷ after) old e
+    refused why = record { before = before; tried = w; after = after; among = refl; db = mid.now; made = came.made; refused = why }
 
-  of_write : (shows : Option Returning) (command : Command) (params : Row) (e : Error) → FailsToWriteAs shows command params mid new e → FailsToWriteAll old new (Database e)
-  of_write shows command params e (inl had) = absurd (false≢true (sym had.ended ∙ came.under_way))
-  of_write shows command params e (inr (inl (does, same))) = inr (inr (inr (refused shows command params e same.0.was_open does)))
-  of_write shows command params e (inr (inr fails)) = by_cause shows command params e fails.0 fails.1 fails.2
+    too_long : e ≡ store_error Unstorable → (IsTrue mid.is_open → Does mid.step_limit (mode_of mid) w.params mid.now [] shows command (Err None)) → Fail (Told e)
+    too_long same does = elim (cases_Bool mid.is_open) [
+      | inl runs ↦ inr (inr (inr (refused (inr (same, ends (Err None) runs (does runs))))))
+      | inr shut ↦ inr (inr (inl (came.was_shut shut)))
+    ]
 
-  pub of_store : (e : TableError) → FailsToStore mid new e → FailsToWriteAll old new e
-  of_store (Database e) why = of_write None why.0 why.1 e why.2
+    by_cause : (cause : StoreError) → e ≡ store_error cause → HasCause mid new (IsTrue mid.is_open → Does mid.step_limit (mode_of mid) w.params mid.now [] shows command (Err None)) cause → Fail (Told e)
+    by_cause OutOfMemory same why = inl same
+    by_cause Io same why = inr (inl (omega (arith, why, came.counts)))
+    by_cause Corrupt same why = inr (inl (omega (arith, why, came.counts)))
+    by_cause Full same why = inr (inl (omega (arith, why, came.counts)))
+    by_cause Broken same why = inr (inr (inl (came.was_shut why)))
+    by_cause Unstorable same why = too_long same why
+
+    of_write : FailsToWriteAs shows command w.params mid new e → Fail (Told e)
+    of_write (inl had) = absurd (false≢true (sym had.ended ∙ came.under_way))
+    of_write (inr (inl (does, same))) = inr (inr (inr (refused (inl (ends (Err (Some e)) same.0.was_open does)))))
+    of_write (inr (inr fails)) = by_cause fails.0 fails.1 fails.2
+
+  pub of_store : (e : TableError) → FailsToStore w mid new e → Fail e
+  of_store (Told e) (command, means, why) = of_write None command means e why
   of_store RowOfNoOffice why = why
 
-  pub of_merge : (e : TableError) → FailsToMerge mid new e → FailsToMergeAll old new e
-  of_merge (Database e) (t, m, params, at, inl why) = inl (of_write (Some (returning_as m)) (upsert_as at t m) params e why)
-  of_merge (Database e) (t, m, params, at, inr why) = inl (inl (let none = why.0 in cc))
+  pub of_merge : (e : TableError) → FailsToMerge w mid new e → FailsToMergeAll (before ++ w ∷ after) old new e
+  of_merge (Told e) why = elim why.fails [
+    | inl fails ↦ inl (of_write (Some (returning_as why.merging)) (upsert_as why.at why.table why.merging) why.means e fails)
+    | inr (none, touched) ↦ inl (inl (cc))
+  ]
   of_merge RowOfNoOffice why = inr refl
 
-  -- those of later writes are told of all
-  pub of_later : (e : TableError) → FailsToWriteAll mid new e → FailsToWriteAll old new e
-  of_later (Database e) (inl none) = inl none
-  of_later (Database e) (inr (inl more)) = inr (inl (omega (arith, more, came.counts)))
-  of_later (Database e) (inr (inr (inl shut))) = inr (inr (inl (came.was_shut shut)))
-  of_later (Database e) (inr (inr (inr it))) = elim (cases_Bool mid.is_open) [
-    | inl runs ↦ inr (inr (inr (record {
-      db = it.db;
-      schema = it.schema ∙ came.schema runs;
-      shows = it.shows;
-      command = it.command;
-      params = it.params;
-      refused = elim it.refused [
-        | inl does ↦ inl (subst (λ l. Does l (mode_of old) it.params it.db [] it.shows it.command (Err (Some e))) came.limit does)
-        | inr (big, does) ↦ inr (big, subst (λ l. Does l (mode_of old) it.params it.db [] it.shows it.command (Err None)) came.limit does)
-      ];
-    })))
-    | inr shut ↦ inr (inr (inl (came.was_shut shut)))
-  ]
+-- those of later writes are told of all, whatever were to come after them
+module _ (before : List Write) (old mid new : State) (came : Came before old mid) (later after : List Write) where
+  refused_later : (e : Error) → IsRefused later mid e → IsRefused (before ++ (later ++ after)) old e
+  refused_later e it = record {
+    before = before ++ it.before;
+    tried = it.tried;
+    after = it.after ++ after;
+    among = append_assoc before it.before (it.tried ∷ it.after ++ after)
+        ∙ ap (λ (l : List Write). before ++ l) (sym (append_assoc it.before (it.tried ∷ it.after) after) ∙ ap (λ (l : List Write). l ++ after) it.among);
+    db = it.db;
+    made = make_then old.step_limit before it.before old.now mid.now it.db came.made (subst (λ (l : Option _). Make l it.before mid.now it.db) came.limit it.made);
+    refused = subst (λ (l : Option _). EndsWith l it.tried it.db (Err (Some e)) ⊎ ((e ≡ store_error Unstorable) × EndsWith l it.tried it.db (Err None))) came.limit it.refused;
+  }
+
+  pub of_later : (e : TableError) → FailsToWriteAll later mid new e → FailsToWriteAll (before ++ (later ++ after)) old new e
+  of_later (Told e) (inl none) = inl none
+  of_later (Told e) (inr (inl more)) = inr (inl (omega (arith, more, came.counts)))
+  of_later (Told e) (inr (inr (inl shut))) = inr (inr (inl (came.was_shut shut)))
+  of_later (Told e) (inr (inr (inr it))) = inr (inr (inr (refused_later e it)))
   of_later RowOfNoOffice why = why
 
-  pub of_later_merge : (e : TableError) → FailsToMergeAll mid new e → FailsToMergeAll old new e
+  pub of_later_merge : (e : TableError) → FailsToMergeAll later mid new e → FailsToMergeAll (before ++ (later ++ after)) old new e
   of_later_merge e (inl why) = inl (of_later e why)
   of_later_merge e (inr is) = inr is
+
+-- ---- how they end
+
+-- they fail, which is told as another's error
+pub ends_off : {T : Type 0} (Fail : List Write → State → State → TableError → Type 0) (writes : List Write) (old new : State) (e : TableError) (r : Result T TableError) → IsErrAnd r (λ x. x ≡ e) → Fail writes old new e → End Fail writes old new r
+ends_off Fail writes old new e (Ok x) is why = absurd is
+ends_off Fail writes old new e (Err x) is why = (tt, subst (Fail writes old new) (sym is) why)
+
+-- a last write after others
+pub ends_then : (before : List Write) (old mid new : State) (came : Came before old mid) (w : Write) (r : Result (Unit {0}) TableError) → Ends FailsToStore w mid new r → End FailsToWriteAll (before ++ w ∷ []) old new r
+ends_then before old mid new came w r (written, fails) = (on_ok r (written_then before (w ∷ []) old mid new came) written, if_err r (of_store before old mid new came w []) fails)

@@ -1,8 +1,11 @@
 -- What the rows of dated steps are after a write of them.
 use Rattle.std.proofs.Common.{◌≡◌, ℕ, ◌+◌, pos, List, [], ◌∷◌, ◌++◌, length, codes, refl, sym, ap, subst, ◌∙◌, arith, append_assoc}
+use Rattle.sqlite.specs.Effect.{Database}
 use Rattle.sqlite.specs.Order.{Row}
 use Rattle.sqlite.specs.State.{State}
-use Rattle.sqlite_value.specs.declared.value.Value.TheVariants.{Null}
+use Rattle.sqlite_value.specs.declared.value.Value.TheVariants.{Int, Null, Text}
+use Rattle.sqlite_rules.specs.declared.error.Rowids.TheVariants.{Chosen}
+use Rattle.sqlite_rules.specs.Edit.{with_rowid}
 use Rattle.sqlite_schema.specs.declared.schema.Table.{Table}
 use Rattle.tariff.specs.declared.step.Step.{Step}
 use Rattle.one_table.specs.InTransaction.{PutsRow}
@@ -17,6 +20,10 @@ use Rattle.book_tables.specs.writing.Writing.{AddsDatedStep, AddsSteps}
 use Rattle.book_tables.proofs.ReadingLemmas.DatedLemmas.{dated_at, dated_from}
 use Rattle.book_tables.proofs.ReadingLemmas.DatedTexts.{five_terms}
 use Rattle.book_tables.proofs.WritingLemmas.HiddenWriteLemmas.{stands_after}
+use Rattle.book_tables.specs.Kept.{dated_steps_kept}
+use Rattle.book_tables.specs.reading.Reading.{HasAllTables}
+use Rattle.book_tables.specs.writing.Keeping.{KeepsRows, dated_keys, dated_step_key}
+use Rattle.book_tables.proofs.WritingLemmas.KeepingLemmas.{fewer_parts, keeps_both, keeps_more, keeps_new}
 use Rattle.book_tables.proofs.KeptLemmas.{dated_steps_changed}
 use Rattle.book_tables.proofs.OfficeTableLemmas.{dated_steps_in}
 use Rattle.book_tables.proofs.WritingLemmas.OnlyLemmas.{only_both}
@@ -31,13 +38,15 @@ module _ (old new : State) where
   dated_source : (r : DatedStepRow) → source_row dated five_terms (dated_columns r) ≡ Null ∷ dated_columns r
   dated_source r = rw (cast_no_int, cast_int (pos r.day), cast_int (pos r.place), cast_optional r.step.ends, cast_int (pos r.step.price)) refl
 
-  pub adds_dated_step : (r : DatedStepRow) (params : Row) → params ≡ dated_columns r → PutsRow dated (new_row dated five_terms params (old.now.trees dated.tree)) old new → AddsDatedStep r old new
-  adds_dated_step r params bound put =
+  pub adds_dated_step : HasAllTables old → (r : DatedStepRow) (params : Row) → params ≡ dated_columns r → PutsRow dated (new_row dated five_terms params (old.now.trees dated.tree)) old new → AddsDatedStep r old new
+  adds_dated_step has r params bound put =
       let h = subst (λ (p : Row). PutsRow dated (new_row dated five_terms p (old.now.trees dated.tree)) old new) bound put in
       let only = only_one (codes "dated_steps") dated _ old new refl h.changed in
       let kept = changes_only (codes "dated_steps") old new only in
       record {
         only = only;
+        kept = keeps_new ((1, Text r.tariff) ∷ (2, Int (pos r.day)) ∷ (3, Int (pos r.place)) ∷ []) old new dated_steps_kept dated_steps_in has _ (with_rowid Chosen (old.now.trees dated.tree) (Null ∷ dated_columns r)) h kept
+            (ap (with_rowid Chosen (old.now.trees dated.tree)) (dated_source r)) refl (refl, (refl, (refl, tt)));
         rows = λ rows held.
             let was = dated_steps_in.holds present_format old.now rows held in
             let it = stands_after dated_columns dated five_terms (dated_columns r) r (dated_source r) old new h rows.dated_steps was.0 was.1 in
@@ -53,16 +62,29 @@ module _ (name : List ℕ) (day : ℕ) where
       let further : at + 1 + length xs ≡ at + length (x ∷ xs) = omega arith in
       ap (λ (l : List DatedStepRow). dated_at name day at x ∷ l) (rows_more (at + 1) xs s ∙ ap (λ (n : ℕ). dated_from name day (at + 1) xs ++ dated_at name day n s ∷ []) further)
 
+  pub dated_more : (xs : List Step) (s : Step) → dated_rows name day (xs ++ s ∷ []) ≡ dated_rows name day xs ++ dated_at name day (length xs) s ∷ []
+  dated_more xs s =
+      let here : 0 + length xs ≡ length xs = omega arith in
+      rows_more 0 xs s ∙ ap (λ (n : ℕ). dated_rows name day xs ++ dated_at name day n s ∷ []) here
+
+  -- a step of the day is under its key
+  of_day : (place : ℕ) (s : Step) (a b : Database) → KeepsRows (dated_step_key (dated_at name day place s)) a b → KeepsRows (dated_keys name day) a b
+  of_day place s a b kept =
+      keeps_more (dated_step_key (dated_at name day place s)) (dated_keys name day) (fewer_parts (codes "dated_steps") ((1, Text name) ∷ (2, Int (pos day)) ∷ []) ((3, Int (pos place)) ∷ [])) a b kept
+
+  -- the first one
+  pub adds_first : (s : Step) (old new : State) → AddsDatedStep (dated_at name day 0 s) old new → AddsSteps name day (s ∷ []) old new
+  adds_first s old new added = record { only = added.only; kept = of_day 0 s old.now new.now added.kept; rows = added.rows }
+
   adds_at_end : (xs : List Step) (s : Step) (old mid new : State) → AddsSteps name day xs old mid → AddsDatedStep (dated_at name day (length xs) s) mid new → AddsSteps name day (xs ++ s ∷ []) old new
   adds_at_end xs s old mid new first second = record {
     only = only_both (codes "dated_steps" ∷ []) old mid new first.only second.only;
+    kept = keeps_both (dated_keys name day) old.now mid.now new.now first.kept (of_day (length xs) s mid.now new.now second.kept);
     rows = λ rows held.
         let all = second.rows (record rows { dated_steps = rows.dated_steps ++ dated_rows name day xs }) (first.rows rows held) in
-        let here : 0 + length xs ≡ length xs = omega arith in
         let last : List DatedStepRow = dated_at name day (length xs) s ∷ [] in
-        let more : dated_rows name day (xs ++ s ∷ []) ≡ dated_rows name day xs ++ last = rows_more 0 xs s ∙ ap (λ (n : ℕ). dated_rows name day xs ++ dated_at name day n s ∷ []) here in
         let steps : (rows.dated_steps ++ dated_rows name day xs) ++ last ≡ rows.dated_steps ++ dated_rows name day (xs ++ s ∷ []) =
-        append_assoc rows.dated_steps (dated_rows name day xs) last ∙ ap (λ (l : List DatedStepRow). rows.dated_steps ++ l) (sym more) in
+        append_assoc rows.dated_steps (dated_rows name day xs) last ∙ ap (λ (l : List DatedStepRow). rows.dated_steps ++ l) (sym (dated_more xs s)) in
         subst (λ (l : List DatedStepRow). Holds new.now (record rows { dated_steps = l })) steps all;
   }
 

@@ -6,9 +6,10 @@ use Rattle.std.proofs.lemmas.List.{map-append}
 use Rattle.std.proofs.lemmas.Slice.Eq.{bytes_eq-Decides}
 use Rattle.sqlite.specs.Order.{Row}
 use Rattle.sqlite.specs.State.{State}
-use Rattle.sqlite_value.specs.declared.value.Value.TheVariants.{Null, Text}
-use Rattle.sqlite_trees.specs.Tree.{put_row}
-use Rattle.sqlite_sql.specs.Term.{Term}
+use Rattle.sqlite_value.specs.declared.value.Value.TheVariants.{Int, Null, Text}
+use Rattle.sqlite_trees.specs.Tree.{put_row, rowid}
+use Rattle.sqlite_sql.specs.Term.{Term, col, eval_all}
+use Rattle.sqlite_rules.specs.Cast.{cast_row}
 use Rattle.sqlite_rules.specs.declared.error.Rowids.TheVariants.{Chosen}
 use Rattle.sqlite_rules.specs.Edit.{with_rowid}
 use Rattle.sqlite_schema.specs.declared.schema.Table.{Table}
@@ -29,6 +30,11 @@ use Rattle.book_tables.specs.writing.Edited.{row_with_tariff}
 use Rattle.book_tables.specs.row.Rows.{StepRow, meter_columns, present_format, step_columns, tariff_columns}
 use Rattle.book_tables.specs.Tables.{meters_table, tariff_steps_table, tariffs_table}
 use Rattle.book_tables.specs.writing.Writing.{AddsMeterRow, AddsName, AddsStep, SetsTariff}
+use Rattle.book_tables.specs.Kept.{meters_kept, steps_kept, tariffs_kept}
+use Rattle.book_tables.specs.reading.Reading.{HasAllTables}
+use Rattle.book_tables.specs.writing.Keeping.{meter_key}
+use Rattle.book_tables.proofs.OfficeTableLemmas.{meters_in, steps_in, tariffs_in}
+use Rattle.book_tables.proofs.WritingLemmas.KeepingLemmas.{keeps_new, keeps_set, number_kept, text_found, text_kept}
 use Rattle.book_tables.proofs.KeptLemmas.{meters_changed, steps_changed, tariffs_changed}
 use Rattle.book_tables.proofs.ListLemmas.{NotBothPass, first_is_all, pairs_weaker}
 use Rattle.book_tables.proofs.WritingLemmas.WriteLemmas.{cast_optional, changes_only, few, only_one}
@@ -62,13 +68,14 @@ module _ (old new : State) where
   meter_source : (number : List ℕ) (m : Meter) → source_row meters four_terms (meter_columns (number, m)) ≡ Null ∷ meter_columns (number, m)
   meter_source number m = rw (cast_no_int, cast_int (pos (year_of m.base))) refl
 
-  pub adds_meter : (number : List ℕ) (m : Meter) (params : Row) → params ≡ meter_columns (number, m) → PutsRow meters (new_row meters four_terms params (old.now.trees meters.tree)) old new → AddsMeterRow number m old new
-  adds_meter number m params bound put =
+  pub adds_meter : HasAllTables old → (number : List ℕ) (m : Meter) (params : Row) → params ≡ meter_columns (number, m) → PutsRow meters (new_row meters four_terms params (old.now.trees meters.tree)) old new → AddsMeterRow number m old new
+  adds_meter has number m params bound put =
       let h = subst (λ (p : Row). PutsRow meters (new_row meters four_terms p (old.now.trees meters.tree)) old new) bound put in
       let only = only_one (codes "meters") meters _ old new refl h.changed in
       let kept = changes_only (codes "meters") old new only in
       record {
         only = only;
+        kept = keeps_new ((1, Text number) ∷ []) old new meters_kept meters_in has _ (with_rowid Chosen (old.now.trees meters.tree) (Null ∷ meter_columns (number, m))) h kept (ap (with_rowid Chosen (old.now.trees meters.tree)) (meter_source number m)) refl (refl, tt);
         rows = λ rows held.
             let it = stands_after meter_columns meters four_terms (meter_columns (number, m)) (number, m) (meter_source number m) old new h rows.meters held.are.1.1.1.0.0 held.are.1.1.1.0.1 in
             meters_changed present_format old.now new.now rows held (rows.meters ++ (number, m) ∷ []) kept it.0 it.1;
@@ -82,13 +89,14 @@ module _ (old new : State) where
   name_source : (name : List ℕ) → source_row tariffs one_term (tariff_columns name) ≡ Null ∷ tariff_columns name
   name_source name = rw cast_no_int refl
 
-  pub adds_name : (name : List ℕ) (params : Row) → params ≡ tariff_columns name → PutsRow tariffs (new_row tariffs one_term params (old.now.trees tariffs.tree)) old new → AddsName name old new
-  adds_name name params bound put =
+  pub adds_name : HasAllTables old → (name : List ℕ) (params : Row) → params ≡ tariff_columns name → PutsRow tariffs (new_row tariffs one_term params (old.now.trees tariffs.tree)) old new → AddsName name old new
+  adds_name has name params bound put =
       let h = subst (λ (p : Row). PutsRow tariffs (new_row tariffs one_term p (old.now.trees tariffs.tree)) old new) bound put in
       let only = only_one (codes "tariffs") tariffs _ old new refl h.changed in
       let kept = changes_only (codes "tariffs") old new only in
       record {
         only = only;
+        kept = keeps_new ((1, Text name) ∷ []) old new tariffs_kept tariffs_in has _ (with_rowid Chosen (old.now.trees tariffs.tree) (Null ∷ tariff_columns name)) h kept (ap (with_rowid Chosen (old.now.trees tariffs.tree)) (name_source name)) refl (refl, tt);
         rows = λ rows held.
             let it = stands_after tariff_columns tariffs one_term (tariff_columns name) name (name_source name) old new h rows.tariffs held.are.1.0.0 held.are.1.0.1 in
             tariffs_changed present_format old.now new.now rows held (rows.tariffs ++ name ∷ []) kept it.0 it.1;
@@ -102,13 +110,14 @@ module _ (old new : State) where
   step_source : (r : StepRow) → source_row steps four_terms (step_columns r) ≡ Null ∷ step_columns r
   step_source r = rw (cast_no_int, cast_int (pos r.place), cast_optional r.step.ends, cast_int (pos r.step.price)) refl
 
-  pub adds_step : (r : StepRow) (params : Row) → params ≡ step_columns r → PutsRow steps (new_row steps four_terms params (old.now.trees steps.tree)) old new → AddsStep r old new
-  adds_step r params bound put =
+  pub adds_step : HasAllTables old → (r : StepRow) (params : Row) → params ≡ step_columns r → PutsRow steps (new_row steps four_terms params (old.now.trees steps.tree)) old new → AddsStep r old new
+  adds_step has r params bound put =
       let h = subst (λ (p : Row). PutsRow steps (new_row steps four_terms p (old.now.trees steps.tree)) old new) bound put in
       let only = only_one (codes "tariff_steps") steps _ old new refl h.changed in
       let kept = changes_only (codes "tariff_steps") old new only in
       record {
         only = only;
+        kept = keeps_new ((1, Text r.tariff) ∷ (2, Int (pos r.place)) ∷ []) old new steps_kept steps_in has _ (with_rowid Chosen (old.now.trees steps.tree) (Null ∷ step_columns r)) h kept (ap (with_rowid Chosen (old.now.trees steps.tree)) (step_source r)) refl (refl, (refl, tt));
         rows = λ rows held.
             let it = stands_after step_columns steps four_terms (step_columns r) r (step_source r) old new h rows.steps held.are.1.1.0.0 held.are.1.1.0.1 in
             steps_changed present_format old.now new.now rows held (rows.steps ++ r ∷ []) kept it.0 it.1;
@@ -134,17 +143,23 @@ module _ (old new : State) where
       let once = pairs_weaker (λ a b. a.0 ≢ b.0) (NotBothPass (is_that number)) xs (λ a b differ p q. differ ((bytes_eq-Decides a.0 number).0 p ∙ sym ((bytes_eq-Decides b.0 number).0 q))) apart in
       subst (λ (l : List (List ℕ × Meter)). length l ≤ 1) (sym (first_is_all (is_that number) xs once)) (few (find (is_that number) xs))
 
-  pub sets_tariff : (number name : List ℕ) (params : Row) → params ≡ Text number ∷ Text name ∷ [] → SetsRows meters (tariff_set_query meters.tree) params old new → SetsTariff number name old new
-  sets_tariff number name params bound found =
+  abbrev tariff_set_row : List Term
+  tariff_set_row = col 1 0 ∷ col 1 1 ∷ col 1 2 ∷ col 0 1 ∷ col 1 4 ∷ []
+
+  pub sets_tariff : HasAllTables old → (number name : List ℕ) (params : Row) → params ≡ Text number ∷ Text name ∷ [] → SetsRows meters (tariff_set_query meters.tree) params old new → SetsTariff number name old new
+  sets_tariff has number name params bound found =
       let h = subst (λ (p : Row). SetsRows meters (tariff_set_query meters.tree) p old new) bound found in
       let only = only_one (codes "meters") meters _ old new refl h.changed in
+      let kept = changes_only (codes "meters") old new only in
       record {
         only = only;
+        kept = keeps_set (meter_key number) old new meters_kept meters_in has is_that_meter tariff_set_row (Text number ∷ Text name ∷ []) h kept (λ r passes. text_found (codes "meters") number r passes)
+            (λ r is_number own. (text_kept (codes "meters") number r (cast_row meters (eval_all tariff_set_row ((Text number ∷ Text name ∷ []) ∷ r ∷ []))) refl own, number_kept (rowid r) is_number));
         rows = λ rows held apart.
             let order = held.are.1.1.1.0.1 in
             let set = sets_hidden meter_columns (is_that number) (renamed name) meters is_that_meter tariff_set_terms (Text number ∷ Text name ∷ []) (setting number name) (λ r none. cc)
             old new rows.meters h held.are.1.1.1.0.0 order.rises order.are_numbers (one_at_most number rows.meters apart) in
             let in_order : IsInOrder set.rows = record { rises = set.rises; are_numbers = set.are_numbers } in
-            meters_changed present_format old.now new.now rows held (map (row_with_tariff number name) rows.meters) (changes_only (codes "meters") old new only)
+            meters_changed present_format old.now new.now rows held (map (row_with_tariff number name) rows.meters) kept
             (ap (map (drop 1)) set.changed.rows_are ∙ set.holds) (subst IsInOrder (sym set.changed.rows_are) in_order);
       }

@@ -26,6 +26,7 @@ use Rattle.book_tables.specs.Tables.{last_ids_table, month_tenths_table, shift_t
 use Rattle.book_tables.specs.writing.Putting.{AreAnyIds, FitMonths, FitShifts, PutsNext, with_last_ids, with_month_tenths, with_shift_totals}
 use Rattle.book_tables.specs.writing.Writing.{HasRoomFor, totals_names}
 use Rattle.book_tables.specs.declared.row.totals.Totals.{Totals}
+use Rattle.book_tables.specs.writing.Writes.{new_last_id_text, new_month_text, new_totals_text}
 use Rattle.book_tables.proofs.KeptLemmas.{last_ids_changed, month_tenths_changed, shift_totals_changed}
 use Rattle.book_tables.proofs.ListLemmas.{contains_first}
 use Rattle.book_tables.proofs.OfficeTableLemmas.{last_ids_in, month_tenths_in, shift_totals_in}
@@ -34,15 +35,6 @@ use Rattle.book_tables.proofs.WritingLemmas.OnlyLemmas.{AreAmong, only_among}
 use Rattle.book_tables.proofs.WritingLemmas.WriteLemmas.{changes_only, only_one}
 
 -- ---- texts
-
-abbrev pub new_last_id_text : List ℕ
-new_last_id_text = codes "INSERT INTO last_ids (meter, base, tid) VALUES (?1, ?2, ?3)"
-
-abbrev pub new_month_text : List ℕ
-new_month_text = codes "INSERT INTO month_tenths (meter, month, tenths) VALUES (?1, ?2, ?3)"
-
-abbrev pub new_totals_text : List ℕ
-new_totals_text = codes "INSERT INTO shift_totals (shift, sales, tenths, cash) VALUES (?1, ?2, ?3, ?4)"
 
 abbrev pub three_terms : List Term
 three_terms = lit Null ∷ col 0 0 ∷ col 0 1 ∷ col 0 2 ∷ []

@@ -1,24 +1,31 @@
 -- Why a write of the office's tables fails.
-use Rattle.std.proofs.Common.{◌≡◌, ℕ, IfErr, IsErrAnd, Result, Ok, Err, ap, subst, sym, ◌∙◌}
+use Rattle.std.proofs.Common.{◌≡◌, ℕ, List, IsErrAnd, IsTrue, Some, Result, Ok, Err, ap, subst, sym, ◌∙◌}
 use Rattle.sqlite.specs.Order.{Row}
 use Rattle.sqlite.specs.State.{HasCleanDisk, KeepsCommit, State, Survives}
 use Rattle.sqlite.specs.declared.error.Error.{Error}
 use Rattle.sqlite_schema.specs.declared.command.Command.{Command}
+use Rattle.sqlite_schema.specs.declared.schema.Schema.{Schema}
 use Rattle.sqlite_schema.specs.declared.schema.Table.{Table}
 use Rattle.one_table.specs.InTransaction.{FailsToWrite, IsUnderWay}
-use Rattle.one_table.specs.Merges.{FailsToTouch, FailsToUpsert, Upserts, shown_row}
-use Rattle.one_table.specs.Upserting.{Merging}
+use Rattle.one_table.specs.Merges.{FailsToTouch, FailsToUpsert, StandsForUpserts, Upserts, shown_row}
+use Rattle.one_table.specs.Reading.{Means, MeansAs}
+use Rattle.one_table.specs.Upserting.{IsUpsert, Merging, returning_as, upsert_as}
 use Rattle.one_table.specs.declared.read_fault.ReadFault.{ReadFault}
 use Rattle.one_table.specs.declared.read_fault.ReadFault.TheVariants as fault
 use Rattle.one_table.proofs.ChangeLemmas.{transaction_off}
-use Rattle.book_tables.specs.reading.Reading.{FailsToMerge, FailsToStore, HasAllTables, told}
+use Rattle.one_table.proofs.UpsertTextLemmas.{means_upsert}
+use Rattle.book_tables.specs.reading.Reading.{HasAllTables, told}
+use Rattle.book_tables.specs.writing.Failing.{Ends, FailsToMerge, FailsToStore}
+use Rattle.book_tables.specs.writing.Writes.{Write}
 use Rattle.book_tables.specs.writing.Writing.{MergesTables}
 use Rattle.book_tables.specs.declared.error.TableError.{TableError}
 use Rattle.book_tables.specs.declared.error.TableError.TheVariants.{Database, RowOfNoOffice}
 
-pub fails_to_store : {A : Type 0} {old new : State} {e : Error} (command : Command) (params : Row) (r : Result A TableError) → IsErrAnd r (λ x. x ≡ Database e) → FailsToWrite command params old new e → IfErr r (FailsToStore old new)
-fails_to_store command params (Ok x) told fails = tt
-fails_to_store {old = old} {new = new} command params (Err x) told fails = subst (FailsToStore old new) (sym told) (command, params, fails)
+-- a write failed, which is told so
+pub fails_to_store : {A : Type 0} {old new : State} {e : Error} (w : Write) (command : Command) (r : Result A TableError) → IsErrAnd r (λ x. x ≡ Database e) → (IsTrue old.is_open → Means old.now.schema w.sql command) → FailsToWrite command w.params old new e
+    → Ends FailsToStore w old new r
+fails_to_store w command (Ok x) told means fails = absurd told
+fails_to_store {old = old} {new = new} w command (Err x) told means fails = (tt, subst (FailsToStore w old new) (sym told) (command, means, fails))
 
 pub same_error : {A : Type 0} (x y : TableError) → ◌≡◌ {A = Result A TableError} (Err x) (Err y) → x ≡ y
 same_error x y e = cc
@@ -28,11 +35,16 @@ pub handed_on : {A B : Type 0} (e y : TableError) (r : Result A TableError) → 
 handed_on e y (Ok x) is known = absurd is
 handed_on {B = B} e y (Err x) is known = ap (λ (z : TableError). let r : Result B TableError = Err z in r) (sym is ∙ same_error x y known)
 
+-- what the text of an upsert means
+pub means_merging : (sql : List ℕ) (s : Schema) (t : Table) (at : ℕ) (m : Merging) → IsUpsert t m sql → StandsForUpserts s at t → MeansAs s sql (upsert_as at t m) (Some (returning_as m))
+means_merging sql s t at m is k = (means_upsert s at t k.has k.keys m sql is).0
+
 -- an upsert failed, which is told so
-pub fails_to_merge : {A : Type 0} (old new : State) (t : Table) (m : Merging) (params : Row) (at : ℕ) (why : ReadFault) (r : Result A TableError) → IsErrAnd r (λ x. x ≡ told why) → FailsToTouch t m params old new at why → IfErr r (FailsToMerge old new)
-fails_to_merge old new t m params at why (Ok x) is fails = tt
-fails_to_merge old new t m params at (fault.Database e) (Err x) is fails = subst (FailsToMerge old new) (sym is) (t, m, params, at, fails)
-fails_to_merge old new t m params at fault.Row (Err x) is fails = subst (FailsToMerge old new) (sym is) (t, m, params, at, fails)
+pub fails_to_merge : {A : Type 0} (old new : State) (w : Write) (t : Table) (m : Merging) (at : ℕ) (why : ReadFault) (r : Result A TableError) → IsErrAnd r (λ x. x ≡ told why)
+    → (IsTrue old.is_open → MeansAs old.now.schema w.sql (upsert_as at t m) (Some (returning_as m))) → FailsToTouch t m w.params old new at why → Ends FailsToMerge w old new r
+fails_to_merge old new w t m at why (Ok x) is means fails = absurd is
+fails_to_merge old new w t m at (fault.Database e) (Err x) is means fails = (tt, subst (FailsToMerge w old new) (sym is) (record { table = t; merging = m; at = at; means = means; fails = fails }))
+fails_to_merge old new w t m at fault.Row (Err x) is means fails = (tt, subst (FailsToMerge w old new) (sym is) (record { table = t; merging = m; at = at; means = means; fails = fails }))
 
 -- it is told that a row is no office's only where what is shown of the row that was written is none
 pub false_row : {A : Type 0} {old new : State} (t : Table) (m : Merging) (params : Row) (at : ℕ) (IsReadable : Row → Type 0) (why : ReadFault) (r : Result A TableError) → IsErrAnd r (λ x. x ≡ told why) → FailsToUpsert t m params old new at IsReadable why
@@ -42,11 +54,11 @@ false_row t m params at IsReadable (fault.Database e) (Err x) is fails known = a
 false_row t m params at IsReadable fault.Row (Err x) is fails known = fails
 
 -- what is left of the tables where a write that answers something fails, and why it does
-pub merge_off : {T : Type 0} {Makes : T → State → State → Type 0} {old new : State} (e : TableError) (r : Result T TableError) → IsErrAnd r (λ x. x ≡ e) → (HasCleanDisk new → IsUnderWay old → KeepsCommit old new) → Survives old new (λ _. ⊥)
-    → (HasCleanDisk new → IsUnderWay old → HasAllTables old → FailsToMerge old new e) → MergesTables Makes old new r
+pub merge_off : {T : Type 0} {w : Write} {Makes : T → State → State → Type 0} {old new : State} (e : TableError) (r : Result T TableError) → IsErrAnd r (λ x. x ≡ e) → (HasCleanDisk new → IsUnderWay old → KeepsCommit old new) → Survives old new (λ _. ⊥)
+    → (HasCleanDisk new → IsUnderWay old → HasAllTables old → FailsToMerge w old new e) → MergesTables w Makes old new r
 merge_off e (Ok x) is kept survives fails = absurd is
-merge_off {old = old} {new = new} e (Err x) is kept survives fails = record {
+merge_off {w = w} {old = old} {new = new} e (Err x) is kept survives fails = record {
   made = λ clean way has. tt;
   transaction = transaction_off e (Err x) is kept survives;
-  refused = λ clean way has. subst (FailsToMerge old new) (sym is) (fails clean way has);
+  ends = λ clean way has. (tt, subst (FailsToMerge w old new) (sym is) (fails clean way has));
 }

@@ -1,12 +1,16 @@
 -- What the rows are after a tariff with its steps was added, row by row.
-use Rattle.std.proofs.Common.{◌≡◌, ℕ, ◌+◌, List, [], ◌∷◌, ◌++◌, length, map, codes, sym, ap, subst, ◌∙◌, arith, append-nil, append_assoc}
+use Rattle.std.proofs.Common.{◌≡◌, ℕ, ◌+◌, pos, List, [], ◌∷◌, ◌++◌, length, map, codes, sym, ap, subst, ◌∙◌, arith, append-nil, append_assoc}
 use Rattle.std.specs.List.{enumerate_from}
+use Rattle.sqlite.specs.Effect.{Database}
 use Rattle.sqlite.specs.State.{State}
+use Rattle.sqlite_value.specs.declared.value.Value.TheVariants.{Int, Text}
 use Rattle.tariff.specs.declared.step.Step.{Step}
 use Rattle.book_tables.specs.writing.Edited.{step_rows}
 use Rattle.book_tables.specs.Holds.{Holds}
 use Rattle.book_tables.specs.row.Rows.{StepRow}
 use Rattle.book_tables.specs.writing.Writing.{AddsName, AddsStep, AddsTariff, WritesOnly}
+use Rattle.book_tables.specs.writing.Keeping.{KeepsRows, Keys, name_key, step_key, tariff_keys}
+use Rattle.book_tables.proofs.WritingLemmas.KeepingLemmas.{fewer_parts, keeps_both, keeps_more, own_left, own_right}
 use Rattle.book_tables.proofs.WritingLemmas.OnlyLemmas.{only_among, only_both}
 
 -- ---- lists
@@ -32,15 +36,25 @@ then_second old mid new first second = only_both both old mid new first (only_am
 
 -- ---- a tariff
 
-rows_are : (name : List ℕ) (xs : List Step) (s : Step) → step_rows name (xs ++ s ∷ []) ≡ step_rows name xs ++ record { tariff = name; place = length xs; step = s } ∷ []
+pub rows_are : (name : List ℕ) (xs : List Step) (s : Step) → step_rows name (xs ++ s ∷ []) ≡ step_rows name xs ++ record { tariff = name; place = length xs; step = s } ∷ []
 rows_are name xs s =
     let here : 0 + length xs ≡ length xs = omega arith in
     rows_more name 0 xs s ∙ ap (λ (n : ℕ). step_rows name xs ++ record { tariff = name; place = n; step = s } ∷ []) here
+
+-- the steps of the tariff, and one of them
+abbrev of_steps : List ℕ → Keys
+of_steps name = (codes "tariff_steps", (1, Text name) ∷ []) ∷ []
+
+step_of : (name : List ℕ) (place : ℕ) (s : Step) (a b : Database) → KeepsRows (step_key (record { tariff = name; place = place; step = s })) a b → KeepsRows (tariff_keys name) a b
+step_of name place s a b kept =
+    keeps_more (of_steps name) (tariff_keys name) (own_right (name_key name) (of_steps name)) a b
+    (keeps_more (step_key (record { tariff = name; place = place; step = s })) (of_steps name) (fewer_parts (codes "tariff_steps") ((1, Text name) ∷ []) ((2, Int (pos place)) ∷ [])) a b kept)
 
 -- with no steps so far
 pub adds_none : (name : List ℕ) (old new : State) → AddsName name old new → AddsTariff name [] old new
 adds_none name old new adds = record {
   only = first_only old new adds.only;
+  kept = keeps_more (name_key name) (tariff_keys name) (own_left (name_key name) (of_steps name)) old.now new.now adds.kept;
   rows = λ rows held.
       let none : rows.steps ++ [] ≡ rows.steps = append-nil rows.steps in
       subst (λ (l : List StepRow). Holds new.now (record rows { tariffs = rows.tariffs ++ name ∷ []; steps = l })) (sym none) (adds.rows rows held);
@@ -49,6 +63,7 @@ adds_none name old new adds = record {
 adds_at_end : (name : List ℕ) (xs : List Step) (s : Step) (old mid new : State) → AddsTariff name xs old mid → AddsStep (record { tariff = name; place = length xs; step = s }) mid new → AddsTariff name (xs ++ s ∷ []) old new
 adds_at_end name xs s old mid new first second = record {
   only = then_second old mid new first.only second.only;
+  kept = keeps_both (tariff_keys name) old.now mid.now new.now first.kept (step_of name (length xs) s mid.now new.now second.kept);
   rows = λ rows held.
       let both = second.rows (record rows { tariffs = rows.tariffs ++ name ∷ []; steps = rows.steps ++ step_rows name xs }) (first.rows rows held) in
       let steps : (rows.steps ++ step_rows name xs) ++ record { tariff = name; place = length xs; step = s } ∷ [] ≡ rows.steps ++ step_rows name (xs ++ s ∷ []) =

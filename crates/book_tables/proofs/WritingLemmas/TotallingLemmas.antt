@@ -4,7 +4,7 @@ use Rattle.std.specs.Prelude.{◌==◌}
 use Rattle.std.specs.List.{AllByRecursion}
 use Rattle.sqlite.specs.Order.{Row}
 use Rattle.sqlite.specs.State.{State}
-use Rattle.sqlite_value.specs.declared.value.Value.TheVariants.{Int, Null}
+use Rattle.sqlite_value.specs.declared.value.Value.TheVariants.{Int, Null, Text}
 use Rattle.sqlite_value.proofs.OrderLemmas.{value_cmp-Int}
 use Rattle.sqlite_trees.specs.Tree.{rowid}
 use Rattle.sqlite_trees.specs.View.{is_int}
@@ -37,6 +37,15 @@ use Rattle.book_tables.specs.writing.Writing.{AddsTenths, AddsToShift, HasRoomFo
 use Rattle.book_tables.specs.declared.row.total_records.Tenths.{Tenths}
 use Rattle.book_tables.specs.declared.row.total_records.Tid.{Tid}
 use Rattle.book_tables.specs.declared.row.totals.Totals.{Totals}
+use Rattle.sqlite_rules.specs.declared.error.Rowids.TheVariants.{Chosen}
+use Rattle.sqlite_rules.specs.Cast.{cast_row}
+use Rattle.sqlite_rules.specs.Edit.{next_rowid, with_rowid}
+use Rattle.sqlite_value.specs.declared.value.Value.{Value}
+use Rattle.sqlite_value.specs.Order.{column}
+use Rattle.one_table.specs.Merges.{given_row, set_row}
+use Rattle.book_tables.specs.reading.Reading.{HasAllTables}
+use Rattle.book_tables.specs.writing.Keeping.{has_key, last_id_key, shift_totals_key}
+use Rattle.book_tables.proofs.WritingLemmas.KeepingLemmas.{has_values, keeps_merge, number_found, number_kept, own_number_kept, own_of_key, pair_found, pair_kept}
 use Rattle.book_tables.proofs.KeptLemmas.{last_ids_changed, month_tenths_changed, shift_totals_changed}
 use Rattle.book_tables.proofs.OfficeTableLemmas.{last_ids_in, month_tenths_in, shift_totals_in}
 use Rattle.book_tables.proofs.RowLemmas.RecordLemmas.{one_number}
@@ -227,12 +236,22 @@ module _ (old new : State) where
       pub tid_is_shown : IsTid tid → ((row : Row) × (¬ ShowsRecord (λ (t : Tid). shown_number t.number) (λ (t : Tid). IsTid t.number) (shown_row last_ids last_id_merging params row)) × Upserts last_ids last_id_merging params old new row) → ⊥
       tid_is_shown small (row, unread, merged) = unread (record { number = tid }, (sym (tid_shown row merged), small))
 
-    pub sets_last_id : (params : Row) → params ≡ last_id_columns (base_key, tid) → Touches last_ids last_id_merging params old new
+    pub sets_last_id : HasAllTables old → (params : Row) → params ≡ last_id_columns (base_key, tid) → Touches last_ids last_id_merging params old new
         → ((IsTrue old.is_open → TakesUpserts old.now last_ids_at last_ids) → (row : Row) × Upserts last_ids last_id_merging params old new row) → SetsLastId base_key tid old new
-    sets_last_id params bound touches merged =
+    sets_last_id has_all params bound touches merged =
         let only = only_one (codes "last_ids") last_ids touches.0 old new refl touches.1 in
         record {
           only = only;
+          kept = λ order.
+              let it = merged (λ runs. takes last_ids_kept old (last_ids_in.there old.now.schema (has_all runs)) order.0) in
+              let given : given_row last_ids last_id_merging params (old.now.trees last_ids.tree) ≡ with_rowid Chosen (old.now.trees last_ids.tree) (Null ∷ last_id_columns (base_key, tid)) =
+              ap (λ (p : Row). given_row last_ids last_id_merging p (old.now.trees last_ids.tree)) bound ∙ ap (with_rowid Chosen (old.now.trees last_ids.tree)) ((sets_tid []).source) in
+              keeps_merge (last_id_key base_key) old new last_ids_kept last_ids_in has_all last_id_merging params it.0 it.1 (changes_only (codes "last_ids") old new only) (was_open it.1)
+              (own_of_key (codes "last_ids") ((1, Text meter) ∷ (2, Int (pos (year_of base))) ∷ []) (cast_row last_ids (given_row last_ids last_id_merging params (old.now.trees last_ids.tree))) (ap (λ (r : Row). has_key ((1, Text meter) ∷ (2, Int (pos (year_of base))) ∷ []) (cast_row last_ids r)) given
+              ∙ has_values ((1, Text meter) ∷ (2, Int (pos (year_of base))) ∷ []) (cast_row last_ids (with_rowid Chosen (old.now.trees last_ids.tree) (Null ∷ last_id_columns (base_key, tid)))) (refl, (cast_int (pos (year_of base)), tt))))
+              (subst (λ (r : Row). IsTrue (is_int (rowid (cast_row last_ids r)))) (sym given) (subst (λ (v : Value). IsTrue (is_int v)) (sym (cast_int (next_rowid (old.now.trees last_ids.tree)))) refl))
+              (λ r found. pair_found (codes "last_ids") meter (year_of base) (given_row last_ids last_id_merging params (old.now.trees last_ids.tree)) r (ap (λ (g : Row). column g 1) given) (ap (λ (g : Row). column g 2) given) found)
+              (λ r is_number own. (pair_kept (codes "last_ids") meter (year_of base) r (set_row last_ids last_id_merging params (old.now.trees last_ids.tree) r) refl refl own, number_kept (rowid r) is_number)) order;
           rows = λ format rows has held are.
               let it = merged (takes_last_id params bound format rows (λ _. held) has are) in
               let after = last_id_after params bound format rows (λ _. held) has are it.0 it.1 in
@@ -290,13 +309,23 @@ module _ (old new : State) where
           → ((row : Row) × (¬ ShowsRecord (λ (t : Tenths). shown_number t.sum) (λ (t : Tenths). IsTotal t.sum) (shown_row month_tenths tenths_merging params row)) × Upserts month_tenths tenths_merging params old new row) → ⊥
       sum_is_shown small (row, unread, merged) = unread (record { sum = sum_of (has month_key) }, (sym (sum_shown row merged), small))
 
-    pub adds_tenths : (shown : Tenths) (params : Row) → params ≡ month_columns (month_key, tenths) → Touches month_tenths tenths_merging params old new
+    pub adds_tenths : HasAllTables old → (shown : Tenths) (params : Row) → params ≡ month_columns (month_key, tenths) → Touches month_tenths tenths_merging params old new
         → ((IsTrue old.is_open → TakesUpserts old.now month_tenths_at month_tenths) → (row : Row) × IsShown (λ (t : Tenths). shown_number t.sum) (λ (t : Tenths). IsTotal t.sum) (shown_row month_tenths tenths_merging params row) shown
         × Upserts month_tenths tenths_merging params old new row) → AddsTenths month_key tenths shown.sum old new
-    adds_tenths shown params bound touches merged =
+    adds_tenths has_all shown params bound touches merged =
         let only = only_one (codes "month_tenths") month_tenths touches.0 old new refl touches.1 in
         record {
           only = only;
+          kept = λ order.
+              let it = merged (λ runs. takes month_tenths_kept old (month_tenths_in.there old.now.schema (has_all runs)) order.0) in
+              let given : given_row month_tenths tenths_merging params (old.now.trees month_tenths.tree) ≡ with_rowid Chosen (old.now.trees month_tenths.tree) (Null ∷ month_columns (month_key, tenths)) =
+              ap (λ (p : Row). given_row month_tenths tenths_merging p (old.now.trees month_tenths.tree)) bound ∙ ap (with_rowid Chosen (old.now.trees month_tenths.tree)) ((adds_these [] (λ r none met. absurd none)).source) in
+              keeps_merge ((codes "month_tenths", (1, Text meter) ∷ (2, Int (pos month)) ∷ []) ∷ []) old new month_tenths_kept month_tenths_in has_all tenths_merging params it.0 it.2 (changes_only (codes "month_tenths") old new only) (was_open it.2)
+              (own_of_key (codes "month_tenths") ((1, Text meter) ∷ (2, Int (pos month)) ∷ []) (cast_row month_tenths (given_row month_tenths tenths_merging params (old.now.trees month_tenths.tree))) (ap (λ (r : Row). has_key ((1, Text meter) ∷ (2, Int (pos month)) ∷ []) (cast_row month_tenths r)) given
+              ∙ has_values ((1, Text meter) ∷ (2, Int (pos month)) ∷ []) (cast_row month_tenths (with_rowid Chosen (old.now.trees month_tenths.tree) (Null ∷ month_columns (month_key, tenths)))) (refl, (cast_int (pos month), tt))))
+              (subst (λ (r : Row). IsTrue (is_int (rowid (cast_row month_tenths r)))) (sym given) (subst (λ (v : Value). IsTrue (is_int v)) (sym (cast_int (next_rowid (old.now.trees month_tenths.tree)))) refl))
+              (λ r found. pair_found (codes "month_tenths") meter month (given_row month_tenths tenths_merging params (old.now.trees month_tenths.tree)) r (ap (λ (g : Row). column g 1) given) (ap (λ (g : Row). column g 2) given) found)
+              (λ r is_number own. (pair_kept (codes "month_tenths") meter month r (set_row month_tenths tenths_merging params (old.now.trees month_tenths.tree) r) refl refl own, number_kept (rowid r) is_number)) order;
           rows = λ format rows has held are low.
               let it = merged (takes_tenths params bound format rows (λ _. held) has are low) in
               let after = tenths_after params bound format rows (λ _. held) has are low it.0 it.2 in (
@@ -369,13 +398,23 @@ module _ (old new : State) where
       pub totals_are_shown : AreTotalsValues (totals_after (has shift)) → ((row : Row) × (¬ ShowsRecord shown_totals AreTotalsValues (shown_row shift_totals totals_merging params row)) × Upserts shift_totals totals_merging params old new row) → ⊥
       totals_are_shown small (row, unread, merged) = unread (totals_after (has shift), (sym (totals_shown row merged), small))
 
-    pub adds_to_shift : (shown : Totals) (params : Row) → params ≡ sale_params → Touches shift_totals totals_merging params old new
+    pub adds_to_shift : HasAllTables old → (shown : Totals) (params : Row) → params ≡ sale_params → Touches shift_totals totals_merging params old new
         → ((IsTrue old.is_open → TakesUpserts old.now shift_totals_at shift_totals) → (row : Row) × IsShown shown_totals AreTotalsValues (shown_row shift_totals totals_merging params row) shown
         × Upserts shift_totals totals_merging params old new row) → AddsToShift shift tenths price shown old new
-    adds_to_shift shown params bound touches merged =
+    adds_to_shift has_all shown params bound touches merged =
         let only = only_one (codes "shift_totals") shift_totals touches.0 old new refl touches.1 in
         record {
           only = only;
+          kept = λ order.
+              let it = merged (λ runs. takes shift_totals_kept old (shift_totals_in.there old.now.schema (has_all runs)) order.0) in
+              let given : given_row shift_totals totals_merging params (old.now.trees shift_totals.tree) ≡ totals_row (shift, first_totals) =
+              ap (λ (p : Row). given_row shift_totals totals_merging p (old.now.trees shift_totals.tree)) bound ∙ (adds_one [] (λ r none met. absurd none)).gives in
+              keeps_merge (shift_totals_key shift) old new shift_totals_kept shift_totals_in has_all totals_merging params it.0 it.2 (changes_only (codes "shift_totals") old new only) (was_open it.2)
+              (own_of_key (codes "shift_totals") ((0, Int (pos shift)) ∷ []) (cast_row shift_totals (given_row shift_totals totals_merging params (old.now.trees shift_totals.tree))) (ap (λ (r : Row). has_key ((0, Int (pos shift)) ∷ []) (cast_row shift_totals r)) given
+              ∙ has_values ((0, Int (pos shift)) ∷ []) (cast_row shift_totals (totals_row (shift, first_totals))) (cast_int (pos shift), tt)))
+              (subst (λ (r : Row). IsTrue (is_int (rowid (cast_row shift_totals r)))) (sym given) (subst (λ (v : Value). IsTrue (is_int v)) (sym (cast_int (pos shift))) refl))
+              (λ r found. number_found (codes "shift_totals") shift (given_row shift_totals totals_merging params (old.now.trees shift_totals.tree)) r (ap (λ (g : Row). column g 0) given) found)
+              (λ r is_number own. let same = number_kept (rowid r) is_number in (own_number_kept (codes "shift_totals") shift r (set_row shift_totals totals_merging params (old.now.trees shift_totals.tree) r) same own, same)) order;
           rows = λ format rows has held are up room.
               let it = merged (takes_totals params bound format rows (λ _. held) has are up room) in
               let after = shift_after params bound format rows (λ _. held) has are up room it.0 it.2 in (

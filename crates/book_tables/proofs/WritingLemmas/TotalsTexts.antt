@@ -15,16 +15,15 @@ use Rattle.one_table.specs.Reading.{is_whole, meant, select_meant, text_meant}
 use Rattle.one_table.specs.Upserting.{IsUpsert, Merging, set_meant, shown_meant, upsert_by, upsert_in, upsert_meant}
 use Rattle.book_tables.specs.row.Rows.{number}
 use Rattle.book_tables.specs.Tables.{last_ids_table, month_tenths_table, shift_totals_table}
+use Rattle.book_tables.specs.writing.Writes.{last_id_set_text, sale_counted_text, tenths_added_text}
 use Rattle.book_tables.proofs.ReadingLemmas.ReadLemmas.{Asks}
+pub use Rattle.book_tables.specs.reading.Questions.{last_id_text, month_tenths_text, shift_totals_text}
 
 -- ---- what is read by a key
 
 -- a text and a number are these
 abbrev is_that_pair : List Term
 is_that_pair = op2 (Compare Eq Binary) (col 1 1) (col 0 0) ∷ op2 (Compare Eq Binary) (col 1 2) (col 0 1) ∷ []
-
-abbrev pub last_id_text : List ℕ
-last_id_text = codes "SELECT tid FROM last_ids WHERE meter = ?1 AND base = ?2"
 
 abbrev pub last_id_query : ℕ → Query
 last_id_query tree = query_on tree is_that_pair (col 1 3 ∷ []) [] no_limit
@@ -37,9 +36,6 @@ unfolding everything is_whole meant select_meant text_meant
 last_id_asks meter year =
     record { is = λ tree. record { means = refl; from = refl }; bare = λ tree. refl; typed = λ tree. refl; whole = refl }
 
-abbrev pub month_tenths_text : List ℕ
-month_tenths_text = codes "SELECT tenths FROM month_tenths WHERE meter = ?1 AND month = ?2"
-
 abbrev pub month_tenths_query : ℕ → Query
 month_tenths_query tree = query_on tree is_that_pair (col 1 3 ∷ []) [] no_limit
 
@@ -50,9 +46,6 @@ pub month_tenths_asks : (meter : List ℕ) (month : ℕ) → Asks month_tenths_t
 unfolding everything is_whole meant select_meant text_meant
 month_tenths_asks meter month =
     record { is = λ tree. record { means = refl; from = refl }; bare = λ tree. refl; typed = λ tree. refl; whole = refl }
-
-abbrev pub shift_totals_text : List ℕ
-shift_totals_text = codes "SELECT sales, tenths, cash FROM shift_totals WHERE shift = ?1"
 
 abbrev pub shift_totals_query : ℕ → Query
 shift_totals_query tree =
@@ -79,10 +72,6 @@ third_set name set = record {
   shown = col 0 7 ∷ [];
 }
 
-abbrev pub last_id_set_text : List ℕ
-last_id_set_text =
-    codes "INSERT INTO last_ids (meter, base, tid) VALUES (?1, ?2, ?3) ON CONFLICT (meter, base) DO UPDATE SET tid = excluded.tid RETURNING tid"
-
 abbrev pub last_id_merging : Merging
 last_id_merging = third_set (codes "tid") (col 0 7)
 
@@ -94,10 +83,6 @@ pub last_id_set_whole : is_whole last_id_set_text 3 ≡ true
 unfolding everything is_whole
 last_id_set_whole = refl
 
-abbrev pub tenths_added_text : List ℕ
-tenths_added_text =
-    codes "INSERT INTO month_tenths (meter, month, tenths) VALUES (?1, ?2, ?3) ON CONFLICT (meter, month) DO UPDATE SET tenths = tenths + excluded.tenths RETURNING tenths"
-
 abbrev pub tenths_merging : Merging
 tenths_merging = third_set (codes "tenths") (op2 (Arith Add) (col 1 3) (col 0 7))
 
@@ -108,10 +93,6 @@ tenths_added_means tree = record { means = refl; whole = refl; shows_some = refl
 pub tenths_added_whole : is_whole tenths_added_text 3 ≡ true
 unfolding everything is_whole
 tenths_added_whole = refl
-
-abbrev pub sale_counted_text : List ℕ
-sale_counted_text =
-    codes "INSERT INTO shift_totals (shift, sales, tenths, cash) VALUES (?1, 1, ?2, ?3) ON CONFLICT (shift) DO UPDATE SET sales = sales + 1, tenths = tenths + excluded.tenths, cash = cash + excluded.cash RETURNING sales, tenths, cash"
 
 abbrev pub totals_merging : Merging
 totals_merging = record {

@@ -10,6 +10,19 @@ use Rattle.sqlite_schema.specs.declared.schema.Kind.TheVariants.{Integer}
 use Rattle.sqlite_typed.proofs.TestLemmas.{last_term}
 use Rattle.one_table.specs.InTransaction.{SetsRows}
 use Rattle.one_table.specs.Updating.{Sets}
+use Rattle.std.proofs.Common.{IsTrue, true, ◌&&◌}
+use Rattle.std.specs.List.{list_all}
+use Rattle.std.proofs.lemmas.Bool.{and_parts}
+use Rattle.sqlite_value.specs.declared.keys.Collation.TheVariants.{Binary}
+use Rattle.sqlite_value.specs.declared.value.Value.TheVariants.{Null}
+use Rattle.sqlite_value.specs.Order.{column}
+use Rattle.sqlite_sql.specs.declared.ops.BinaryOp.TheVariants.{Compare}
+use Rattle.sqlite_sql.specs.declared.ops.CompareOp.TheVariants.{Eq}
+use Rattle.sqlite_sql.specs.Ops.{binary, is_true}
+use Rattle.sqlite_sql.specs.Term.{Term, col, eval_all, holds, lit}
+use Rattle.sqlite_rules.specs.Cast.{cast_row}
+use Rattle.sqlite_trees.specs.Tree.{rowid}
+use Rattle.sqlite_trees.specs.View.{is_int}
 use Rattle.one_table.proofs.TestsLemmas.{number_is}
 use Rattle.one_table.proofs.UpdateLemmas.{sets_listed}
 use Rattle.vend_core.specs.Decision.Fold.{closed_at}
@@ -38,6 +51,11 @@ use Rattle.sts_fields.specs.Calendar.{month_at}
 use Rattle.book_tables.specs.row.Rows.{sale_columns, sale_row}
 use Rattle.book_tables.specs.Tables.{sales_table}
 use Rattle.book_tables.specs.writing.Writing.{AddsSale, IsNextNumber, WritesOnly}
+use Rattle.book_tables.specs.Kept.{sales_kept, shifts_kept}
+use Rattle.book_tables.specs.reading.Reading.{HasAllTables}
+use Rattle.book_tables.specs.writing.Keeping.{is_own, shift_key}
+use Rattle.book_tables.proofs.OfficeTableLemmas.{sales_in, shifts_in}
+use Rattle.book_tables.proofs.WritingLemmas.KeepingLemmas.{compares, keeps_new, keeps_set, number_kept, own_number_kept, own_of_key}
 use Rattle.book_tables.proofs.KeptLemmas.{ChangesOnly, sales_changed}
 use Rattle.book_tables.proofs.WritingLemmas.WriteTexts.{new_sale_terms}
 
@@ -119,18 +137,20 @@ module _ (old new : State) (s : Sale) (params : Row) (bound : params ≡ sale_co
   abbrev sales : Table
   sales = sales_table (tree_in old.now.schema (codes "sales"))
 
-  pub adds_sale : PutsRow sales (new_row sales new_sale_terms params (old.now.trees sales.tree)) old new → AddsSale s old new
-  adds_sale h =
+  pub adds_sale : HasAllTables old → PutsRow sales (new_row sales new_sale_terms params (old.now.trees sales.tree)) old new → AddsSale s old new
+  adds_sale has h =
       let only = only_one (codes "sales") sales _ old new refl h.changed in
+      let kept = changes_only (codes "sales") old new only in
+      let row : new_row sales new_sale_terms params (old.now.trees sales.tree) ≡ sale_row s =
+      ap (λ (p : Row). new_row sales new_sale_terms p (old.now.trees sales.tree)) bound ∙ sale_is sales.tree s (old.now.trees sales.tree) in
       record {
         only = only;
+        kept = keeps_new ((0, Int (pos s.number)) ∷ []) old new sales_kept sales_in has _ (sale_row s) h kept row refl (refl, tt);
         rows = λ rows held next.
-            let row : new_row sales new_sale_terms params (old.now.trees sales.tree) ≡ sale_row s =
-            ap (λ (p : Row). new_row sales new_sale_terms p (old.now.trees sales.tree)) bound ∙ sale_is sales.tree s (old.now.trees sales.tree) in
             let put = h.changed.rows_are ∙ ap (λ (r : Row). put_row r (old.now.trees sales.tree)) row
             ∙ ap (put_row (sale_row s)) held.are.1.1.1.1.1.0
             ∙ appends (λ (x : Sale). pos x.number) sale_row (λ x. refl) rows.sales s (numbers_rise (λ (x : Sale). x.number) rows.sales next.numbered) (next_number (λ (x : Sale). x.number) rows.sales s.number next) in
-            sales_changed present_format old.now new.now rows held (rows.sales ++ s ∷ []) (changes_only (codes "sales") old new only) put;
+            sales_changed present_format old.now new.now rows held (rows.sales ++ s ∷ []) kept put;
       }
 
 -- ---- a new shift
@@ -142,17 +162,19 @@ module _ (old new : State) where
   abbrev shifts : Table
   shifts = shifts_table (tree_in old.now.schema (codes "shifts"))
 
-  pub adds_shift : (s : Shift) (params : Row) → params ≡ shift_columns s → PutsRow shifts (new_row shifts new_shift_terms params (old.now.trees shifts.tree)) old new → AddsShift s old new
-  adds_shift s params bound h =
+  pub adds_shift : HasAllTables old → (s : Shift) (params : Row) → params ≡ shift_columns s → PutsRow shifts (new_row shifts new_shift_terms params (old.now.trees shifts.tree)) old new → AddsShift s old new
+  adds_shift has s params bound h =
       let only = only_one (codes "shifts") shifts _ old new refl h.changed in
+      let kept = changes_only (codes "shifts") old new only in
+      let row : new_row shifts new_shift_terms params (old.now.trees shifts.tree) ≡ shift_row s =
+      ap (λ (p : Row). new_row shifts new_shift_terms p (old.now.trees shifts.tree)) bound ∙ shift_is shifts.tree s (old.now.trees shifts.tree) in
       record {
         only = only;
+        kept = keeps_new ((0, Int (pos s.number)) ∷ []) old new shifts_kept shifts_in has _ (shift_row s) h kept row refl (refl, tt);
         rows = λ rows held next.
-            let row : new_row shifts new_shift_terms params (old.now.trees shifts.tree) ≡ shift_row s =
-            ap (λ (p : Row). new_row shifts new_shift_terms p (old.now.trees shifts.tree)) bound ∙ shift_is shifts.tree s (old.now.trees shifts.tree) in
             let put = h.changed.rows_are ∙ ap (λ (r : Row). put_row r (old.now.trees shifts.tree)) row ∙ ap (put_row (shift_row s)) held.are.1.1.1.1.0
             ∙ appends (λ (x : Shift). pos x.number) shift_row (λ x. refl) rows.shifts s (numbers_rise (λ (x : Shift). x.number) rows.shifts next.numbered) (next_number (λ (x : Shift). x.number) rows.shifts s.number next) in
-            shifts_changed present_format old.now new.now rows held (rows.shifts ++ s ∷ []) (changes_only (codes "shifts") old new only) put;
+            shifts_changed present_format old.now new.now rows held (rows.shifts ++ s ∷ []) kept put;
       }
 
   -- ---- a shift that is closed
@@ -169,15 +191,30 @@ module _ (old new : State) where
     stays = λ s. refl;
   }
 
-  pub closes_shift : (number moment : ℕ) (params : Row) → params ≡ Int (pos number) ∷ Int (pos moment) ∷ [] → SetsRows shifts (shift_closed_query shifts.tree) params old new → ClosesShift number moment old new
-  closes_shift number moment params bound h =
+  abbrev closed_row : List Term
+  closed_row = col 1 0 ∷ lit Null ∷ col 1 2 ∷ col 1 3 ∷ col 0 1 ∷ []
+
+  -- what is closed has the number, and keeps it
+  closes_own : (number moment : ℕ) (r : Row) → list_all (holds ((Int (pos number) ∷ Int (pos moment) ∷ []) ∷ r ∷ [])) is_that_shift ≡ true → is_own (shift_key number) (codes "shifts") r ≡ true
+  closes_own number moment r found = own_of_key (codes "shifts") ((0, Int (pos number)) ∷ []) r
+      (ap (λ (b : Bool). b && true) (compares (column r 0) (Int (pos number)) (and_parts (is_true (binary (Compare Eq Binary) (column r 0) (Int (pos number)))) true found).0))
+
+  closed_own : (number moment : ℕ) (r : Row) → IsTrue (is_int (rowid r)) → is_own (shift_key number) (codes "shifts") r ≡ true
+      → (is_own (shift_key number) (codes "shifts") (cast_row shifts (eval_all closed_row ((Int (pos number) ∷ Int (pos moment) ∷ []) ∷ r ∷ []))) ≡ true)
+      × (rowid (cast_row shifts (eval_all closed_row ((Int (pos number) ∷ Int (pos moment) ∷ []) ∷ r ∷ []))) ≡ rowid r)
+  closed_own number moment r is_number own = let same = number_kept (rowid r) is_number in (own_number_kept (codes "shifts") number r (cast_row shifts (eval_all closed_row ((Int (pos number) ∷ Int (pos moment) ∷ []) ∷ r ∷ []))) same own, same)
+
+  pub closes_shift : HasAllTables old → (number moment : ℕ) (params : Row) → params ≡ Int (pos number) ∷ Int (pos moment) ∷ [] → SetsRows shifts (shift_closed_query shifts.tree) params old new → ClosesShift number moment old new
+  closes_shift has number moment params bound h =
       let set = subst (λ (p : Row). SetsRows shifts (shift_closed_query shifts.tree) p old new) bound h in
       let only = only_one (codes "shifts") shifts _ old new refl set.changed in
+      let kept = changes_only (codes "shifts") old new only in
       record {
         only = only;
+        kept = keeps_set (shift_key number) old new shifts_kept shifts_in has is_that_shift closed_row (Int (pos number) ∷ Int (pos moment) ∷ []) set kept (closes_own number moment) (closed_own number moment);
         rows = λ rows held numbered.
             let one : length (filter (is_that number) rows.shifts) ≤ 1 = subst (λ (l : List Shift). length l ≤ 1) (sym (found_numbered (λ (s : Shift). s.number) rows.shifts number numbered)) (few (find (is_that number) rows.shifts)) in
             let changed = sets_listed shifts is_that_shift shift_closed_terms (Int (pos number) ∷ Int (pos moment) ∷ []) (λ (s : Shift). pos s.number) shift_row (is_that number) (closed_at moment) (closing number moment)
             old new rows.shifts set held.are.1.1.1.1.0 (numbers_rise (λ (s : Shift). s.number) rows.shifts numbered) one in
-            shifts_changed present_format old.now new.now rows held (map (shift_closed number moment) rows.shifts) (changes_only (codes "shifts") old new only) changed.rows_are;
+            shifts_changed present_format old.now new.now rows held (map (shift_closed number moment) rows.shifts) kept changed.rows_are;
       }

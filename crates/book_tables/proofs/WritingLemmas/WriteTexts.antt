@@ -13,12 +13,9 @@ use Rattle.one_table.specs.Listed.{no_limit, query_on}
 use Rattle.one_table.specs.Reading.{is_whole}
 use Rattle.one_table.specs.Inserting.{IsInsert, insert_in, insert_meant, puts_meant}
 use Rattle.book_tables.specs.Tables.{meters_table, sales_table, shifts_table, tariff_steps_table, tariffs_table}
+use Rattle.book_tables.specs.writing.Writes.{new_meter_text, new_sale_text, new_shift_text, new_step_text, new_tariff_text, shift_closed_text, tariff_set_text}
 
 -- ---- a new sale
-
-abbrev pub new_sale_text : List ℕ
-new_sale_text =
-    codes "INSERT INTO sales (number, moment, month, shift, operator, ref, meter, base, tid, rnd, tenths, price, tender, digits) VALUES (?1, ?2, ?3, ?4, ?5, ?6, ?7, ?8, ?9, ?10, ?11, ?12, ?13, ?14)"
 
 abbrev pub new_sale_terms : List Term
 new_sale_terms =
@@ -34,9 +31,6 @@ new_sale_whole = refl
 
 -- ---- a new shift, and its closing
 
-abbrev pub new_shift_text : List ℕ
-new_shift_text = codes "INSERT INTO shifts (number, operator, opened, closed) VALUES (?1, ?2, ?3, ?4)"
-
 abbrev pub new_shift_terms : List Term
 new_shift_terms = col 0 0 ∷ lit Null ∷ col 0 1 ∷ col 0 2 ∷ col 0 3 ∷ []
 
@@ -47,9 +41,6 @@ new_shift_means tree = record { means = refl; whole = refl; uncounted = refl; un
 pub new_shift_whole : is_whole new_shift_text 4 ≡ true
 unfolding everything is_whole
 new_shift_whole = refl
-
-abbrev pub shift_closed_text : List ℕ
-shift_closed_text = codes "UPDATE shifts SET closed = ?2 WHERE number = ?1"
 
 abbrev pub is_that_shift : List Term
 is_that_shift = op2 (Compare Eq Binary) (col 1 0) (col 0 0) ∷ []
@@ -70,9 +61,6 @@ shift_closed_whole = refl
 
 -- ---- rows whose numbers SQLite chooses
 
-abbrev pub new_meter_text : List ℕ
-new_meter_text = codes "INSERT INTO meters (meter, base, tariff, secret) VALUES (?1, ?2, ?3, ?4)"
-
 abbrev pub four_terms : List Term
 four_terms = lit Null ∷ col 0 0 ∷ col 0 1 ∷ col 0 2 ∷ col 0 3 ∷ []
 
@@ -83,9 +71,6 @@ new_meter_means tree = record { means = refl; whole = refl; uncounted = refl; un
 pub new_meter_whole : is_whole new_meter_text 4 ≡ true
 unfolding everything is_whole
 new_meter_whole = refl
-
-abbrev pub new_tariff_text : List ℕ
-new_tariff_text = codes "INSERT INTO tariffs (name) VALUES (?1)"
 
 abbrev pub one_term : List Term
 one_term = lit Null ∷ col 0 0 ∷ []
@@ -98,9 +83,6 @@ pub new_tariff_whole : is_whole new_tariff_text 1 ≡ true
 unfolding everything is_whole
 new_tariff_whole = refl
 
-abbrev pub new_step_text : List ℕ
-new_step_text = codes "INSERT INTO tariff_steps (tariff, place, ends, price) VALUES (?1, ?2, ?3, ?4)"
-
 pub new_step_means : (tree : ℕ) → IsInsert (tariff_steps_table tree) four_terms new_step_text
 unfolding everything insert_meant insert_in puts_meant
 new_step_means tree = record { means = refl; whole = refl; uncounted = refl; unstamped = refl }
@@ -110,9 +92,6 @@ unfolding everything is_whole
 new_step_whole = refl
 
 -- ---- the tariff of a meter
-
-abbrev pub tariff_set_text : List ℕ
-tariff_set_text = codes "UPDATE meters SET tariff = ?2 WHERE meter = ?1"
 
 abbrev pub is_that_meter : List Term
 is_that_meter = op2 (Compare Eq Binary) (col 1 1) (col 0 0) ∷ []

@@ -1,6 +1,6 @@
 -- The filling of tables that a format lacked, from the meters and the sales of the office, whatever
 -- format `about` tells.
-use Rattle.std.specs.Prelude.{◌≡◌, ◌≢◌, ◌↔◌, ℕ, List, ◌∷◌, [], ◌++◌, codes, map, AllPairs, Contains, IfErr, IsTrue, OnOk, Result, Some}
+use Rattle.std.specs.Prelude.{◌≡◌, ◌≢◌, ◌↔◌, ℕ, List, ◌∷◌, [], ◌++◌, codes, map, AllPairs, Contains, IsTrue, OnOk, Result, Some}
 use Rattle.sqlite.specs.Effect.{IsDatabase}
 use Rattle.sqlite.specs.State.{HasCleanDisk, KeepsCommit, State, Survives}
 use Rattle.sts_fields.specs.declared.base.Base.{Base}
@@ -13,7 +13,7 @@ use Rattle.book_tables.specs.reading.Reading.{meter_row}
 use Rattle.book_tables.specs.row.Rows.{Rows, present_format}
 use Rattle.book_tables.specs.Stands.{AreTotalsOf}
 use Rattle.book_tables.specs.writing.Edited.{no_rows}
-use Rattle.book_tables.specs.writing.Failing.{FailsToWriteAll}
+use Rattle.book_tables.specs.writing.Failing.{EndSomehow}
 use Rattle.book_tables.specs.writing.Writing.{WritesOnly, totals_names, with_totals_of}
 use Rattle.book_tables.specs.declared.error.TableError.{TableError}
 use Rattle.book_tables.specs.declared.reading.pages.MeterRow.{MeterRow}
@@ -33,12 +33,12 @@ pub record IsReady (s : State) : Type 0 where
   pub sound : IsDatabase s.now
   pub has : HasOffice s.now.schema
 
--- What several writes, or none, make of the tables of a connection that is ready, and why one of
--- them fails. Nothing is committed.
+-- What several writes, or none, make of the tables of a connection that is ready, and how they
+-- end. Nothing is committed.
 pub record Fills (Makes : State → State → Type 0) (old new : State)
     (result : Result (Unit {0}) TableError) : Type 0 where
   pub made : HasCleanDisk new → IsReady old → OnOk result (Makes old new)
-  pub refused : HasCleanDisk new → IsReady old → IfErr result (FailsToWriteAll old new)
+  pub ends : HasCleanDisk new → IsReady old → EndSomehow old new result
   pub inside : HasCleanDisk new → IsUnderWay old → IsTrue old.is_open
       → OnOk result (StaysInside old new)
   pub kept : HasCleanDisk new → IsUnderWay old → IsTrue old.is_open → KeepsCommit old new

@@ -19,6 +19,7 @@ use Rattle.book_tables.specs.Kept.{kept_names, kept_tables, kept_texts, later}
 use Rattle.book_tables.specs.row.Rows.{Rows, about_rows, present_format}
 use Rattle.book_tables.specs.Stands.{AreMembersOf, IsOfFormat}
 use Rattle.book_tables.specs.writing.Failing.{FailsToWriteAll}
+use Rattle.book_tables.specs.writing.Writes.{Write}
 use Rattle.book_tables.specs.writing.Writing.{IsOfNone, WritesOnly}
 use Rattle.book_tables.specs.declared.error.TableError.{TableError}
 use Rattle.book_tables.specs.declared.error.TableError.TheVariants as fails
@@ -111,7 +112,8 @@ pub record BringsInside (from : ℕ) (old new : State) : Type 0 where
 pub record FailsOnceMade (from : ℕ) (old new : State) (e : Error) : Type 0 where
   pub made : Database
   pub makes : MakesMissing from old.now made
-  pub fails : FailsToWriteAll (record old { now = made }) new (fails.Database e)
+  pub writes : List Write
+  pub fails : FailsToWriteAll writes (record old { now = made }) new (fails.Database e)
 
 -- Why the tables are not brought up: one that the format lacked was not made, or a write of rows
 -- failed after that. No row is told to be no office's.

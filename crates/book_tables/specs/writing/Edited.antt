@@ -27,15 +27,20 @@ no_rows = record {
   dated_steps = [];
 }
 
--- the rows of a tariff's steps, by place
-abbrev pub step_rows : List ℕ → List Step → List StepRow
-step_rows name steps =
-    map (λ s. record { tariff = name; place = s.0; step = s.1 }) (enumerate_from 0 steps)
+-- the row of a tariff's step at a place, and those of all its steps
+abbrev pub step_row : List ℕ → ℕ → Step → StepRow
+step_row name place step = record { tariff = name; place = place; step = step }
 
--- the rows of the steps that a tariff has from a day on, by place
+abbrev pub step_rows : List ℕ → List Step → List StepRow
+step_rows name steps = map (λ s. step_row name s.0 s.1) (enumerate_from 0 steps)
+
+-- the same of the steps that a tariff has from a day on
+abbrev pub dated_row : List ℕ → ℕ → ℕ → Step → DatedStepRow
+dated_row name day place step =
+    record { tariff = name; day = day; place = place; step = step }
+
 abbrev pub dated_rows : List ℕ → ℕ → List Step → List DatedStepRow
-dated_rows name day steps =
-    map (λ s. record { tariff = name; day = day; place = s.0; step = s.1 }) (enumerate_from 0 steps)
+dated_rows name day steps = map (λ s. dated_row name day s.0 s.1) (enumerate_from 0 steps)
 
 -- a meter's row, with this tariff or this base where it has this number
 abbrev pub row_with_tariff : List ℕ → List ℕ → (List ℕ × Meter) → (List ℕ × Meter)

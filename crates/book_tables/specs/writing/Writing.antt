@@ -22,8 +22,11 @@ use Rattle.vend_core.specs.Office.{AreNumbered, IsOffice, Office}
 use Rattle.vend_core.specs.declared.office.sale.Sale.{Sale}
 use Rattle.vend_core.specs.declared.office.shift.Shift.{Shift}
 use Rattle.book_tables.specs.writing.Edited.{edited, row_with_base, row_with_tariff, shift_closed}
+use Rattle.book_tables.specs.writing.Failing.{Ends, FailsToMerge, FailsToStore}
+use Rattle.book_tables.specs.writing.Writes.{Write}
+use Rattle.book_tables.specs.writing.Keeping.{AreInOrder, KeepsRows, base_key, dated_keys, dated_step_key, last_id_key, meter_key, month_key, name_key, sale_key, shift_key, shift_totals_key, step_key, tariff_keys, totals_keys}
 use Rattle.book_tables.specs.Holds.{Holds, HoldsMembers, HoldsOf}
-use Rattle.book_tables.specs.reading.Reading.{FailsToMerge, FailsToStore, HasAllTables}
+use Rattle.book_tables.specs.reading.Reading.{HasAllTables}
 use Rattle.book_tables.specs.row.Rows.{DatedStepRow, Rows, StepRow, present_format}
 use Rattle.book_tables.specs.Stands.{AreMembersOf, AreRowsOf, AreTotalsOf, sales_in_month, sales_in_shift, sales_under, tenths_of, totals_of}
 use Rattle.book_tables.specs.row.Values.{AreTotalsValues, IsTid, IsTotal}
@@ -33,22 +36,22 @@ use Rattle.book_tables.specs.declared.row.totals.SaleTotals.{SaleTotals}
 use Rattle.book_tables.specs.declared.row.totals.Totals.{Totals}
 
 -- A write of the office's tables inside a transaction: what it makes of them, where they are there;
--- what it leaves, like any statement; and why it fails.
-pub record WritesTables (Makes : State → State → Type 0) (old new : State)
+-- what it leaves, like any statement; and how it ends, as this text with these parameters.
+pub record WritesTables (w : Write) (Makes : State → State → Type 0) (old new : State)
     (result : Result (Unit {0}) TableError) : Type 0 where
   pub made : HasCleanDisk new → HasAllTables old → OnOk result (Makes old new)
   pub transaction : KeepsTransaction old new result
-  pub refused : HasCleanDisk new → HasAllTables old → IfErr result (FailsToStore old new)
+  pub ends : HasCleanDisk new → HasAllTables old → Ends FailsToStore w old new result
 
 -- The same of a write that answers something of the rows, while its transaction is under way: one
 -- that has ended would let it run.
-pub record MergesTables {T : Type 0} (Makes : T → State → State → Type 0) (old new : State)
-    (result : Result T TableError) : Type 0 where
+pub record MergesTables {T : Type 0} (w : Write) (Makes : T → State → State → Type 0)
+    (old new : State) (result : Result T TableError) : Type 0 where
   pub made : HasCleanDisk new → IsUnderWay old → HasAllTables old
       → IfOk result (λ x. Makes x old new)
   pub transaction : KeepsTransaction old new result
-  pub refused : HasCleanDisk new → IsUnderWay old → HasAllTables old
-      → IfErr result (FailsToMerge old new)
+  pub ends : HasCleanDisk new → IsUnderWay old → HasAllTables old
+      → Ends FailsToMerge w old new result
 
 -- where the tables hold rows of which this is known, and `about` tells this format, none is told to
 -- be no office's
@@ -83,35 +86,42 @@ pub record IsNextNumber {X : Type 0} (number : X → ℕ) (rows : List X) (next 
 -- a sale with the next number stands after the others
 pub record AddsSale (s : Sale) (old new : State) : Type 0 where
   pub only : WritesOnly (codes "sales" ∷ []) old new
+  pub kept : KeepsRows (sale_key s.number) old.now new.now
   pub rows : (rows : Rows) → Holds old.now rows → IsNextNumber (λ s. s.number) rows.sales s.number
       → Holds new.now (record rows { sales = rows.sales ++ s ∷ [] })
 
 -- a shift with the next number stands after the others
 pub record AddsShift (s : Shift) (old new : State) : Type 0 where
   pub only : WritesOnly (codes "shifts" ∷ []) old new
+  pub kept : KeepsRows (shift_key s.number) old.now new.now
   pub rows : (rows : Rows) → Holds old.now rows → IsNextNumber (λ s. s.number) rows.shifts s.number
       → Holds new.now (record rows { shifts = rows.shifts ++ s ∷ [] })
 
 -- the shift of this number is closed at this moment, and stays in its place
 pub record ClosesShift (number moment : ℕ) (old new : State) : Type 0 where
   pub only : WritesOnly (codes "shifts" ∷ []) old new
+  pub kept : AreInOrder (codes "shifts" ∷ []) old.now
+      → KeepsRows (shift_key number) old.now new.now
   pub rows : (rows : Rows) → Holds old.now rows → AreNumbered (λ s. s.number) rows.shifts
       → Holds new.now (record rows { shifts = map (shift_closed number moment) rows.shifts })
 
 -- a meter more, and its base, which stand after the others
 pub record AddsMeter (number : List ℕ) (m : Meter) (old new : State) : Type 0 where
   pub only : WritesOnly (codes "meters" ∷ codes "meter_bases" ∷ []) old new
+  pub kept : KeepsRows (meter_key number ++ base_key number m.base) old.now new.now
   pub rows : (rows : Rows) → Holds old.now rows → Holds new.now (edited (AddMeter number m) rows)
 
 -- the row of a meter more, which stands after the others
 pub record AddsMeterRow (number : List ℕ) (m : Meter) (old new : State) : Type 0 where
   pub only : WritesOnly (codes "meters" ∷ []) old new
+  pub kept : KeepsRows (meter_key number) old.now new.now
   pub rows : (rows : Rows) → Holds old.now rows
       → Holds new.now (record rows { meters = rows.meters ++ (number, m) ∷ [] })
 
 -- a base more that a meter had, which stands after the others, whatever format `about` tells
 pub record AddsBase (number : List ℕ) (base : Base) (old new : State) : Type 0 where
   pub only : WritesOnly (codes "meter_bases" ∷ []) old new
+  pub kept : KeepsRows (base_key number base) old.now new.now
   pub rows : (told : ℕ) (rows : Rows) → HoldsOf present_format told old.now rows
       → HoldsOf present_format told new.now
       (record rows { bases = rows.bases ++ (number, base) ∷ [] })
@@ -119,48 +129,59 @@ pub record AddsBase (number : List ℕ) (base : Base) (old new : State) : Type 0
 -- the meter of this number has this base as its present one, and stays in its place
 pub record SetsBase (number : List ℕ) (base : Base) (old new : State) : Type 0 where
   pub only : WritesOnly (codes "meters" ∷ []) old new
+  pub kept : AreInOrder (codes "meters" ∷ []) old.now
+      → KeepsRows (meter_key number) old.now new.now
   pub rows : (rows : Rows) → Holds old.now rows → AllPairs (λ a b. a.0 ≢ b.0) rows.meters
       → Holds new.now (record rows { meters = map (row_with_base number base) rows.meters })
 
 -- the meter of this number has this base too, as its present one
 pub record MovesBase (number : List ℕ) (base : Base) (old new : State) : Type 0 where
   pub only : WritesOnly (codes "meters" ∷ codes "meter_bases" ∷ []) old new
+  pub kept : AreInOrder (codes "meters" ∷ []) old.now
+      → KeepsRows (meter_key number ++ base_key number base) old.now new.now
   pub rows : (rows : Rows) → Holds old.now rows → AllPairs (λ a b. a.0 ≢ b.0) rows.meters
       → Holds new.now (edited (MoveBase number base) rows)
 
 -- the name of a tariff more, which stands after the others
 pub record AddsName (name : List ℕ) (old new : State) : Type 0 where
   pub only : WritesOnly (codes "tariffs" ∷ []) old new
+  pub kept : KeepsRows (name_key name) old.now new.now
   pub rows : (rows : Rows) → Holds old.now rows
       → Holds new.now (record rows { tariffs = rows.tariffs ++ name ∷ [] })
 
 -- the row of a step more, which stands after the others
 pub record AddsStep (r : StepRow) (old new : State) : Type 0 where
   pub only : WritesOnly (codes "tariff_steps" ∷ []) old new
+  pub kept : KeepsRows (step_key r) old.now new.now
   pub rows : (rows : Rows) → Holds old.now rows
       → Holds new.now (record rows { steps = rows.steps ++ r ∷ [] })
 
 -- the same of steps from a first day on
 pub record AddsDatedStep (r : DatedStepRow) (old new : State) : Type 0 where
   pub only : WritesOnly (codes "dated_steps" ∷ []) old new
+  pub kept : KeepsRows (dated_step_key r) old.now new.now
   pub rows : (rows : Rows) → Holds old.now rows
       → Holds new.now (record rows { dated_steps = rows.dated_steps ++ r ∷ [] })
 
 -- the meter of this number has this tariff, and stays in its place
 pub record SetsTariff (number name : List ℕ) (old new : State) : Type 0 where
   pub only : WritesOnly (codes "meters" ∷ []) old new
+  pub kept : AreInOrder (codes "meters" ∷ []) old.now
+      → KeepsRows (meter_key number) old.now new.now
   pub rows : (rows : Rows) → Holds old.now rows → AllPairs (λ a b. a.0 ≢ b.0) rows.meters
       → Holds new.now (record rows { meters = map (row_with_tariff number name) rows.meters })
 
 -- a tariff more: its name, and its steps at their places, stand after the others
 pub record AddsTariff (name : List ℕ) (added : List Step) (old new : State) : Type 0 where
   pub only : WritesOnly (codes "tariffs" ∷ codes "tariff_steps" ∷ []) old new
+  pub kept : KeepsRows (tariff_keys name) old.now new.now
   pub rows : (rows : Rows) → Holds old.now rows
       → Holds new.now (edited (AddTariff name added) rows)
 
 -- steps of a tariff from a first day on: at their places they stand after the others
 pub record AddsSteps (name : List ℕ) (day : ℕ) (added : List Step) (old new : State) : Type 0 where
   pub only : WritesOnly (codes "dated_steps" ∷ []) old new
+  pub kept : KeepsRows (dated_keys name day) old.now new.now
   pub rows : (rows : Rows) → Holds old.now rows
       → Holds new.now (edited (AddSteps name day added) rows)
 
@@ -179,6 +200,8 @@ is_in_month key other = bytes_eq other.0 key.0 && (other.1 == key.1)
 -- the last identifier of a meter under a base is this one
 pub record SetsLastId (key : List ℕ × Base) (tid : ℕ) (old new : State) : Type 0 where
   pub only : WritesOnly (codes "last_ids" ∷ []) old new
+  pub kept : AreInOrder (codes "last_ids" ∷ []) old.now
+      → KeepsRows (last_id_key key) old.now new.now
   pub rows : (told : ℕ) (rows : Rows) (has : (List ℕ × Base) → Option ℕ)
       → HoldsOf present_format told old.now rows → AreRowsOf rows.last_ids has
       → (rest : List ((List ℕ × Base) × ℕ))
@@ -189,6 +212,8 @@ pub record SetsLastId (key : List ℕ × Base) (tid : ℕ) (old new : State) : T
 -- what they are then
 pub record AddsTenths (key : List ℕ × ℕ) (tenths sum : ℕ) (old new : State) : Type 0 where
   pub only : WritesOnly (codes "month_tenths" ∷ []) old new
+  pub kept : AreInOrder (codes "month_tenths" ∷ []) old.now
+      → KeepsRows (month_key key) old.now new.now
   pub rows : (told : ℕ) (rows : Rows) (has : (List ℕ × ℕ) → Option ℕ)
       → HoldsOf present_format told old.now rows → AreRowsOf rows.month_tenths has
       → unwrap_or (has key) 0 + tenths < 2 ^ 63
@@ -212,6 +237,8 @@ HasRoomFor t = (t.sales < 2 ^ 63) × (t.tenths < 2 ^ 63) × (t.cash < 2 ^ 63)
 -- the totals of a shift are those with one sale more, and these are what they are then
 pub record AddsToShift (shift tenths price : ℕ) (totals : Totals) (old new : State) : Type 0 where
   pub only : WritesOnly (codes "shift_totals" ∷ []) old new
+  pub kept : AreInOrder (codes "shift_totals" ∷ []) old.now
+      → KeepsRows (shift_totals_key shift) old.now new.now
   pub rows : (told : ℕ) (rows : Rows) (has : ℕ → Option Totals)
       → HoldsOf present_format told old.now rows → AreRowsOf rows.shift_totals has
       → IsKeyedBy (λ r. pos r.0) rows.shift_totals
@@ -250,6 +277,7 @@ totals_names = codes "last_ids" ∷ codes "month_tenths" ∷ codes "shift_totals
 -- under its base
 pub record AddsTotals (s : Sale) (last : ℕ) (old new : State) : Type 0 where
   pub only : WritesOnly totals_names old new
+  pub kept : AreInOrder totals_names old.now → KeepsRows (totals_keys s) old.now new.now
   pub rows : (told : ℕ) (rows : Rows) (sales : List Sale)
       → HoldsOf present_format told old.now rows → AreTotalsOf sales rows
       → FitColumns (sales ++ s ∷ [])
@@ -301,6 +329,8 @@ pub record TellsTotals (s : Sale) (last : ℕ) (shown : SaleTotals) (old new : S
 -- a sale that an office made, and its totals
 pub record AddsSold (s : Sale) (old new : State) : Type 0 where
   pub only : WritesOnly (codes "sales" ∷ totals_names) old new
+  pub kept : AreInOrder totals_names old.now
+      → KeepsRows (sale_key s.number ++ totals_keys s) old.now new.now
   pub members : (o : Office) → IsOffice o → MeetsNewSale o s → HoldsMembers old.now o
       → HoldsMembers new.now (applied (AddSale s) o)
 

@@ -6,6 +6,7 @@ ghost use Rattle.one_table.specs.Over.{Inside};
 ghost use Rattle.one_table.specs.InTransaction.{IsUnderWay, KeepsTransaction, StaysInside};
 ghost use Rattle.book_tables.specs.format.Making.{BringsInside, BringsTables, FailsToBring, HandsOver, IsSoundOfFormat, MakesMissing, TellsPresent};
 ghost use Rattle.book_tables.specs.row.Rows.{present_format};
+ghost use Rattle.book_tables.specs.writing.Writes.{format_write};
 ghost use Rattle.book_tables.specs.writing.Writing.{WritesTables};
 
 use crate::error::TableError;
@@ -38,8 +39,8 @@ fn make_missing<S: Alter>(tx: &mut Transaction<'_, S>, from: u32) -> Result<(), 
 // Tells the present format in place of an older one, or of none.
 fn tell_present<S: Alter>(tx: &mut Transaction<'_, S>, before: u32) -> Result<(), TableError>
     ensures same_reference { tx.new.conn.ghost_name ≡ tx.old.conn.ghost_name }
-    ensures writes { Inside S.Store tx (λ old new. WritesTables (TellsPresent before) old new
-        result) }
+    ensures writes { Inside S.Store tx (λ old new. WritesTables (format_write before) (TellsPresent
+        before) old new result) }
 {
     if before == 0 {
         put(tx, NEW_FORMAT, &[])

@@ -1,11 +1,13 @@
 //! The statements that add rows to the tables.
 
-ghost use Rattle.std.specs.Prelude.{◌≡◌, ◌≤◌, length, IfErr, OnOk};
+ghost use Rattle.std.specs.Prelude.{◌≡◌, ◌≤◌, length, OnOk};
 ghost use Rattle.sqlite.specs.State.{HasCleanDisk};
 ghost use Rattle.one_table.specs.Over.{Inside};
 ghost use Rattle.one_table.specs.InTransaction.{IsUnderWay, KeepsTransaction};
-ghost use Rattle.book_tables.specs.writing.Failing.{FailsToWriteAll};
+ghost use Rattle.book_tables.specs.writing.Failing.{End, FailsToWriteAll};
+ghost use Rattle.book_tables.specs.writing.Edited.{step_row};
 ghost use Rattle.book_tables.specs.reading.Reading.{HasAllTables};
+ghost use Rattle.book_tables.specs.writing.Writes.{meter_writes, new_meter, new_sale, new_shift, new_step, new_tariff, tariff_writes};
 ghost use Rattle.book_tables.specs.writing.Writing.{AddsMeter, AddsMeterRow, AddsName, AddsSale, AddsShift, AddsStep, AddsTariff, WritesTables};
 
 use crate::error::TableError;
@@ -25,8 +27,8 @@ use vend_core::{Meter, MeterNo, Sale, Shift, TariffName};
 /// had, a shift or a meter that is not there; want of memory, and the disk.
 pub fn add_sale<S: Alter>(tx: &mut Transaction<'_, S>, sale: &Sale) -> Result<(), TableError>
     ensures same_reference { tx.new.conn.ghost_name ≡ tx.old.conn.ghost_name }
-    ensures writes { Inside S.Store tx (λ old new. WritesTables (AddsSale sale.now) old new
-        result) }
+    ensures writes { Inside S.Store tx (λ old new. WritesTables (new_sale sale.now) (AddsSale
+        sale.now) old new result) }
 {
     put(tx, NEW_SALE, &sale_values(sale))
 }
@@ -37,8 +39,8 @@ pub fn add_sale<S: Alter>(tx: &mut Transaction<'_, S>, sale: &Sale) -> Result<()
 /// What the database refuses: a number that is taken; want of memory, and the disk.
 pub fn add_shift<S: Alter>(tx: &mut Transaction<'_, S>, shift: &Shift) -> Result<(), TableError>
     ensures same_reference { tx.new.conn.ghost_name ≡ tx.old.conn.ghost_name }
-    ensures writes { Inside S.Store tx (λ old new. WritesTables (AddsShift shift.now) old new
-        result) }
+    ensures writes { Inside S.Store tx (λ old new. WritesTables (new_shift shift.now) (AddsShift
+        shift.now) old new result) }
 {
     put(tx, NEW_SHIFT, &shift_values(shift))
 }
@@ -54,8 +56,8 @@ fn add_meter_row<S: Alter>(
     meter: &Meter,
 ) -> Result<(), TableError>
     ensures same_reference { tx.new.conn.ghost_name ≡ tx.old.conn.ghost_name }
-    ensures writes { Inside S.Store tx (λ old new. WritesTables (AddsMeterRow number.now
-        meter.now) old new result) }
+    ensures writes { Inside S.Store tx (λ old new. WritesTables (new_meter number.now meter.now)
+        (AddsMeterRow number.now meter.now) old new result) }
 {
     let secret = key_text(meter.key);
     put(tx, NEW_METER, &meter_values(number, meter, &secret))
@@ -76,8 +78,9 @@ pub fn add_meter<S: Alter>(
     ensures same_reference { tx.new.conn.ghost_name ≡ tx.old.conn.ghost_name }
     ensures added { Inside S.Store tx (λ old new. HasCleanDisk new → HasAllTables old
         → OnOk result (AddsMeter number.now meter.now old new)) }
-    ensures refused { Inside S.Store tx (λ old new. HasCleanDisk new → IsUnderWay old
-        → HasAllTables old → IfErr result (FailsToWriteAll old new)) }
+    ensures ends { Inside S.Store tx (λ old new. HasCleanDisk new → IsUnderWay old
+        → HasAllTables old
+        → End FailsToWriteAll (meter_writes number.now meter.now) old new result) }
     ensures transaction { Inside S.Store tx (λ old new. KeepsTransaction old new result) }
 {
     add_meter_row(tx, number, meter)?;
@@ -90,8 +93,8 @@ pub fn add_meter<S: Alter>(
 /// What the database refuses: a name that is taken; want of memory, and the disk.
 pub fn add_name<S: Alter>(tx: &mut Transaction<'_, S>, name: &TariffName) -> Result<(), TableError>
     ensures same_reference { tx.new.conn.ghost_name ≡ tx.old.conn.ghost_name }
-    ensures writes { Inside S.Store tx (λ old new. WritesTables (AddsName name.now) old new
-        result) }
+    ensures writes { Inside S.Store tx (λ old new. WritesTables (new_tariff name.now) (AddsName
+        name.now) old new result) }
 {
     put(tx, NEW_TARIFF, &tariff_values(name))
 }
@@ -108,12 +111,8 @@ pub fn add_step<S: Alter>(
     step: Step,
 ) -> Result<(), TableError>
     ensures same_reference { tx.new.conn.ghost_name ≡ tx.old.conn.ghost_name }
-    ensures writes { Inside S.Store tx (λ old new. WritesTables (AddsStep (record {
-      tariff =
-          name.now;
-      place = place;
-      step = step;
-    })) old new result) }
+    ensures writes { let row = step_row name.now place step in Inside S.Store tx (λ old new.
+        WritesTables (new_step row) (AddsStep row) old new result) }
 {
     put(tx, NEW_STEP, &step_values(name, place, step))
 }
@@ -133,8 +132,9 @@ pub fn add_tariff<S: Alter>(
     ensures same_reference { tx.new.conn.ghost_name ≡ tx.old.conn.ghost_name }
     ensures added { Inside S.Store tx (λ old new. HasCleanDisk new → HasAllTables old
         → OnOk result (AddsTariff name.now steps.now old new)) }
-    ensures refused { Inside S.Store tx (λ old new. HasCleanDisk new → IsUnderWay old
-        → HasAllTables old → IfErr result (FailsToWriteAll old new)) }
+    ensures ends { Inside S.Store tx (λ old new. HasCleanDisk new → IsUnderWay old
+        → HasAllTables old
+        → End FailsToWriteAll (tariff_writes name.now steps.now) old new result) }
     ensures transaction { Inside S.Store tx (λ old new. KeepsTransaction old new result) }
 {
     add_name(tx, name)?;

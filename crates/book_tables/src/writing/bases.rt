@@ -1,11 +1,12 @@
 //! The statements on the bases of meters.
 
-ghost use Rattle.std.specs.Prelude.{◌≡◌, IfErr, OnOk};
+ghost use Rattle.std.specs.Prelude.{◌≡◌, OnOk};
 ghost use Rattle.sqlite.specs.State.{HasCleanDisk};
 ghost use Rattle.one_table.specs.Over.{Inside};
 ghost use Rattle.one_table.specs.InTransaction.{IsUnderWay, KeepsTransaction};
-ghost use Rattle.book_tables.specs.writing.Failing.{FailsToWriteAll};
+ghost use Rattle.book_tables.specs.writing.Failing.{End, FailsToWriteAll};
 ghost use Rattle.book_tables.specs.reading.Reading.{HasAllTables};
+ghost use Rattle.book_tables.specs.writing.Writes.{base_set, base_writes, new_base};
 ghost use Rattle.book_tables.specs.writing.Writing.{AddsBase, MovesBase, SetsBase, WritesTables};
 
 use crate::error::TableError;
@@ -27,8 +28,8 @@ pub fn add_base<S: Alter>(
     base: Base,
 ) -> Result<(), TableError>
     ensures same_reference { tx.new.conn.ghost_name ≡ tx.old.conn.ghost_name }
-    ensures writes { Inside S.Store tx (λ old new. WritesTables (AddsBase number.now base) old new
-        result) }
+    ensures writes { Inside S.Store tx (λ old new. WritesTables (new_base number.now base) (AddsBase
+        number.now base) old new result) }
 {
     put(tx, NEW_BASE, &base_values(number, base))
 }
@@ -43,8 +44,8 @@ pub fn set_base<S: Alter>(
     base: Base,
 ) -> Result<(), TableError>
     ensures same_reference { tx.new.conn.ghost_name ≡ tx.old.conn.ghost_name }
-    ensures writes { Inside S.Store tx (λ old new. WritesTables (SetsBase number.now base) old new
-        result) }
+    ensures writes { Inside S.Store tx (λ old new. WritesTables (base_set number.now base) (SetsBase
+        number.now base) old new result) }
 {
     set(tx, BASE_SET, &base_values(number, base))
 }
@@ -63,8 +64,8 @@ pub fn move_base<S: Alter>(
     ensures same_reference { tx.new.conn.ghost_name ≡ tx.old.conn.ghost_name }
     ensures moved { Inside S.Store tx (λ old new. HasCleanDisk new → HasAllTables old
         → OnOk result (MovesBase number.now base old new)) }
-    ensures refused { Inside S.Store tx (λ old new. HasCleanDisk new → IsUnderWay old
-        → HasAllTables old → IfErr result (FailsToWriteAll old new)) }
+    ensures ends { Inside S.Store tx (λ old new. HasCleanDisk new → IsUnderWay old
+        → HasAllTables old → End FailsToWriteAll (base_writes number.now base) old new result) }
     ensures transaction { Inside S.Store tx (λ old new. KeepsTransaction old new result) }
 {
     set_base(tx, number, base)?;

@@ -2,6 +2,7 @@
 
 ghost use Rattle.std.specs.Prelude.{◌≡◌};
 ghost use Rattle.one_table.specs.Over.{Inside};
+ghost use Rattle.book_tables.specs.writing.Writes.{shift_ended, tariff_set};
 ghost use Rattle.book_tables.specs.writing.Writing.{ClosesShift, SetsTariff, WritesTables};
 
 use crate::error::TableError;
@@ -23,8 +24,8 @@ pub fn close_shift<S: Alter>(
     moment: Moment,
 ) -> Result<(), TableError>
     ensures same_reference { tx.new.conn.ghost_name ≡ tx.old.conn.ghost_name }
-    ensures writes { Inside S.Store tx (λ old new. WritesTables (ClosesShift number moment) old
-        new result) }
+    ensures writes { Inside S.Store tx (λ old new. WritesTables (shift_ended number moment)
+        (ClosesShift number moment) old new result) }
 {
     set(tx, SHIFT_CLOSED, &[whole(number), seconds(moment)])
 }
@@ -39,8 +40,8 @@ pub fn set_tariff<S: Alter>(
     name: &TariffName,
 ) -> Result<(), TableError>
     ensures same_reference { tx.new.conn.ghost_name ≡ tx.old.conn.ghost_name }
-    ensures writes { Inside S.Store tx (λ old new. WritesTables (SetsTariff number.now name.now)
-        old new result) }
+    ensures writes { Inside S.Store tx (λ old new. WritesTables (tariff_set number.now name.now)
+        (SetsTariff number.now name.now) old new result) }
 {
     let values = [
         ValueRef::Text(number.as_bytes()),

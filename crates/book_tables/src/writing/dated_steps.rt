@@ -1,9 +1,11 @@
-ghost use Rattle.std.specs.Prelude.{◌≡◌, ◌≤◌, length, IfErr, OnOk};
+ghost use Rattle.std.specs.Prelude.{◌≡◌, ◌≤◌, length, OnOk};
 ghost use Rattle.sqlite.specs.State.{HasCleanDisk};
 ghost use Rattle.one_table.specs.Over.{Inside};
 ghost use Rattle.one_table.specs.InTransaction.{IsUnderWay, KeepsTransaction};
-ghost use Rattle.book_tables.specs.writing.Failing.{FailsToWriteAll};
+ghost use Rattle.book_tables.specs.writing.Failing.{End, FailsToWriteAll};
+ghost use Rattle.book_tables.specs.writing.Edited.{dated_row};
 ghost use Rattle.book_tables.specs.reading.Reading.{HasAllTables};
+ghost use Rattle.book_tables.specs.writing.Writes.{new_dated, steps_writes};
 ghost use Rattle.book_tables.specs.writing.Writing.{AddsDatedStep, AddsSteps, WritesTables};
 
 use crate::error::TableError;
@@ -28,13 +30,8 @@ pub fn add_dated_step<S: Alter>(
     step: Step,
 ) -> Result<(), TableError>
     ensures same_reference { tx.new.conn.ghost_name ≡ tx.old.conn.ghost_name }
-    ensures writes { Inside S.Store tx (λ old new. WritesTables (AddsDatedStep (record {
-      tariff =
-          name.now;
-      day = day;
-      place = place;
-      step = step;
-    })) old new result) }
+    ensures writes { let row = dated_row name.now day place step in Inside S.Store tx (λ old new.
+        WritesTables (new_dated row) (AddsDatedStep row) old new result) }
 {
     put(
         tx,
@@ -62,8 +59,9 @@ pub fn add_steps<S: Alter>(
     ensures same_reference { tx.new.conn.ghost_name ≡ tx.old.conn.ghost_name }
     ensures added { Inside S.Store tx (λ old new. HasCleanDisk new → HasAllTables old
         → OnOk result (AddsSteps name.now day steps.now old new)) }
-    ensures refused { Inside S.Store tx (λ old new. HasCleanDisk new → IsUnderWay old
-        → HasAllTables old → 1 ≤ length steps.now → IfErr result (FailsToWriteAll old new)) }
+    ensures ends { Inside S.Store tx (λ old new. HasCleanDisk new → IsUnderWay old
+        → HasAllTables old → 1 ≤ length steps.now
+        → End FailsToWriteAll (steps_writes name.now day steps.now) old new result) }
     ensures transaction { Inside S.Store tx (λ old new. KeepsTransaction old new result) }
 {
     let Some((first, others)) = steps.split_first() else {

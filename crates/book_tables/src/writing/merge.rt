@@ -1,6 +1,6 @@
 //! What puts a row in or merges it into the one that has its key, and how that fails.
 
-ghost use Rattle.std.specs.Prelude.{◌≡◌, ℕ, true, length, Err, IsTrue, IfErr, IfOk, OnOk};
+ghost use Rattle.std.specs.Prelude.{◌≡◌, ℕ, true, length, Err, IsTrue, IfOk, OnOk};
 ghost use Rattle.one_table.specs.Over.{Inside};
 ghost use Rattle.sqlite.specs.Order.{Row};
 ghost use Rattle.sqlite.specs.State.{HasCleanDisk};
@@ -10,7 +10,8 @@ ghost use Rattle.one_table.specs.InTransaction.{IsUnderWay, KeepsTransaction};
 ghost use Rattle.one_table.specs.Merges.{StandsForUpserts, TakesUpserts, Touches, Upserts, shown_row};
 ghost use Rattle.one_table.specs.Reading.{is_whole};
 ghost use Rattle.one_table.specs.Upserting.{IsUpsert, Merging};
-ghost use Rattle.book_tables.specs.reading.Reading.{FailsToMerge, IsShown, ShowsRecord};
+ghost use Rattle.book_tables.specs.reading.Reading.{IsShown, ShowsRecord};
+ghost use Rattle.book_tables.specs.writing.Failing.{Ends, FailsToMerge};
 
 use crate::error::TableError;
 use crate::row::record::{Record, Shown};
@@ -36,10 +37,11 @@ pub(crate) fn merge<S: Alter, T: Record>(
         → StandsForUpserts old.now.schema at t)
         → OnOk result (Touches t m (bound params.now) old new)) }
     ensures transaction { Inside S.Store tx (λ old new. KeepsTransaction old new result) }
-    ensures refused { Inside S.Store tx (λ old new. HasCleanDisk new → IsUnderWay old
+    ensures ends { Inside S.Store tx (λ old new. HasCleanDisk new → IsUnderWay old
         → (t : Table) (at : ℕ) (m : Merging) → IsUpsert t m sql.now
         → is_whole sql.now (length (bound params.now)) ≡ true → (IsTrue old.is_open
-        → StandsForUpserts old.now.schema at t) → IfErr result (FailsToMerge old new)) }
+        → StandsForUpserts old.now.schema at t)
+        → Ends FailsToMerge (record { sql = sql.now; params = bound params.now }) old new result) }
     ensures false_row { Inside S.Store tx (λ old new. HasCleanDisk new → IsUnderWay old
         → (t : Table) (at : ℕ) (m : Merging) → IsUpsert t m sql.now
         → is_whole sql.now (length (bound params.now)) ≡ true → (IsTrue old.is_open

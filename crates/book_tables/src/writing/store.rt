@@ -13,7 +13,7 @@ ghost use Rattle.one_table.specs.Inserting.{IsInsert, new_row};
 ghost use Rattle.one_table.specs.Place.{Has};
 ghost use Rattle.one_table.specs.Reading.{is_whole};
 ghost use Rattle.one_table.specs.Referring.{is_left_alone};
-ghost use Rattle.book_tables.specs.reading.Reading.{FailsToStore};
+ghost use Rattle.book_tables.specs.writing.Failing.{Ends, FailsToStore};
 
 use crate::error::TableError;
 use one_table::{insert, update};
@@ -34,10 +34,11 @@ pub(crate) fn put<S: Alter>(
         new)) }
     ensures database { IfErr result (λ e. e ≢ TableError.RowOfNoOffice) }
     ensures transaction { Inside S.Store tx (λ old new. KeepsTransaction old new result) }
-    ensures refused { Inside S.Store tx (λ old new. HasCleanDisk new
+    ensures ends { Inside S.Store tx (λ old new. HasCleanDisk new
         → (t : Table) (at : ℕ) (terms : List Term) → IsInsert t terms sql.now
         → is_whole sql.now (length (bound params.now)) ≡ true → (IsTrue old.is_open
-        → Has old.now.schema at t) → IfErr result (FailsToStore old new)) }
+        → Has old.now.schema at t)
+        → Ends FailsToStore (record { sql = sql.now; params = bound params.now }) old new result) }
 {
     insert(tx, sql, params)?;
     Ok(())
@@ -56,10 +57,11 @@ pub(crate) fn set<S: Alter>(
         → OnOk result (SetsRows t q (bound params.now) old new)) }
     ensures database { IfErr result (λ e. e ≢ TableError.RowOfNoOffice) }
     ensures transaction { Inside S.Store tx (λ old new. KeepsTransaction old new result) }
-    ensures refused { Inside S.Store tx (λ old new. HasCleanDisk new
+    ensures ends { Inside S.Store tx (λ old new. HasCleanDisk new
         → (t : Table) (at : ℕ) (q : Query) → IsUpdate t q sql.now
         → is_whole sql.now (length (bound params.now)) ≡ true → (IsTrue old.is_open
-        → Has old.now.schema at t) → IfErr result (FailsToStore old new)) }
+        → Has old.now.schema at t)
+        → Ends FailsToStore (record { sql = sql.now; params = bound params.now }) old new result) }
 {
     update(tx, sql, params)?;
     Ok(())

@@ -1,12 +1,13 @@
 //! The statements that keep the running totals. Each puts the row of its key in, or merges it into
 //! the one that is there.
 
-ghost use Rattle.std.specs.Prelude.{◌≡◌, IfErr, IfOk};
+ghost use Rattle.std.specs.Prelude.{◌≡◌, IfOk};
 ghost use Rattle.one_table.specs.Over.{Inside};
 ghost use Rattle.sqlite.specs.State.{HasCleanDisk};
 ghost use Rattle.one_table.specs.InTransaction.{IsUnderWay, KeepsTransaction};
-ghost use Rattle.book_tables.specs.writing.Failing.{FailsToMergeAll};
+ghost use Rattle.book_tables.specs.writing.Failing.{End, FailsToMergeAll};
 ghost use Rattle.book_tables.specs.reading.Reading.{HasAllTables};
+ghost use Rattle.book_tables.specs.writing.Writes.{last_id_set, sale_counted, sale_writes, tenths_added, totals_writes};
 ghost use Rattle.book_tables.specs.writing.Writing.{AddsTenths, AddsToShift, FindsNoFalseRow, MayAddSold, MayAddTenths, MayAddToShift, MayAddTotals, MaySetLastId, MergesTables, SetsLastId, TellsSold, TellsTotals};
 
 use crate::error::TableError;
@@ -32,10 +33,8 @@ pub fn set_last_id<S: Alter>(
     tid: u32,
 ) -> Result<(), TableError>
     ensures same_reference { tx.new.conn.ghost_name ≡ tx.old.conn.ghost_name }
-    ensures merges { Inside S.Store tx (λ old new. MergesTables (λ done. SetsLastId (
-      meter.now,
-      base,
-    ) tid) old new result) }
+    ensures merges { Inside S.Store tx (λ old new. MergesTables (last_id_set (meter.now, base) tid)
+        (λ done. SetsLastId (meter.now, base) tid) old new result) }
     ensures no_false_row { Inside S.Store tx (λ old new. FindsNoFalseRow (MaySetLastId tid) old
         new result) }
 {
@@ -57,8 +56,8 @@ pub fn add_tenths<S: Alter>(
     tenths: u32,
 ) -> Result<u64, TableError>
     ensures same_reference { tx.new.conn.ghost_name ≡ tx.old.conn.ghost_name }
-    ensures merges { Inside S.Store tx (λ old new. MergesTables (AddsTenths (meter.now, month)
-        tenths) old new result) }
+    ensures merges { Inside S.Store tx (λ old new. MergesTables (tenths_added (meter.now, month)
+        tenths) (AddsTenths (meter.now, month) tenths) old new result) }
     ensures no_false_row { Inside S.Store tx (λ old new. FindsNoFalseRow (MayAddTenths (
       meter.now,
       month,
@@ -79,8 +78,8 @@ pub fn add_to_shift<S: Alter>(
     price: u32,
 ) -> Result<Totals, TableError>
     ensures same_reference { tx.new.conn.ghost_name ≡ tx.old.conn.ghost_name }
-    ensures merges { Inside S.Store tx (λ old new. MergesTables (AddsToShift shift tenths price)
-        old new result) }
+    ensures merges { Inside S.Store tx (λ old new. MergesTables (sale_counted shift tenths price)
+        (AddsToShift shift tenths price) old new result) }
     ensures no_false_row { Inside S.Store tx (λ old new. FindsNoFalseRow (MayAddToShift shift
         tenths price) old new result) }
 {
@@ -103,8 +102,8 @@ pub fn add_totals<S: Alter>(
     ensures same_reference { tx.new.conn.ghost_name ≡ tx.old.conn.ghost_name }
     ensures adds { Inside S.Store tx (λ old new. HasCleanDisk new → IsUnderWay old
         → HasAllTables old → IfOk result (λ shown. TellsTotals sale.now last shown old new)) }
-    ensures refused { Inside S.Store tx (λ old new. HasCleanDisk new → IsUnderWay old
-        → HasAllTables old → IfErr result (FailsToMergeAll old new)) }
+    ensures ends { Inside S.Store tx (λ old new. HasCleanDisk new → IsUnderWay old
+        → HasAllTables old → End FailsToMergeAll (totals_writes sale.now last) old new result) }
     ensures transaction { Inside S.Store tx (λ old new. KeepsTransaction old new result) }
     ensures no_false_row { Inside S.Store tx (λ old new. FindsNoFalseRow (MayAddTotals sale.now
         last) old new result) }
@@ -133,8 +132,8 @@ pub fn add_sold<S: Alter>(
     ensures same_reference { tx.new.conn.ghost_name ≡ tx.old.conn.ghost_name }
     ensures adds { Inside S.Store tx (λ old new. HasCleanDisk new → IsUnderWay old
         → HasAllTables old → IfOk result (λ shown. TellsSold sale.now shown old new)) }
-    ensures refused { Inside S.Store tx (λ old new. HasCleanDisk new → IsUnderWay old
-        → HasAllTables old → IfErr result (FailsToMergeAll old new)) }
+    ensures ends { Inside S.Store tx (λ old new. HasCleanDisk new → IsUnderWay old
+        → HasAllTables old → End FailsToMergeAll (sale_writes sale.now) old new result) }
     ensures transaction { Inside S.Store tx (λ old new. KeepsTransaction old new result) }
     ensures no_false_row { Inside S.Store tx (λ old new. FindsNoFalseRow (MayAddSold sale.now) old
         new result) }

@@ -23,7 +23,7 @@ bases-preserved g c =
       same = search rules;
       fills = subst (λ (l : List MeterRow). Fills (FillsBases l) old new (Ok tt)) (sym next)
           (fills_then old mid new (codes "meter_bases" ∷ []) (Ok tt) (λ first. first.only) (λ _ _ first second. bases_more (take i items) m old mid new first second) c.bases.invariant.fills
-          (fills_write mid new (Ok tt) c.in_ok-add_base.ensures.writes));
+          (fills_write _ mid new (Ok tt) c.in_ok-add_base.ensures.writes));
     }
 
 pub returns-in_err-add_base-clause-fills : goal.returns-in_err-add_base-clause-fills
@@ -33,7 +33,7 @@ returns-in_err-add_base-clause-fills g c =
     let new = state g.S.Store c.add_base.new.tx.conn.now in
     let e = c.in_err-add_base.field-0.0 in
     fills_off old new e c.from_residual.result c.from_residual.ensures.1
-    (fills_then {C = λ _ _. Unit {0}} old mid new (codes "meter_bases" ∷ []) (Err e) (λ first. first.only) (λ _ _ _ _. tt) c.bases.invariant.fills (fills_write mid new (Err e) c.in_err-add_base.ensures.writes))
+    (fills_then {C = λ _ _. Unit {0}} old mid new (codes "meter_bases" ∷ []) (Err e) (λ first. first.only) (λ _ _ _ _. tt) c.bases.invariant.fills (fills_write _ mid new (Err e) c.in_err-add_base.ensures.writes))
 
 pub returns-clause-fills : goal.returns-clause-fills
 returns-clause-fills g c =

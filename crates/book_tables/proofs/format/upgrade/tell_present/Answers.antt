@@ -5,6 +5,7 @@ use Rattle.one_table.proofs.ChangeLemmas.{on_ok}
 use Rattle.one_table.specs.Standing.{place_in, tree_in}
 use Rattle.book_tables.specs.Tables.{about_table}
 use Rattle.book_tables.specs.format.Making.{TellsPresent}
+use Rattle.book_tables.specs.writing.Writes.{format_write}
 use Rattle.book_tables.specs.writing.Writing.{WritesTables}
 use Rattle.book_tables.proofs.OfficeTableLemmas.{about_in}
 use Rattle.book_tables.proofs.FormatLemmas.MakingLemmas.{new_format_means, new_format_terms, new_format_whole, tells_first}
@@ -18,11 +19,11 @@ returns-then-before-eq0-clause-writes g c =
     let s = c.args.tx.now.conn.now.schema in
     let tree = tree_in s (codes "about") in
     let none : 0 ≡ c.args.before = omega (arith, c.if-before-eq0.true) in
-    subst (λ (n : ℕ). WritesTables (TellsPresent n) old new c.put.result) none (record {
+    subst (λ (n : ℕ). WritesTables (format_write n) (TellsPresent n) old new c.put.result) none (record {
       made = λ clean has.
           on_ok c.put.result (tells_first old new) (c.put.ensures.added clean (about_table tree) (place_in s (codes "about")) new_format_terms (new_format_means tree) (λ runs. (about_in.there s (has runs)).0.has));
       transaction = c.put.ensures.transaction;
-      refused = λ clean has. c.put.ensures.refused clean (about_table tree) (place_in s (codes "about")) new_format_terms (new_format_means tree) new_format_whole (λ runs. (about_in.there s (has runs)).0.has);
+      ends = λ clean has. c.put.ensures.ends clean (about_table tree) (place_in s (codes "about")) new_format_terms (new_format_means tree) new_format_whole (λ runs. (about_in.there s (has runs)).0.has);
     })
 
 pub returns-else-before-eq0-clause-writes : goal.returns-else-before-eq0-clause-writes
@@ -33,10 +34,10 @@ returns-else-before-eq0-clause-writes g c =
     let tree = tree_in s (codes "about") in
     let below = c.args.before - 1 in
     let some : suc below ≡ c.args.before = omega (arith, c.if-before-eq0.false) in
-    subst (λ (n : ℕ). WritesTables (TellsPresent n) old new c.set.result) some (record {
+    subst (λ (n : ℕ). WritesTables (format_write n) (TellsPresent n) old new c.set.result) some (record {
       made = λ clean has.
           on_ok c.set.result (tells_present old new below)
           (c.set.ensures.changed clean (about_table tree) (place_in s (codes "about")) (format_set_query tree) (format_set_means tree) (λ runs. let there = about_in.there s (has runs) in (there.0.has, there.1)));
       transaction = c.set.ensures.transaction;
-      refused = λ clean has. c.set.ensures.refused clean (about_table tree) (place_in s (codes "about")) (format_set_query tree) (format_set_means tree) format_set_whole (λ runs. (about_in.there s (has runs)).0.has);
+      ends = λ clean has. c.set.ensures.ends clean (about_table tree) (place_in s (codes "about")) (format_set_query tree) (format_set_means tree) format_set_whole (λ runs. (about_in.there s (has runs)).0.has);
     })

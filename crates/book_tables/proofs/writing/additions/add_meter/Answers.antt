@@ -1,11 +1,12 @@
-use Rattle.std.proofs.Common.{arith}
+use Rattle.std.proofs.Common.{arith, [], ◌∷◌}
 use Rattle.sqlite.specs.Held.{state}
 use Rattle.sqlite.specs.State.{HasCleanDisk}
-use Rattle.one_table.proofs.ChangeLemmas.{if_err, on_ok, told_as, transaction_off, transaction_then}
+use Rattle.one_table.proofs.ChangeLemmas.{on_ok, transaction_off, transaction_then}
 use Rattle.book_tables.proofs.WritingLemmas.BaseLemmas.{adds_both}
 use Rattle.book_tables.proofs.WritingLemmas.OnlyLemmas.{tables_there}
 use Rattle.book_tables.specs.writing.Failing.{FailsToWriteAll}
-use Rattle.book_tables.proofs.WritingLemmas.CauseLemmas.{came_after, came_here, of_store}
+use Rattle.book_tables.specs.writing.Writes.{new_meter, new_base}
+use Rattle.book_tables.proofs.WritingLemmas.CauseLemmas.{came_by, came_here, ends_off, ends_then, of_store}
 use Rattle.book_tables.proofs.writing.additions.add_meter.Goals as goal
 
 pub returns-in_err-add_meter_row-clause-transaction : goal.returns-in_err-add_meter_row-clause-transaction
@@ -25,19 +26,23 @@ pub returns-clause-transaction : goal.returns-clause-transaction
 returns-clause-transaction g c =
     transaction_then (state g.S.Store c.args.tx.now.conn.now) (state g.S.Store c.add_meter_row.new.tx.conn.now) (state g.S.Store c.add_base.new.tx.conn.now) c.add_base.result c.in_ok-add_meter_row.ensures.writes.transaction c.add_base.ensures.writes.transaction
 
-pub returns-in_err-add_meter_row-clause-refused : goal.returns-in_err-add_meter_row-clause-refused
-returns-in_err-add_meter_row-clause-refused g c clean way has =
+pub returns-in_err-add_meter_row-clause-ends : goal.returns-in_err-add_meter_row-clause-ends
+returns-in_err-add_meter_row-clause-ends g c clean way has =
     let old = state g.S.Store c.args.tx.now.conn.now in
     let new = state g.S.Store c.add_meter_row.new.tx.conn.now in
+    let first = new_meter c.args.number.now c.args.meter.now in
+    let second = new_base c.args.number.now c.args.meter.now.base in
     let e = c.in_err-add_meter_row.field-0.0 in
-    told_as (FailsToWriteAll old new) c.from_residual.result e c.from_residual.ensures.1 (of_store old old new (came_here old way) e (c.in_err-add_meter_row.ensures.writes.refused clean has))
+    ends_off FailsToWriteAll (first ∷ second ∷ []) old new e c.from_residual.result c.from_residual.ensures.1 (of_store [] old old new (came_here old way) first (second ∷ []) e (c.in_err-add_meter_row.ensures.writes.ends clean has).1)
 
-pub returns-clause-refused : goal.returns-clause-refused
-returns-clause-refused g c clean way has =
+pub returns-clause-ends : goal.returns-clause-ends
+returns-clause-ends g c clean way has =
     let old = state g.S.Store c.args.tx.now.conn.now in
     let mid = state g.S.Store c.add_meter_row.new.tx.conn.now in
     let new = state g.S.Store c.add_base.new.tx.conn.now in
+    let first = new_meter c.args.number.now c.args.meter.now in
     let early : HasCleanDisk mid = omega (arith, c.add_base.ensures.writes.transaction.survives.clean) in
-    let made = c.in_ok-add_meter_row.ensures.writes.made early has in
-    let came = came_after _ old mid made.only c.in_ok-add_meter_row.ensures.writes.transaction.survives in
-    if_err c.add_base.result (of_store old mid new came) (c.add_base.ensures.writes.refused clean (tables_there _ old mid made.only has))
+    let done = c.in_ok-add_meter_row.ensures.writes in
+    let made = done.made early has in
+    let came = came_by (first ∷ []) old mid (done.ends early has).0 made.only.inside done.transaction.survives in
+    ends_then (first ∷ []) old mid new came (new_base c.args.number.now c.args.meter.now.base) c.add_base.result (c.add_base.ensures.writes.ends clean (tables_there _ old mid made.only has))

@@ -3,6 +3,7 @@ use Rattle.sqlite.specs.Held.{state}
 use Rattle.sqlite.specs.State.{HasCleanDisk}
 use Rattle.one_table.specs.InTransaction.{KeepsTransaction}
 use Rattle.book_tables.specs.reading.Reading.{HasAllTables}
+use Rattle.book_tables.specs.writing.Writes.{AreCarriedOut, tariff_writes}
 use Rattle.book_tables.specs.writing.Writing.{AddsTariff}
 use Rattle.book_tables.specs.declared.error.TableError.{TableError}
 use Rattle.book_tables.proofs.writing.additions.add_tariff.Given as goal
@@ -16,4 +17,5 @@ invariant-steps g l =
       place : l.place ≡ l.step-index;
       transaction : KeepsTransaction {T = Unit {0}} {E = TableError} old now (Ok tt);
       added : HasCleanDisk now → HasAllTables old → AddsTariff l.name (take l.step-index l.steps) old now;
+      written : HasCleanDisk now → HasAllTables old → AreCarriedOut (tariff_writes l.name (take l.step-index l.steps)) old now;
     }

@@ -1,9 +1,12 @@
 use Rattle.std.specs.Prelude.{codes}
-use Rattle.std.proofs.Common.{refl}
+use Rattle.std.proofs.Common.{refl, subst}
 use Rattle.sqlite.specs.Held.{state}
+use Rattle.sqlite.specs.Order.{Row as Values}
 use Rattle.one_table.proofs.ChangeLemmas.{on_ok}
 use Rattle.one_table.specs.Standing.{place_in, tree_in}
 use Rattle.book_tables.specs.Tables.{shifts_table}
+use Rattle.book_tables.specs.writing.Failing.{Ends, FailsToStore}
+use Rattle.book_tables.specs.writing.Writes.{shift_closed_text}
 use Rattle.book_tables.proofs.WritingLemmas.WriteLemmas.{closes_shift}
 use Rattle.book_tables.proofs.WritingLemmas.WriteTexts.{shift_closed_means, shift_closed_query, shift_closed_whole}
 use Rattle.book_tables.proofs.writing.changes.close_shift.Goals as goal
@@ -14,8 +17,10 @@ returns-clause-writes g c =
     let tree = tree_in s (codes "shifts") in
     record {
       made = λ clean has.
-          on_ok c.set.result (closes_shift (state g.S.Store c.args.tx.now.conn.now) (state g.S.Store c.set.new.tx.conn.now) c.args.number c.args.moment _ (rw (c.whole.ensures, c.seconds.ensures) refl))
+          on_ok c.set.result (closes_shift (state g.S.Store c.args.tx.now.conn.now) (state g.S.Store c.set.new.tx.conn.now) has c.args.number c.args.moment _ (rw (c.whole.ensures, c.seconds.ensures) refl))
           (c.set.ensures.changed clean (shifts_table tree) (place_in s (codes "shifts")) (shift_closed_query tree) (shift_closed_means tree) (λ runs. ((has runs).tables.1.1.1.1.0.0.has, (has runs).tables.1.1.1.1.0.1)));
       transaction = c.set.ensures.transaction;
-      refused = λ clean has. c.set.ensures.refused clean (shifts_table tree) (place_in s (codes "shifts")) (shift_closed_query tree) (shift_closed_means tree) shift_closed_whole (λ runs. (has runs).tables.1.1.1.1.0.0.has);
+      ends = λ clean has.
+          subst (λ (ps : Values). Ends FailsToStore (record { sql = shift_closed_text; params = ps }) (state g.S.Store c.args.tx.now.conn.now) (state g.S.Store c.set.new.tx.conn.now) c.set.result) (rw (c.whole.ensures, c.seconds.ensures) refl)
+          (c.set.ensures.ends clean (shifts_table tree) (place_in s (codes "shifts")) (shift_closed_query tree) (shift_closed_means tree) shift_closed_whole (λ runs. (has runs).tables.1.1.1.1.0.0.has));
     }

@@ -1,9 +1,12 @@
 use Rattle.std.specs.Prelude.{codes}
-use Rattle.std.proofs.Common.{refl}
+use Rattle.std.proofs.Common.{refl, subst}
 use Rattle.sqlite.specs.Held.{state}
+use Rattle.sqlite.specs.Order.{Row as Values}
 use Rattle.one_table.proofs.ChangeLemmas.{on_ok}
 use Rattle.one_table.specs.Standing.{place_in, tree_in}
 use Rattle.book_tables.specs.Tables.{meters_table}
+use Rattle.book_tables.specs.writing.Failing.{Ends, FailsToStore}
+use Rattle.book_tables.specs.writing.Writes.{tariff_set_text}
 use Rattle.book_tables.proofs.WritingLemmas.HiddenWriteLemmas.{sets_tariff}
 use Rattle.book_tables.proofs.WritingLemmas.WriteTexts.{tariff_set_means, tariff_set_query, tariff_set_whole}
 use Rattle.book_tables.proofs.writing.changes.set_tariff.Goals as goal
@@ -14,8 +17,10 @@ returns-clause-writes g c =
     let tree = tree_in s (codes "meters") in
     record {
       made = λ clean has.
-          on_ok c.set.result (sets_tariff (state g.S.Store c.args.tx.now.conn.now) (state g.S.Store c.set.new.tx.conn.now) c.args.number.now c.args.name.now _ (rw (c.as_bytes.ensures.view, c.as_bytes-2.ensures.view) refl))
+          on_ok c.set.result (sets_tariff (state g.S.Store c.args.tx.now.conn.now) (state g.S.Store c.set.new.tx.conn.now) has c.args.number.now c.args.name.now _ (rw (c.as_bytes.ensures.view, c.as_bytes-2.ensures.view) refl))
           (c.set.ensures.changed clean (meters_table tree) (place_in s (codes "meters")) (tariff_set_query tree) (tariff_set_means tree) (λ runs. ((has runs).tables.1.1.1.0.0.has, (has runs).tables.1.1.1.0.1)));
       transaction = c.set.ensures.transaction;
-      refused = λ clean has. c.set.ensures.refused clean (meters_table tree) (place_in s (codes "meters")) (tariff_set_query tree) (tariff_set_means tree) tariff_set_whole (λ runs. (has runs).tables.1.1.1.0.0.has);
+      ends = λ clean has.
+          subst (λ (ps : Values). Ends FailsToStore (record { sql = tariff_set_text; params = ps }) (state g.S.Store c.args.tx.now.conn.now) (state g.S.Store c.set.new.tx.conn.now) c.set.result) (rw (c.as_bytes.ensures.view, c.as_bytes-2.ensures.view) refl)
+          (c.set.ensures.ends clean (meters_table tree) (place_in s (codes "meters")) (tariff_set_query tree) (tariff_set_means tree) tariff_set_whole (λ runs. (has runs).tables.1.1.1.0.0.has));
     }

@@ -4,6 +4,7 @@ use Rattle.sqlite.specs.State.{HasCleanDisk}
 use Rattle.tariff.specs.declared.step.Step.{Step}
 use Rattle.one_table.specs.InTransaction.{KeepsTransaction}
 use Rattle.book_tables.specs.reading.Reading.{HasAllTables}
+use Rattle.book_tables.specs.writing.Writes.{AreCarriedOut, steps_writes}
 use Rattle.book_tables.specs.writing.Writing.{AddsSteps}
 use Rattle.book_tables.specs.declared.error.TableError.{TableError}
 use Rattle.book_tables.proofs.writing.dated_steps.add_steps.Given as goal
@@ -17,4 +18,5 @@ invariant-others g l =
       place : l.place ≡ l.step-index + 1;
       transaction : KeepsTransaction {T = Unit {0}} {E = TableError} old now (Ok tt);
       added : HasCleanDisk now → HasAllTables old → (first : Step) × (l.steps ≡ first ∷ l.others) × AddsSteps l.name l.day (first ∷ take l.step-index l.others) old now;
+      written : HasCleanDisk now → HasAllTables old → (first : Step) × (l.steps ≡ first ∷ l.others) × AreCarriedOut (steps_writes l.name l.day (first ∷ take l.step-index l.others)) old now;
     }

@@ -1,6 +1,9 @@
+use Rattle.sqlite.specs.Held.{state}
 use Rattle.sqlite.specs.Values.{bound}
+use Rattle.one_table.proofs.UpdateTextLemmas.{updates}
 use Rattle.one_table.proofs.ChangeLemmas.{transaction_off, transaction_on}
 use Rattle.one_table.specs.Changing.{update_as}
+use Rattle.book_tables.proofs.WritingLemmas.CauseLemmas.{one_written}
 use Rattle.book_tables.proofs.WritingLemmas.RefusalLemmas.{fails_to_store}
 use Rattle.book_tables.proofs.writing.store.set.Goals as goal
 
@@ -8,9 +11,15 @@ pub returns-in_err-update-clause-transaction : goal.returns-in_err-update-clause
 returns-in_err-update-clause-transaction g c =
     transaction_off _ c.from_residual.result c.from_residual.ensures.1 c.in_err-update.ensures.transaction.kept c.in_err-update.ensures.transaction.survives
 
-pub returns-in_err-update-clause-refused : goal.returns-in_err-update-clause-refused
-returns-in_err-update-clause-refused g c clean t at q is whole has =
-    fails_to_store (update_as at q) (bound c.args.params.now) c.from_residual.result c.from_residual.ensures.1 (c.in_err-update.ensures.refused clean t at q is whole has)
+pub returns-in_err-update-clause-ends : goal.returns-in_err-update-clause-ends
+returns-in_err-update-clause-ends g c clean t at q is whole has =
+    let old = state g.S.Store c.args.tx.now.conn.now in
+    fails_to_store (record { sql = c.args.sql.now; params = bound c.args.params.now }) (update_as at q) c.from_residual.result c.from_residual.ensures.1 (λ runs. updates old.now.schema at t (has runs) q c.args.sql.now is)
+    (c.in_err-update.ensures.refused clean t at q is whole has)
+
+pub returns-clause-ends : goal.returns-clause-ends
+returns-clause-ends g c clean t at q is whole has =
+    (one_written (record { sql = c.args.sql.now; params = bound c.args.params.now }) (state g.S.Store c.args.tx.now.conn.now) (state g.S.Store c.update.new.tx.conn.now) (c.in_ok-update.ensures.ran clean t at q is has), tt)
 
 pub returns-clause-transaction : goal.returns-clause-transaction
 returns-clause-transaction g c = transaction_on c.in_ok-update.ensures.transaction

@@ -1,13 +1,13 @@
 use Rattle.std.proofs.Common.{arith, codes, [], ◌∷◌, inl, subst}
 use Rattle.sqlite.specs.Held.{state}
 use Rattle.sqlite.specs.State.{HasCleanDisk}
-use Rattle.one_table.proofs.ChangeLemmas.{told_as, transaction_off, transaction_on, transaction_then}
-use Rattle.book_tables.specs.reading.Reading.{FailsToStore}
+use Rattle.one_table.proofs.ChangeLemmas.{transaction_off, transaction_on, transaction_then}
 use Rattle.book_tables.specs.declared.error.TableError.TheVariants.{RowOfNoOffice}
 use Rattle.book_tables.proofs.WritingLemmas.AddTotalsLemmas.{may_add_totals, tables_stay, tells_sold}
 use Rattle.book_tables.proofs.WritingLemmas.RefusalLemmas.{handed_on, same_error}
-use Rattle.book_tables.specs.writing.Failing.{FailsToMergeAll}
-use Rattle.book_tables.proofs.WritingLemmas.CauseLemmas.{came_after, came_here, of_later_merge, of_store}
+use Rattle.book_tables.specs.writing.Failing.{FailsToMergeAll, FailsToStore}
+use Rattle.book_tables.specs.writing.Writes.{new_sale, sale_writes, totals_writes}
+use Rattle.book_tables.proofs.WritingLemmas.CauseLemmas.{came_by, came_here, ends_off, of_later_merge, of_store, written_then}
 use Rattle.book_tables.proofs.writing.totals.add_sold.Goals as goal
 
 pub returns-in_err-add_sale-clause-transaction : goal.returns-in_err-add_sale-clause-transaction
@@ -35,15 +35,15 @@ returns-clause-adds g c clean way has =
     let early : HasCleanDisk mid = omega (arith, c.add_totals.ensures.transaction.survives.clean) in
     let first = c.in_ok-add_sale.ensures.writes.made early has in
     let second = c.in_ok-totals.ensures.adds clean first.only.inside.mode (tables_stay (codes "sales" ∷ []) old mid first.only has) in
-    tells_sold c.amount_law.ensures.greatest c.args.sale.now c.in_ok-totals.totals old mid new first second
+    tells_sold c.amount_law.ensures.greatest c.args.sale.now c.in_ok-totals.totals old mid new first second has
 
 pub returns-in_err-add_sale-clause-no_false_row : goal.returns-in_err-add_sale-clause-no_false_row
 returns-in_err-add_sale-clause-no_false_row g c clean way format rows held known told_so =
     let old = state g.S.Store c.args.tx.now.conn.now in
     let new = state g.S.Store c.add_sale.new.tx.conn.now in
     let e = c.in_err-add_sale.field-0.0 in
-    let fails : FailsToStore old new e = c.in_err-add_sale.ensures.writes.refused clean (λ runs. (held runs).has) in
-    subst (FailsToStore old new) (same_error {A = Unit {0}} e RowOfNoOffice (handed_on e RowOfNoOffice c.from_residual.result c.from_residual.ensures.1 told_so)) fails
+    let fails : FailsToStore (new_sale c.args.sale.now) old new e = (c.in_err-add_sale.ensures.writes.ends clean (λ runs. (held runs).has)).1 in
+    subst (FailsToStore (new_sale c.args.sale.now) old new) (same_error {A = Unit {0}} e RowOfNoOffice (handed_on e RowOfNoOffice c.from_residual.result c.from_residual.ensures.1 told_so)) fails
 
 pub returns-in_err-totals-clause-no_false_row : goal.returns-in_err-totals-clause-no_false_row
 returns-in_err-totals-clause-no_false_row g c clean way format rows held known told_so =
@@ -56,21 +56,37 @@ returns-in_err-totals-clause-no_false_row g c clean way format rows held known t
     c.in_err-totals.ensures.no_false_row clean first.only.inside.mode format after.0 (λ _. after.1) after.2
     (handed_on c.in_err-totals.field-0.0 RowOfNoOffice c.from_residual-in_err-totals.result c.from_residual-in_err-totals.ensures.1 told_so)
 
-pub returns-in_err-add_sale-clause-refused : goal.returns-in_err-add_sale-clause-refused
-returns-in_err-add_sale-clause-refused g c clean way has =
+pub returns-in_err-add_sale-clause-ends : goal.returns-in_err-add_sale-clause-ends
+returns-in_err-add_sale-clause-ends g c clean way has =
+    let sale = c.args.sale.now in
     let old = state g.S.Store c.args.tx.now.conn.now in
     let new = state g.S.Store c.add_sale.new.tx.conn.now in
     let e = c.in_err-add_sale.field-0.0 in
-    told_as (FailsToMergeAll old new) c.from_residual.result e c.from_residual.ensures.1 (inl (of_store old old new (came_here old way) e (c.in_err-add_sale.ensures.writes.refused clean has)))
+    ends_off FailsToMergeAll (sale_writes sale) old new e c.from_residual.result c.from_residual.ensures.1 (inl (of_store [] old old new (came_here old way) (new_sale sale) (totals_writes sale sale.tid) e (c.in_err-add_sale.ensures.writes.ends clean has).1))
 
-pub returns-in_err-totals-clause-refused : goal.returns-in_err-totals-clause-refused
-returns-in_err-totals-clause-refused g c clean way has =
+pub returns-in_err-totals-clause-ends : goal.returns-in_err-totals-clause-ends
+returns-in_err-totals-clause-ends g c clean way has =
+    let sale = c.args.sale.now in
     let old = state g.S.Store c.args.tx.now.conn.now in
     let mid = state g.S.Store c.add_sale.new.tx.conn.now in
     let new = state g.S.Store c.add_totals.new.tx.conn.now in
     let early : HasCleanDisk mid = omega (arith, c.add_totals.ensures.transaction.survives.clean) in
-    let first = c.in_ok-add_sale.ensures.writes.made early has in
-    let came = came_after _ old mid first.only c.in_ok-add_sale.ensures.writes.transaction.survives in
+    let done = c.in_ok-add_sale.ensures.writes in
+    let first = done.made early has in
+    let came = came_by (new_sale sale ∷ []) old mid (done.ends early has).0 first.only.inside done.transaction.survives in
     let e = c.in_err-totals.field-0.0 in
-    told_as (FailsToMergeAll old new) c.from_residual-in_err-totals.result e c.from_residual-in_err-totals.ensures.1
-    (of_later_merge old mid new came e (c.in_err-totals.ensures.refused clean first.only.inside.mode (tables_stay (codes "sales" ∷ []) old mid first.only has)))
+    let fails = (c.in_err-totals.ensures.ends clean first.only.inside.mode (tables_stay (codes "sales" ∷ []) old mid first.only has)).1 in
+    ends_off FailsToMergeAll (sale_writes sale) old new e c.from_residual-in_err-totals.result c.from_residual-in_err-totals.ensures.1 (of_later_merge (new_sale sale ∷ []) old mid new came (totals_writes sale sale.tid) [] e fails)
+
+pub returns-clause-ends : goal.returns-clause-ends
+returns-clause-ends g c clean way has =
+    let sale = c.args.sale.now in
+    let old = state g.S.Store c.args.tx.now.conn.now in
+    let mid = state g.S.Store c.add_sale.new.tx.conn.now in
+    let new = state g.S.Store c.add_totals.new.tx.conn.now in
+    let early : HasCleanDisk mid = omega (arith, c.add_totals.ensures.transaction.survives.clean) in
+    let done = c.in_ok-add_sale.ensures.writes in
+    let first = done.made early has in
+    let came = came_by (new_sale sale ∷ []) old mid (done.ends early has).0 first.only.inside done.transaction.survives in
+    let then = (c.in_ok-totals.ensures.ends clean first.only.inside.mode (tables_stay (codes "sales" ∷ []) old mid first.only has)).0 in
+    (written_then (new_sale sale ∷ []) (totals_writes sale sale.tid) old mid new came then, tt)

@@ -1,14 +1,17 @@
-use Rattle.std.proofs.Common.{◌≡◌, length, subst, sym, true}
+use Rattle.std.proofs.Common.{◌≡◌, ◌∷◌, [], length, subst, sym, true}
 use Rattle.sqlite.specs.Held.{state}
+use Rattle.sqlite.specs.Order.{Row as Values}
 use Rattle.sqlite.specs.Values.{bound}
 use Rattle.one_table.proofs.ChangeLemmas.{transaction_on}
 use Rattle.one_table.specs.Reading.{is_whole}
 use Rattle.book_tables.specs.Kept.{month_tenths_kept}
 use Rattle.book_tables.specs.declared.error.TableError.TheVariants.{RowOfNoOffice}
+use Rattle.book_tables.specs.writing.Failing.{FailsToMerge}
+use Rattle.book_tables.specs.writing.Writes.{AreCarriedOut, tenths_added_text}
 use Rattle.book_tables.proofs.OfficeTableLemmas.{month_tenths_in}
 use Rattle.book_tables.proofs.WritingLemmas.RefusalLemmas.{handed_on, merge_off}
 use Rattle.book_tables.proofs.WritingLemmas.TotallingLemmas.{adds_tenths, month_tenths, month_tenths_at, stands_for, total_fits, takes_tenths, sum_is_shown}
-use Rattle.book_tables.proofs.WritingLemmas.TotalsTexts.{tenths_merging, tenths_added_means, tenths_added_text, tenths_added_whole}
+use Rattle.book_tables.proofs.WritingLemmas.TotalsTexts.{tenths_merging, tenths_added_means, tenths_added_whole}
 use Rattle.book_tables.proofs.writing.totals.add_tenths.Goals as goal
 
 pub returns-in_err-all-clause-merges : goal.returns-in_err-all-clause-merges
@@ -18,8 +21,9 @@ returns-in_err-all-clause-merges g c =
     let e = c.in_err-all.field-0.0 in
     let failed = c.in_err-all.ensures in
     merge_off e c.from_residual.result c.from_residual.ensures.1 failed.transaction.kept failed.transaction.survives
-    (λ clean way has. failed.refused clean way (month_tenths old new) (month_tenths_at old new) tenths_merging (tenths_added_means (month_tenths old new).tree)
-    (subst (λ ps. is_whole tenths_added_text (length ps) ≡ true) (sym c.tenths_values.ensures) tenths_added_whole) (λ runs. stands_for month_tenths_kept old.now.schema (month_tenths_in.there old.now.schema (has runs))))
+    (λ clean way has. subst (λ (ps : Values). FailsToMerge (record { sql = tenths_added_text; params = ps }) old new e) c.tenths_values.ensures
+    (failed.ends clean way (month_tenths old new) (month_tenths_at old new) tenths_merging (tenths_added_means (month_tenths old new).tree)
+    (subst (λ ps. is_whole tenths_added_text (length ps) ≡ true) (sym c.tenths_values.ensures) tenths_added_whole) (λ runs. stands_for month_tenths_kept old.now.schema (month_tenths_in.there old.now.schema (has runs)))).1)
 
 pub returns-clause-merges : goal.returns-clause-merges
 returns-clause-merges g c =
@@ -28,11 +32,16 @@ returns-clause-merges g c =
     let done = c.in_ok-all.ensures in
     record {
       made = λ clean way has.
-          adds_tenths old new c.args.meter.now c.args.month c.args.tenths c.in_ok-all.all (bound c.tenths_values.result) c.tenths_values.ensures
+          adds_tenths old new c.args.meter.now c.args.month c.args.tenths has c.in_ok-all.all (bound c.tenths_values.result) c.tenths_values.ensures
           (done.touched clean way (month_tenths old new) (month_tenths_at old new) tenths_merging (tenths_added_means (month_tenths old new).tree) (λ runs. stands_for month_tenths_kept old.now.schema (month_tenths_in.there old.now.schema (has runs))))
           (λ takes. let it = done.merged clean way (month_tenths old new) (month_tenths_at old new) tenths_merging (tenths_added_means (month_tenths old new).tree) takes in it);
       transaction = transaction_on done.transaction;
-      refused = λ clean way has. tt;
+      ends = λ clean way has. (
+        subst (λ (ps : Values). AreCarriedOut (record { sql = tenths_added_text; params = ps } ∷ []) old new) c.tenths_values.ensures
+            (done.ends clean way (month_tenths old new) (month_tenths_at old new) tenths_merging (tenths_added_means (month_tenths old new).tree)
+            (subst (λ ps. is_whole tenths_added_text (length ps) ≡ true) (sym c.tenths_values.ensures) tenths_added_whole) (λ runs. stands_for month_tenths_kept old.now.schema (month_tenths_in.there old.now.schema (has runs)))).0,
+        tt,
+      );
     }
 
 pub returns-in_err-all-clause-no_false_row : goal.returns-in_err-all-clause-no_false_row

@@ -1,7 +1,7 @@
-use Rattle.std.proofs.Common.{ℕ, arith, codes, [], ◌∷◌, map, sym, subst}
+use Rattle.std.proofs.Common.{◌≡◌, ℕ, arith, codes, [], ◌∷◌, map, sym, subst}
 use Rattle.sqlite.specs.Held.{state}
-use Rattle.sqlite.specs.State.{HasCleanDisk}
-use Rattle.one_table.proofs.ChangeLemmas.{told_as, transaction_off, transaction_on, transaction_then}
+use Rattle.sqlite.specs.State.{HasCleanDisk, State}
+use Rattle.one_table.proofs.ChangeLemmas.{transaction_off, transaction_on, transaction_then}
 use Rattle.sts_fields.specs.Calendar.{month_at}
 use Rattle.vend_core.specs.Office.Lookup.{greatest_of}
 use Rattle.vend_core.specs.declared.office.sale.Sale.{Sale}
@@ -10,8 +10,9 @@ use Rattle.book_tables.specs.writing.Writing.{AddsTenths, AddsToShift, MayAddTen
 use Rattle.book_tables.specs.declared.error.TableError.TheVariants.{RowOfNoOffice}
 use Rattle.book_tables.proofs.WritingLemmas.AddTotalsLemmas.{may_add_tenths, may_add_to_shift, tables_stay, tells_totals}
 use Rattle.book_tables.proofs.WritingLemmas.RefusalLemmas.{handed_on}
-use Rattle.book_tables.specs.writing.Failing.{FailsToMergeAll}
-use Rattle.book_tables.proofs.WritingLemmas.CauseLemmas.{came_after, came_here, of_later_merge, of_merge}
+use Rattle.book_tables.specs.writing.Failing.{FailsToMerge, FailsToMergeAll}
+use Rattle.book_tables.specs.writing.Writes.{AreCarriedOut, last_id_set, sale_counted, tenths_added, totals_writes}
+use Rattle.book_tables.proofs.WritingLemmas.CauseLemmas.{Came, came_by, came_here, came_later, ends_off, of_merge, written_then}
 use Rattle.book_tables.proofs.writing.totals.add_totals.Goals as goal
 
 pub returns-in_err-set_last_id-clause-transaction : goal.returns-in_err-set_last_id-clause-transaction
@@ -63,7 +64,7 @@ returns-clause-adds g c clean way has =
     let third = c.in_ok-shift.ensures.merges.made clean second.only.inside.mode has_two in
     tells_totals sale c.args.last (record { month_tenths = sum; shift = shift }) old one two new first
     (subst (λ (n : ℕ). AddsTenths (sale.meter, month_at sale.moment) n sum one two) c.tenths-tenths.ensures.value (subst (λ (n : ℕ). AddsTenths (sale.meter, n) c.tenths-tenths.result sum one two) c.month_of_sale-month.ensures second))
-    (subst (λ (n : ℕ). AddsToShift sale.shift n sale.price shift two new) c.tenths-tenths.ensures.value third)
+    (subst (λ (n : ℕ). AddsToShift sale.shift n sale.price shift two new) c.tenths-tenths.ensures.value third) has
 
 pub returns-in_err-set_last_id-clause-no_false_row : goal.returns-in_err-set_last_id-clause-no_false_row
 returns-in_err-set_last_id-clause-no_false_row g c clean way format rows held known told_so =
@@ -102,39 +103,86 @@ returns-in_err-shift-clause-no_false_row g c clean way format rows held known to
     c.in_err-shift.ensures.no_false_row clean adds.only.inside.mode format then.0 (λ _. then.1) (subst (λ (n : ℕ). MayAddToShift sale.shift n sale.price format then.0) (sym c.tenths-tenths.ensures.value) then.2)
     (handed_on c.in_err-shift.field-0.0 RowOfNoOffice c.from_residual-in_err-shift.result c.from_residual-in_err-shift.ensures.1 told_so)
 
-pub returns-in_err-set_last_id-clause-refused : goal.returns-in_err-set_last_id-clause-refused
-returns-in_err-set_last_id-clause-refused g c clean way has =
+pub returns-in_err-set_last_id-clause-ends : goal.returns-in_err-set_last_id-clause-ends
+returns-in_err-set_last_id-clause-ends g c clean way has =
+    let sale = c.args.sale.now in
     let old = state g.S.Store c.args.tx.now.conn.now in
     let new = state g.S.Store c.set_last_id.new.tx.conn.now in
     let e = c.in_err-set_last_id.field-0.0 in
-    told_as (FailsToMergeAll old new) c.from_residual.result e c.from_residual.ensures.1 (of_merge old old new (came_here old way) e (c.in_err-set_last_id.ensures.merges.refused clean way has))
+    ends_off FailsToMergeAll (totals_writes sale c.args.last) old new e c.from_residual.result c.from_residual.ensures.1
+    (of_merge [] old old new (came_here old way) (last_id_set (sale.meter, sale.base) c.args.last) (tenths_added (sale.meter, month_at sale.moment) sale.tenths ∷ sale_counted sale.shift sale.tenths sale.price ∷ []) e
+    (c.in_err-set_last_id.ensures.merges.ends clean way has).1)
 
-pub returns-in_err-month_tenths-clause-refused : goal.returns-in_err-month_tenths-clause-refused
-returns-in_err-month_tenths-clause-refused g c clean way has =
+pub returns-in_err-month_tenths-clause-ends : goal.returns-in_err-month_tenths-clause-ends
+returns-in_err-month_tenths-clause-ends g c clean way has =
+    let sale = c.args.sale.now in
     let old = state g.S.Store c.args.tx.now.conn.now in
     let one = state g.S.Store c.set_last_id.new.tx.conn.now in
     let new = state g.S.Store c.add_tenths.new.tx.conn.now in
     let clean_one : HasCleanDisk one = omega (arith, c.add_tenths.ensures.merges.transaction.survives.clean) in
-    let first = c.in_ok-set_last_id.ensures.merges.made clean_one way has in
-    let came = came_after _ old one first.only c.in_ok-set_last_id.ensures.merges.transaction.survives in
+    let done = c.in_ok-set_last_id.ensures.merges in
+    let first = done.made clean_one way has in
+    let id = last_id_set (sale.meter, sale.base) c.args.last in
+    let came = came_by (id ∷ []) old one (done.ends clean_one way has).0 first.only.inside done.transaction.survives in
     let e = c.in_err-month_tenths.field-0.0 in
-    told_as (FailsToMergeAll old new) c.from_residual-in_err-month_tenths.result e c.from_residual-in_err-month_tenths.ensures.1
-    (of_merge old one new came e (c.in_err-month_tenths.ensures.merges.refused clean first.only.inside.mode (tables_stay (codes "last_ids" ∷ []) old one first.only has)))
+    let fails = (c.in_err-month_tenths.ensures.merges.ends clean first.only.inside.mode (tables_stay (codes "last_ids" ∷ []) old one first.only has)).1 in
+    let tenths = tenths_added (sale.meter, month_at sale.moment) sale.tenths in
+    let here = subst (λ (n : ℕ). FailsToMerge (tenths_added (sale.meter, month_at sale.moment) n) one new e) c.tenths-tenths.ensures.value (subst (λ (n : ℕ). FailsToMerge (tenths_added (sale.meter, n) c.tenths-tenths.result) one new e) c.month_of_sale-month.ensures fails) in
+    ends_off FailsToMergeAll (totals_writes sale c.args.last) old new e c.from_residual-in_err-month_tenths.result c.from_residual-in_err-month_tenths.ensures.1
+    (of_merge (id ∷ []) old one new came tenths (sale_counted sale.shift sale.tenths sale.price ∷ []) e here)
 
-pub returns-in_err-shift-clause-refused : goal.returns-in_err-shift-clause-refused
-returns-in_err-shift-clause-refused g c clean way has =
+-- the first two of them were written
+two_written : (sale : Sale) (last month tenths : ℕ) (old one two : State) → month ≡ month_at sale.moment → tenths ≡ sale.tenths → (came : Came (last_id_set (sale.meter, sale.base) last ∷ []) old one)
+    → AreCarriedOut (tenths_added (sale.meter, month) tenths ∷ []) one two → AreCarriedOut (last_id_set (sale.meter, sale.base) last ∷ tenths_added (sale.meter, month_at sale.moment) sale.tenths ∷ []) old two
+two_written sale last month tenths old one two months sums came then =
+    let here = subst (λ (n : ℕ). AreCarriedOut (tenths_added (sale.meter, month_at sale.moment) n ∷ []) one two) sums (subst (λ (n : ℕ). AreCarriedOut (tenths_added (sale.meter, n) tenths ∷ []) one two) months then) in
+    written_then (last_id_set (sale.meter, sale.base) last ∷ []) (tenths_added (sale.meter, month_at sale.moment) sale.tenths ∷ []) old one two came here
+
+pub returns-in_err-shift-clause-ends : goal.returns-in_err-shift-clause-ends
+returns-in_err-shift-clause-ends g c clean way has =
+    let sale = c.args.sale.now in
     let old = state g.S.Store c.args.tx.now.conn.now in
     let one = state g.S.Store c.set_last_id.new.tx.conn.now in
     let two = state g.S.Store c.add_tenths.new.tx.conn.now in
     let new = state g.S.Store c.add_to_shift.new.tx.conn.now in
     let clean_two : HasCleanDisk two = omega (arith, c.add_to_shift.ensures.merges.transaction.survives.clean) in
     let clean_one : HasCleanDisk one = omega (arith, c.add_tenths.ensures.merges.transaction.survives.clean) in
-    let first = c.in_ok-set_last_id.ensures.merges.made clean_one way has in
+    let id = last_id_set (sale.meter, sale.base) c.args.last in
+    let tenths = tenths_added (sale.meter, month_at sale.moment) sale.tenths in
+    let done = c.in_ok-set_last_id.ensures.merges in
+    let first = done.made clean_one way has in
     let has_one = tables_stay (codes "last_ids" ∷ []) old one first.only has in
-    let second = c.in_ok-month_tenths.ensures.merges.made clean_two first.only.inside.mode has_one in
+    let then = c.in_ok-month_tenths.ensures.merges in
+    let second = then.made clean_two first.only.inside.mode has_one in
     let has_two = tables_stay (codes "month_tenths" ∷ []) one two second.only has_one in
-    let came_one = came_after _ old one first.only c.in_ok-set_last_id.ensures.merges.transaction.survives in
-    let came_two = came_after _ one two second.only c.in_ok-month_tenths.ensures.merges.transaction.survives in
+    let came_one = came_by (id ∷ []) old one (done.ends clean_one way has).0 first.only.inside done.transaction.survives in
+    let both = two_written sale c.args.last c.month_of_sale-month.result c.tenths-tenths.result old one two c.month_of_sale-month.ensures c.tenths-tenths.ensures.value came_one (then.ends clean_two first.only.inside.mode has_one).0 in
+    let came = came_later (id ∷ tenths ∷ []) old one two came_one both second.only.inside then.transaction.survives in
     let e = c.in_err-shift.field-0.0 in
-    told_as (FailsToMergeAll old new) c.from_residual-in_err-shift.result e c.from_residual-in_err-shift.ensures.1
-    (of_later_merge old one new came_one e (of_merge one two new came_two e (c.in_err-shift.ensures.merges.refused clean second.only.inside.mode has_two)))
+    let fails = (c.in_err-shift.ensures.merges.ends clean second.only.inside.mode has_two).1 in
+    let here = subst (λ (n : ℕ). FailsToMerge (sale_counted sale.shift n sale.price) two new e) c.tenths-tenths.ensures.value fails in
+    ends_off FailsToMergeAll (totals_writes sale c.args.last) old new e c.from_residual-in_err-shift.result c.from_residual-in_err-shift.ensures.1 (of_merge (id ∷ tenths ∷ []) old two new came (sale_counted sale.shift sale.tenths sale.price) [] e here)
+
+pub returns-clause-ends : goal.returns-clause-ends
+returns-clause-ends g c clean way has =
+    let sale = c.args.sale.now in
+    let old = state g.S.Store c.args.tx.now.conn.now in
+    let one = state g.S.Store c.set_last_id.new.tx.conn.now in
+    let two = state g.S.Store c.add_tenths.new.tx.conn.now in
+    let new = state g.S.Store c.add_to_shift.new.tx.conn.now in
+    let clean_two : HasCleanDisk two = omega (arith, c.add_to_shift.ensures.merges.transaction.survives.clean) in
+    let clean_one : HasCleanDisk one = omega (arith, c.add_tenths.ensures.merges.transaction.survives.clean) in
+    let id = last_id_set (sale.meter, sale.base) c.args.last in
+    let tenths = tenths_added (sale.meter, month_at sale.moment) sale.tenths in
+    let done = c.in_ok-set_last_id.ensures.merges in
+    let first = done.made clean_one way has in
+    let has_one = tables_stay (codes "last_ids" ∷ []) old one first.only has in
+    let then = c.in_ok-month_tenths.ensures.merges in
+    let second = then.made clean_two first.only.inside.mode has_one in
+    let has_two = tables_stay (codes "month_tenths" ∷ []) one two second.only has_one in
+    let came_one = came_by (id ∷ []) old one (done.ends clean_one way has).0 first.only.inside done.transaction.survives in
+    let both = two_written sale c.args.last c.month_of_sale-month.result c.tenths-tenths.result old one two c.month_of_sale-month.ensures c.tenths-tenths.ensures.value came_one (then.ends clean_two first.only.inside.mode has_one).0 in
+    let came = came_later (id ∷ tenths ∷ []) old one two came_one both second.only.inside then.transaction.survives in
+    let last = (c.in_ok-shift.ensures.merges.ends clean second.only.inside.mode has_two).0 in
+    let here = subst (λ (n : ℕ). AreCarriedOut (sale_counted sale.shift n sale.price ∷ []) two new) c.tenths-tenths.ensures.value last in
+    (written_then (id ∷ tenths ∷ []) (sale_counted sale.shift sale.tenths sale.price ∷ []) old two new came here, tt)

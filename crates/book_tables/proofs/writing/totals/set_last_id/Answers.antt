@@ -1,15 +1,19 @@
-use Rattle.std.proofs.Common.{◌≡◌, ◌∙◌, arith, length, refl, subst, sym, true, Err}
+use Rattle.std.proofs.Common.{◌≡◌, ◌∷◌, [], IsTrue, ◌∙◌, arith, length, refl, subst, sym, true, Err}
 use Rattle.sqlite.specs.Held.{state}
+use Rattle.sqlite.specs.Order.{Row as Values}
 use Rattle.sqlite.specs.Values.{bound}
 use Rattle.one_table.proofs.ChangeLemmas.{transaction_off, transaction_on}
 use Rattle.one_table.specs.Reading.{is_whole}
+use Rattle.one_table.specs.declared.read_fault.ReadFault.TheVariants.{Row}
 use Rattle.book_tables.specs.Kept.{last_ids_kept}
 use Rattle.book_tables.specs.declared.error.TableError.TheVariants.{RowOfNoOffice}
+use Rattle.book_tables.specs.writing.Failing.{FailsToMerge, FailsToTell}
+use Rattle.book_tables.specs.writing.Writes.{AreCarriedOut, last_id_set_text}
 use Rattle.book_tables.proofs.OfficeTableLemmas.{last_ids_in}
 use Rattle.book_tables.proofs.RowLemmas.RecordLemmas.{one_number}
-use Rattle.book_tables.proofs.WritingLemmas.RefusalLemmas.{handed_on, merge_off}
+use Rattle.book_tables.proofs.WritingLemmas.RefusalLemmas.{handed_on, means_merging, merge_off}
 use Rattle.book_tables.proofs.WritingLemmas.TotallingLemmas.{sets_last_id, last_ids, last_ids_at, stands_for, takes_last_id, tid_is_shown, tid_shown}
-use Rattle.book_tables.proofs.WritingLemmas.TotalsTexts.{last_id_merging, last_id_set_means, last_id_set_text, last_id_set_whole}
+use Rattle.book_tables.proofs.WritingLemmas.TotalsTexts.{last_id_merging, last_id_set_means, last_id_set_whole}
 use Rattle.book_tables.proofs.writing.totals.set_last_id.Goals as goal
 
 pub returns-in_err-last-clause-merges : goal.returns-in_err-last-clause-merges
@@ -19,8 +23,9 @@ returns-in_err-last-clause-merges g c =
     let e = c.in_err-last.field-0.0 in
     let failed = c.in_err-last.ensures in
     merge_off e c.from_residual.result c.from_residual.ensures.1 failed.transaction.kept failed.transaction.survives
-    (λ clean way has. failed.refused clean way (last_ids old new) (last_ids_at old new) last_id_merging (last_id_set_means (last_ids old new).tree)
-    (subst (λ ps. is_whole last_id_set_text (length ps) ≡ true) (sym c.last_id_values.ensures) last_id_set_whole) (λ runs. stands_for last_ids_kept old.now.schema (last_ids_in.there old.now.schema (has runs))))
+    (λ clean way has. subst (λ (ps : Values). FailsToMerge (record { sql = last_id_set_text; params = ps }) old new e) c.last_id_values.ensures
+    (failed.ends clean way (last_ids old new) (last_ids_at old new) last_id_merging (last_id_set_means (last_ids old new).tree)
+    (subst (λ ps. is_whole last_id_set_text (length ps) ≡ true) (sym c.last_id_values.ensures) last_id_set_whole) (λ runs. stands_for last_ids_kept old.now.schema (last_ids_in.there old.now.schema (has runs)))).1)
 
 pub returns-clause-merges : goal.returns-clause-merges
 returns-clause-merges g c =
@@ -29,11 +34,16 @@ returns-clause-merges g c =
     let done = c.in_ok-last.ensures in
     record {
       made = λ clean way has.
-          sets_last_id old new c.args.meter.now c.args.base c.args.tid (bound c.last_id_values.result) c.last_id_values.ensures
+          sets_last_id old new c.args.meter.now c.args.base c.args.tid has (bound c.last_id_values.result) c.last_id_values.ensures
           (done.touched clean way (last_ids old new) (last_ids_at old new) last_id_merging (last_id_set_means (last_ids old new).tree) (λ runs. stands_for last_ids_kept old.now.schema (last_ids_in.there old.now.schema (has runs))))
           (λ takes. let it = done.merged clean way (last_ids old new) (last_ids_at old new) last_id_merging (last_id_set_means (last_ids old new).tree) takes in (it.0, it.2));
       transaction = transaction_on done.transaction;
-      refused = λ clean way has. tt;
+      ends = λ clean way has. (
+        subst (λ (ps : Values). AreCarriedOut (record { sql = last_id_set_text; params = ps } ∷ []) old new) c.last_id_values.ensures
+            (done.ends clean way (last_ids old new) (last_ids_at old new) last_id_merging (last_id_set_means (last_ids old new).tree)
+            (subst (λ ps. is_whole last_id_set_text (length ps) ≡ true) (sym c.last_id_values.ensures) last_id_set_whole) (λ runs. stands_for last_ids_kept old.now.schema (last_ids_in.there old.now.schema (has runs)))).0,
+        tt,
+      );
     }
 
 pub returns-in_err-last-clause-no_false_row : goal.returns-in_err-last-clause-no_false_row
@@ -53,13 +63,17 @@ returns-then-last-tid-clause-merges g c =
     record {
       made = λ clean way has. tt;
       transaction = transaction_off RowOfNoOffice (Err RowOfNoOffice) refl done.transaction.kept done.transaction.survives;
-      refused = λ clean way has. (
-        last_ids old new,
-        last_id_merging,
-        bound c.last_id_values.result,
-        last_ids_at old new,
-        done.touched clean way (last_ids old new) (last_ids_at old new) last_id_merging (last_id_set_means (last_ids old new).tree) (λ runs. stands_for last_ids_kept old.now.schema (last_ids_in.there old.now.schema (has runs))),
-      );
+      ends = λ clean way has.
+          let stands = λ (runs : IsTrue old.is_open). stands_for last_ids_kept old.now.schema (last_ids_in.there old.now.schema (has runs)) in (
+            tt,
+            subst (λ (ps : Values). FailsToTell (record { sql = last_id_set_text; params = ps }) old new Row) c.last_id_values.ensures (record {
+              table = last_ids old new;
+              merging = last_id_merging;
+              at = last_ids_at old new;
+              means = λ runs. means_merging last_id_set_text old.now.schema (last_ids old new) (last_ids_at old new) last_id_merging (last_id_set_means (last_ids old new).tree) (stands runs);
+              fails = done.touched clean way (last_ids old new) (last_ids_at old new) last_id_merging (last_id_set_means (last_ids old new).tree) stands;
+            }),
+          );
     }
 
 -- it is what comes back
