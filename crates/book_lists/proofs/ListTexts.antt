@@ -15,14 +15,12 @@ use Rattle.book_tables.proofs.ReadingLemmas.DatedTexts.{day_names}
 use Rattle.book_tables.proofs.ReadingLemmas.ReadLemmas.{Asks}
 use Rattle.book_tables.proofs.ReadingLemmas.ShiftTexts.{shift_names, shift_terms}
 use Rattle.book_tables.proofs.WritingLemmas.BaseTexts.{all_meters_names}
+pub use Rattle.book_lists.specs.Questions.{meters_after_text, next_day_text, shifts_after_text, tariffs_after_text}
 
 -- ---- by a text
 
 abbrev is_after_text : List Term
 is_after_text = op2 (Compare Gt Binary) (col 1 1) (col 0 0) ∷ []
-
-abbrev pub tariffs_after_text : List ℕ
-tariffs_after_text = codes "SELECT name FROM tariffs WHERE name > ?1 ORDER BY name LIMIT ?2"
 
 abbrev pub tariffs_after_query : ℕ → Query
 tariffs_after_query tree = query_on tree is_after_text (col 1 1 ∷ []) (rising 1) (col 0 1)
@@ -32,10 +30,6 @@ pub tariffs_after_asks : (after : List ℕ) (limit : ℕ) → Asks tariffs_table
 unfolding everything is_whole meant select_meant text_meant
 tariffs_after_asks after limit =
     record { is = λ tree. record { means = refl; from = refl }; bare = λ tree. refl; typed = λ tree. refl; whole = refl }
-
-abbrev pub meters_after_text : List ℕ
-meters_after_text =
-    codes "SELECT meter, base, tariff, secret FROM meters WHERE meter > ?1 ORDER BY meter LIMIT ?2"
 
 abbrev pub meters_after_query : ℕ → Query
 meters_after_query tree = query_on tree is_after_text (col 1 1 ∷ col 1 2 ∷ col 1 3 ∷ col 1 4 ∷ []) (rising 1) (col 0 1)
@@ -51,10 +45,6 @@ meters_after_asks after limit =
 abbrev is_after_number : List Term
 is_after_number = op2 (Compare Gt Binary) (col 1 0) (col 0 0) ∷ []
 
-abbrev pub shifts_after_text : List ℕ
-shifts_after_text =
-    codes "SELECT number, operator, opened, closed FROM shifts WHERE number > ?1 ORDER BY number LIMIT ?2"
-
 abbrev pub shifts_after_query : ℕ → Query
 shifts_after_query tree = query_on tree is_after_number shift_terms (rising 0) (col 0 1)
 
@@ -65,10 +55,6 @@ shifts_after_asks after limit =
     record { is = λ tree. record { means = refl; from = refl }; bare = λ tree. refl; typed = λ tree. refl; whole = refl }
 
 -- ---- the next day
-
-abbrev pub next_day_text : List ℕ
-next_day_text =
-    codes "SELECT day FROM dated_steps WHERE tariff = ?1 AND day > ?2 ORDER BY day LIMIT 1"
 
 abbrev is_later_day : List Term
 is_later_day = op2 (Compare Eq Binary) (col 1 1) (col 0 0) ∷ op2 (Compare Gt Binary) (col 1 2) (col 0 1) ∷ []

@@ -6,9 +6,11 @@ ghost use Rattle.one_table.specs.Over.{Over};
 ghost use Rattle.vend_core.specs.Office.{IsOffice, Office};
 ghost use Rattle.book_tables.specs.Kept.{dated_steps_kept};
 ghost use Rattle.book_tables.specs.reading.Reading.{HasTableRows, ReadsTable};
+ghost use Rattle.book_tables.specs.reading.Seen.{SeesFirst};
 ghost use Rattle.book_tables.specs.row.Rows.{Rows};
 ghost use Rattle.book_tables.specs.Stands.{AreMembersOf};
 ghost use Rattle.book_lists.specs.Days.{IsNextDay};
+ghost use Rattle.book_lists.specs.Questions.{the_next_day};
 
 use crate::texts::FIRST_DAY_AFTER;
 use crate::values::day_values;
@@ -31,6 +33,8 @@ pub fn first_day_after<S: Alter>(
         → HasTableRows dated_steps_kept old rows → IsOffice o → AreMembersOf rows o
         → IfOk result (IsNextDay (o.dated_steps name.now) day)) }
     ensures reads { Over S.Store conn (λ old new. ReadsTable dated_steps_kept old new result) }
+    ensures sees { Over S.Store conn (λ old new. SeesFirst (the_next_day name.now day) old new
+        result) }
 {
     first_record(conn, FIRST_DAY_AFTER, &day_values(name, day))
 }

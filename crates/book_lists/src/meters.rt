@@ -6,9 +6,11 @@ ghost use Rattle.one_table.specs.Over.{Over};
 ghost use Rattle.vend_core.specs.Office.{IsOffice, Office};
 ghost use Rattle.book_tables.specs.Kept.{meters_kept};
 ghost use Rattle.book_tables.specs.reading.Reading.{HasTableRows, ReadsTable};
+ghost use Rattle.book_tables.specs.reading.Seen.{SeesAll};
 ghost use Rattle.book_tables.specs.row.Rows.{Rows};
 ghost use Rattle.book_tables.specs.Stands.{AreMembersOf};
 ghost use Rattle.book_lists.specs.Pages.{AreFirstAfter};
+ghost use Rattle.book_lists.specs.Questions.{the_meters_after};
 
 use crate::texts::METERS_AFTER;
 use crate::values::text_values;
@@ -34,6 +36,8 @@ pub fn meters_after<S: Alter>(
         × AreFirstAfter (λ number. IsSome (o.meters number)) after.now
         (map (λ m. m.number) page.items))) }
     ensures reads { Over S.Store conn (λ old new. ReadsTable meters_kept old new result) }
+    ensures sees { Over S.Store conn (λ old new. SeesAll (the_meters_after after.now) old new
+        result) }
 {
     all_records(alloc, conn, METERS_AFTER, &text_values(after))
 }

@@ -4,7 +4,9 @@ ghost use Rattle.std.specs.Prelude.{◌≡◌, filter, nat_lt, take};
 ghost use Rattle.one_table.specs.Over.{Over};
 ghost use Rattle.book_tables.specs.Kept.{shifts_kept};
 ghost use Rattle.book_tables.specs.reading.Reading.{ReadsTable, SaysOfTable};
+ghost use Rattle.book_tables.specs.reading.Seen.{SeesAll};
 ghost use Rattle.book_lists.specs.Pages.{page_size};
+ghost use Rattle.book_lists.specs.Questions.{the_shifts_after};
 
 use crate::texts::SHIFTS_AFTER;
 use crate::values::number_values;
@@ -26,6 +28,7 @@ pub fn shifts_after<S: Alter>(
         found.items ≡ take page_size (filter (λ s. nat_lt number s.number) rows.shifts)) old new
         result) }
     ensures reads { Over S.Store conn (λ old new. ReadsTable shifts_kept old new result) }
+    ensures sees { Over S.Store conn (λ old new. SeesAll (the_shifts_after number) old new result) }
 {
     all_records(alloc, conn, SHIFTS_AFTER, &number_values(number))
 }

@@ -6,9 +6,11 @@ ghost use Rattle.one_table.specs.Over.{Over};
 ghost use Rattle.vend_core.specs.Office.{IsOffice, Office};
 ghost use Rattle.book_tables.specs.Kept.{tariffs_kept};
 ghost use Rattle.book_tables.specs.reading.Reading.{HasTableRows, ReadsTable};
+ghost use Rattle.book_tables.specs.reading.Seen.{SeesAll};
 ghost use Rattle.book_tables.specs.row.Rows.{Rows};
 ghost use Rattle.book_tables.specs.Stands.{AreMembersOf};
 ghost use Rattle.book_lists.specs.Pages.{AreFirstAfter};
+ghost use Rattle.book_lists.specs.Questions.{the_tariffs_after};
 
 use crate::texts::TARIFFS_AFTER;
 use crate::values::text_values;
@@ -33,6 +35,8 @@ pub fn tariffs_after<S: Alter>(
         → IfOk result (λ page. AreFirstAfter (λ name. IsSome (o.tariffs name)) after.now
         page.items)) }
     ensures reads { Over S.Store conn (λ old new. ReadsTable tariffs_kept old new result) }
+    ensures sees { Over S.Store conn (λ old new. SeesAll (the_tariffs_after after.now) old new
+        result) }
 {
     all_records(alloc, conn, TARIFFS_AFTER, &text_values(after))
 }

@@ -1,7 +1,7 @@
 use Rattle.sqlite.specs.Held.{state}
 use Rattle.sqlite.specs.Values.{bound}
 use Rattle.one_table.proofs.ChangeLemmas.{if_ok}
-use Rattle.book_tables.proofs.ReadingLemmas.FindLemmas.{gives, only_asks, reads}
+use Rattle.book_tables.proofs.ReadingLemmas.FindLemmas.{gives, only_asks, reads, sees}
 use Rattle.book_lists.proofs.DayLemmas.{next_day, next_day_is}
 use Rattle.book_lists.proofs.days.first_day_after.Goals as goal
 
@@ -18,3 +18,8 @@ pub returns-clause-reads : goal.returns-clause-reads
 returns-clause-reads g c =
     reads (next_day c.args.name.now c.args.day) (state g.S.Store c.args.conn.now) (state g.S.Store c.first_record.new.conn) c.first_record.result (bound c.day_values.result) c.day_values.ensures
     c.first_record.ensures.reads
+
+pub returns-clause-sees : goal.returns-clause-sees
+returns-clause-sees g c =
+    sees (next_day c.args.name.now c.args.day) (state g.S.Store c.args.conn.now) (state g.S.Store c.first_record.new.conn) c.first_record.result (bound c.day_values.result) c.day_values.ensures
+    c.first_record.ensures.reads c.first_record.ensures.given

@@ -1,7 +1,7 @@
 use Rattle.sqlite.specs.Held.{state}
 use Rattle.sqlite.specs.Values.{bound}
 use Rattle.one_table.proofs.ChangeLemmas.{if_ok}
-use Rattle.book_tables.proofs.ReadingLemmas.ListingLemmas.{gives, only_asks, reads}
+use Rattle.book_tables.proofs.ReadingLemmas.ListingLemmas.{gives, only_asks, reads, sees}
 use Rattle.book_lists.proofs.MeterListLemmas.{meters_after, office_meters}
 use Rattle.book_lists.proofs.meters.meters_after.Goals as goal
 
@@ -19,3 +19,8 @@ pub returns-clause-reads : goal.returns-clause-reads
 returns-clause-reads g c =
     reads (meters_after c.args.after.now) (state g.S.Store c.args.conn.now) (state g.S.Store c.all_records.new.conn) c.all_records.result (bound c.text_values.result) c.text_values.ensures
     c.all_records.ensures.reads
+
+pub returns-clause-sees : goal.returns-clause-sees
+returns-clause-sees g c =
+    sees (meters_after c.args.after.now) (λ found. found.items) (state g.S.Store c.args.conn.now) (state g.S.Store c.all_records.new.conn) c.all_records.result (bound c.text_values.result) c.text_values.ensures
+    c.all_records.ensures.reads c.all_records.ensures.given

@@ -1,6 +1,6 @@
 use Rattle.sqlite.specs.Held.{state}
 use Rattle.sqlite.specs.Values.{bound}
-use Rattle.book_tables.proofs.ReadingLemmas.ListingLemmas.{gives, only_asks, reads}
+use Rattle.book_tables.proofs.ReadingLemmas.ListingLemmas.{gives, only_asks, reads, sees}
 use Rattle.book_lists.specs.Pages.{page_size}
 use Rattle.book_lists.proofs.ShiftListLemmas.{shifts_after}
 use Rattle.book_lists.proofs.shifts.shifts_after.Goals as goal
@@ -17,3 +17,8 @@ pub returns-clause-reads : goal.returns-clause-reads
 returns-clause-reads g c =
     reads (shifts_after c.args.number page_size) (state g.S.Store c.args.conn.now) (state g.S.Store c.all_records.new.conn) c.all_records.result (bound c.number_values.result) c.number_values.ensures
     c.all_records.ensures.reads
+
+pub returns-clause-sees : goal.returns-clause-sees
+returns-clause-sees g c =
+    sees (shifts_after c.args.number page_size) (λ found. found.items) (state g.S.Store c.args.conn.now) (state g.S.Store c.all_records.new.conn) c.all_records.result (bound c.number_values.result) c.number_values.ensures
+    c.all_records.ensures.reads c.all_records.ensures.given
