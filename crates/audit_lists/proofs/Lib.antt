@@ -9,5 +9,6 @@ pub mod PlacesLemmas
 pub mod ReachedLemmas
 pub mod StepLemmas
 pub mod TieLemmas
+pub mod TokenLemmas
 pub mod ToldLemmas
 pub mod TotalLemmas

@@ -4,6 +4,7 @@ pub mod Rules
 pub mod Steps
 pub mod Tables
 pub mod Ties
+pub mod Tokens
 pub mod Told
 pub mod reached
 pub mod totals

@@ -9,6 +9,7 @@ pub use fault::OfficeFault;
 pub use laws::office_law;
 pub use office::test_office;
 pub use reached::{honest_law, test_reached};
+pub use tokens::{test_tokens, tokens_law};
 
 mod bases;
 mod fault;
@@ -20,4 +21,5 @@ mod places;
 mod reached;
 mod rules;
 mod steps;
+mod tokens;
 mod totals;

@@ -1,0 +1,96 @@
+//! The test whether one transform wrote the tokens of an office.
+
+ghost use Rattle.std.specs.Prelude.{◌≡◌, ◌↔◌, All, IfErr, IsTrue, List, OnOk, length};
+ghost use Rattle.sts_token.specs.Fields.{AreFields};
+ghost use Rattle.sts_token.specs.Token.{BlockFunction, IsToken};
+ghost use Rattle.vend_core.specs.Law.Life.{AreLives, Life};
+ghost use Rattle.vend_core.specs.Law.NewSale.{fields_of};
+ghost use Rattle.vend_core.specs.Law.Reached.{HasTokensOf, IsWrittenBy};
+ghost use Rattle.vend_core.specs.Office.{IsSaleRow, Office};
+ghost use Rattle.audit_rows.specs.declared.finding.Finding.{Finding};
+ghost use Rattle.audit_lists.specs.Keys.{ArePlaces};
+ghost use Rattle.audit_lists.specs.RowKeys.{meter_key};
+ghost use Rattle.audit_lists.specs.Ties.{IsFirst};
+ghost use Rattle.audit_lists.specs.Tokens.{TellsUnwritten, written};
+ghost use Rattle.audit_lists.specs.reached.Finds.{AreRowsOfOffice};
+
+use crate::fault::{OfficeFault, found};
+use crate::key::Number;
+use crate::places::{Places, place_of, places_of};
+use audit_rows::{MeterRow, OfficeRows, Rule};
+use std::alloc::Global;
+use sts_token::{BlockTransform, read};
+use vend_core::{Sale, reached_law};
+
+// Whether a sale's digits are the token of its fields under a key.
+fn is_token_of<T: BlockTransform>(transform: &T, key: u64, sale: &Sale) -> bool
+    ensures { AreFields (fields_of sale.now)
+        → (IsTrue result
+        ↔ IsToken (T.forwards transform.now) key (fields_of sale.now) sale.now.digits) }
+{
+    match read(transform, key, &sale.digits) {
+        Ok(read) => {
+            read.rnd == sale.rnd
+                && read.tid == sale.tid
+                && read.amount.tenths() == sale.tenths.tenths()
+        }
+        Err(_fault) => false,
+    }
+}
+
+// Whether they are so under the key of its meter.
+fn is_written<'a, T: BlockTransform>(
+    transform: &T,
+    rows: &'a OfficeRows,
+    places: &Places<'a>,
+    sale: &'a Sale,
+) -> bool
+    requires { ArePlaces meter_key places.now rows.now.meters.items
+        (length rows.now.meters.items) }
+    ensures { (o : Office) → AreRowsOfOffice rows.now o → IsSaleRow o sale.now
+        → (IsTrue result ↔ IsWrittenBy (T.forwards transform.now) o sale.now) }
+{
+    let meters = rows.meters.as_slice();
+    match place_of(places, (sale.meter.as_bytes(), b"", 0, 0)) {
+        Some(place) => is_token_of(transform, meters[place].meter.key, sale),
+        None => false,
+    }
+}
+
+/// Nothing where this transform wrote all tokens of the office of these rows.
+///
+/// # Errors
+/// The first sale whose token it did not write; and want of memory, of some sales alone.
+pub fn test_tokens<T: BlockTransform>(
+    alloc: Global,
+    transform: &T,
+    rows: &OfficeRows,
+) -> Result<(), OfficeFault>
+    ensures passes { OnOk result ((o : Office) → AreRowsOfOffice rows.now o
+        → HasTokensOf (T.forwards transform.now) o) }
+    ensures found { IfErr result (TellsUnwritten (T.forwards transform.now) rows.now) }
+{
+    let sales = rows.sales.as_slice();
+    if sales.is_empty() {
+        return Ok(());
+    }
+    let places = places_of::<MeterRow, Number>(alloc, &rows.meters, Rule::Twice)?;
+    'sales: for at in 0..sales.len() {
+        let sale = &sales[at];
+        if !is_written(transform, rows, &places, sale) {
+            return Err(OfficeFault::Found(found(sale, Rule::Token)));
+        }
+    }
+    Ok(())
+}
+
+/// Of an office whose tokens one transform wrote no sale is ever found.
+pub fn tokens_law()
+    ensures none { (forward : BlockFunction) (o : Office) (f : Finding) → HasTokensOf forward o
+        → IsFirst (written forward o) f → ⊥ }
+    ensures lives { (forward : BlockFunction) (lives : List Life) (o : Office) (f : Finding)
+        → AreLives lives o → All (λ life. life.forward ≡ forward) lives
+        → IsFirst (written forward o) f → ⊥ }
+{
+    reached_law();
+}
