@@ -1,11 +1,14 @@
 -- Why an audit stops, and what that says of the database.
-use Rattle.std.specs.Prelude.{◌≡◌, ◌≤◌, ℕ}
+use Rattle.std.specs.Prelude.{◌≡◌, ◌⊎◌, ◌≤◌, ℕ, Option, Some, IfSome}
+use Rattle.std.specs.Borrow.{Bor}
+use Rattle.std.specs.Option.{option_copied, option_map}
 use Rattle.sqlite.specs.Effect.{Database}
 use Rattle.sqlite.specs.State.{IsUnchanged, State}
 use Rattle.sqlite.specs.declared.error.Error.TheVariants.{SqliteFailure}
 use Rattle.sqlite.specs.declared.error.ErrorCode.TheVariants.{OutOfMemory}
 use Rattle.sqlite_schema.specs.declared.schema.Schema.{Schema}
-use Rattle.vend_core.specs.Law.Reached.{IsPlausible}
+use Rattle.sts_token.specs.Token.{BlockFunction}
+use Rattle.vend_core.specs.Law.Reached.{HasTokensOf, IsPlausible}
 use Rattle.vend_core.specs.Office.{Office}
 use Rattle.book_tables.specs.Holds.{HasOfficeOf, StandsFor}
 use Rattle.book_tables.specs.row.Rows.{present_format}
@@ -20,7 +23,9 @@ use Rattle.audit_rows.specs.declared.finding.AuditFault.TheVariants.{Failed, Fou
 use Rattle.audit_rows.specs.declared.finding.Finding.{Finding}
 use Rattle.audit_rows.specs.declared.office_rows.OfficeRows.{OfficeRows}
 use Rattle.audit_lists.specs.Told.{IsBroken}
-use Rattle.audit_lists.specs.reached.Finds.{AreRowsOfOffice, Finds}
+use Rattle.audit_lists.specs.Ties.{IsFirst}
+use Rattle.audit_lists.specs.Tokens.{TellsUnwritten, written}
+use Rattle.audit_lists.specs.reached.Finds.{AreRowsOfOffice, Finds, TellsUnreached}
 use Rattle.audit_lists.specs.declared.fault.OfficeFault.{OfficeFault}
 use Rattle.audit_lists.specs.declared.fault.OfficeFault.TheVariants as office
 use Rattle.audit.specs.Shown.{AreOfficeRows, IsToldAs, TellsOwn}
@@ -55,13 +60,35 @@ pub data IsNoOffices (f : Finding) (db : Database) : Type 0 where
   by_lists : (n : ℕ) (rows : OfficeRows) → IsToldAs n db rows → IsBroken n rows f
       → StandsForNone db → IsNoOffices f db
 
+-- the way of a transform, where one is given
+abbrev pub given_by : {T : Type 0} → (T → BlockFunction) → Option (Bor T) → Option BlockFunction
+given_by forwards transform = option_map forwards (option_copied transform)
+
+-- the digits of each sale are its token by the transform that is given, where one is
+abbrev pub AreWritten : Option BlockFunction → Office → Type 0
+AreWritten given o = IfSome given (λ forward. HasTokensOf forward o)
+
 -- That; or the rows are those of an office, and the finding names the first that no requests lead
--- to. So the database stands for no office that requests may lead to.
-pub data Denies (f : Finding) (db : Database) : Type 0 where
-  by_rows : IsNoOffices f db → Denies f db
+-- to; or requests may lead to it, and the finding names the first sale whose digits are not its
+-- token by the transform that is given. So the database stands for no office that requests may lead
+-- to, or for none whose tokens this transform wrote.
+pub data Denies (given : Option BlockFunction) (f : Finding) (db : Database) : Type 0 where
+  by_rows : IsNoOffices f db → Denies given f db
   by_requests : (n : ℕ) (rows : OfficeRows) → AreOfficeRows n db rows
       → ((o : Office) → AreRowsOfOffice rows o → Finds o f)
-      → ((o : Office) → StandsFor db o → ¬ IsPlausible o) → Denies f db
+      → ((o : Office) → StandsFor db o → ¬ IsPlausible o) → Denies given f db
+  by_transform : (forward : BlockFunction) → given ≡ Some forward
+      → (n : ℕ) (rows : OfficeRows) → AreOfficeRows n db rows
+      → ((o : Office) → AreRowsOfOffice rows o → IsPlausible o × IsFirst (written forward o) f)
+      → ((o : Office) → StandsFor db o → ¬ HasTokensOf forward o) → Denies given f db
+
+-- what is told of rows that are an office's: that no requests lead to it, or that they do, and the
+-- transform that is given did not write its tokens
+abbrev pub TellsForged : Option BlockFunction → OfficeRows → OfficeFault → Type 0
+TellsForged given r fault =
+    TellsUnreached r fault
+    ⊎ ((forward : BlockFunction) × (given ≡ Some forward)
+    × ((o : Office) → AreRowsOfOffice r o → IsPlausible o) × TellsUnwritten forward r fault)
 
 -- ---- why an audit stops
 

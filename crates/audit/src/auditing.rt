@@ -1,65 +1,105 @@
 //! The audit of a database.
 
-ghost use Rattle.std.specs.Prelude.{◌≡◌, ◌≤◌, IfOk};
+ghost use Rattle.std.specs.Prelude.{◌≡◌, ◌≤◌, IfErr, IfOk, OnOk};
 ghost use Rattle.sqlite.specs.State.{HasCleanDisk, IsUnchanged};
 ghost use Rattle.one_table.specs.Over.{Over};
 ghost use Rattle.one_table.specs.ReadsOnly.{ReadsOnly};
 ghost use Rattle.book_tables.specs.format.Making.{IsSoundOfFormat};
 ghost use Rattle.book_tables.specs.row.Rows.{present_format};
+ghost use Rattle.vend_core.specs.Law.Reached.{IsPlausible};
+ghost use Rattle.vend_core.specs.Office.{Office};
+ghost use Rattle.audit_lists.specs.reached.Finds.{AreRowsOfOffice};
 ghost use Rattle.audit.specs.Audited.{IsAuditOf, IsSound};
-ghost use Rattle.audit.specs.Fails.{Denies, StopsBy};
+ghost use Rattle.audit.specs.Fails.{AreWritten, Denies, StopsBy, TellsForged, given_by};
 
 use crate::audited::{Audited, counted, no_tables};
-use crate::reading::{fault_of, known_format, office_rows};
-use audit_lists::{honest_law, test_reached};
-use audit_rows::AuditFault;
+use crate::following::{Follows, Part};
+use crate::reading::{fault_of, followed_rows, known_format};
+use audit_lists::{OfficeFault, honest_law, test_reached, test_tokens, tokens_law};
+use audit_rows::{AuditFault, OfficeRows};
 use kept_order::{KeepsOrder, connection_order_law};
 use sqlite::{Alter, Connection};
 use std::alloc::Global;
+use sts_token::BlockTransform;
 use vend_core::reached_law;
 
+// Nothing where requests may have led to the office of these rows, and where the transform that is
+// given, if one is, wrote its tokens.
+fn test_forged<T: BlockTransform, F: Follows>(
+    alloc: Global,
+    transform: Option<&T>,
+    rows: &OfficeRows,
+    follower: &mut F,
+) -> Result<(), OfficeFault>
+    ensures passes { OnOk result ((o : Office) → AreRowsOfOffice rows.now o
+        → IsPlausible o × AreWritten (given_by T.forwards transform.entry) o) }
+    ensures found { IfErr result
+        (TellsForged (given_by T.forwards transform.entry) rows.now) }
+{
+    test_reached(alloc, rows)?;
+    follower.passed(Part::Requests);
+    match transform {
+        Some(transform) => test_tokens(alloc, transform, rows),
+        None => Ok(()),
+    }
+}
+
 // The audit of the tables of a format.
-fn audit_format<S: Alter>(
+fn audit_format<S: Alter, T: BlockTransform, F: Follows>(
     alloc: Global,
     conn: &mut Connection<S>,
     format: u32,
+    transform: Option<&T>,
+    follower: &mut F,
 ) -> Result<Audited, AuditFault>
     requires some { 1 ≤ format }
     requires known { format ≤ present_format }
     ensures given { Over S.Store conn (λ old new. HasCleanDisk new
-        → IsSoundOfFormat format old → IfOk result (IsSound old.now)) }
+        → IsSoundOfFormat format old
+        → IfOk result (IsSound (given_by T.forwards transform.entry) old.now)) }
     ensures reads { Over S.Store conn (λ old new. ReadsOnly (IsSoundOfFormat format)
-        IsUnchanged (StopsBy Denies) old new result) }
+        IsUnchanged (StopsBy (Denies (given_by T.forwards transform.entry)))
+        old new result) }
 {
     honest_law();
-    let rows = match office_rows(alloc, conn, format) {
+    tokens_law();
+    let rows = match followed_rows(alloc, conn, format, follower) {
         Ok(rows) => rows,
         Err(fault) => return Err(fault),
     };
-    match test_reached(alloc, &rows) {
+    match test_forged(alloc, transform, &rows, follower) {
         Ok(()) => Ok(counted(format, &rows)),
         Err(fault) => Err(fault_of(fault)),
     }
 }
 
-/// Looks at all rows of all tables, of whatever format they are, and counts them.
+/// Looks at all rows of all tables, of whatever format they are, and counts them; and tests by the
+/// transform whether each sale's digits are its token, where one is given. The follower is told which
+/// parts have passed.
 ///
-/// It passes a database exactly if its rows are those of an office that requests may lead to
-/// (`IsAuditOf`). Over a store that keeps the rows of each table in the order of
-/// their numbers the database stands for that office, outside a transaction, as long as no row of
-/// a shift lacks a column, which nothing that reads by SQL can see.
+/// It passes a database exactly if its rows are those of an office that requests may lead to, whose
+/// tokens the transform wrote (`IsAuditOf`). Over a store that keeps the rows of each table in the
+/// order of their numbers the database stands for that office, outside a transaction, as long as no
+/// row of a shift lacks a column, which nothing that reads by SQL can see.
 ///
 /// # Errors
-/// The first row that is no office's, or that no requests lead to; tables of no format; what the
-/// database refuses, and want of memory. In each case the database is as it was.
-pub fn audit<S: KeepsOrder>(alloc: Global, conn: &mut Connection<S>) -> Result<Audited, AuditFault>
-    ensures { Over S.Store conn (λ old new. IsAuditOf old new result) }
+/// The first row that is no office's, or that no requests lead to, or else the first sale whose
+/// token the transform did not write; tables of no format; what the database refuses, and want of
+/// memory. In each case the database is as it was.
+pub fn audit<S: KeepsOrder, T: BlockTransform, F: Follows>(
+    alloc: Global,
+    conn: &mut Connection<S>,
+    transform: Option<&T>,
+    follower: &mut F,
+) -> Result<Audited, AuditFault>
+    ensures { Over S.Store conn (λ old new.
+        IsAuditOf (given_by T.forwards transform.entry) old new result) }
 {
     reached_law();
     connection_order_law(conn);
     match known_format(alloc, conn.schema()) {
         Ok(0) => Ok(no_tables()),
-        Ok(format) => audit_format(alloc, conn, format),
+        Ok(format) => audit_format(alloc, conn, format, transform, follower),
         Err(fault) => Err(fault),
     }
 }

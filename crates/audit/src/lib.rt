@@ -7,8 +7,10 @@
 pub use audit_rows::{AuditFault, Finding, RowKey, Rule, TableName};
 pub use audited::Audited;
 pub use auditing::audit;
+pub use following::{Follows, Part};
 pub use reading::{office_rows, test_told};
 
 mod audited;
 mod auditing;
+mod following;
 mod reading;

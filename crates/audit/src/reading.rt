@@ -11,6 +11,7 @@ ghost use Rattle.book_tables.specs.row.Rows.{present_format};
 ghost use Rattle.audit.specs.Fails.{FailsToKnow, IsNoOffices, StopsBy, cause_of, fault_of};
 ghost use Rattle.audit.specs.Shown.{AreOfficeRows, IsToldAs};
 
+use crate::following::{Follows, Part, Unfollowed};
 use audit_lists::{OfficeFault, office_law, test_office};
 use audit_rows::{AuditFault, OfficeRows, read_office_rows, rows_law, stored_law};
 use book_tables::TableError;
@@ -102,6 +103,38 @@ fn read_told<S: Alter>(
     read_office_rows(alloc, conn, format)
 }
 
+// The rows of the tables of a format, where the tables tell it and the rows are those of an office.
+pub(crate) fn followed_rows<S: Alter, F: Follows>(
+    alloc: Global,
+    conn: &mut Connection<S>,
+    format: u32,
+    follower: &mut F,
+) -> Result<OfficeRows, AuditFault>
+    requires some { 1 ≤ format }
+    requires known { format ≤ present_format }
+    ensures given { Over S.Store conn (λ old new. HasCleanDisk new
+        → IsSoundOfFormat format old → IfOk result (AreOfficeRows format old.now)) }
+    ensures reads { Over S.Store conn (λ old new. ReadsOnly (IsSoundOfFormat format)
+        IsUnchanged (StopsBy IsNoOffices) old new result) }
+{
+    stored_law();
+    office_law();
+    // What the law says of a database in order holds of it in any store.
+    order_law::<MemStore>();
+    let rows = match read_told(alloc, conn, format) {
+        Ok(rows) => rows,
+        Err(fault) => return Err(fault),
+    };
+    follower.passed(Part::Rows);
+    match test_office(alloc, format, &rows) {
+        Ok(()) => {
+            follower.passed(Part::Ties);
+            Ok(rows)
+        }
+        Err(fault) => Err(fault_of(fault)),
+    }
+}
+
 /// The rows of the tables of a format, where the tables tell it and the rows are those of an
 /// office.
 ///
@@ -120,16 +153,5 @@ pub fn office_rows<S: Alter>(
     ensures reads { Over S.Store conn (λ old new. ReadsOnly (IsSoundOfFormat format)
         IsUnchanged (StopsBy IsNoOffices) old new result) }
 {
-    stored_law();
-    office_law();
-    // What the law says of a database in order holds of it in any store.
-    order_law::<MemStore>();
-    let rows = match read_told(alloc, conn, format) {
-        Ok(rows) => rows,
-        Err(fault) => return Err(fault),
-    };
-    match test_office(alloc, format, &rows) {
-        Ok(()) => Ok(rows),
-        Err(fault) => Err(fault_of(fault)),
-    }
+    followed_rows(alloc, conn, format, &mut Unfollowed)
 }

@@ -3,7 +3,7 @@ use Rattle.sqlite.specs.Held.{state}
 use Rattle.one_table.proofs.ReadsOnlyLemmas.{stop_on}
 use Rattle.audit.specs.Fails.{IsNoOffices, StopsBy}
 use Rattle.audit.proofs.ShownLemmas.{office_rows_of, office_stops}
-use Rattle.audit.proofs.reading.office_rows.Goals as goal
+use Rattle.audit.proofs.reading.followed_rows.Goals as goal
 
 pub returns-in-Ok-test_office-clause-given : goal.returns-in-Ok-test_office-clause-given
 returns-in-Ok-test_office-clause-given g c clean has =
