@@ -63,6 +63,8 @@ pub record SaysSelfcheck (rows : List Row) (words : SelfcheckWords) : Type 0 whe
 pub record SaysAudit (rows : List Row) (words : AuditWords) : Type 0 where
   pub file : IsArgument SaysText (parsed_argument (codes "file") rows) words.file
   pub wait : IsArgument SaysWait (parsed_argument (codes "wait") rows) words.wait
+  pub transform : IsOptionalArgument SaysTransform
+      (parsed_argument (codes "transform") rows) words.transform
 
 -- the files of an import, by their kind
 abbrev pub kind_name : FileKind → Text

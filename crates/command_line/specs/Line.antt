@@ -43,6 +43,10 @@ words_named name = record (word_named name) {
 abbrev pub transform_option : Rule
 transform_option = with_default (codes "transform") (codes "plain")
 
+-- where it is left out no token is tested
+abbrev pub tested_transform_option : Rule
+tested_transform_option = option_named (codes "transform")
+
 abbrev pub at_option : Rule
 at_option = option_named (codes "at")
 
@@ -112,7 +116,8 @@ abbrev pub selfcheck_command : Shape
 selfcheck_command = command_named (codes "selfcheck") (transform_option ∷ [])
 
 abbrev pub audit_command : Shape
-audit_command = command_named (codes "audit") (needed (codes "file") ∷ wait_option ∷ [])
+audit_command = command_named (codes "audit")
+    (needed (codes "file") ∷ wait_option ∷ tested_transform_option ∷ [])
 
 -- ---- commands that ask a running desk
 

@@ -5,7 +5,7 @@ ghost use Rattle.clap.specs.Simple.{Shape};
 ghost use Rattle.command_line.specs.Address.{SaysAddress};
 ghost use Rattle.command_line.specs.Line.{IsDescribed, command_named};
 ghost use Rattle.command_line.specs.Line.{at_option, json_option, needed, option_named};
-ghost use Rattle.command_line.specs.Line.{transform_option, wait_option};
+ghost use Rattle.command_line.specs.Line.{tested_transform_option, transform_option, wait_option};
 ghost use Rattle.command_line.specs.Line.{word_named, words_named};
 ghost use Rattle.command_line.specs.Said.{IsArgument, IsOptionalArgument, ReadsWhat, argument_rows, parsed_argument};
 ghost use Rattle.command_line.specs.Values.{SaysBase, SaysFlag, SaysKey, SaysMeterNo, SaysMoment};
@@ -98,6 +98,27 @@ pub(crate) fn read_transform(matches: &ArgMatches) -> Option<Shipped>
         (parsed_argument (codes "transform") (argument_rows matches.now))) }
 {
     Shipped::read(said::text(matches, "transform")?)
+}
+
+/// `--transform`, of a command that tests tokens only where it is given.
+pub(crate) fn tested_transform<'a>(alloc: Global) -> Arg<'a>
+    ensures rule { rule_of result ≡ tested_transform_option }
+    ensures own { result.global ≡ false }
+{
+    let help = "Also check that each token was made with its meter's key and this transform: \
+        plain or demo";
+    option(alloc, "transform", "NAME", help)
+}
+
+/// The transform that is given, or `None` within where none is.
+pub(crate) fn read_tested_transform(matches: &ArgMatches) -> Option<Option<Shipped>>
+    ensures { ReadsWhat result (IsOptionalArgument SaysTransform
+        (parsed_argument (codes "transform") (argument_rows matches.now))) }
+{
+    match said::text(matches, "transform") {
+        Some(word) => Some(Some(Shipped::read(word)?)),
+        None => Some(None),
+    }
 }
 
 /// `--at`, which may be left out.

@@ -3,6 +3,7 @@ ghost use Rattle.command_line.specs.Line.{IsDescribed, audit_command};
 ghost use Rattle.command_line.specs.Said.{ReadsWhat, argument_rows};
 
 use crate::options::{self, with};
+use crate::transform::Shipped;
 use clap::{ArgMatches, Command};
 use std::alloc::{AllocError, Global};
 
@@ -13,9 +14,11 @@ pub struct AuditWords<'a> {
     pub file: &'a str,
     /// For how many seconds it waits while another program has the file, 0 to 3600.
     pub wait: u32,
+    /// The transform that each token is tested by; none is tested where it is left out.
+    pub transform: Option<Shipped>,
 }
 
-/// `audit --file F [--wait S]`.
+/// `audit --file F [--wait S] [--transform T]`.
 pub(crate) fn describe<'a>(alloc: Global) -> Result<Command<'a>, AllocError>
     ensures { IfOk result (IsDescribed audit_command) }
 {
@@ -25,7 +28,8 @@ pub(crate) fn describe<'a>(alloc: Global) -> Result<Command<'a>, AllocError>
     let example = "Example: vend audit --file office.db";
     let command = options::command(alloc, "audit", about, example);
     let command = with(command, options::present_file(alloc))?;
-    with(command, options::wait(alloc))
+    let command = with(command, options::wait(alloc))?;
+    with(command, options::tested_transform(alloc))
 }
 
 impl<'a> AuditWords<'a> {
@@ -34,8 +38,10 @@ impl<'a> AuditWords<'a> {
     pub(crate) fn read(matches: &ArgMatches<'a>) -> Option<AuditWords<'a>>
         ensures { ReadsWhat result (SaysAudit (argument_rows matches.now)) }
     {
-        let file = options::read_file(matches)?;
-        let wait = options::read_wait(matches)?;
-        Some(AuditWords { file, wait })
+        Some(AuditWords {
+            file: options::read_file(matches)?,
+            wait: options::read_wait(matches)?,
+            transform: options::read_tested_transform(matches)?,
+        })
     }
 }
