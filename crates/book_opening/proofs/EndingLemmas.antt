@@ -17,7 +17,7 @@ use Rattle.book_tables.specs.row.Rows.{present_format}
 use Rattle.book_states.specs.Stores.{RecoversTo, StoreStandsFor}
 use Rattle.book_states.specs.Same.{IsSame}
 use Rattle.book_states.proofs.StayLemmas.{left_same, unchanged_same}
-use Rattle.book_opening.specs.Opening.{AfterStore, BringsTold, EndsOpening, FaultFitsStore, HasOfficesRows, IsBrought, IsNextSale, LeavesBrought, LeavesPresent, LeavesRefused, Looks, OpensAs, OpensAt, Refuses}
+use Rattle.book_opening.specs.Opening.{AfterStore, BringsTold, EndsOpening, FaultFitsStore, FollowsLast, HasOfficesRows, IsBrought, IsNextSale, LeavesBrought, LeavesPresent, LeavesRefused, Looks, OpensAs, OpensAt, Refuses}
 use Rattle.book_opening.specs.declared.fault.OpenFault.{OpenFault}
 use Rattle.book_opening.specs.declared.fault.OpenFault.TheVariants.{NotAnOffice, Store, Memory}
 use Rattle.book_opening.proofs.LookingLemmas.{of_failure, shown_before, stands_after}
@@ -83,6 +83,9 @@ module _ (old mid new : State) (same : HasCleanDisk mid → IsUnchanged old mid)
     now = subst (λ (db : Database). BringsTold db new.now ⊎ (HasOffice db.schema × HasFormat db present_format × (new.now ≡ db))) it.0.now_is h.now;
   }
 
+  follows_after : (next : ℕ) → HasCleanDisk new → BringsTold mid.now new.now ⊎ FollowsLast mid.now next → BringsTold old.now new.now ⊎ FollowsLast old.now next
+  follows_after next clean h = subst (λ (db : Database). BringsTold db new.now ⊎ FollowsLast db next) (look clean).0.now_is h
+
   opens_after : (next : ℕ) → HasCleanDisk new → OpensAt mid new next → OpensAt old new next
   opens_after next clean h = λ o at. h o (stands_before o clean at)
 
@@ -108,6 +111,7 @@ pub ends_after : (old mid new : State) (r : Result ℕ OpenFault) → (HasCleanD
 ends_after old mid new r same one h = record {
   opens = λ clean. IfOk-weaker r _ _ (λ next. opens_after old mid new same one h.survives next clean) (h.opens clean);
   finds = λ clean. on_ok_weaker r (finds_after old mid new same one h.survives clean) (h.finds clean);
+  follows = λ clean. IfOk-weaker r _ _ (λ next. follows_after old mid new same one h.survives next clean) (h.follows clean);
   refused = λ clean. IfErr-weaker r _ _ (λ fault. refuses_after old mid new same one h.survives fault clean) (h.refused clean);
   survives = survives_after old mid new same one h.survives;
   risks = IfErr-weaker r _ _ (risks_after old mid new same one h.survives) h.risks;
@@ -140,6 +144,7 @@ module _ (old new : State) where
   refuses_nothing fault same survives told = record {
     opens = λ _. tt;
     finds = λ _. tt;
+    follows = λ _. tt;
     refused = λ clean. record { told = told clean; same = same clean; kept = λ o at. stands_after old new o clean (same clean) survives at };
     survives = leaves_less old new survives;
     risks = leaves_less old new survives;
@@ -156,8 +161,9 @@ module _ (old new : State) where
   -- the tables of the present format were found
   pub ends_found : (r : Result ℕ OpenFault) → IsSoundOfFormat present_format old → (IsTrue old.is_open → old.now ≡ old.committed)
       → (HasCleanDisk old → HasFormat old.now present_format) → (HasCleanDisk new → IsSoundOfFormat present_format old → IfOk r (IsNextSale old))
+      → (HasCleanDisk new → IsSoundOfFormat present_format old → IfOk r (FollowsLast old.now))
       → Looks (IsSoundOfFormat present_format) old new r → EndsOpening old new r
-  ends_found (Ok next) has settled tells given looks = record {
+  ends_found (Ok next) has settled tells given follows looks = record {
     opens = λ clean o at.
         let it = looks.same clean has in (
           record {
@@ -176,11 +182,12 @@ module _ (old new : State) where
           now = inr
               ((has it.0.was_open).1, tells (omega (arith, (looks.survives has).clean)), it.0.now_is);
         };
+    follows = λ clean. inr (follows clean has);
     refused = λ _. tt;
     survives = leaves_less old new (looks.survives has);
     risks = tt;
   }
-  ends_found (Err fault) has settled tells given looks = ends_looked fault (Err fault) refl has settled looks
+  ends_found (Err fault) has settled tells given follows looks = ends_looked fault (Err fault) refl has settled looks
 
 -- what is left of the tables of a format is left of an opening, where these were an office's
 module _ (from : ℕ) (old new : State) (older : from < present_format) (opens : HasCleanDisk old → IsTrue old.is_open)
@@ -207,6 +214,7 @@ module _ (from : ℕ) (old new : State) (older : from < present_format) (opens :
   ends_brought next is brought = record {
     opens = λ clean. opens_brought old new clean leaves from next (is (early clean)) (brought clean);
     finds = λ clean. let it = brought clean in record { was_open = it.was_open; is_open = it.is_open; now = inl (from, older, it.brings, rows (early clean)) };
+    follows = λ clean. inl (from, older, (brought clean).brings, rows (early clean));
     refused = λ _. tt;
     survives = leaves;
     risks = tt;
@@ -225,6 +233,7 @@ module _ (from : ℕ) (old new : State) (older : from < present_format) (opens :
   ends_unbrought fault (Err x) is told same risk = subst (λ (f : OpenFault). EndsOpening old new (Err f)) (sym is) (record {
     opens = λ _. tt;
     finds = λ _. tt;
+    follows = λ _. tt;
     refused = λ clean. record { told = of_failure old fault (told clean); same = same clean; kept = stands_still old new clean leaves (same clean) };
     survives = leaves;
     risks = risked fault risk;

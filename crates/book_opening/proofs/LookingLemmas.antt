@@ -50,7 +50,7 @@ as_shown old new table.RowOfNoOffice fault kind is has fails =
     let held : HoldsMembers old.now o = (held_as old.now o present_format (at.now fails.1.0.was_open) (omega arith) (has fails.1.0.was_open).1).0 in
     fails.0 held.0 held.1 (o, at.office, held.2))
 
-tables : (s : State) → IsSoundOfFormat present_format s → HasAllTables s
+pub tables : (s : State) → IsSoundOfFormat present_format s → HasAllTables s
 tables s has runs = (has runs).1
 
 module _ {old new : State} where

@@ -1,5 +1,5 @@
 -- What the opening of an office makes of a database.
-use Rattle.std.specs.Prelude.{◌≡◌, ◌<◌, ◌⊎◌, ℕ, zero, suc, ◌+◌, List, length, Result, IfErr, IfOk, IsTrue, OnErr, OnOk}
+use Rattle.std.specs.Prelude.{◌≡◌, ◌<◌, ◌⊎◌, ℕ, zero, suc, ◌+◌, List, length, unwrap_or, Result, IfErr, IfOk, IsTrue, OnErr, OnOk}
 use Rattle.sqlite.specs.Effect.{Database, IsDatabase}
 use Rattle.sqlite.specs.State.{HasCleanDisk, IsUnchanged, State, Survives}
 use Rattle.sqlite.specs.declared.error.Error.{Error}
@@ -13,6 +13,8 @@ use Rattle.vend_core.specs.declared.office.sale.Sale.{Sale}
 use Rattle.book_tables.specs.format.Format.{HasFormat}
 use Rattle.book_tables.specs.Holds.{HasOffice, HasOfficeOf}
 use Rattle.book_tables.specs.format.Making.{BringsOffice, HandsOver}
+use Rattle.book_tables.specs.reading.Questions.{the_last_sale}
+use Rattle.book_tables.specs.reading.Seen.{ShowsMade}
 use Rattle.book_tables.specs.row.Rows.{present_format}
 use Rattle.book_tables.specs.declared.reading.pages.MeterRow.{MeterRow}
 use Rattle.book_tables.specs.declared.error.TableError.{TableError}
@@ -91,6 +93,10 @@ FaultFitsStore s Memory = Unit {0}
 abbrev pub IsNextSale : State → ℕ → Type 0
 IsNextSale s next = (o : Office) → StoreStandsFor s o → next ≡ length o.sales + 1
 
+-- the number of the next sale is the one after the last that is stored, or 1, whatever the rows are
+abbrev pub FollowsLast : Database → ℕ → Type 0
+FollowsLast = ShowsMade the_last_sale (λ last. unwrap_or last 0 + 1)
+
 -- Where this is known the store was only looked at, and a fault that names the file is true of it.
 abbrev pub Looks : {T : Type 0} → (State → Type 0) → State → State → Result T OpenFault → Type 0
 Looks IsKnown old new result =
@@ -131,6 +137,9 @@ LeavesRefused old fault trees = AfterStore (LeavesBrought old) fault trees
 pub record EndsOpening (old new : State) (result : Result ℕ OpenFault) : Type 0 where
   pub opens : HasCleanDisk new → IfOk result (OpensAt old new)
   pub finds : HasCleanDisk new → OnOk result (OpensAs old new)
+  -- the sales of what is not brought up are numbered after the last row
+  pub follows : HasCleanDisk new
+      → IfOk result (λ next. BringsTold old.now new.now ⊎ FollowsLast old.now next)
   pub refused : HasCleanDisk new → IfErr result (Refuses old new)
   pub survives : Survives old new (LeavesBrought old)
   pub risks : IfErr result (λ fault. Survives old new (LeavesRefused old fault))

@@ -5,7 +5,7 @@ ghost use Rattle.sqlite.specs.State.{HasCleanDisk};
 ghost use Rattle.one_table.specs.Over.{Over};
 ghost use Rattle.book_tables.specs.format.Making.{IsSoundOfFormat};
 ghost use Rattle.book_tables.specs.row.Rows.{present_format};
-ghost use Rattle.book_opening.specs.Opening.{EndsOpening, IsNextSale, Looks, fault_of, fault_of_audit, fault_of_table};
+ghost use Rattle.book_opening.specs.Opening.{EndsOpening, FollowsLast, IsNextSale, Looks, fault_of, fault_of_audit, fault_of_table};
 
 use crate::bringing::bring_office;
 use crate::fault::OpenFault;
@@ -66,6 +66,8 @@ fn test_open<S: Alter>(conn: &mut Connection<S>) -> Result<(), OpenFault>
 fn next_by_sales<S: Alter>(conn: &mut Connection<S>) -> Result<u64, OpenFault>
     ensures given { Over S.Store conn (λ old new. HasCleanDisk new
         → IsSoundOfFormat present_format old → IfOk result (IsNextSale old)) }
+    ensures follows { Over S.Store conn (λ old new. HasCleanDisk new
+        → IsSoundOfFormat present_format old → IfOk result (FollowsLast old.now)) }
     ensures looks { Over S.Store conn (λ old new. Looks (IsSoundOfFormat present_format)
         old new result) }
 {

@@ -23,7 +23,7 @@ returns-in-Ok-clause-ends g c has =
     (ends_found mid new c.next_by_sales.result (known_after old mid shut same (λ (db : Database). IsDatabase db × HasOffice db.schema) (λ _. has))
     (settled_after old mid shut same (c.is_autocommit-outside.ensures.settled outside))
     (λ clean. subst (λ (db : Database). HasFormat db present_format) (sym (same clean).0.now_is) (c.in-Ok.ensures.tells clean has))
-    c.next_by_sales.ensures.given c.next_by_sales.ensures.looks)
+    c.next_by_sales.ensures.given c.next_by_sales.ensures.follows c.next_by_sales.ensures.looks)
 
 pub returns-in-Err-clause-ends : goal.returns-in-Err-clause-ends
 returns-in-Err-clause-ends g c has =
