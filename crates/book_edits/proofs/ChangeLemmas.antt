@@ -1,7 +1,9 @@
 -- What a write of the tables makes of the members of an office, and what it leaves of other tables.
 use Rattle.std.proofs.Common.{◌≡◌, ◌≤◌, ℕ, ◌+◌, true, false, List, [], ◌∷◌, ◌++◌, length, codes, IfErr, Result, Ok, Err, OnOk, refl, sym, ap, subst, ◌∙◌, inl, inr, arith}
 use Rattle.std.proofs.lemmas.Bool.{cases_order}
-use Rattle.std.specs.List.{AllByRecursion}
+use Rattle.std.proofs.lemmas.Grind.{flat_map-append}
+use Rattle.std.proofs.lemmas.List.{flat_map_more}
+use Rattle.std.specs.List.{AllByRecursion, flat_map}
 use Rattle.sqlite.specs.Effect.{Database}
 use Rattle.sqlite.specs.State.{HasCleanDisk, Shows, State}
 use Rattle.sqlite_schema.specs.declared.schema.Schema.{Schema}
@@ -22,7 +24,8 @@ use Rattle.vend_core.specs.declared.office.row.Row.TheVariants as kinds
 use Rattle.vend_core.specs.declared.office.sale.Sale.{Sale}
 use Rattle.vend_core.specs.declared.office.shift.Shift.{Shift}
 use Rattle.book_tables.specs.writing.Edited.{edited, is_sale}
-use Rattle.book_tables.specs.writing.Failing.{FailsToMergeAll, FailsToWriteAll}
+use Rattle.book_tables.specs.writing.Failing.{End, FailsToMergeAll, FailsToWriteAll}
+use Rattle.book_tables.specs.writing.Writes.{row_writes, sale_writes, writes_of}
 use Rattle.book_tables.specs.Holds.{HasOffice, HoldsMembers, table_names}
 use Rattle.book_tables.specs.reading.Reading.{HasAllTables}
 use Rattle.book_tables.specs.row.Rows.{Rows, present_format}
@@ -30,7 +33,9 @@ use Rattle.book_tables.specs.Stands.{AreMembersOf}
 use Rattle.book_tables.specs.writing.Writing.{AddsMeter, AddsShift, AddsSold, AddsSteps, AddsTariff, ClosesShift, FindsNoFalseRow, IsNextNumber, IsOfNone, MayAddSold, MovesBase, SetsTariff, WritesOnly, totals_names}
 use Rattle.book_tables.specs.declared.error.TableError.{TableError}
 use Rattle.book_tables.specs.declared.row.totals.SaleTotals.{SaleTotals}
-use Rattle.book_states.specs.Changing.{IsCounted, MakesAsComputed, MakesEdit, MakesRows}
+use Rattle.book_tables.specs.writing.Keeping.{AreInOrder, KeepsRows, Keys}
+use Rattle.book_tables.proofs.WritingLemmas.KeepingLemmas.{keeps_then}
+use Rattle.book_states.specs.Changing.{IsCounted, MakesAsComputed, MakesEdit, MakesRows, edit_keys, row_keys}
 use Rattle.book_states.specs.Failing.{FailsToMake}
 use Rattle.book_states.specs.Others.{SameOthers}
 
@@ -59,18 +64,20 @@ same_then s old mid new (t ∷ tables) first second = (λ none. second.0 none �
 
 -- what the edit makes of the members is told, and the write leaves the rest
 makes : (edit : Edit) (names : List (List ℕ)) (old new : State) → AreOurs names → WritesOnly names old new
-    → ((o : Office) → IsOffice o → Meets edit o → HoldsMembers old.now o → HoldsMembers new.now (applied edit o)) → MakesEdit edit old.now new.now
-makes edit names old new ours only members = record {
+    → (AreInOrder table_names old.now → KeepsRows (edit_keys edit) old.now new.now) → ((o : Office) → IsOffice o → Meets edit o → HoldsMembers old.now o → HoldsMembers new.now (applied edit o)) → MakesEdit edit old.now new.now
+makes edit names old new ours only kept members = record {
   members = members;
+  kept = kept;
   schema = only.schema;
   others = same_in old.now.schema names old.now.trees new.now.trees ours old.now.schema.tables only.tables;
   sound = only.sound;
 }
 
 makes_row : (row : Row) (names : List (List ℕ)) (old new : State) → AreOurs names → WritesOnly names old new
-    → ((o : Office) → MeetsRow row o → HoldsMembers old.now o → HoldsMembers new.now (with_row row o)) → MakesRows (row ∷ []) old.now new.now
-makes_row row names old new ours only members = record {
+    → KeepsRows (flat_map row_keys (row ∷ [])) old.now new.now → ((o : Office) → MeetsRow row o → HoldsMembers old.now o → HoldsMembers new.now (with_row row o)) → MakesRows (row ∷ []) old.now new.now
+makes_row row names old new ours only kept members = record {
   members = λ o meets held. members o meets.0 held;
+  kept = kept;
   schema = only.schema;
   others = same_in old.now.schema names old.now.trees new.now.trees ours old.now.schema.tables only.tables;
   sound = only.sound;
@@ -88,11 +95,11 @@ module _ (law : KeepsMembers) (old new : State) where
 
   pub makes_sale : (s : Sale) → AddsSold s old new → MakesEdit (edits.AddSale s) old.now new.now
   makes_sale s adds =
-      makes (edits.AddSale s) (codes "sales" ∷ totals_names) old new (λ t tree none. (none.1.1.1.1.1.0, (none.1.1.1.1.1.1.0, (none.1.1.1.1.1.1.1.0, (none.1.1.1.1.1.1.1.1.0, tt))))) adds.only adds.members
+      makes (edits.AddSale s) (codes "sales" ∷ totals_names) old new (λ t tree none. (none.1.1.1.1.1.0, (none.1.1.1.1.1.1.0, (none.1.1.1.1.1.1.1.0, (none.1.1.1.1.1.1.1.1.0, tt))))) adds.only (λ order. adds.kept (order.1.1.1.1.1.1.0, (order.1.1.1.1.1.1.1.0, (order.1.1.1.1.1.1.1.1.0, tt)))) adds.members
 
   pub makes_shift : (s : Shift) → AddsShift s old new → MakesEdit (edits.OpenShift s) old.now new.now
   makes_shift s adds =
-      makes (edits.OpenShift s) (codes "shifts" ∷ []) old new (λ t tree none. (none.1.1.1.1.0, tt)) adds.only (λ o office meets held.
+      makes (edits.OpenShift s) (codes "shifts" ∷ []) old new (λ t tree none. (none.1.1.1.1.0, tt)) adds.only (λ order. adds.kept) (λ o office meets held.
       let are = held.2 in
       let next : IsNextNumber (λ (s : Shift). s.number) held.0.shifts s.number = record {
         numbered = subst (λ (l : List Shift). AreNumbered (λ (s : Shift). s.number) l) (sym are.shifts) office.shift_numbers;
@@ -102,7 +109,7 @@ module _ (law : KeepsMembers) (old new : State) where
 
   pub makes_closing : (number moment : ℕ) → ClosesShift number moment old new → MakesEdit (edits.CloseShift number moment) old.now new.now
   makes_closing number moment closes =
-      makes (edits.CloseShift number moment) (codes "shifts" ∷ []) old new (λ t tree none. (none.1.1.1.1.0, tt)) closes.only (λ o office meets held.
+      makes (edits.CloseShift number moment) (codes "shifts" ∷ []) old new (λ t tree none. (none.1.1.1.1.0, tt)) closes.only (λ order. closes.kept (order.1.1.1.1.0, tt)) (λ o office meets held.
       let are = held.2 in
       let numbered = subst (λ (l : List Shift). AreNumbered (λ (s : Shift). s.number) l) (sym are.shifts) office.shift_numbers in
       (edited (edits.CloseShift number moment) held.0, closes.rows held.0 held.1 numbered, law held.0 o (edits.CloseShift number moment) are meets refl))
@@ -111,13 +118,13 @@ module _ (law : KeepsMembers) (old new : State) where
 
   pub makes_setting : (number name : List ℕ) → SetsTariff number name old new → MakesEdit (edits.SetTariff number name) old.now new.now
   makes_setting number name sets =
-      makes (edits.SetTariff number name) (codes "meters" ∷ []) old new (λ t tree none. (none.1.1.1.0, tt)) sets.only (λ o office meets held.
+      makes (edits.SetTariff number name) (codes "meters" ∷ []) old new (λ t tree none. (none.1.1.1.0, tt)) sets.only (λ order. sets.kept (order.1.1.1.0, tt)) (λ o office meets held.
       let are = held.2 in
       (edited (edits.SetTariff number name) held.0, sets.rows held.0 held.1 are.meters_once, law held.0 o (edits.SetTariff number name) are meets refl))
 
   pub makes_moving : (number : List ℕ) (base : Base) → MovesBase number base old new → MakesEdit (edits.MoveBase number base) old.now new.now
   makes_moving number base moves =
-      makes (edits.MoveBase number base) both_meters old new of_meters moves.only (λ o office meets held.
+      makes (edits.MoveBase number base) both_meters old new of_meters moves.only (λ order. moves.kept (order.1.1.1.0, tt)) (λ o office meets held.
       let are = held.2 in
       (edited (edits.MoveBase number base) held.0, moves.rows held.0 held.1 are.meters_once, law held.0 o (edits.MoveBase number base) are meets refl))
 
@@ -128,12 +135,12 @@ module _ (law : KeepsMembers) (old new : State) where
 
   pub makes_steps : (name : List ℕ) (day : ℕ) (steps : List Step) → AddsSteps name day steps old new → MakesEdit (edits.AddSteps name day steps) old.now new.now
   makes_steps name day steps adds =
-      makes (edits.AddSteps name day steps) (codes "dated_steps" ∷ []) old new (λ t tree none. (none.1.1.1.1.1.1.1.1.1.1.0, tt)) adds.only
+      makes (edits.AddSteps name day steps) (codes "dated_steps" ∷ []) old new (λ t tree none. (none.1.1.1.1.1.1.1.1.1.1.0, tt)) adds.only (λ order. adds.kept)
       (λ o office meets held. with_steps_row name day steps adds o meets held)
 
   of_steps : (name : List ℕ) (day : ℕ) (steps : List Step) → AddsSteps name day steps old new → MakesRows (kinds.Steps name day steps ∷ []) old.now new.now
   of_steps name day steps adds =
-      makes_row (kinds.Steps name day steps) (codes "dated_steps" ∷ []) old new (λ t tree none. (none.1.1.1.1.1.1.1.1.1.1.0, tt)) adds.only (with_steps_row name day steps adds)
+      makes_row (kinds.Steps name day steps) (codes "dated_steps" ∷ []) old new (λ t tree none. (none.1.1.1.1.1.1.1.1.1.1.0, tt)) adds.only adds.kept (with_steps_row name day steps adds)
 
   pub makes_steps_row : (row : Row) (name : List ℕ) (day : ℕ) (steps listed : List Step) → row ≡ kinds.Steps name day steps → listed ≡ steps → AddsSteps name day listed old new → MakesRows (row ∷ []) old.now new.now
   makes_steps_row row name day steps listed is same adds =
@@ -151,22 +158,22 @@ module _ (law : KeepsMembers) (old new : State) where
 
   pub makes_tariff : (name : List ℕ) (steps : List Step) → AddsTariff name steps old new → MakesEdit (edits.AddTariff name steps) old.now new.now
   makes_tariff name steps adds =
-      makes (edits.AddTariff name steps) (codes "tariffs" ∷ codes "tariff_steps" ∷ []) old new (λ t tree none. (none.1.0, (none.1.1.0, tt))) adds.only
+      makes (edits.AddTariff name steps) (codes "tariffs" ∷ codes "tariff_steps" ∷ []) old new (λ t tree none. (none.1.0, (none.1.1.0, tt))) adds.only (λ order. adds.kept)
       (λ o office meets held. with_tariff_row name steps adds o meets held)
 
   pub makes_meter : (number : List ℕ) (m : Meter) → AddsMeter number m old new → MakesEdit (edits.AddMeter number m) old.now new.now
   makes_meter number m adds =
-      makes (edits.AddMeter number m) both_meters old new of_meters adds.only
+      makes (edits.AddMeter number m) both_meters old new of_meters adds.only (λ order. adds.kept)
       (λ o office meets held. with_meter_row number m adds o meets held)
 
   of_tariff : (name : List ℕ) (steps : List Step) → AddsTariff name steps old new → MakesRows (kinds.Tariff name steps ∷ []) old.now new.now
   of_tariff name steps adds =
-      makes_row (kinds.Tariff name steps) (codes "tariffs" ∷ codes "tariff_steps" ∷ []) old new (λ t tree none. (none.1.0, (none.1.1.0, tt))) adds.only
+      makes_row (kinds.Tariff name steps) (codes "tariffs" ∷ codes "tariff_steps" ∷ []) old new (λ t tree none. (none.1.0, (none.1.1.0, tt))) adds.only adds.kept
       (with_tariff_row name steps adds)
 
   of_meter : (number : List ℕ) (m : Meter) → AddsMeter number m old new → MakesRows (kinds.Meter number m ∷ []) old.now new.now
   of_meter number m adds =
-      makes_row (kinds.Meter number m) both_meters old new of_meters adds.only (with_meter_row number m adds)
+      makes_row (kinds.Meter number m) both_meters old new of_meters adds.only adds.kept (with_meter_row number m adds)
 
   pub makes_tariff_row : (row : Row) (name : List ℕ) (steps listed : List Step) → row ≡ kinds.Tariff name steps → listed ≡ steps → AddsTariff name listed old new → MakesRows (row ∷ []) old.now new.now
   makes_tariff_row row name steps listed is same adds =
@@ -194,6 +201,7 @@ pub makes_more : (xs : List Row) (y : Row) (old mid new : Database) → MakesRow
 makes_more xs y old mid new first second = record {
   members = λ o meets held.
       subst (HoldsMembers new) (with_last xs y o) (second.members (with_rows xs o) (meets_last xs y o meets) (first.members o (meets_first xs y o meets) held));
+  kept = subst (λ (keys : Keys). KeepsRows keys old new) (sym (flat_map-append row_keys xs (y ∷ []))) (keeps_then (flat_map row_keys xs) (flat_map row_keys (y ∷ [])) old mid new first.kept second.kept);
   schema = second.schema ∙ first.schema;
   others = same_then old.schema old.trees mid.trees new.trees old.schema.tables first.others
       (subst (λ (s : Schema). SameOthers s mid.trees new.trees) first.schema second.others);
@@ -203,6 +211,7 @@ makes_more xs y old mid new first second = record {
 pub makes_import : (rows : List Row) (old new : Database) → MakesRows rows old new → MakesEdit (edits.AddRows rows) old new
 makes_import rows old new makes = record {
   members = λ o office meets held. makes.members o meets.1 held;
+  kept = λ order. makes.kept;
   schema = makes.schema;
   others = makes.others;
   sound = makes.sound;
@@ -243,16 +252,29 @@ all_err : {A E : Type 0} {P : E → Type 0} (r : Result A E) → ((e : E) → P 
 all_err (Ok x) f = tt
 all_err (Err e) f = f e
 
+-- the writes of an import, row by row
+pub writes_more : (rows : List Row) (row : Row) → flat_map row_writes rows ++ row_writes row ≡ flat_map row_writes (rows ++ row ∷ [])
+writes_more rows row = flat_map_more row_writes [] rows row
+
+-- so a row ends that is this one
+pub row_ends : {A : Type 0} (r : Result A TableError) (found row : Row) (old new : State) → found ≡ row → End FailsToWriteAll (row_writes row) old new r → End FailsToWriteAll (row_writes found) old new r
+row_ends r found row old new is ends = subst (λ (x : Row). End FailsToWriteAll (row_writes x) old new r) (sym is) ends
+
+-- where its writes fail
+pub edit_refused : {A : Type 0} (r : Result A TableError) (found edit : Edit) (prior : ℕ) (old new : State) → found ≡ edit → (HasAllTables old → IfErr r (FailsToWriteAll (writes_of edit) old new)) → IfErr r (λ e. HasAllTables old → FailsToMake found prior old new e)
+edit_refused r found edit prior old new is why =
+    told_where found prior old new r (λ has. if_err r (λ e fails. inl (subst (λ (x : Edit). FailsToWriteAll (writes_of x) old new e) (sym is) fails)) (why has))
+
 -- no office has an import of no rows to add
-pub rows_refused : {A : Type 0} (r : Result A TableError) (rows listed : List Row) (prior : ℕ) (old new : State) → listed ≡ rows → (1 ≤ length listed → IfErr r (FailsToWriteAll old new)) → IfErr r (FailsToMake (edits.AddRows rows) prior old new)
+pub rows_refused : {A : Type 0} (r : Result A TableError) (rows listed : List Row) (prior : ℕ) (old new : State) → listed ≡ rows → (1 ≤ length listed → IfErr r (FailsToWriteAll (flat_map row_writes listed) old new)) → IfErr r (FailsToMake (edits.AddRows rows) prior old new)
 rows_refused r rows listed prior old new same why = elim (cases_order 0 (length listed)) [
   | inl none ↦ all_err r (λ e. inr (inl (λ is_open o office meets held. omega (arith, meets.0, none, ap length same))))
-  | inr (inl some) ↦ if_err r (λ e fails. inl fails) (why (omega arith))
+  | inr (inl some) ↦ if_err r (λ e fails. inl (subst (λ (l : List Row). FailsToWriteAll (flat_map row_writes l) old new e) same fails)) (why (omega arith))
   | inr (inr below) ↦ absurd (omega (arith, below))
 ]
 
 -- totals that are told to be no office's show that there is none that the sale meets
-pub sold_refused : (s : Sale) (prior : ℕ) (old new : State) (e : TableError) → IsUnderWay old → HasCleanDisk new → FailsToMergeAll old new e → FindsNoFalseRow {T = SaleTotals} (MayAddSold s) old new (Err e) → FailsToMake (edits.AddSale s) prior old new e
+pub sold_refused : (s : Sale) (prior : ℕ) (old new : State) (e : TableError) → IsUnderWay old → HasCleanDisk new → FailsToMergeAll (sale_writes s) old new e → FindsNoFalseRow {T = SaleTotals} (MayAddSold s) old new (Err e) → FailsToMake (edits.AddSale s) prior old new e
 sold_refused s prior old new e way clean (inl fails) never = inl fails
 sold_refused s prior old new e way clean (inr is) never =
     inr (inl (λ is_open o office meets held. never clean way present_format held.0 (λ _. held.1) (refl, (o, office, meets, held.2)) (ap (λ e. Err e) is)))

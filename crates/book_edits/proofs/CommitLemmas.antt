@@ -1,12 +1,13 @@
 -- One edit that was made in a transaction, and how the commit ends.
-use Rattle.std.proofs.Common.{◌≡◌, ◌⊎◌, ◌≤◌, ℕ, false, [], IsTrue, None, Some, Ok, Err, Result, sym, ap, subst, ◌∙◌, inl, inr, arith}
+use Rattle.std.proofs.Common.{◌≡◌, ◌⊎◌, ◌≤◌, ℕ, false, IsTrue, Option, None, Some, Ok, Err, Result, sym, ap, subst, ◌∙◌, inl, inr, arith}
 use Rattle.std.proofs.lemmas.Bool.{cases_Bool, false≢true}
 use Rattle.sqlite_disk.specs.Disk.{MoreFaults}
-use Rattle.sqlite.specs.Does.{Does}
 use Rattle.sqlite.specs.declared.error.Error.{Error}
+use Rattle.sqlite.specs.declared.error.Error.TheVariants.{SqliteFailure}
+use Rattle.sqlite.specs.declared.error.ErrorCode.TheVariants.{TooBig}
 use Rattle.sqlite.specs.Effect.{Database}
 use Rattle.sqlite.specs.Held.{state}
-use Rattle.sqlite.specs.State.{HasCleanDisk, State, Survives, mode_of}
+use Rattle.sqlite.specs.State.{HasCleanDisk, State, Survives}
 use Rattle.sqlite.proofs.StateLemmas.{survives_then}
 use Rattle.sqlite_trees.specs.Tree.{Trees}
 use Rattle.sqlite_trees.specs.declared.store.Store.{Ghosts}
@@ -18,6 +19,7 @@ use Rattle.vend_core.specs.declared.decision.change.Edit.{Edit}
 use Rattle.vend_core.specs.declared.decision.refusal.Refusal.{Refusal}
 use Rattle.book_tables.proofs.HoldsLemmas.{stands_present}
 use Rattle.book_tables.specs.writing.Failing.{IsRefused}
+use Rattle.book_tables.specs.writing.Writes.{EndsWith, Make, writes_of}
 use Rattle.book_tables.specs.Holds.{HoldsMembers}
 use Rattle.book_tables.specs.declared.error.TableError.{TableError}
 use Rattle.book_tables.specs.declared.error.TableError.TheVariants as table
@@ -170,20 +172,18 @@ module _ (edit : Edit) (old mid new : State) (clean : HasCleanDisk new) (before 
     by_state : (error : TableError) → (IsTrue mid.is_open → EditHasFailed edit prior error old new) → EditHasFailed edit prior error old new
     by_state error if_open = elim (cases_Bool mid.is_open) [ inl runs ↦ if_open runs | inr shut ↦ shut_told error (was_shut shut) ]
 
-    refused_before : (error : TableError) (e : Error) → error ≡ table.Database e → IsRefused mid e → IsTrue mid.is_open → EditHasFailed edit prior error old new
+    refused_before : (error : TableError) (e : Error) → error ≡ table.Database e → IsRefused (writes_of edit) mid e → IsTrue mid.is_open → EditHasFailed edit prior error old new
     refused_before error e is it runs = inr (inr (inl (
       e,
       is,
       record {
+        before = it.before;
+        tried = it.tried;
+        after = it.after;
+        among = it.among;
         db = it.db;
-        schema = it.schema ∙ ap (λ (d : Database). d.schema) (before.same.now_is runs);
-        shows = it.shows;
-        command = it.command;
-        params = it.params;
-        refused = elim it.refused [
-          | inl does ↦ inl (subst (λ l. Does l (mode_of old) it.params it.db [] it.shows it.command (Err (Some e))) before.survives.limit does)
-          | inr (big, does) ↦ inr (big, subst (λ l. Does l (mode_of old) it.params it.db [] it.shows it.command (Err None)) before.survives.limit does)
-        ];
+        made = subst (λ (db : Database). Make old.step_limit it.before db it.db) (before.same.now_is runs) (subst (λ (l : Option ℕ). Make l it.before mid.now it.db) before.survives.limit it.made);
+        refused = subst (λ (l : Option ℕ). EndsWith l it.tried it.db (Err (Some e)) ⊎ ((e ≡ SqliteFailure TooBig) × EndsWith l it.tried it.db (Err None))) before.survives.limit it.refused;
       },
     )))
 

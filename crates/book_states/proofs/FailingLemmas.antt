@@ -1,5 +1,5 @@
 -- Why a read of the tables fails, and what is answered.
-use Rattle.std.proofs.Common.{◌≡◌, ◌≢◌, ℕ, true, arith, IfErr, Result, Ok, Err, refl, ap, sym, inl, inr, ◌∙◌}
+use Rattle.std.proofs.Common.{◌≡◌, ℕ, true, arith, refl, sym, inl, inr, ◌∙◌}
 use Rattle.std.proofs.lemmas.Bool.{cases_Bool}
 use Rattle.sqlite.specs.State.{HasCause, HasCleanDisk, State, Survives, store_error}
 use Rattle.sqlite.specs.Held.{Held, state}
@@ -11,12 +11,12 @@ use Rattle.one_table.specs.Reading.{FailsPlainly}
 use Rattle.vend_core.specs.declared.decision.change.Edit.{Edit}
 use Rattle.vend_core.specs.declared.decision.refusal.Refusal.{Refusal}
 use Rattle.vend_core.specs.declared.decision.refusal.Refusal.TheVariants.{Store}
-use Rattle.vend_core.specs.declared.decision.request.Stamped.{Stamped}
 use Rattle.book_tables.specs.writing.Failing.{IsRefused}
+use Rattle.book_tables.specs.writing.Writes.{writes_of}
 use Rattle.book_tables.specs.reading.Reading.{FailsToRead, HasAllTables}
 use Rattle.book_tables.specs.declared.error.TableError.{TableError}
 use Rattle.book_tables.specs.declared.error.TableError.TheVariants.{Database, RowOfNoOffice}
-use Rattle.book_states.specs.Failing.{EditHasFailed, FailsToMake, HasFailed, RefusesUnchanged, IsToldOfRead, WereRead, refusal_for}
+use Rattle.book_states.specs.Failing.{EditHasFailed, FailsToMake, HasFailed, IsToldOfRead, refusal_for}
 
 module _ (old new : State) where
   caused : (e : Error) → refusal_for (Database e) ≡ Store → (cause : StoreError) → e ≡ store_error cause → HasCause old new ⊥ cause → HasFailed old new
@@ -46,19 +46,14 @@ module _ (old new : State) where
     still_open = survives.closes clean;
   }
 
--- where the facts were read, nothing is answered as a failure of the store
-pub refused_after : {A : Type 0} (at : Stamped) (next : ℕ) (old new : State) (r : Result A Refusal) → r ≢ Err Store → WereRead at next old → IfErr r (RefusesUnchanged at next old new)
-refused_after at next old new (Ok x) never read = tt
-refused_after at next old new (Err refusal) never read = inr ((λ is. never (ap (λ r. Err r) is)), read)
-
 -- An edit that is answered as a failure of the store has one of its causes, by what the connection
 -- was before its transaction was begun, and is after it was undone.
 module _ {S : Type 0} (g : Ghosts S) (edit : Edit) (prior : ℕ) (old left : Held S) (new : State) (later : Survives (state g left) new (λ _. ⊥)) where
   abbrev begun : Held S
   begun = record old { in_transaction = true }
 
-  refused_before : (e : Error) → IsRefused (state g begun) e → IsRefused (state g old) e
-  refused_before e it = record { db = it.db; schema = it.schema; shows = it.shows; command = it.command; params = it.params; refused = it.refused }
+  refused_before : (e : Error) → IsRefused (writes_of edit) (state g begun) e → IsRefused (writes_of edit) (state g old) e
+  refused_before e it = record { before = it.before; tried = it.tried; after = it.after; among = it.among; db = it.db; made = it.made; refused = it.refused }
 
   by_cause : (e : TableError) → refusal_for e ≡ Store → FailsToMake edit prior (state g begun) (state g left) e → EditHasFailed edit prior e (state g old) new
   by_cause (Database e) is (inl (inl none)) = absurd (let told = rw none at is in cc)

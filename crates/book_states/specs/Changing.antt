@@ -1,24 +1,46 @@
 -- What an edit makes of a database.
 use Rattle.std.specs.Prelude.{◌≡◌, ◌≢◌, ◌+◌, ◌++◌, ◌∷◌, [], ℕ, List}
+use Rattle.std.specs.List.{flat_map}
 use Rattle.sqlite.specs.Effect.{Database, IsDatabase}
 use Rattle.sqlite.specs.State.{State}
 use Rattle.vend_core.specs.Decision.Edits.{applied, with_rows}
 use Rattle.vend_core.specs.Office.{IsOffice, Office}
 use Rattle.vend_core.specs.Law.Store.{MeetRows, Meets, MeetsNewSale}
 use Rattle.vend_core.specs.declared.decision.change.Edit.{Edit}
-use Rattle.vend_core.specs.declared.decision.change.Edit.TheVariants.{AddSale}
+use Rattle.vend_core.specs.declared.decision.change.Edit.TheVariants.{AddMeter, AddRows, AddSale, AddSteps, AddTariff, CloseShift, MoveBase, OpenShift, SetTariff}
 use Rattle.vend_core.specs.declared.office.row.Row.{Row}
+use Rattle.vend_core.specs.declared.office.row.Row.TheVariants as kinds
 use Rattle.vend_core.specs.declared.office.sale.Sale.{Sale}
-use Rattle.book_tables.specs.Holds.{HasOffice, HoldsMembers}
+use Rattle.book_tables.specs.Holds.{HasOffice, HoldsMembers, table_names}
+use Rattle.book_tables.specs.writing.Keeping.{AreInOrder, KeepsRows, Keys, base_key, dated_keys, meter_key, sale_key, shift_key, tariff_keys, totals_keys}
 use Rattle.book_tables.specs.writing.Writing.{AreSaleTotals, TellsSold}
 use Rattle.book_tables.specs.declared.row.totals.SaleTotals.{SaleTotals}
 use Rattle.book_states.specs.Others.{SameOthers}
 
--- a database of an office has the members of the office after the edit, the same tables, and the
--- same rows in those of other names
+-- the keys of what an import adds, row by row, and those of what an edit writes
+abbrev pub row_keys : Row → Keys
+row_keys (kinds.Tariff name steps) = tariff_keys name
+row_keys (kinds.Steps name day steps) = dated_keys name day
+row_keys (kinds.Meter number m) = meter_key number ++ base_key number m.base
+
+abbrev pub edit_keys : Edit → Keys
+edit_keys (AddTariff name steps) = tariff_keys name
+edit_keys (AddSteps name day steps) = dated_keys name day
+edit_keys (AddMeter number m) = meter_key number ++ base_key number m.base
+edit_keys (AddRows rows) = flat_map row_keys rows
+edit_keys (SetTariff number name) = meter_key number
+edit_keys (MoveBase number base) = meter_key number ++ base_key number base
+edit_keys (OpenShift s) = shift_key s.number
+edit_keys (CloseShift number moment) = shift_key number
+edit_keys (AddSale s) = sale_key s.number ++ totals_keys s
+
+-- A database of an office has the members of the office after the edit, the same tables, and the
+-- same rows in those of other names. Whatever rows a database has, all but those of the edit's keys
+-- stay, where they stand in order.
 pub record MakesEdit (edit : Edit) (old new : Database) : Type 0 where
   pub members : (o : Office) → IsOffice o → Meets edit o → HoldsMembers old o
       → HoldsMembers new (applied edit o)
+  pub kept : AreInOrder table_names old → KeepsRows (edit_keys edit) old new
   pub schema : new.schema ≡ old.schema
   pub others : SameOthers old.schema old.trees new.trees
   pub sound : IsDatabase new
@@ -60,6 +82,7 @@ MakesAsComputed edit prior old new =
 pub record MakesRows (rows : List Row) (old new : Database) : Type 0 where
   pub members : (o : Office) → MeetRows rows o → HoldsMembers old o
       → HoldsMembers new (with_rows rows o)
+  pub kept : KeepsRows (flat_map row_keys rows) old new
   pub schema : new.schema ≡ old.schema
   pub others : SameOthers old.schema old.trees new.trees
   pub sound : IsDatabase new

@@ -1,26 +1,30 @@
 -- Why a request, or a page, is answered that there was no memory or that the store failed.
-use Rattle.std.specs.Prelude.{◌≡◌, ◌≢◌, ◌⊎◌, ℕ, ◌+◌, false, length, Option, None, Some, IsSome, IsTrue}
+use Rattle.std.specs.Prelude.{◌≡◌, ◌≢◌, ◌⊎◌, ℕ, ◌+◌, false, length, Option, None, Some, Result, Ok, Err, IsSome, IsTrue}
 use Rattle.sqlite_disk.specs.Disk.{MoreFaults}
 use Rattle.sqlite.specs.State.{State}
 use Rattle.sqlite.specs.declared.error.Error.{Error}
 use Rattle.sqlite.specs.declared.error.Error.TheVariants.{SqliteFailure}
 use Rattle.sqlite.specs.declared.error.ErrorCode.TheVariants.{OutOfMemory}
-use Rattle.vend_core.specs.Decision.{MeterAccount}
-use Rattle.vend_core.specs.Decision.Facts.{AreFacts}
+use Rattle.sts_token.specs.Token.{BlockFunction}
+use Rattle.vend_core.specs.Decision.{MeterAccount, decision}
+use Rattle.vend_core.specs.Decision.Facts.{AreFacts, IsUnlessMemory}
 use Rattle.vend_core.specs.Office.{IsOffice, Office}
 use Rattle.vend_core.specs.Law.Store.{Meets}
+use Rattle.vend_core.specs.declared.decision.change.Change.{Change}
 use Rattle.vend_core.specs.declared.decision.change.Edit.{Edit}
 use Rattle.vend_core.specs.declared.decision.facts.Facts.{Facts}
 use Rattle.vend_core.specs.declared.decision.refusal.Refusal.{Refusal}
 use Rattle.vend_core.specs.declared.decision.refusal.Refusal.TheVariants.{Memory, Store}
 use Rattle.vend_core.specs.declared.decision.request.Stamped.{Stamped}
 use Rattle.book_tables.specs.writing.Failing.{FailsToWriteAll, IsRefused}
+use Rattle.book_tables.specs.writing.Writes.{writes_of}
 use Rattle.book_tables.specs.Holds.{Holds, HoldsMembers}
-use Rattle.book_tables.specs.reading.Reading.{AreOfOffice, FailsToRead}
+use Rattle.book_tables.specs.reading.Reading.{AreOfOffice, FailsToRead, HasAllTables}
 use Rattle.book_tables.specs.row.Rows.{Rows}
 use Rattle.book_tables.specs.declared.error.TableError.{TableError}
 use Rattle.book_tables.specs.declared.error.TableError.TheVariants.{Database}
 use Rattle.book_states.specs.Changing.{IsMiscounted}
+use Rattle.book_states.specs.FactsSeen.{AreFactsSeen}
 use Rattle.book_states.specs.Members.{HasMembers}
 
 -- what is answered where the tables tell of this error: the store failed, unless they only found no
@@ -47,47 +51,57 @@ pub record IsToldOfRead (refusal : Refusal) (old new : State) : Type 0 where
   pub failed : refusal ≡ Store → HasFailed old new
   pub still_open : IsTrue old.is_open → IsTrue new.is_open ⊎ MoreFaults old.faults new.faults
 
--- these are the facts of the request, where this is the number of the next sale
-abbrev pub AreRead : Stamped → ℕ → State → Facts → Type 0
-AreRead at next s facts =
-    (o : Office) → IsOffice o → HasMembers s o → next ≡ length o.sales + 1 → AreFacts o at facts
+-- These are the facts of the request, where this is the number of the next sale: those of the
+-- office whose members the tables hold. Whatever their rows are, each of these facts was seen in
+-- them, so that no row that was looked at is one of no office.
+pub record AreRead (at : Stamped) (next : ℕ) (s : State) (facts : Facts) : Type 0 where
+  pub of_office : (o : Office) → IsOffice o → HasMembers s o → next ≡ length o.sales + 1
+      → AreFacts o at facts
+  pub seen : HasAllTables s → (count : ℕ) → next ≡ count + 1 → AreFactsSeen count at s.now facts
 
--- the facts of the request were read
-abbrev pub WereRead : Stamped → ℕ → State → Type 0
-WereRead at next s = (facts : Facts) × AreRead at next s facts
+-- The facts of the request were read, and it was decided by them: it is decided so in any office
+-- that has these facts, or there was no memory for it.
+pub record IsDecidedByFacts (forward : BlockFunction) (at : Stamped) (next : ℕ) (s : State)
+    (result : Result Change Refusal) : Type 0 where
+  pub facts : Facts
+  pub read : AreRead at next s facts
+  pub decided : (o : Office) → AreFacts o at facts
+      → IsUnlessMemory result (decision forward o at)
 
 -- the tenths that the facts have of the meter of a sale in its month, before it
 abbrev pub prior_of_account : Option MeterAccount → ℕ
 prior_of_account None = 0
 prior_of_account (Some account) = account.prior
 
--- these are the tenths that were read
-abbrev pub IsPriorRead : Stamped → ℕ → State → ℕ → Type 0
-IsPriorRead at next s prior =
-    (facts : Facts) × AreRead at next s facts × (prior ≡ prior_of_account facts.account)
+-- the change was decided by the facts that were read, and these are the tenths of them
+abbrev pub IsChangeRead : BlockFunction → Stamped → ℕ → State → Change → ℕ → Type 0
+IsChangeRead forward at next s change prior =
+    (it : IsDecidedByFacts forward at next s (Ok change))
+    × (prior ≡ prior_of_account it.facts.account)
 
--- Before anything changed a read failed; or the facts were read, and the rules refuse the request
--- or there was no memory for its answer.
-abbrev pub RefusesUnchanged : Stamped → ℕ → State → State → Refusal → Type 0
-RefusesUnchanged at next old new refusal =
-    IsToldOfRead refusal old new ⊎ ((refusal ≢ Store) × WereRead at next old)
+-- Before anything changed a read failed; or the facts were read, and by them the rules refuse the
+-- request or there was no memory for its answer.
+abbrev pub RefusesUnchanged : BlockFunction → Stamped → ℕ → State → State → Refusal → Type 0
+RefusesUnchanged forward at next old new refusal =
+    IsToldOfRead refusal old new
+    ⊎ ((refusal ≢ Store) × IsDecidedByFacts forward at next old (Err refusal))
 
--- Why an edit fails inside its transaction: a write does, for a cause; or while the connection was
+-- Why an edit fails inside its transaction: one of its writes does, for a cause; or while the connection was
 -- open its rows were those of no office that the edit meets; or the tables told other tenths of a
 -- sale's month than those that were read and its own.
 abbrev pub FailsToMake : Edit → ℕ → State → State → TableError → Type 0
 FailsToMake edit prior old new e =
-    FailsToWriteAll old new e
+    FailsToWriteAll (writes_of edit) old new e
     ⊎ ((IsTrue old.is_open → (o : Office) → IsOffice o → Meets edit o → ¬ HoldsMembers old.now o)
     ⊎ IsMiscounted edit prior old.now)
 
 -- The disk failed more often than before; or the connection was shut; or the rules of the tables
--- refused a write of the edit, and this is their error; or the rows are no office's that the edit
+-- refused one of the edit's writes, and this is their error; or the rows are no office's that the edit
 -- meets; or the tables told other tenths.
 abbrev pub EditHasFailed : Edit → ℕ → TableError → State → State → Type 0
 EditHasFailed edit prior error old new =
     MoreFaults old.faults new.faults
     ⊎ ((old.is_open ≡ false)
-    ⊎ (((e : Error) × (error ≡ Database e) × IsRefused old e)
+    ⊎ (((e : Error) × (error ≡ Database e) × IsRefused (writes_of edit) old e)
     ⊎ ((IsTrue old.is_open → (o : Office) → IsOffice o → Meets edit o → ¬ HoldsMembers old.now o)
     ⊎ IsMiscounted edit prior old.now)))

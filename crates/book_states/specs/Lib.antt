@@ -1,4 +1,5 @@
 pub mod Changing
+pub mod FactsSeen
 pub mod Failing
 pub mod Members
 pub mod Others

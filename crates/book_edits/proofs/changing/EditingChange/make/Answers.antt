@@ -1,13 +1,15 @@
-use Rattle.std.proofs.Common.{List, length, ap, arith, inl, subst}
+use Rattle.std.proofs.Common.{List, [], length, ap, arith, IfErr, subst}
 use Rattle.sqlite.specs.Held.{state}
 use Rattle.tariff.specs.declared.step.Step.{Step}
 use Rattle.vend_core.specs.declared.decision.change.Edit.TheVariants as edits
 use Rattle.vend_core.specs.declared.office.row.Row.{Row}
 use Rattle.one_table.proofs.ChangeLemmas.{if_err}
 use Rattle.book_tables.proofs.WritingLemmas.CauseLemmas.{came_here, of_store}
+use Rattle.book_tables.specs.writing.Failing.{FailsToWriteAll}
+use Rattle.book_tables.specs.writing.Writes.{new_shift, shift_ended, steps_writes, tariff_set, tariff_writes}
 use Rattle.book_tables.specs.writing.Writing.{AddsSteps, AddsTariff}
 use Rattle.book_states.specs.Changing.{MakesRows}
-use Rattle.book_edits.proofs.ChangeLemmas.{told_where, refused_by, rows_refused, made_by, makes_closing, makes_import, makes_meter, makes_moving, makes_sale, makes_setting, makes_shift, makes_steps, makes_tariff}
+use Rattle.book_edits.proofs.ChangeLemmas.{edit_refused, told_where, refused_by, rows_refused, made_by, makes_closing, makes_import, makes_meter, makes_moving, makes_sale, makes_setting, makes_shift, makes_steps, makes_tariff}
 use Rattle.book_edits.proofs.changing.EditingChange.make.Goals as goal
 
 pub returns-in-AddTariff-clause-made : goal.returns-in-AddTariff-clause-made
@@ -88,36 +90,62 @@ returns-in-AddSale-clause-made g c clean way =
     (λ adds. (makes_sale c.members_law.ensures.edited old new sale adds.tells.adds, (adds.shown, adds.tells.tells, adds.month)))
 
 pub returns-in-AddTariff-clause-refused : goal.returns-in-AddTariff-clause-refused
-returns-in-AddTariff-clause-refused g c clean way = told_where c.args.self.now.edit.now c.args.self.now.prior (state g.S.Store c.args.tx.now.conn.now) (state g.S.Store c.add_tariff.new.tx.conn.now) c.add_tariff.result (λ has. if_err c.add_tariff.result (λ e why. inl why) (c.add_tariff.ensures.refused clean way has))
+returns-in-AddTariff-clause-refused g c clean way =
+    let old = state g.S.Store c.args.tx.now.conn.now in
+    let new = state g.S.Store c.add_tariff.new.tx.conn.now in
+    let it = c.in-AddTariff in
+    edit_refused c.add_tariff.result c.args.self.now.edit.now (edits.AddTariff it.name it.steps) c.args.self.now.prior old new it.is
+    (λ has. subst (λ (l : List Step). IfErr c.add_tariff.result (FailsToWriteAll (tariff_writes it.name l) old new)) c.as_slice.ensures.view (c.add_tariff.ensures.ends clean way has).1)
 
 pub returns-in-AddMeter-clause-refused : goal.returns-in-AddMeter-clause-refused
-returns-in-AddMeter-clause-refused g c clean way = told_where c.args.self.now.edit.now c.args.self.now.prior (state g.S.Store c.args.tx.now.conn.now) (state g.S.Store c.add_meter.new.tx.conn.now) c.add_meter.result (λ has. if_err c.add_meter.result (λ e why. inl why) (c.add_meter.ensures.refused clean way has))
+returns-in-AddMeter-clause-refused g c clean way =
+    let old = state g.S.Store c.args.tx.now.conn.now in
+    let new = state g.S.Store c.add_meter.new.tx.conn.now in
+    let it = c.in-AddMeter in
+    edit_refused c.add_meter.result c.args.self.now.edit.now (edits.AddMeter it.number it.meter) c.args.self.now.prior old new it.is
+    (λ has. (c.add_meter.ensures.ends clean way has).1)
 
 pub returns-in-MoveBase-clause-refused : goal.returns-in-MoveBase-clause-refused
-returns-in-MoveBase-clause-refused g c clean way = told_where c.args.self.now.edit.now c.args.self.now.prior (state g.S.Store c.args.tx.now.conn.now) (state g.S.Store c.move_base.new.tx.conn.now) c.move_base.result (λ has. if_err c.move_base.result (λ e why. inl why) (c.move_base.ensures.refused clean way has))
+returns-in-MoveBase-clause-refused g c clean way =
+    let old = state g.S.Store c.args.tx.now.conn.now in
+    let new = state g.S.Store c.move_base.new.tx.conn.now in
+    let it = c.in-MoveBase in
+    edit_refused c.move_base.result c.args.self.now.edit.now (edits.MoveBase it.number it.base) c.args.self.now.prior old new it.is
+    (λ has. (c.move_base.ensures.ends clean way has).1)
 
 pub returns-in-AddSteps-clause-refused : goal.returns-in-AddSteps-clause-refused
 returns-in-AddSteps-clause-refused g c clean way =
+    let old = state g.S.Store c.args.tx.now.conn.now in
+    let new = state g.S.Store c.add_steps.new.tx.conn.now in
+    let it = c.in-AddSteps in
     let steps = c.as_slice-in-AddSteps.ensures in
-    told_where c.args.self.now.edit.now c.args.self.now.prior (state g.S.Store c.args.tx.now.conn.now) (state g.S.Store c.add_steps.new.tx.conn.now) c.add_steps.result (λ has. if_err c.add_steps.result (λ e why. inl why) (c.add_steps.ensures.refused clean way has (omega (arith, steps.steps.count.0, ap length steps.view))))
+    edit_refused c.add_steps.result c.args.self.now.edit.now (edits.AddSteps it.name it.day it.steps) c.args.self.now.prior old new it.is
+    (λ has. subst (λ (l : List Step). IfErr c.add_steps.result (FailsToWriteAll (steps_writes it.name it.day l) old new)) steps.view
+    (c.add_steps.ensures.ends clean way has (omega (arith, steps.steps.count.0, ap length steps.view))).1)
 
 pub returns-in-SetTariff-clause-refused : goal.returns-in-SetTariff-clause-refused
 returns-in-SetTariff-clause-refused g c clean way =
     let old = state g.S.Store c.args.tx.now.conn.now in
     let new = state g.S.Store c.set_tariff.new.tx.conn.now in
-    told_where c.args.self.now.edit.now c.args.self.now.prior (state g.S.Store c.args.tx.now.conn.now) (state g.S.Store c.set_tariff.new.tx.conn.now) c.set_tariff.result (λ has. if_err c.set_tariff.result (λ e why. inl (of_store old old new (came_here old way) e why)) (c.set_tariff.ensures.writes.refused clean has))
+    let it = c.in-SetTariff in
+    edit_refused c.set_tariff.result c.args.self.now.edit.now (edits.SetTariff it.number it.name) c.args.self.now.prior old new it.is
+    (λ has. if_err c.set_tariff.result (of_store [] old old new (came_here old way) (tariff_set it.number it.name) []) (c.set_tariff.ensures.writes.ends clean has).1)
 
 pub returns-in-OpenShift-clause-refused : goal.returns-in-OpenShift-clause-refused
 returns-in-OpenShift-clause-refused g c clean way =
     let old = state g.S.Store c.args.tx.now.conn.now in
     let new = state g.S.Store c.add_shift.new.tx.conn.now in
-    told_where c.args.self.now.edit.now c.args.self.now.prior (state g.S.Store c.args.tx.now.conn.now) (state g.S.Store c.add_shift.new.tx.conn.now) c.add_shift.result (λ has. if_err c.add_shift.result (λ e why. inl (of_store old old new (came_here old way) e why)) (c.add_shift.ensures.writes.refused clean has))
+    let it = c.in-OpenShift in
+    edit_refused c.add_shift.result c.args.self.now.edit.now (edits.OpenShift it.shift) c.args.self.now.prior old new it.is
+    (λ has. if_err c.add_shift.result (of_store [] old old new (came_here old way) (new_shift it.shift) []) (c.add_shift.ensures.writes.ends clean has).1)
 
 pub returns-in-CloseShift-clause-refused : goal.returns-in-CloseShift-clause-refused
 returns-in-CloseShift-clause-refused g c clean way =
     let old = state g.S.Store c.args.tx.now.conn.now in
     let new = state g.S.Store c.close_shift.new.tx.conn.now in
-    told_where c.args.self.now.edit.now c.args.self.now.prior (state g.S.Store c.args.tx.now.conn.now) (state g.S.Store c.close_shift.new.tx.conn.now) c.close_shift.result (λ has. if_err c.close_shift.result (λ e why. inl (of_store old old new (came_here old way) e why)) (c.close_shift.ensures.writes.refused clean has))
+    let it = c.in-CloseShift in
+    edit_refused c.close_shift.result c.args.self.now.edit.now (edits.CloseShift it.number it.moment) c.args.self.now.prior old new it.is
+    (λ has. if_err c.close_shift.result (of_store [] old old new (came_here old way) (shift_ended it.number it.moment) []) (c.close_shift.ensures.writes.ends clean has).1)
 
 pub returns-in-AddRows-clause-refused : goal.returns-in-AddRows-clause-refused
 returns-in-AddRows-clause-refused g c clean way =
@@ -125,7 +153,7 @@ returns-in-AddRows-clause-refused g c clean way =
     let new = state g.S.Store c.add_rows.new.tx.conn.now in
     let rows = c.in-AddRows.rows in
     told_where c.args.self.now.edit.now c.args.self.now.prior (state g.S.Store c.args.tx.now.conn.now) (state g.S.Store c.add_rows.new.tx.conn.now) c.add_rows.result (λ has. refused_by c.add_rows.result c.args.self.now.edit.now (edits.AddRows rows) c.args.self.now.prior old new c.in-AddRows.is
-    (rows_refused c.add_rows.result rows c.as_slice-in-AddRows.result.now c.args.self.now.prior old new c.as_slice-in-AddRows.ensures.view (c.add_rows.ensures.refused clean way has)))
+    (rows_refused c.add_rows.result rows c.as_slice-in-AddRows.result.now c.args.self.now.prior old new c.as_slice-in-AddRows.ensures.view (λ some. (c.add_rows.ensures.ends clean way has some).1)))
 
 pub returns-in-AddSale-clause-refused : goal.returns-in-AddSale-clause-refused
 returns-in-AddSale-clause-refused g c clean way =
