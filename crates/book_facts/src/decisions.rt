@@ -7,7 +7,7 @@ ghost use Rattle.vend_core.specs.Decision.{decision};
 ghost use Rattle.vend_core.specs.Decision.Facts.{AreFacts, IsUnlessMemory};
 ghost use Rattle.vend_core.specs.Office.{Office};
 ghost use Rattle.book_tables.specs.reading.Reading.{HasAllTables};
-ghost use Rattle.book_states.specs.Failing.{IsPriorRead, RefusesUnchanged, prior_of_account};
+ghost use Rattle.book_states.specs.Failing.{IsChangeRead, RefusesUnchanged, prior_of_account};
 ghost use Rattle.book_states.specs.Stores.{Stores};
 ghost use Rattle.book_states.specs.Same.{ChangesNothing};
 ghost use Rattle.book_facts.specs.Deciding.{IsDecided, change_in};
@@ -38,9 +38,11 @@ pub fn decision_of<S: Alter, T: BlockTransform>(
     ensures nothing { Over S.Store conn (λ old new. HasCleanDisk new → HasAllTables old
         → ChangesNothing old new) }
     ensures failures { Over S.Store conn (λ old new. HasCleanDisk new → HasAllTables old
-        → IfErr result (RefusesUnchanged at.now next_number old new)) }
-    ensures prior { Over S.Store conn (λ old new. HasCleanDisk new
-        → IfOk result (λ decided. IsPriorRead at.now next_number old decided.prior)) }
+        → IfErr result
+        (RefusesUnchanged (T.forwards transform.now) at.now next_number old new)) }
+    ensures read { Over S.Store conn (λ old new. HasCleanDisk new
+        → IfOk result (λ decided. IsChangeRead (T.forwards transform.now) at.now next_number old
+        decided.change decided.prior)) }
     ensures clean { Over S.Store conn (λ old new. HasCleanDisk new → HasCleanDisk old) }
     ensures never_stopped { result ≢ Err Refusal.Stopped }
     ensures outside { conn.new.in_transaction ≡ false }

@@ -3,9 +3,9 @@
 ghost use Rattle.std.specs.Prelude.{◌≡◌, length};
 ghost use Rattle.one_table.specs.Over.{Over};
 ghost use Rattle.vend_core.specs.Decision.Facts.{AreFacts};
-ghost use Rattle.book_tables.specs.reading.Reading.{OnlyReads};
-ghost use Rattle.book_states.specs.Members.{SaysOfOffice};
+ghost use Rattle.book_states.specs.FactsSeen.{AreFactsSeen};
 ghost use Rattle.book_states.specs.Same.{IsSame};
+ghost use Rattle.book_facts.specs.Looking.{LooksUp};
 
 use book_tables::TableError;
 use sqlite::{Alter, Connection};
@@ -32,9 +32,8 @@ pub(crate) fn facts_of<S: Alter>(
     at: &Stamped,
     sale_count: u64,
 ) -> Result<Facts, TableError>
-    ensures facts { Over S.Store conn (λ old new. SaysOfOffice (λ o f. sale_count ≡ length o.sales
-        → AreFacts o at.now f) old new result) }
-    ensures reads { Over S.Store conn (λ old new. OnlyReads IsSame old new result) }
+    ensures { Over S.Store conn (λ old new. LooksUp IsSame (λ o f. sale_count ≡ length o.sales
+        → AreFacts o at.now f) (AreFactsSeen sale_count at.now) old new result) }
 {
     match &at.request {
         Request::AddTariff(name, _) => meters::tariff_facts(alloc, conn, name),

@@ -4,12 +4,13 @@ ghost use Rattle.std.specs.Prelude.{◌≡◌, ◌≢◌, ◌⊎◌, ◌+◌, Er
 ghost use Rattle.sqlite.specs.State.{HasCleanDisk};
 ghost use Rattle.one_table.specs.Over.{Over};
 ghost use Rattle.vend_core.specs.Office.{Office};
-ghost use Rattle.book_tables.specs.reading.Reading.{HasAllTables, OnlyReads};
+ghost use Rattle.book_tables.specs.reading.Reading.{HasAllTables};
 ghost use Rattle.book_states.specs.Failing.{IsToldOfRead};
-ghost use Rattle.book_states.specs.Members.{SaysOfOffice};
 ghost use Rattle.book_states.specs.Stores.{Stores};
 ghost use Rattle.book_states.specs.Same.{ChangesNothing, IsSame};
 ghost use Rattle.book_facts.specs.Lookups.{Finds, IsFoundIn, IsOfRules};
+ghost use Rattle.book_facts.specs.Looking.{LooksUp};
+ghost use Rattle.book_facts.specs.LookupsSeen.{FindsSeen, IsFoundSeen};
 
 use crate::lookup::{Found, Lookup};
 use book_states::refusal_of;
@@ -47,6 +48,8 @@ pub fn look_up<S: Alter>(
     requires { conn.old.in_transaction ≡ false }
     ensures found { Over S.Store conn (λ old new. HasCleanDisk new → (o : Office) → Stores old o
         → next_number ≡ length o.sales + 1 → IsFoundIn o moment lookup.now result) }
+    ensures seen { Over S.Store conn (λ old new. HasCleanDisk new → HasAllTables old
+        → IsFoundSeen next_number moment lookup.now old.now result) }
     ensures nothing { Over S.Store conn (λ old new. HasCleanDisk new → HasAllTables old
         → ChangesNothing old new) }
     ensures failures { Over S.Store conn (λ old new. HasCleanDisk new → HasAllTables old
@@ -73,9 +76,9 @@ fn found_of<S: Alter>(
     sale_count: u64,
     lookup: &Lookup,
 ) -> Result<Result<Found, Refusal>, TableError>
-    ensures facts { Over S.Store conn (λ old new. SaysOfOffice (λ o found. sale_count ≡ length
-        o.sales → Finds o moment lookup.now found) old new result) }
-    ensures reads { Over S.Store conn (λ old new. OnlyReads IsSame old new result) }
+    ensures looks { Over S.Store conn (λ old new. LooksUp IsSame
+        (λ o found. sale_count ≡ length o.sales → Finds o moment lookup.now found)
+        (FindsSeen sale_count moment lookup.now) old new result) }
     ensures rules { IfOk result (λ found. IfErr found IsOfRules) }
 {
     match lookup {

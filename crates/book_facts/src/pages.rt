@@ -6,6 +6,8 @@ ghost use Rattle.one_table.specs.Over.{Over};
 ghost use Rattle.vend_core.specs.Office.{Office};
 ghost use Rattle.vend_core.specs.Law.Store.{sales_above};
 ghost use Rattle.book_tables.specs.reading.Reading.{HasAllTables};
+ghost use Rattle.book_tables.specs.reading.Questions.{the_sales_after};
+ghost use Rattle.book_tables.specs.reading.Seen.{ShowsAll};
 ghost use Rattle.book_states.specs.Failing.{IsToldOfRead};
 ghost use Rattle.book_states.specs.Stores.{Stores};
 ghost use Rattle.book_states.specs.Same.{ChangesNothing};
@@ -29,6 +31,8 @@ pub fn page<S: Alter>(
     requires { conn.old.in_transaction ≡ false }
     ensures given { Over S.Store conn (λ old new. HasCleanDisk new → (o : Office) → Stores old o
         → IfOk result (λ sales. sales.items ≡ sales_above o number limit)) }
+    ensures seen { Over S.Store conn (λ old new. HasCleanDisk new → HasAllTables old
+        → IfOk result (λ sales. ShowsAll (the_sales_after number limit) old.now sales.items)) }
     ensures nothing { Over S.Store conn (λ old new. HasCleanDisk new → HasAllTables old
         → ChangesNothing old new) }
     ensures clean { Over S.Store conn (λ old new. HasCleanDisk new → HasCleanDisk old) }

@@ -8,7 +8,7 @@ ghost use Rattle.book_tables.specs.reading.Reading.{HasAllTables};
 ghost use Rattle.book_states.specs.Failing.{IsToldOfRead};
 ghost use Rattle.book_states.specs.Stores.{Stores};
 ghost use Rattle.book_states.specs.Same.{ChangesNothing};
-ghost use Rattle.book_facts.specs.Totals.{shift_totals};
+ghost use Rattle.book_facts.specs.Totals.{GivesTotals, shift_totals};
 
 use crate::facts::shifts::totals_of;
 use book_states::refusal_of;
@@ -26,6 +26,8 @@ pub fn totals<S: Alter>(conn: &mut Connection<S>, number: u32) -> Result<Totals,
         → IfOk result (λ totals. shift_totals o number ≡ Some totals)) }
     ensures none { Over S.Store conn (λ old new. HasCleanDisk new → (o : Office) → Stores old o
         → result ≡ Err Refusal.NoSuchShift → shift_totals o number ≡ None) }
+    ensures seen { Over S.Store conn (λ old new. HasCleanDisk new → HasAllTables old
+        → GivesTotals number old.now result) }
     ensures nothing { Over S.Store conn (λ old new. HasCleanDisk new → HasAllTables old
         → ChangesNothing old new) }
     ensures clean { Over S.Store conn (λ old new. HasCleanDisk new → HasCleanDisk old) }

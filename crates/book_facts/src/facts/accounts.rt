@@ -1,13 +1,13 @@
 //! What a sale looks at of its meter.
 
-ghost use Rattle.std.specs.Prelude.{◌≡◌, ◌<◌};
+ghost use Rattle.std.specs.Prelude.{◌<◌, ◌≡◌};
 ghost use Rattle.sqlite.specs.State.{IsUnchanged};
 ghost use Rattle.one_table.specs.Over.{Over};
 ghost use Rattle.sts_fields.specs.Calendar.{month_at};
 ghost use Rattle.vend_core.specs.Decision.{account_of};
 ghost use Rattle.vend_core.specs.Office.Lookup.{greatest_of, prior, used};
-ghost use Rattle.book_tables.specs.reading.Reading.{OnlyReads};
-ghost use Rattle.book_states.specs.Members.{SaysOfOffice};
+ghost use Rattle.book_states.specs.FactsSeen.{IsAccountSeen, IsSoldSeen};
+ghost use Rattle.book_facts.specs.Looking.{LooksUp};
 
 use crate::facts::steps::steps_on;
 use book_tables::reading::{meters, totals};
@@ -26,9 +26,9 @@ pub(crate) fn account_numbered<S: Alter>(
     number: &MeterNo,
     moment: Moment,
 ) -> Result<Option<MeterAccount>, TableError>
-    ensures facts { Over S.Store conn (λ old new. SaysOfOffice (λ o found. found ≡ account_of o
-        number.now moment) old new result) }
-    ensures reads { Over S.Store conn (λ old new. OnlyReads IsUnchanged old new result) }
+    ensures { Over S.Store conn (λ old new. LooksUp IsUnchanged
+        (λ o found. found ≡ account_of o number.now moment) (IsAccountSeen number.now moment) old
+        new result) }
 {
     members_law();
     let there = meters::meter_numbered(conn, number)?;
@@ -52,14 +52,15 @@ fn account_at<S: Alter>(
     meter: Meter,
     steps: Steps,
 ) -> Result<MeterAccount, TableError>
-    ensures facts { Over S.Store conn (λ old new. SaysOfOffice (λ o b. b ≡ record {
-      meter = meter;
-      steps = steps;
-      last = greatest_of (used o number.now meter.base);
-      prior = prior o
-          number.now (month_at moment);
-    }) old new result) }
-    ensures reads { Over S.Store conn (λ old new. OnlyReads IsUnchanged old new result) }
+    ensures { Over S.Store conn (λ old new. LooksUp IsUnchanged
+        (λ o b. b ≡ record {
+          meter = meter;
+          steps = steps;
+          last = greatest_of
+              (used o number.now meter.base);
+          prior = prior o number.now (month_at moment);
+        }) (λ db b.
+        (b.meter ≡ meter) × (b.steps ≡ steps) × IsSoldSeen number.now moment db b) old new result) }
 {
     store_law();
     let last = totals::greatest_tid(conn, number, meter.base)?;

@@ -1,6 +1,6 @@
 //! What an import looks at.
 
-ghost use Rattle.std.specs.Prelude.{◌≡◌, ℕ, false, true, Err, List, Some};
+ghost use Rattle.std.specs.Prelude.{◌≡◌, Err, List, Some, false, true, ℕ};
 ghost use Rattle.sqlite.specs.State.{IsUnchanged};
 ghost use Rattle.one_table.specs.Over.{Over};
 ghost use Rattle.tariff.specs.declared.step.Step.{Step};
@@ -8,9 +8,9 @@ ghost use Rattle.vend_core.specs.Decision.{row_decision};
 ghost use Rattle.vend_core.specs.Decision.Facts.{AreRowsFacts, row_facts};
 ghost use Rattle.vend_core.specs.Office.{Office};
 ghost use Rattle.vend_core.specs.declared.decision.row_facts.RowFacts.{RowFacts};
-ghost use Rattle.book_tables.specs.reading.Reading.{OnlyReads};
-ghost use Rattle.book_states.specs.Members.{SaysOfOffice};
+ghost use Rattle.book_states.specs.FactsSeen.{AreRowsSeen, IsRowSeen};
 ghost use Rattle.book_states.specs.Same.{IsSame};
+ghost use Rattle.book_facts.specs.Looking.{LooksUp};
 
 use book_tables::reading::{dated_steps, meters, tariffs};
 use book_tables::{TableError, members_law};
@@ -26,10 +26,9 @@ pub(crate) fn import_facts<S: Alter>(
     conn: &mut Connection<S>,
     rows: &Rows,
 ) -> Result<Facts, TableError>
-    ensures facts { Over S.Store conn (λ old new. SaysOfOffice (λ o f. (today : ℕ)
-        → (fs : List RowFacts) × (f.rows ≡ Some fs) × AreRowsFacts o today rows.now fs) old new
-        result) }
-    ensures reads { Over S.Store conn (λ old new. OnlyReads IsSame old new result) }
+    ensures { Over S.Store conn (λ old new. LooksUp IsSame (λ o f. (today : ℕ) →
+        (fs : List RowFacts) × (f.rows ≡ Some fs) × AreRowsFacts o today rows.now fs) (λ db f.
+        (fs : List RowFacts) × (f.rows ≡ Some fs) × AreRowsSeen rows.now db fs) old new result) }
 {
     let found = found_of(alloc, conn, rows.as_slice())?;
     Ok(Facts {
@@ -43,9 +42,9 @@ fn found_of<S: Alter>(
     conn: &mut Connection<S>,
     rows: &[Row],
 ) -> Result<Vec<RowFacts>, TableError>
-    ensures facts { Over S.Store conn (λ old new. SaysOfOffice (λ o found. (today : ℕ)
-        → AreRowsFacts o today rows.now found.items) old new result) }
-    ensures reads { Over S.Store conn (λ old new. OnlyReads IsSame old new result) }
+    ensures { Over S.Store conn (λ old new. LooksUp IsSame (λ o found. (today : ℕ)
+        → AreRowsFacts o today rows.now found.items) (λ db found. AreRowsSeen rows.now db
+        found.items) old new result) }
 {
     let mut found = Vec::new(alloc);
     for row in rows {
@@ -64,9 +63,8 @@ fn row_facts<S: Alter>(
     conn: &mut Connection<S>,
     row: &Row,
 ) -> Result<RowFacts, TableError>
-    ensures facts { Over S.Store conn (λ old new. SaysOfOffice (λ o found. found ≡ row_facts o
-        row.now) old new result) }
-    ensures reads { Over S.Store conn (λ old new. OnlyReads IsUnchanged old new result) }
+    ensures { Over S.Store conn (λ old new. LooksUp IsUnchanged
+        (λ o found. found ≡ row_facts o row.now) (IsRowSeen row.now) old new result) }
 {
     match row {
         Row::Tariff(name, _) => {
@@ -84,9 +82,9 @@ fn steps_row_facts<S: Alter>(
     name: &TariffName,
     day: Day,
 ) -> Result<RowFacts, TableError>
-    ensures facts { Over S.Store conn (λ old new. SaysOfOffice (λ o found. (steps : List Step)
-        → found ≡ row_facts o (Row.Steps name.now day steps)) old new result) }
-    ensures reads { Over S.Store conn (λ old new. OnlyReads IsUnchanged old new result) }
+    ensures { Over S.Store conn (λ old new. LooksUp IsUnchanged (λ o found. (steps : List Step)
+        → found ≡ row_facts o (Row.Steps name.now day steps)) (λ db found. (steps : List Step)
+        → IsRowSeen (Row.Steps name.now day steps) db found) old new result) }
 {
     let has_tariff = tariffs::has_tariff(conn, name)?;
     let steps = dated_steps::steps_from(alloc, conn, name, day)?;
@@ -98,9 +96,9 @@ fn meter_row_facts<S: Alter>(
     number: &MeterNo,
     meter: &Meter,
 ) -> Result<RowFacts, TableError>
-    ensures facts { Over S.Store conn (λ old new. SaysOfOffice (λ o found. found ≡ row_facts o
-        (Row.Meter number.now meter.now)) old new result) }
-    ensures reads { Over S.Store conn (λ old new. OnlyReads IsUnchanged old new result) }
+    ensures { Over S.Store conn (λ old new. LooksUp IsUnchanged (λ o found. found ≡ row_facts o
+        (Row.Meter number.now meter.now)) (IsRowSeen (Row.Meter number.now meter.now))
+        old new result) }
 {
     members_law();
     let there = meters::meter_numbered(conn, number)?;

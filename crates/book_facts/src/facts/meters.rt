@@ -1,11 +1,13 @@
 //! What requests on tariffs and meters look at.
 
-ghost use Rattle.std.specs.Prelude.{◌≡◌, ℕ};
+ghost use Rattle.std.specs.Prelude.{◌≡◌};
 ghost use Rattle.sqlite.specs.State.{IsUnchanged};
 ghost use Rattle.one_table.specs.Over.{Over};
 ghost use Rattle.vend_core.specs.Decision.Facts.{AreMeterFacts, AreSettingFacts};
-ghost use Rattle.book_tables.specs.reading.Reading.{OnlyReads};
-ghost use Rattle.book_states.specs.Members.{SaysOfOffice};
+ghost use Rattle.book_tables.specs.reading.Questions.{the_meter, the_steps};
+ghost use Rattle.book_tables.specs.reading.Seen.{AreStepsSeen, ShowsFirst};
+ghost use Rattle.book_states.specs.FactsSeen.{AreMeterFactsSeen, AreSettingFactsSeen};
+ghost use Rattle.book_facts.specs.Looking.{LooksUp};
 
 use book_tables::reading::{meters, tariffs};
 use book_tables::{TableError, members_law};
@@ -19,9 +21,9 @@ pub(crate) fn tariff_facts<S: Alter>(
     conn: &mut Connection<S>,
     name: &TariffName,
 ) -> Result<Facts, TableError>
-    ensures facts { Over S.Store conn (λ old new. SaysOfOffice (λ o f. f.tariff ≡ o.tariffs
-        name.now) old new result) }
-    ensures reads { Over S.Store conn (λ old new. OnlyReads IsUnchanged old new result) }
+    ensures { Over S.Store conn (λ old new. LooksUp IsUnchanged
+        (λ o f. f.tariff ≡ o.tariffs name.now) (λ db f. AreStepsSeen
+        (the_steps name.now) db f.tariff) old new result) }
 {
     let steps = tariffs::steps_of(alloc, conn, name)?;
     Ok(Facts {
@@ -35,9 +37,9 @@ pub(crate) fn moving_facts<S: Alter>(
     conn: &mut Connection<S>,
     number: &MeterNo,
 ) -> Result<Facts, TableError>
-    ensures facts { Over S.Store conn (λ old new. SaysOfOffice (λ o f. f.meter ≡ o.meters
-        number.now) old new result) }
-    ensures reads { Over S.Store conn (λ old new. OnlyReads IsUnchanged old new result) }
+    ensures { Over S.Store conn (λ old new. LooksUp IsUnchanged
+        (λ o f. f.meter ≡ o.meters number.now) (λ db f. ShowsFirst
+        (the_meter number.now) db f.meter) old new result) }
 {
     members_law();
     let there = meters::meter_numbered(conn, number)?;
@@ -53,9 +55,9 @@ pub(crate) fn meter_facts<S: Alter>(
     number: &MeterNo,
     meter: &Meter,
 ) -> Result<Facts, TableError>
-    ensures facts { Over S.Store conn (λ old new. SaysOfOffice (λ o. AreMeterFacts o number.now
-        meter.now) old new result) }
-    ensures reads { Over S.Store conn (λ old new. OnlyReads IsUnchanged old new result) }
+    ensures { Over S.Store conn (λ old new. LooksUp IsUnchanged
+        (λ o. AreMeterFacts o number.now meter.now) (AreMeterFactsSeen number.now meter.now) old new
+        result) }
 {
     members_law();
     let there = meters::meter_numbered(conn, number)?;
@@ -79,9 +81,9 @@ pub(crate) fn setting_facts<S: Alter>(
     number: &MeterNo,
     name: &TariffName,
 ) -> Result<Facts, TableError>
-    ensures facts { Over S.Store conn (λ old new. SaysOfOffice (λ o. AreSettingFacts o number.now
-        name.now) old new result) }
-    ensures reads { Over S.Store conn (λ old new. OnlyReads IsUnchanged old new result) }
+    ensures { Over S.Store conn (λ old new. LooksUp IsUnchanged
+        (λ o. AreSettingFacts o number.now name.now) (AreSettingFactsSeen number.now name.now) old
+        new result) }
 {
     members_law();
     let there = meters::meter_numbered(conn, number)?;

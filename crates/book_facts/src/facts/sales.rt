@@ -5,8 +5,10 @@ ghost use Rattle.sqlite.specs.State.{IsUnchanged};
 ghost use Rattle.one_table.specs.Over.{Over};
 ghost use Rattle.vend_core.specs.Decision.Facts.{AreSaleFacts};
 ghost use Rattle.vend_core.specs.Office.Lookup.{sale_numbered};
-ghost use Rattle.book_tables.specs.reading.Reading.{OnlyReads};
-ghost use Rattle.book_states.specs.Members.{SaysOfOffice};
+ghost use Rattle.book_tables.specs.reading.Questions.{the_sale};
+ghost use Rattle.book_tables.specs.reading.Seen.{ShowsFirst};
+ghost use Rattle.book_states.specs.FactsSeen.{AreSaleFactsSeen};
+ghost use Rattle.book_facts.specs.Looking.{LooksUp};
 
 use crate::facts::accounts::account_numbered;
 use book_tables::TableError;
@@ -27,9 +29,9 @@ pub(crate) fn sale_facts<S: Alter>(
     order: &Order,
     sale_count: u64,
 ) -> Result<Facts, TableError>
-    ensures facts { Over S.Store conn (λ old new. SaysOfOffice (λ o f. sale_count ≡ length o.sales
-        → AreSaleFacts o moment order.now f) old new result) }
-    ensures reads { Over S.Store conn (λ old new. OnlyReads IsUnchanged old new result) }
+    ensures { Over S.Store conn (λ old new. LooksUp IsUnchanged (λ o f. sale_count ≡ length o.sales
+        → AreSaleFacts o moment order.now f) (AreSaleFactsSeen sale_count moment order.now) old new
+        result) }
 {
     let mut facts = Facts::none();
     facts.first_sale = sales::sale_of_ref(conn, &order.operator, &order.order_ref)?;
@@ -50,9 +52,9 @@ pub(crate) fn reprint_facts<S: Alter>(
     conn: &mut Connection<S>,
     number: u32,
 ) -> Result<Facts, TableError>
-    ensures facts { Over S.Store conn (λ old new. SaysOfOffice (λ o f. f.sale ≡ sale_numbered o
-        number) old new result) }
-    ensures reads { Over S.Store conn (λ old new. OnlyReads IsUnchanged old new result) }
+    ensures { Over S.Store conn (λ old new. LooksUp IsUnchanged
+        (λ o f. f.sale ≡ sale_numbered o number) (λ db f. ShowsFirst
+        (the_sale number) db f.sale) old new result) }
 {
     let sale = sales::sale_numbered(conn, number)?;
     Ok(Facts {

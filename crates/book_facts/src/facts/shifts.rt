@@ -5,9 +5,11 @@ ghost use Rattle.sqlite.specs.State.{IsUnchanged};
 ghost use Rattle.one_table.specs.Over.{Over};
 ghost use Rattle.vend_core.specs.Decision.Facts.{AreOpeningFacts, report_of};
 ghost use Rattle.vend_core.specs.Office.Lookup.{open_shift};
-ghost use Rattle.book_tables.specs.reading.Reading.{OnlyReads};
-ghost use Rattle.book_states.specs.Members.{SaysOfOffice};
-ghost use Rattle.book_facts.specs.Totals.{shift_totals};
+ghost use Rattle.book_tables.specs.reading.Questions.{the_open_shift};
+ghost use Rattle.book_tables.specs.reading.Seen.{ShowsFirst};
+ghost use Rattle.book_states.specs.FactsSeen.{AreOpeningFactsSeen, IsReportSeen};
+ghost use Rattle.book_facts.specs.Looking.{LooksUp};
+ghost use Rattle.book_facts.specs.Totals.{AreTotalsSeen, shift_totals};
 
 use book_tables::reading::{sale_lists, shifts, totals};
 use book_tables::{TableError, Totals};
@@ -20,9 +22,8 @@ pub(crate) fn opening_facts<S: Alter>(
     conn: &mut Connection<S>,
     operator: &Operator,
 ) -> Result<Facts, TableError>
-    ensures facts { Over S.Store conn (λ old new. SaysOfOffice (λ o. AreOpeningFacts o
-        operator.now) old new result) }
-    ensures reads { Over S.Store conn (λ old new. OnlyReads IsUnchanged old new result) }
+    ensures { Over S.Store conn (λ old new. LooksUp IsUnchanged
+        (λ o. AreOpeningFacts o operator.now) (AreOpeningFactsSeen operator.now) old new result) }
 {
     let open_shift = shifts::open_shift(conn, operator)?;
     if open_shift.is_some() {
@@ -44,9 +45,9 @@ pub(crate) fn closing_facts<S: Alter>(
     conn: &mut Connection<S>,
     operator: &Operator,
 ) -> Result<Facts, TableError>
-    ensures facts { Over S.Store conn (λ old new. SaysOfOffice (λ o f. f.open_shift ≡ open_shift o
-        operator.now) old new result) }
-    ensures reads { Over S.Store conn (λ old new. OnlyReads IsUnchanged old new result) }
+    ensures { Over S.Store conn (λ old new. LooksUp IsUnchanged
+        (λ o f. f.open_shift ≡ open_shift o operator.now) (λ db f. ShowsFirst
+        (the_open_shift operator.now) db f.open_shift) old new result) }
 {
     let open_shift = shifts::open_shift(conn, operator)?;
     Ok(Facts {
@@ -61,9 +62,9 @@ pub(crate) fn report_facts<S: Alter>(
     conn: &mut Connection<S>,
     number: u32,
 ) -> Result<Facts, TableError>
-    ensures facts { Over S.Store conn (λ old new. SaysOfOffice (λ o f. f.report ≡ report_of o
-        number) old new result) }
-    ensures reads { Over S.Store conn (λ old new. OnlyReads IsUnchanged old new result) }
+    ensures { Over S.Store conn (λ old new. LooksUp IsUnchanged
+        (λ o f. f.report ≡ report_of o number) (λ db f. IsReportSeen number db f.report) old new
+        result) }
 {
     let found = shifts::shift_numbered(conn, number)?;
     let Some(shift) = found else {
@@ -81,9 +82,8 @@ pub(crate) fn totals_of<S: Alter>(
     conn: &mut Connection<S>,
     number: u32,
 ) -> Result<Option<Totals>, TableError>
-    ensures facts { Over S.Store conn (λ old new. SaysOfOffice (λ o found. found ≡ shift_totals o
-        number) old new result) }
-    ensures reads { Over S.Store conn (λ old new. OnlyReads IsUnchanged old new result) }
+    ensures { Over S.Store conn (λ old new. LooksUp IsUnchanged
+        (λ o found. found ≡ shift_totals o number) (AreTotalsSeen number) old new result) }
 {
     let found = shifts::shift_numbered(conn, number)?;
     if found.is_none() {

@@ -1,13 +1,13 @@
 //! What requests look at of a tariff's steps by their days.
 
-ghost use Rattle.std.specs.Prelude.{◌≡◌};
 ghost use Rattle.std.specs.Option.{option_or};
-ghost use Rattle.one_table.specs.Over.{Over};
+ghost use Rattle.std.specs.Prelude.{◌≡◌};
 ghost use Rattle.sqlite.specs.State.{IsUnchanged};
+ghost use Rattle.one_table.specs.Over.{Over};
 ghost use Rattle.vend_core.specs.Decision.Facts.{AreDatedFacts};
 ghost use Rattle.vend_core.specs.Office.Lookup.{latest};
-ghost use Rattle.book_tables.specs.reading.Reading.{OnlyReads};
-ghost use Rattle.book_states.specs.Members.{SaysOfOffice};
+ghost use Rattle.book_states.specs.FactsSeen.{AreDatedFactsSeen, AreStepsSeenOn};
+ghost use Rattle.book_facts.specs.Looking.{LooksUp};
 
 use book_tables::TableError;
 use book_tables::reading::{dated_steps, tariffs};
@@ -24,9 +24,9 @@ pub(crate) fn steps_on<S: Alter>(
     name: &TariffName,
     day: Day,
 ) -> Result<Option<Steps>, TableError>
-    ensures facts { Over S.Store conn (λ old new. SaysOfOffice (λ o found. found ≡ option_or
-        (latest (o.dated_steps name.now) day) (o.tariffs name.now)) old new result) }
-    ensures reads { Over S.Store conn (λ old new. OnlyReads IsUnchanged old new result) }
+    ensures { Over S.Store conn (λ old new. LooksUp IsUnchanged (λ o found. found ≡ option_or
+        (latest (o.dated_steps name.now) day) (o.tariffs name.now))
+        (AreStepsSeenOn name.now day) old new result) }
 {
     let begun = dated_steps::latest_steps(alloc, conn, name, day)?;
     if begun.is_some() {
@@ -43,9 +43,8 @@ pub(crate) fn dated_facts<S: Alter>(
     name: &TariffName,
     day: Day,
 ) -> Result<Facts, TableError>
-    ensures facts { Over S.Store conn (λ old new. SaysOfOffice (λ o. AreDatedFacts o name.now day)
-        old new result) }
-    ensures reads { Over S.Store conn (λ old new. OnlyReads IsUnchanged old new result) }
+    ensures { Over S.Store conn (λ old new. LooksUp IsUnchanged (λ o. AreDatedFacts o name.now day)
+        (AreDatedFactsSeen name.now day) old new result) }
 {
     let has_tariff = tariffs::has_tariff(conn, name)?;
     if !has_tariff {

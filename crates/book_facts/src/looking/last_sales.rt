@@ -3,9 +3,9 @@
 ghost use Rattle.std.specs.Prelude.{◌≡◌, IfErr, IfOk};
 ghost use Rattle.sqlite.specs.State.{IsUnchanged};
 ghost use Rattle.one_table.specs.Over.{Over};
-ghost use Rattle.book_tables.specs.reading.Reading.{OnlyReads};
-ghost use Rattle.book_states.specs.Members.{SaysOfOffice};
 ghost use Rattle.book_facts.specs.Lookups.{IsOfRules, last_found, last_sale, last_under};
+ghost use Rattle.book_facts.specs.Looking.{LooksUp};
+ghost use Rattle.book_facts.specs.LookupsSeen.{IsLastFoundSeen, IsLastSaleSeen, IsLastUnderSeen};
 
 use crate::looking::sales::sale_or_none;
 use crate::lookup::Found;
@@ -20,9 +20,9 @@ pub(crate) fn last_sale_of<S: Alter>(
     conn: &mut Connection<S>,
     number: &MeterNo,
 ) -> Result<Result<Found, Refusal>, TableError>
-    ensures facts { Over S.Store conn (λ old new. SaysOfOffice (λ o found. found ≡ last_found
-        (o.meters number.now) (last_sale o number.now)) old new result) }
-    ensures reads { Over S.Store conn (λ old new. OnlyReads IsUnchanged old new result) }
+    ensures looks { Over S.Store conn (λ old new. LooksUp IsUnchanged
+        (λ o found. found ≡ last_found (o.meters number.now) (last_sale o number.now))
+        (IsLastFoundSeen number.now) old new result) }
     ensures rules { IfOk result (λ found. IfErr found IsOfRules) }
 {
     members_law();
@@ -39,9 +39,8 @@ pub(crate) fn last_sale<S: Alter>(
     conn: &mut Connection<S>,
     number: &MeterNo,
 ) -> Result<Option<Sale>, TableError>
-    ensures facts { Over S.Store conn (λ old new. SaysOfOffice (λ o found. found ≡ last_sale o
-        number.now) old new result) }
-    ensures reads { Over S.Store conn (λ old new. OnlyReads IsUnchanged old new result) }
+    ensures { Over S.Store conn (λ old new. LooksUp IsUnchanged
+        (λ o found. found ≡ last_sale o number.now) (IsLastSaleSeen number.now) old new result) }
 {
     let latest = last_under(conn, number, Base::Y2035)?;
     if latest.is_some() {
@@ -60,9 +59,9 @@ fn last_under<S: Alter>(
     number: &MeterNo,
     base: Base,
 ) -> Result<Option<Sale>, TableError>
-    ensures facts { Over S.Store conn (λ old new. SaysOfOffice (λ o found. found ≡ last_under o
-        number.now base) old new result) }
-    ensures reads { Over S.Store conn (λ old new. OnlyReads IsUnchanged old new result) }
+    ensures { Over S.Store conn (λ old new. LooksUp IsUnchanged
+        (λ o found. found ≡ last_under o number.now base) (IsLastUnderSeen number.now base) old new
+        result) }
 {
     store_law();
     let last = totals::greatest_tid(conn, number, base)?;

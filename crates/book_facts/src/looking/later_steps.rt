@@ -2,9 +2,9 @@
 
 ghost use Rattle.sqlite.specs.State.{IsUnchanged};
 ghost use Rattle.one_table.specs.Over.{Over};
-ghost use Rattle.book_tables.specs.reading.Reading.{OnlyReads};
-ghost use Rattle.book_states.specs.Members.{SaysOfOffice};
 ghost use Rattle.book_facts.specs.Lookups.{AreLaterSteps};
+ghost use Rattle.book_facts.specs.Looking.{LooksUp};
+ghost use Rattle.book_facts.specs.LookupsSeen.{AreLaterSeen};
 
 use crate::lookup::LaterSteps;
 use book_lists::first_day_after;
@@ -22,9 +22,9 @@ pub(crate) fn later_steps<S: Alter>(
     name: &TariffName,
     day: Day,
 ) -> Result<Vec<LaterSteps>, TableError>
-    ensures facts { Over S.Store conn (λ old new. SaysOfOffice (λ o later. AreLaterSteps
-        (o.dated_steps name.now) day later.items) old new result) }
-    ensures reads { Over S.Store conn (λ old new. OnlyReads IsUnchanged old new result) }
+    ensures { Over S.Store conn (λ old new. LooksUp IsUnchanged (λ o later. AreLaterSteps
+        (o.dated_steps name.now) day later.items) (λ db later. AreLaterSeen name.now day db
+        later.items) old new result) }
 {
     let mut later = Vec::new(alloc);
     let mut last = day;

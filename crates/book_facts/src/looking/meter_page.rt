@@ -3,10 +3,10 @@
 ghost use Rattle.std.specs.Prelude.{◌≡◌, [], IfErr, IfOk, map, unwrap_or};
 ghost use Rattle.sqlite.specs.State.{IsUnchanged};
 ghost use Rattle.one_table.specs.Over.{Over};
-ghost use Rattle.book_tables.specs.reading.Reading.{OnlyReads};
-ghost use Rattle.book_states.specs.Members.{SaysOfOffice};
 ghost use Rattle.book_facts.specs.Listing.{listed_meter};
 ghost use Rattle.book_facts.specs.Lookups.{FindsMeters, IsOfRules};
+ghost use Rattle.book_facts.specs.Looking.{LooksUp};
+ghost use Rattle.book_facts.specs.LookupsSeen.{FindsMetersSeen};
 
 use crate::lookup::{Found, ListedMeter};
 use book_lists::meters_after;
@@ -22,9 +22,8 @@ pub(crate) fn meter_page<S: Alter>(
     conn: &mut Connection<S>,
     after: &Option<MeterNo>,
 ) -> Result<Result<Found, Refusal>, TableError>
-    ensures facts { Over S.Store conn (λ old new. SaysOfOffice (λ o. FindsMeters o after.now) old
-        new result) }
-    ensures reads { Over S.Store conn (λ old new. OnlyReads IsUnchanged old new result) }
+    ensures looks { Over S.Store conn (λ old new. LooksUp IsUnchanged
+        (λ o. FindsMeters o after.now) (FindsMetersSeen after.now) old new result) }
     ensures rules { IfOk result (λ found. IfErr found IsOfRules) }
 {
     let rows = meters_after(alloc, conn, number_or_none(after))?;

@@ -5,9 +5,9 @@ ghost use Rattle.sqlite.specs.State.{IsUnchanged};
 ghost use Rattle.one_table.specs.Over.{Over};
 ghost use Rattle.sts_fields.specs.Calendar.{month_at};
 ghost use Rattle.vend_core.specs.Office.Lookup.{prior};
-ghost use Rattle.book_tables.specs.reading.Reading.{OnlyReads};
-ghost use Rattle.book_states.specs.Members.{SaysOfOffice};
 ghost use Rattle.book_facts.specs.Lookups.{IsOfRules, last_sale, meter_found};
+ghost use Rattle.book_facts.specs.Looking.{LooksUp};
+ghost use Rattle.book_facts.specs.LookupsSeen.{IsMeterFoundSeen};
 
 use crate::looking::last_sales::last_sale;
 use crate::lookup::{Found, MeterSummary};
@@ -23,10 +23,10 @@ pub(crate) fn meter_of<S: Alter>(
     moment: Moment,
     number: &MeterNo,
 ) -> Result<Result<Found, Refusal>, TableError>
-    ensures facts { Over S.Store conn (λ old new. SaysOfOffice (λ o found. found ≡ meter_found
-        number.now (o.meters number.now) (prior o number.now (month_at moment)) (last_sale o
-        number.now)) old new result) }
-    ensures reads { Over S.Store conn (λ old new. OnlyReads IsUnchanged old new result) }
+    ensures looks { Over S.Store conn (λ old new. LooksUp IsUnchanged
+        (λ o found. found ≡ meter_found number.now (o.meters number.now) (prior o number.now
+        (month_at moment)) (last_sale o number.now)) (IsMeterFoundSeen number.now moment) old new
+        result) }
     ensures rules { IfOk result (λ found. IfErr found IsOfRules) }
 {
     members_law();

@@ -3,16 +3,16 @@
 ghost use Rattle.std.specs.Prelude.{◌≡◌, ℕ, IfErr, IfOk, IsSome, None, length};
 ghost use Rattle.std.specs.Option.{option_copied};
 ghost use Rattle.sqlite.specs.State.{IsUnchanged};
-ghost use Rattle.sts_token.specs.Token.{BlockFunction};
 ghost use Rattle.one_table.specs.Over.{Over};
+ghost use Rattle.sts_token.specs.Token.{BlockFunction};
 ghost use Rattle.vend_core.specs.Decision.{decision_of};
 ghost use Rattle.vend_core.specs.Office.{Office};
 ghost use Rattle.vend_core.specs.Office.Lookup.{open_shift, sale_of_ref};
 ghost use Rattle.vend_core.specs.declared.decision.request.Order.{Order};
 ghost use Rattle.vend_core.specs.declared.decision.request.Request.{Request};
-ghost use Rattle.book_tables.specs.reading.Reading.{OnlyReads};
-ghost use Rattle.book_states.specs.Members.{SaysOfOffice};
 ghost use Rattle.book_facts.specs.Lookups.{IsOfRules, IsQuoted, quote, quote_for};
+ghost use Rattle.book_facts.specs.Looking.{LooksUp};
+ghost use Rattle.book_facts.specs.LookupsSeen.{IsQuoteSeen};
 
 use crate::facts::accounts::account_numbered;
 use crate::lookup::{Found, Quote};
@@ -45,9 +45,9 @@ pub(crate) fn quote_of<S: Alter>(
     tender: Tender,
     sale_count: u64,
 ) -> Result<Result<Found, Refusal>, TableError>
-    ensures facts { Over S.Store conn (λ old new. SaysOfOffice (λ o found. sale_count ≡ length
-        o.sales → found ≡ quote o moment number.now tender) old new result) }
-    ensures reads { Over S.Store conn (λ old new. OnlyReads IsUnchanged old new result) }
+    ensures looks { Over S.Store conn (λ old new. LooksUp IsUnchanged
+        (λ o found. sale_count ≡ length o.sales → found ≡ quote o moment number.now tender)
+        (IsQuoteSeen number.now moment tender sale_count) old new result) }
     ensures rules { IfOk result (λ found. IfErr found IsOfRules) }
 {
     let account = account_numbered(alloc, conn, number, moment)?;

@@ -3,9 +3,9 @@
 ghost use Rattle.std.specs.Prelude.{IfErr, IfOk};
 ghost use Rattle.sqlite.specs.State.{IsUnchanged};
 ghost use Rattle.one_table.specs.Over.{Over};
-ghost use Rattle.book_tables.specs.reading.Reading.{OnlyReads};
-ghost use Rattle.book_states.specs.Members.{SaysOfOffice};
 ghost use Rattle.book_facts.specs.Lookups.{FindsSales, IsOfRules};
+ghost use Rattle.book_facts.specs.Looking.{LooksUp};
+ghost use Rattle.book_facts.specs.LookupsSeen.{FindsSalesSeen};
 
 use crate::lookup::Found;
 use book_lists::PAGE;
@@ -21,9 +21,8 @@ pub(crate) fn sale_page<S: Alter>(
     conn: &mut Connection<S>,
     after: u32,
 ) -> Result<Result<Found, Refusal>, TableError>
-    ensures facts { Over S.Store conn (λ old new. SaysOfOffice (λ o. FindsSales o after) old new
-        result) }
-    ensures reads { Over S.Store conn (λ old new. OnlyReads IsUnchanged old new result) }
+    ensures looks { Over S.Store conn (λ old new. LooksUp IsUnchanged (λ o. FindsSales o after)
+        (FindsSalesSeen after) old new result) }
     ensures rules { IfOk result (λ found. IfErr found IsOfRules) }
 {
     let sales = sale_lists::sales_after(alloc, conn, after, PAGE)?;

@@ -4,9 +4,9 @@ ghost use Rattle.std.specs.Prelude.{◌≡◌, IfErr, IfOk};
 ghost use Rattle.sqlite.specs.State.{IsUnchanged};
 ghost use Rattle.one_table.specs.Over.{Over};
 ghost use Rattle.vend_core.specs.Office.Lookup.{sale_of_ref};
-ghost use Rattle.book_tables.specs.reading.Reading.{OnlyReads};
-ghost use Rattle.book_states.specs.Members.{SaysOfOffice};
 ghost use Rattle.book_facts.specs.Lookups.{IsOfRules, sale_found};
+ghost use Rattle.book_facts.specs.Looking.{LooksUp};
+ghost use Rattle.book_facts.specs.LookupsSeen.{IsSaleFoundSeen};
 
 use crate::lookup::Found;
 use book_tables::TableError;
@@ -20,9 +20,9 @@ pub(crate) fn sale_under<S: Alter>(
     operator: &Operator,
     order_ref: &Ref,
 ) -> Result<Result<Found, Refusal>, TableError>
-    ensures facts { Over S.Store conn (λ old new. SaysOfOffice (λ o found. found ≡ sale_found
-        (sale_of_ref o operator.now order_ref.now)) old new result) }
-    ensures reads { Over S.Store conn (λ old new. OnlyReads IsUnchanged old new result) }
+    ensures looks { Over S.Store conn (λ old new. LooksUp IsUnchanged
+        (λ o found. found ≡ sale_found (sale_of_ref o operator.now order_ref.now))
+        (IsSaleFoundSeen operator.now order_ref.now) old new result) }
     ensures rules { IfOk result (λ found. IfErr found IsOfRules) }
 {
     let there = sales::sale_of_ref(conn, operator, order_ref)?;

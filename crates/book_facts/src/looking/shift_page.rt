@@ -2,10 +2,10 @@
 
 ghost use Rattle.std.specs.Prelude.{IfErr, IfOk};
 ghost use Rattle.one_table.specs.Over.{Over};
-ghost use Rattle.book_tables.specs.reading.Reading.{OnlyReads};
-ghost use Rattle.book_states.specs.Members.{SaysOfOffice};
 ghost use Rattle.book_states.specs.Same.{IsSame};
 ghost use Rattle.book_facts.specs.Lookups.{FindsShifts, IsOfRules};
+ghost use Rattle.book_facts.specs.Looking.{LooksUp};
+ghost use Rattle.book_facts.specs.LookupsSeen.{FindsShiftsSeen};
 
 use crate::lookup::{Found, ListedShift};
 use book_lists::shifts_after;
@@ -21,9 +21,8 @@ pub(crate) fn shift_page<S: Alter>(
     conn: &mut Connection<S>,
     after: u32,
 ) -> Result<Result<Found, Refusal>, TableError>
-    ensures facts { Over S.Store conn (λ old new. SaysOfOffice (λ o. FindsShifts o after) old new
-        result) }
-    ensures reads { Over S.Store conn (λ old new. OnlyReads IsSame old new result) }
+    ensures looks { Over S.Store conn (λ old new. LooksUp IsSame (λ o. FindsShifts o after)
+        (FindsShiftsSeen after) old new result) }
     ensures rules { IfOk result (λ found. IfErr found IsOfRules) }
 {
     let shifts = shifts_after(alloc, conn, after)?;

@@ -3,10 +3,10 @@
 ghost use Rattle.std.specs.Prelude.{◌≡◌, IfErr, IfOk};
 ghost use Rattle.sqlite.specs.State.{IsUnchanged};
 ghost use Rattle.one_table.specs.Over.{Over};
-ghost use Rattle.book_tables.specs.reading.Reading.{OnlyReads};
-ghost use Rattle.book_states.specs.Members.{SaysOfOffice};
 ghost use Rattle.book_facts.specs.Lookups.{IsOfRules, totals_found};
 ghost use Rattle.book_facts.specs.Totals.{shift_totals};
+ghost use Rattle.book_facts.specs.Looking.{LooksUp};
+ghost use Rattle.book_facts.specs.LookupsSeen.{AreTotalsFoundSeen};
 
 use crate::facts::shifts::totals_of;
 use crate::lookup::Found;
@@ -19,9 +19,9 @@ pub(crate) fn totals_under<S: Alter>(
     conn: &mut Connection<S>,
     number: u32,
 ) -> Result<Result<Found, Refusal>, TableError>
-    ensures facts { Over S.Store conn (λ old new. SaysOfOffice (λ o found. found ≡ totals_found
-        number (shift_totals o number)) old new result) }
-    ensures reads { Over S.Store conn (λ old new. OnlyReads IsUnchanged old new result) }
+    ensures looks { Over S.Store conn (λ old new. LooksUp IsUnchanged
+        (λ o found. found ≡ totals_found number (shift_totals o number))
+        (AreTotalsFoundSeen number) old new result) }
     ensures rules { IfOk result (λ found. IfErr found IsOfRules) }
 {
     let there = totals_of(conn, number)?;

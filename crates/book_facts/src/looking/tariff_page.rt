@@ -4,11 +4,11 @@ ghost use Rattle.std.specs.Prelude.{◌≡◌, [], IfErr, IfOk, unwrap_or};
 ghost use Rattle.sqlite.specs.State.{IsUnchanged};
 ghost use Rattle.one_table.specs.Over.{Over};
 ghost use Rattle.sts_fields.specs.Day.{day_at};
-ghost use Rattle.book_tables.specs.reading.Reading.{OnlyReads};
-ghost use Rattle.book_states.specs.Members.{SaysOfOffice};
 ghost use Rattle.book_states.specs.Same.{IsSame};
 ghost use Rattle.book_facts.specs.Listing.{TellsOf};
 ghost use Rattle.book_facts.specs.Lookups.{FindsTariffs, IsOfRules};
+ghost use Rattle.book_facts.specs.Looking.{LooksUp};
+ghost use Rattle.book_facts.specs.LookupsSeen.{FindsTariffsSeen, IsTariffNamedSeen};
 
 use crate::facts::steps::steps_on;
 use crate::looking::later_steps::later_steps;
@@ -28,9 +28,8 @@ pub(crate) fn tariff_page<S: Alter>(
     moment: Moment,
     after: &Option<TariffName>,
 ) -> Result<Result<Found, Refusal>, TableError>
-    ensures facts { Over S.Store conn (λ old new. SaysOfOffice (λ o. FindsTariffs o (day_at
-        moment) after.now) old new result) }
-    ensures reads { Over S.Store conn (λ old new. OnlyReads IsSame old new result) }
+    ensures looks { Over S.Store conn (λ old new. LooksUp IsSame (λ o. FindsTariffs o
+        (day_at moment) after.now) (FindsTariffsSeen (day_at moment) after.now) old new result) }
     ensures rules { IfOk result (λ found. IfErr found IsOfRules) }
 {
     let names = tariffs_after(alloc, conn, name_or_none(after))?;
@@ -64,9 +63,8 @@ fn tariff_named<S: Alter>(
     name: &TariffName,
     day: Day,
 ) -> Result<Option<ListedTariff>, TableError>
-    ensures facts { Over S.Store conn (λ old new. SaysOfOffice (λ o. TellsOf o day name.now)
-        old new result) }
-    ensures reads { Over S.Store conn (λ old new. OnlyReads IsUnchanged old new result) }
+    ensures { Over S.Store conn (λ old new. LooksUp IsUnchanged (λ o. TellsOf o day name.now)
+        (IsTariffNamedSeen day name.now) old new result) }
 {
     let found = steps_on(alloc, conn, name, day)?;
     let Some(steps) = found else {

@@ -1,8 +1,10 @@
-use Rattle.std.proofs.Common.{◌≡◌, arith, length, rules, IsTrue, ap, inl, inr, Err}
+use Rattle.std.proofs.Common.{◌≡◌, arith, length, rules, IsTrue, ap, inl, inr, subst, Err}
 use Rattle.sqlite.specs.Held.{state}
-use Rattle.one_table.proofs.ChangeLemmas.{if_ok}
-use Rattle.book_states.proofs.FailingLemmas.{refused_after, told_of_read}
+use Rattle.book_states.proofs.FailingLemmas.{told_of_read}
 use Rattle.book_states.proofs.StayLemmas.{clean_before, left_same}
+use Rattle.book_states.specs.FactsSeen.{AreFactsSeen}
+use Rattle.book_states.specs.Failing.{AreRead}
+use Rattle.book_facts.proofs.DecidedLemmas.{granted_by_facts, refused_by_facts}
 use Rattle.book_facts.proofs.decisions.decision_of.Goals as goal
 
 pub returns-in-Ok-clause-decides : goal.returns-in-Ok-clause-decides
@@ -35,14 +37,31 @@ returns-in-Err-clause-clean g c = clean_before (state g.S.Store c.args.conn.now)
 
 pub returns-in-Ok-clause-failures : goal.returns-in-Ok-clause-failures
 returns-in-Ok-clause-failures g c clean tables =
-    refused_after c.args.at.now c.args.next_number (state g.S.Store c.args.conn.now) (state g.S.Store c.facts_of.new.conn) c.decided_by.result c.decided_by.ensures.no_store.0
-    (c.in-Ok.facts, λ o office members next. c.in-Ok.ensures.facts clean o office members (omega (arith, c.saturating_sub.ensures, next)))
+    let at = c.args.at.now in
+    let old = state g.S.Store c.args.conn.now in
+    let forward = g.T.BlockTransform.forwards c.args.transform.now in
+    let read : AreRead at c.args.next_number old c.in-Ok.facts = record {
+      of_office = λ o office members next. c.in-Ok.ensures.facts clean o office members (omega (arith, c.saturating_sub.ensures, next));
+      seen = λ has count next.
+          let is : c.saturating_sub.result ≡ count = omega (arith, c.saturating_sub.ensures, next) in
+          subst (λ n. AreFactsSeen n at old.now c.in-Ok.facts) is (c.in-Ok.ensures.shown clean has);
+    } in
+    refused_by_facts forward at c.args.next_number old (state g.S.Store c.facts_of.new.conn) c.in-Ok.facts read c.decided_by.result c.decided_by.ensures.decided c.decided_by.ensures.no_store.0
 
 pub returns-in-Err-clause-failures : goal.returns-in-Err-clause-failures
 returns-in-Err-clause-failures g c clean tables =
     inl (told_of_read (state g.S.Store c.args.conn.now) (state g.S.Store c.facts_of.new.conn) c.in-Err.error c.refusal_of.result c.refusal_of.ensures.value (c.in-Err.ensures.reads.faults clean tables) clean
     (c.facts_of.ensures.reads.survives tables))
 
-pub returns-in-Ok-clause-prior : goal.returns-in-Ok-clause-prior
-returns-in-Ok-clause-prior g c clean =
-    if_ok c.decided_by.result (λ decided is. (c.in-Ok.facts, (λ o office members next. c.in-Ok.ensures.facts clean o office members (omega (arith, c.saturating_sub.ensures, next))), is)) c.decided_by.ensures.prior
+pub returns-in-Ok-clause-read : goal.returns-in-Ok-clause-read
+returns-in-Ok-clause-read g c clean =
+    let at = c.args.at.now in
+    let old = state g.S.Store c.args.conn.now in
+    let forward = g.T.BlockTransform.forwards c.args.transform.now in
+    let read : AreRead at c.args.next_number old c.in-Ok.facts = record {
+      of_office = λ o office members next. c.in-Ok.ensures.facts clean o office members (omega (arith, c.saturating_sub.ensures, next));
+      seen = λ has count next.
+          let is : c.saturating_sub.result ≡ count = omega (arith, c.saturating_sub.ensures, next) in
+          subst (λ n. AreFactsSeen n at old.now c.in-Ok.facts) is (c.in-Ok.ensures.shown clean has);
+    } in
+    granted_by_facts forward at c.args.next_number old (state g.S.Store c.facts_of.new.conn) c.in-Ok.facts read c.decided_by.result c.decided_by.ensures.decided c.decided_by.ensures.prior

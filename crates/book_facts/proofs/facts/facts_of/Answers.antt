@@ -1,32 +1,36 @@
-use Rattle.book_facts.proofs.PassedLemmas.{same_on}
+use Rattle.sts_fields.specs.Day.{day_at}
+use Rattle.book_facts.proofs.LooksLemmas.{looks_same, looks_weaker}
 use Rattle.book_facts.proofs.facts.facts_of.Goals as goal
 
-pub returns-in-AddTariff-clause-reads : goal.returns-in-AddTariff-clause-reads
-returns-in-AddTariff-clause-reads g c = same_on c.tariff_facts.ensures.reads
+pub returns-in-AddTariff : goal.returns-in-AddTariff
+returns-in-AddTariff g c = looks_weaker (λ o f is counted. rw c.in-AddTariff.is is) (λ db f seen. rw c.in-AddTariff.is seen) (looks_same c.tariff_facts.ensures)
 
-pub returns-in-AddMeter-clause-reads : goal.returns-in-AddMeter-clause-reads
-returns-in-AddMeter-clause-reads g c = same_on c.meter_facts.ensures.reads
+pub returns-in-AddSteps : goal.returns-in-AddSteps
+returns-in-AddSteps g c = looks_weaker (λ o f is counted. rw c.in-AddSteps.is is) (λ db f seen. rw c.in-AddSteps.is seen) (looks_same c.dated_facts.ensures)
 
-pub returns-in-SetTariff-clause-reads : goal.returns-in-SetTariff-clause-reads
-returns-in-SetTariff-clause-reads g c = same_on c.setting_facts.ensures.reads
+pub returns-in-AddMeter : goal.returns-in-AddMeter
+returns-in-AddMeter g c = looks_weaker (λ o f is counted. rw c.in-AddMeter.is is) (λ db f seen. rw c.in-AddMeter.is seen) (looks_same c.meter_facts.ensures)
 
-pub returns-in-OpenShift-clause-reads : goal.returns-in-OpenShift-clause-reads
-returns-in-OpenShift-clause-reads g c = same_on c.opening_facts.ensures.reads
+pub returns-in-Import : goal.returns-in-Import
+returns-in-Import g c = looks_weaker (λ o f is counted. rw c.in-Import.is (is (day_at c.args.at.now.moment))) (λ db f seen. rw c.in-Import.is seen) c.import_facts.ensures
 
-pub returns-in-CloseShift-clause-reads : goal.returns-in-CloseShift-clause-reads
-returns-in-CloseShift-clause-reads g c = same_on c.closing_facts.ensures.reads
+pub returns-in-SetTariff : goal.returns-in-SetTariff
+returns-in-SetTariff g c = looks_weaker (λ o f is counted. rw c.in-SetTariff.is is) (λ db f seen. rw c.in-SetTariff.is seen) (looks_same c.setting_facts.ensures)
 
-pub returns-in-Sell-clause-reads : goal.returns-in-Sell-clause-reads
-returns-in-Sell-clause-reads g c = same_on c.sale_facts.ensures.reads
+pub returns-in-MoveBase : goal.returns-in-MoveBase
+returns-in-MoveBase g c = looks_weaker (λ o f is counted. rw c.in-MoveBase.is is) (λ db f seen. rw c.in-MoveBase.is seen) (looks_same c.moving_facts.ensures)
 
-pub returns-in-Reprint-clause-reads : goal.returns-in-Reprint-clause-reads
-returns-in-Reprint-clause-reads g c = same_on c.reprint_facts.ensures.reads
+pub returns-in-OpenShift : goal.returns-in-OpenShift
+returns-in-OpenShift g c = looks_weaker (λ o f is counted. rw c.in-OpenShift.is is) (λ db f seen. rw c.in-OpenShift.is seen) (looks_same c.opening_facts.ensures)
 
-pub returns-in-ShiftReport-clause-reads : goal.returns-in-ShiftReport-clause-reads
-returns-in-ShiftReport-clause-reads g c = same_on c.report_facts.ensures.reads
+pub returns-in-CloseShift : goal.returns-in-CloseShift
+returns-in-CloseShift g c = looks_weaker (λ o f is counted. rw c.in-CloseShift.is is) (λ db f seen. rw c.in-CloseShift.is seen) (looks_same c.closing_facts.ensures)
 
-pub returns-in-AddSteps-clause-reads : goal.returns-in-AddSteps-clause-reads
-returns-in-AddSteps-clause-reads g c = same_on c.dated_facts.ensures.reads
+pub returns-in-Sell : goal.returns-in-Sell
+returns-in-Sell g c = looks_weaker (λ o f is counted. rw c.in-Sell.is (is counted)) (λ db f seen. rw c.in-Sell.is seen) (looks_same c.sale_facts.ensures)
 
-pub returns-in-MoveBase-clause-reads : goal.returns-in-MoveBase-clause-reads
-returns-in-MoveBase-clause-reads g c = same_on c.moving_facts.ensures.reads
+pub returns-in-Reprint : goal.returns-in-Reprint
+returns-in-Reprint g c = looks_weaker (λ o f is counted. rw c.in-Reprint.is is) (λ db f seen. rw c.in-Reprint.is seen) (looks_same c.reprint_facts.ensures)
+
+pub returns-in-ShiftReport : goal.returns-in-ShiftReport
+returns-in-ShiftReport g c = looks_weaker (λ o f is counted. rw c.in-ShiftReport.is is) (λ db f seen. rw c.in-ShiftReport.is seen) (looks_same c.report_facts.ensures)

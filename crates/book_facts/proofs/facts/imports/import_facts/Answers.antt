@@ -1,8 +1,23 @@
-use Rattle.one_table.proofs.ReadsOnlyLemmas.{fail_on, read_on}
+use Rattle.std.proofs.Common.{List, Option, Some, ap, subst}
+use Rattle.sqlite.specs.Held.{state}
+use Rattle.one_table.proofs.ReadsOnlyLemmas.{read_on}
+use Rattle.vend_core.specs.Decision.Facts.{AreRowsFacts}
+use Rattle.vend_core.specs.declared.decision.row_facts.RowFacts.{RowFacts}
+use Rattle.vend_core.specs.declared.office.row.Row.{Row}
+use Rattle.book_states.specs.FactsSeen.{AreRowsSeen}
+use Rattle.book_facts.proofs.LooksLemmas.{looks_on}
 use Rattle.book_facts.proofs.facts.imports.import_facts.Goals as goal
 
-pub returns-in_err-found-clause-reads : goal.returns-in_err-found-clause-reads
-returns-in_err-found-clause-reads g c = fail_on c.from_residual.result c.from_residual.ensures.1 c.in_err-found.ensures.reads
+pub returns-in_err-found : goal.returns-in_err-found
+returns-in_err-found g c = looks_on c.from_residual.result c.from_residual.ensures.1 c.in_err-found.ensures.reads
 
-pub returns-clause-reads : goal.returns-clause-reads
-returns-clause-reads g c = read_on c.in_ok-found.ensures.reads
+pub returns : goal.returns
+returns g c =
+    let old = state g.S.Store c.args.conn.now in
+    let found = c.in_ok-found.found.items in
+    let rows_are = ap (λ (fs : List RowFacts). let some : Option (List RowFacts) = Some fs in some) c.of.ensures in
+    record {
+      facts = λ clean o office members today. (found, rows_are, subst (λ (rows : List Row). AreRowsFacts o today rows found) c.as_slice.ensures.view (c.in_ok-found.ensures.facts clean o office members today));
+      shown = λ clean has. (found, rows_are, subst (λ (rows : List Row). AreRowsSeen rows old.now found) c.as_slice.ensures.view (c.in_ok-found.ensures.shown clean has));
+      reads = read_on c.in_ok-found.ensures.reads;
+    }

@@ -1,79 +1,102 @@
-use Rattle.one_table.proofs.ReadsOnlyLemmas.{fail_on}
-use Rattle.std.proofs.Common.{rules, ◌≡◌, ◌++◌, [], ◌∷◌, List, ap, filter, inr, map, refl, sym, take, take_all, ◌∙◌}
+use Rattle.std.proofs.Common.{rules, ◌≡◌, ◌++◌, [], ◌∷◌, List, ap, filter, inr, map, refl, sym, take, take_all, ◌∙◌, subst}
 use Rattle.std.specs.Prelude.{⊤, nat_lt}
+use Rattle.std.specs.List.{AllZip}
 use Rattle.sqlite.specs.Held.{state}
 use Rattle.sqlite.specs.declared.error.Error.TheVariants.{SqliteFailure}
 use Rattle.sqlite.specs.declared.error.ErrorCode.TheVariants.{OutOfMemory}
 use Rattle.vend_core.specs.declared.office.sale.Sale.{Sale}
 use Rattle.vend_core.specs.declared.office.shift.Shift.{Shift}
-use Rattle.book_lists.specs.Pages.{page_size}
 use Rattle.book_tables.specs.Stands.{all_totals, sales_in_shift}
 use Rattle.book_tables.specs.declared.error.TableError.TheVariants.{Database}
 use Rattle.book_tables.specs.declared.row.totals.Totals.{Totals}
 use Rattle.book_tables.proofs.OfficeTableLemmas.{shift_totals_in, shifts_in, read_in_office}
+use Rattle.book_lists.specs.Pages.{page_size}
 use Rattle.book_facts.specs.Lookups.{listed_shift}
 use Rattle.book_facts.specs.declared.lookup.ListedShift.{ListedShift}
 use Rattle.book_facts.proofs.FactsLemmas.{members_after, sales_told, shifts_told, tables_of}
 use Rattle.book_facts.proofs.ListedLemmas.{map_more}
-use Rattle.book_facts.proofs.PassedLemmas.{clean_before, passed, passed_after, passed_none, passed_reads, passed_then, read_after, same_on, stops_on}
+use Rattle.book_facts.proofs.PassedLemmas.{clean_before, passed, passed_after, passed_none, passed_reads, passed_then, read_after, same_on, stops_on, earlier, tables_after}
+use Rattle.book_facts.specs.LookupsSeen.{IsShiftListedSeen}
+use Rattle.book_facts.proofs.LooksLemmas.{looks_on, first_shown, table_shown, zip_more}
 use Rattle.book_facts.proofs.looking.shift_page.shift_page.Goals as goal
 
-pub returns-in_err-shifts-clause-reads : goal.returns-in_err-shifts-clause-reads
-returns-in_err-shifts-clause-reads g c = same_on (fail_on c.from_residual.result c.from_residual.ensures.1 (read_in_office shifts_in c.in_err-shifts.ensures.reads))
+pub returns-in_err-shifts-clause-looks : goal.returns-in_err-shifts-clause-looks
+returns-in_err-shifts-clause-looks g c = looks_on c.from_residual.result c.from_residual.ensures.1 (same_on (read_in_office shifts_in c.in_err-shifts.ensures.reads))
 
 pub loop-shift-init : goal.loop-shift-init
 loop-shift-init g c =
     record {
       passed = passed_none (state g.S.Store c.shifts_after.new.conn) (g.met.S.Store.shut_if_dirty c.shifts_after.new.conn.store);
       listed = λ clean o office members. c.new-listed.ensures.items;
+      seen = λ clean has. rw c.new-listed.ensures.items tt;
     }
 
-pub returns-in_err-totals-clause-reads : goal.returns-in_err-totals-clause-reads
-returns-in_err-totals-clause-reads g c =
+pub returns-in_err-totals-clause-looks : goal.returns-in_err-totals-clause-looks
+returns-in_err-totals-clause-looks g c =
     let first = passed (read_in_office shifts_in c.in_ok-shifts.ensures.reads) (g.met.S.Store.shut_if_dirty c.shifts_after.new.conn.store) in
     let before = passed_then first c.loop-shift.invariant.passed in
-    same_on (fail_on c.from_residual-in_err-totals.result c.from_residual-in_err-totals.ensures.1 (read_after before (read_in_office shift_totals_in c.in_err-totals.ensures.reads)))
+    looks_on c.from_residual-in_err-totals.result c.from_residual-in_err-totals.ensures.1 (same_on (read_after before (read_in_office shift_totals_in c.in_err-totals.ensures.reads)))
 
-pub returns-in_err-map_err-clause-reads : goal.returns-in_err-map_err-clause-reads
-returns-in_err-map_err-clause-reads g c =
+pub returns-in_err-map_err-clause-looks : goal.returns-in_err-map_err-clause-looks
+returns-in_err-map_err-clause-looks g c =
     let first = passed (read_in_office shifts_in c.in_ok-shifts.ensures.reads) (g.met.S.Store.shut_if_dirty c.shifts_after.new.conn.store) in
     let read = read_after (passed_then first c.loop-shift.invariant.passed) (read_in_office shift_totals_in c.in_ok-totals.ensures.reads) in
-    same_on (fail_on {T = ⊤} c.from_residual-in_err-map_err.result c.from_residual-in_err-map_err.ensures.1 (stops_on (Database (SqliteFailure OutOfMemory)) read (λ clean has. inr (refl, read.same clean has))))
+    looks_on {U = ⊤} c.from_residual-in_err-map_err.result c.from_residual-in_err-map_err.ensures.1 (same_on (stops_on (Database (SqliteFailure OutOfMemory)) read (λ clean has. inr (refl, read.same clean has))))
 
 pub loop-shift-preserved : goal.loop-shift-preserved
 loop-shift-preserved g c =
+    let initial = state g.S.Store c.shifts_after.new.conn in
     let before = c.loop-shift.invariant.passed in
     let read = read_in_office shift_totals_in c.in_ok-totals.ensures.reads in
+    let items = c.deref-shift-items.result.now in
+    let i = c.loop-shift.shift-index in
+    let shift = c.shift-item.result in
+    let listed = c.loop-shift.listed.items in
+    let this : ListedShift = record { shift = shift; totals = c.in_ok-totals.totals } in
+    let pushed : c.push.new.self.items ≡ listed ++ this ∷ [] = search rules in
     record {
       passed = passed_after before read (g.met.S.Store.shut_if_dirty c.totals_of_shift.new.conn.store);
       listed = λ clean o office members.
-          let shift = c.shift-item.result in
-          let was = clean_before before read.survives (tables_of (state g.S.Store c.shifts_after.new.conn) o members) clean in
+          let was = clean_before before read.survives (tables_of initial o members) clean in
           let totals_are = sales_told office members before read clean shift_totals_in (λ (sales : List Sale). all_totals (sales_in_shift sales shift.number)) c.in_ok-totals.totals (c.in_ok-totals.ensures.given clean) in
           let this_is = ap (λ (totals : Totals). let listed : ListedShift = record { shift = shift; totals = totals } in listed) totals_are in
-          let pushed : c.push.new.self.items ≡ c.loop-shift.listed.items ++ record { shift = shift; totals = c.in_ok-totals.totals } ∷ [] = search rules in
           pushed
-          ∙ ap (λ (l : ListedShift). c.loop-shift.listed.items ++ l ∷ []) this_is
+          ∙ ap (λ (l : ListedShift). listed ++ l ∷ []) this_is
           ∙ ap (λ (ls : List ListedShift). ls ++ listed_shift o shift ∷ []) (c.loop-shift.invariant.listed was o office members)
-          ∙ sym (map_more (listed_shift o) c.deref-shift-items.result.now c.loop-shift.shift-index shift c.loop-shift-test.true c.shift-item.is);
+          ∙ sym (map_more (listed_shift o) items i shift c.loop-shift-test.true c.shift-item.is);
+      seen = λ clean has.
+          let was = clean_before before read.survives has clean in
+          let totals = table_shown before shift_totals_in c.in_ok-totals.ensures.reads c.in_ok-totals.ensures.sees clean has in
+          rw pushed (zip_more (IsShiftListedSeen initial.now) items i listed shift this c.loop-shift-test.true c.shift-item.is (c.loop-shift.invariant.seen was has) (refl, totals));
     }
 
-pub returns-clause-facts : goal.returns-clause-facts
-returns-clause-facts g c clean o office members =
-    let none = passed_none (state g.S.Store c.args.conn.now) (g.met.S.Store.shut_if_dirty c.args.conn.now.store) in
+pub returns-clause-looks : goal.returns-clause-looks
+returns-clause-looks g c =
+    let old = state g.S.Store c.args.conn.now in
+    let initial = state g.S.Store c.shifts_after.new.conn in
+    let new = state g.S.Store c.loop-shift.conn in
+    let none = passed_none old (g.met.S.Store.shut_if_dirty c.args.conn.now.store) in
     let read = read_in_office shifts_in c.in_ok-shifts.ensures.reads in
     let first = passed read (g.met.S.Store.shut_if_dirty c.shifts_after.new.conn.store) in
     let after = c.loop-shift.invariant.passed in
-    let was = clean_before first after.survives (tables_of (state g.S.Store c.args.conn.now) o members) clean in
     let number = c.args.after in
-    let shifts_are = shifts_told office members none read was (λ (shifts : List Shift). take page_size (filter (λ s. nat_lt number s.number) shifts)) c.in_ok-shifts.shifts.items (c.in_ok-shifts.ensures.given was) in
     let items = c.deref-shift-items.result.now in
+    let listed = c.loop-shift.listed.items in
     let items_are : items ≡ c.in_ok-shifts.shifts.items = search rules in
     let all = take_all c.loop-shift.shift-index items c.loop-shift-test.false in
-    c.loop-shift.invariant.listed clean o office (members_after o members first after.survives clean)
-    ∙ ap (map (listed_shift o)) (all ∙ items_are ∙ shifts_are)
-
-pub returns-clause-reads : goal.returns-clause-reads
-returns-clause-reads g c =
-    let first = passed (read_in_office shifts_in c.in_ok-shifts.ensures.reads) (g.met.S.Store.shut_if_dirty c.shifts_after.new.conn.store) in
-    passed_reads (passed_then first c.loop-shift.invariant.passed)
+    record {
+      facts = λ clean o office members.
+          let was = clean_before first after.survives (tables_of old o members) clean in
+          let shifts_are = shifts_told office members none read was (λ (shifts : List Shift). take page_size (filter (λ s. nat_lt number s.number) shifts)) c.in_ok-shifts.shifts.items (c.in_ok-shifts.ensures.given was) in
+          c.loop-shift.invariant.listed clean o office (members_after o members first after.survives clean)
+          ∙ ap (map (listed_shift o)) (all ∙ items_are ∙ shifts_are);
+      shown = λ clean has.
+          let was = clean_before first after.survives has clean in
+          let as_was = earlier old initial new first after.survives has clean in
+          let told = subst (λ (shifts : List Shift). AllZip (IsShiftListedSeen initial.now) shifts listed) (all ∙ items_are) (c.loop-shift.invariant.seen clean (tables_after first has)) in (
+            c.in_ok-shifts.shifts.items,
+            first_shown shifts_in c.in_ok-shifts.ensures.sees was has,
+            subst (λ db. AllZip (IsShiftListedSeen db) c.in_ok-shifts.shifts.items listed) as_was.now_is told,
+          );
+      reads = passed_reads (passed_then first after);
+    }

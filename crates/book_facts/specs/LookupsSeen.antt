@@ -1,0 +1,166 @@
+-- What is found where something is looked up, as it was seen of a database that has the office's
+-- tables, whatever their rows are: nothing is found where a row of an answer shows no record.
+use Rattle.std.specs.Prelude.{◌≡◌, ◌⊎◌, ◌<◌, ◌+◌, ℕ, List, [], ◌∷◌, map, Option, None, Some, IsSome, Result, Ok, Err, unwrap_or}
+use Rattle.std.specs.List.{AllZip}
+use Rattle.sqlite.specs.Effect.{Database}
+use Rattle.sts_fields.specs.Calendar.{month_at}
+use Rattle.sts_fields.specs.Day.{day_at}
+use Rattle.sts_fields.specs.declared.base.Base.{Base}
+use Rattle.sts_fields.specs.declared.base.Base.TheVariants.{Y1993, Y2014, Y2035}
+use Rattle.vend_core.specs.Decision.{MeterAccount}
+use Rattle.vend_core.specs.declared.decision.refusal.Refusal.{Refusal}
+use Rattle.vend_core.specs.declared.decision.refusal.Refusal.TheVariants as refusals
+use Rattle.vend_core.specs.declared.office.meter.Meter.{Meter}
+use Rattle.vend_core.specs.declared.office.sale.Sale.{Sale}
+use Rattle.vend_core.specs.declared.office.shift.Shift.{Shift}
+use Rattle.book_lists.specs.Pages.{page_size}
+use Rattle.book_lists.specs.Questions.{the_meters_after, the_next_day, the_shifts_after, the_tariffs_after}
+use Rattle.book_tables.specs.declared.reading.pages.MeterRow.{MeterRow}
+use Rattle.book_tables.specs.declared.row.totals.Totals.{Totals}
+use Rattle.book_tables.specs.reading.Questions.{the_last_id, the_meter, the_month_tenths, the_sale_of_ref, the_sale_of_tid, the_sales_after, the_steps_from}
+use Rattle.book_tables.specs.reading.Seen.{AreStepsSeen, ShowsAll, ShowsFirst, ShowsMade}
+use Rattle.book_states.specs.FactsSeen.{AreStepsSeenOn, IsAccountSeen, OrElse}
+use Rattle.book_facts.specs.Listing.{listed_meter}
+use Rattle.book_facts.specs.Lookups.{last_found, meter_found, quote_for, sale_found, totals_found}
+use Rattle.book_facts.specs.Totals.{AreTotalsSeen, AreTotalsShown}
+use Rattle.book_facts.specs.declared.lookup.Found.{Found}
+use Rattle.book_facts.specs.declared.lookup.Found.TheVariants as found
+use Rattle.book_facts.specs.declared.lookup.LaterSteps.{LaterSteps}
+use Rattle.book_facts.specs.declared.lookup.ListedMeter.{ListedMeter}
+use Rattle.book_facts.specs.declared.lookup.ListedShift.{ListedShift}
+use Rattle.book_facts.specs.declared.lookup.ListedTariff.{ListedTariff}
+use Rattle.book_facts.specs.declared.lookup.Lookup.{Lookup}
+use Rattle.book_facts.specs.declared.lookup.Lookup.TheVariants as lookups
+
+-- ---- the last sale to a meter
+
+-- under a base it is that of the last identifier, where there is one
+abbrev pub IsLastUnderSeen : List ℕ → Base → Database → Option Sale → Type 0
+IsLastUnderSeen number base db None = ShowsFirst (the_last_id number base) db None
+IsLastUnderSeen number base db (Some sale) =
+    (tid : ℕ) × ShowsFirst (the_last_id number base) db (Some tid)
+    × ShowsFirst (the_sale_of_tid number base tid) db (Some sale)
+
+-- the latest base that the meter has a sale under comes first
+abbrev pub IsLastSaleSeen : List ℕ → Database → Option Sale → Type 0
+IsLastSaleSeen number db last =
+    OrElse (IsLastUnderSeen number Y2035 db)
+    (OrElse (IsLastUnderSeen number Y2014 db) (IsLastUnderSeen number Y1993 db)) last
+
+-- it is looked for only where there is the meter
+pub record IsLastFoundSeen (number : List ℕ) (db : Database) (result : Result Found Refusal)
+    : Type 0 where
+  pub there : Option Meter
+  pub meter : ShowsFirst (the_meter number) db there
+  pub sale : Option Sale
+  pub last : IsSome there → IsLastSaleSeen number db sale
+  pub told : result ≡ last_found there sale
+
+-- what is told of a meter is looked at only where there is the meter
+pub record IsMeterFoundSeen (number : List ℕ) (moment : ℕ) (db : Database)
+    (result : Result Found Refusal) : Type 0 where
+  pub there : Option Meter
+  pub meter : ShowsFirst (the_meter number) db there
+  pub tenths : ℕ
+  pub sold : IsSome there
+      → ShowsMade (the_month_tenths number (month_at moment)) (λ sum. unwrap_or sum 0) db tenths
+  pub sale : Option Sale
+  pub last : IsSome there → IsLastSaleSeen number db sale
+  pub told : result ≡ meter_found number there tenths sale
+
+-- ---- lists
+
+-- the steps from each later day on, one day after another until there is none
+abbrev pub AreLaterSeen : List ℕ → ℕ → Database → List LaterSteps → Type 0
+AreLaterSeen name day db [] = ShowsFirst (the_next_day name day) db None
+AreLaterSeen name day db (next ∷ later) =
+    ShowsFirst (the_next_day name day) db (Some next.from) × (day < next.from)
+    × AreStepsSeen (the_steps_from name next.from) db (Some next.steps)
+    × AreLaterSeen name next.from db later
+
+-- a tariff of a list, of this name
+pub record IsTariffListedSeen (day : ℕ) (db : Database) (name : List ℕ) (t : ListedTariff)
+    : Type 0 where
+  pub named : t.name ≡ name
+  pub steps : AreStepsSeenOn name day db (Some t.steps)
+  pub later : AreLaterSeen name day db t.later.items
+
+-- a shift of a list with its totals
+abbrev pub IsShiftListedSeen : Database → Shift → ListedShift → Type 0
+IsShiftListedSeen db shift listed =
+    (listed.shift ≡ shift) × AreTotalsShown shift.number db listed.totals
+
+abbrev pub AreTariffsSeen : ℕ → Option (List ℕ) → Database → List ListedTariff → Type 0
+AreTariffsSeen day after db page =
+    (names : List (List ℕ)) × ShowsAll (the_tariffs_after (unwrap_or after [])) db names
+    × AllZip (IsTariffListedSeen day db) names page
+
+abbrev pub AreMetersSeen : Option (List ℕ) → Database → List ListedMeter → Type 0
+AreMetersSeen after db page =
+    (rows : List MeterRow) × ShowsAll (the_meters_after (unwrap_or after [])) db rows
+    × (page ≡ map listed_meter rows)
+
+abbrev pub AreShiftsSeen : ℕ → Database → List ListedShift → Type 0
+AreShiftsSeen after db page =
+    (shifts : List Shift) × ShowsAll (the_shifts_after after) db shifts
+    × AllZip (IsShiftListedSeen db) shifts page
+
+-- a tariff that is looked for by its name: where it has no steps there is none
+abbrev pub IsTariffNamedSeen : ℕ → List ℕ → Database → Option ListedTariff → Type 0
+IsTariffNamedSeen day name db None = AreStepsSeenOn name day db None
+IsTariffNamedSeen day name db (Some t) = IsTariffListedSeen day db name t
+
+-- ---- what is looked up
+
+abbrev pub IsSaleFoundSeen : List ℕ → List ℕ → Database → Result Found Refusal → Type 0
+IsSaleFoundSeen operator order_ref db result =
+    (there : Option Sale) × ShowsFirst (the_sale_of_ref operator order_ref) db there
+    × (result ≡ sale_found there)
+
+abbrev pub IsQuoteSeen : List ℕ → ℕ → ℕ → ℕ → Database → Result Found Refusal → Type 0
+IsQuoteSeen number moment tender count db result =
+    (account : Option MeterAccount) × IsAccountSeen number moment db account
+    × (result ≡ quote_for moment number tender account count)
+
+abbrev pub AreTotalsFoundSeen : ℕ → Database → Result Found Refusal → Type 0
+AreTotalsFoundSeen number db result =
+    (there : Option Totals) × AreTotalsSeen number db there × (result ≡ totals_found number there)
+
+abbrev pub FindsTariffsSeen : ℕ → Option (List ℕ) → Database → Result Found Refusal → Type 0
+FindsTariffsSeen day after db (Ok (found.Tariffs page)) = AreTariffsSeen day after db page.items
+FindsTariffsSeen day after db result = ⊥
+
+abbrev pub FindsMetersSeen : Option (List ℕ) → Database → Result Found Refusal → Type 0
+FindsMetersSeen after db (Ok (found.Meters page)) = AreMetersSeen after db page.items
+FindsMetersSeen after db result = ⊥
+
+abbrev pub FindsShiftsSeen : ℕ → Database → Result Found Refusal → Type 0
+FindsShiftsSeen after db (Ok (found.Shifts page)) = AreShiftsSeen after db page.items
+FindsShiftsSeen after db result = ⊥
+
+abbrev pub FindsSalesSeen : ℕ → Database → Result Found Refusal → Type 0
+FindsSalesSeen after db (Ok (found.Sales page)) =
+    ShowsAll (the_sales_after after page_size) db page.items
+FindsSalesSeen after db result = ⊥
+
+-- this was found at a moment, or nothing was, where there are so many sales
+abbrev pub FindsSeen : ℕ → ℕ → Lookup → Database → Result Found Refusal → Type 0
+FindsSeen count moment lookups.SaleCount db result = result ≡ Ok (found.SaleCount count)
+FindsSeen count moment (lookups.Meter number) db result = IsMeterFoundSeen number moment db result
+FindsSeen count moment (lookups.LastSale number) db result = IsLastFoundSeen number db result
+FindsSeen count moment (lookups.SaleOfRef operator order_ref) db result =
+    IsSaleFoundSeen operator order_ref db result
+FindsSeen count moment (lookups.Quote number tender) db result =
+    IsQuoteSeen number moment tender count db result
+FindsSeen count moment (lookups.ShiftTotals number) db result = AreTotalsFoundSeen number db result
+FindsSeen count moment (lookups.Tariffs after) db result =
+    FindsTariffsSeen (day_at moment) after db result
+FindsSeen count moment (lookups.Meters after) db result = FindsMetersSeen after db result
+FindsSeen count moment (lookups.Shifts after) db result = FindsShiftsSeen after db result
+FindsSeen count moment (lookups.Sales after) db result = FindsSalesSeen after db result
+
+-- the same, where this is the number of the next sale; or there was no memory, or the store failed
+abbrev pub IsFoundSeen : ℕ → ℕ → Lookup → Database → Result Found Refusal → Type 0
+IsFoundSeen next moment lookup db result =
+    ((count : ℕ) → next ≡ count + 1 → FindsSeen count moment lookup db result)
+    ⊎ ((result ≡ Err refusals.Memory) ⊎ (result ≡ Err refusals.Store))
