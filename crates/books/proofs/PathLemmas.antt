@@ -28,16 +28,16 @@ OpensInOrder D g = (c : Held (FileStore D g)) → Opens (file_state c) → IsLiv
 
 module _ {D : Type 0} {g : Ghosts D} where
   module _ (image : Image) (first last : Held (FileStore D g)) (opens : HasCleanDisk (file_state first) → Opens (file_state first) × IsLive (file_state first))
-      (finds : HasCleanDisk (file_state first) → FindsIn image (file_state first)) (ordered : OpensInOrder D g) where
+      (finds : HasCleanDisk (file_state first) → FindsIn image (file_state first)) (ordered : OpensInOrder D g) (none : (file_state first).step_limit ≡ None) where
     pub connected : HasCleanDisk (file_state first) → IsConnected image (file_state first)
     connected clean =
         let it = finds clean in
         let open_is = opens clean in
-        record { opens = open_is.0; live = open_is.1; in_order = ordered first open_is.0 open_is.1; found = record { holds = it.holds; reads = it.reads } }
+        record { opens = open_is.0; live = open_is.1; in_order = ordered first open_is.0 open_is.1; found = record { holds = it.holds; reads = it.reads }; unlimited = none }
 
-    pub opens_files : (HasCleanDisk (file_state first) → IsBlankAs false image → (view first.store).has_sums ≡ false) → (file_state first).step_limit ≡ None → (HasCleanDisk (file_state last) → OpensAs (file_state first) (file_state last))
+    pub opens_files : (HasCleanDisk (file_state first) → IsBlankAs false image → (view first.store).has_sums ≡ false) → (HasCleanDisk (file_state last) → OpensAs (file_state first) (file_state last))
         → Survives (file_state first) (file_state last) (LeavesBrought (file_state first)) → OpensFiles image last
-    opens_files plain none finds survives = record { first = first; connected = connected; plain = plain; finds = finds; survives = survives; unlimited = survives.limit ∙ none }
+    opens_files plain finds survives = record { first = first; connected = connected; plain = plain; finds = finds; survives = survives; unlimited = survives.limit ∙ none }
 
     module _ (again : OpensAgain D g) where
       pub stands_first : (o : Office) → HasCleanDisk (file_state first) → StandsIn image o → StoreStandsFor (file_state first) o

@@ -2,6 +2,7 @@
 use Rattle.std.proofs.Common.{◌≡◌, ◌≢◌, ◌⊎◌, ◌↔◌, ◌+◌, ℕ, length, false, true, IsTrue, Result, Ok, Err, ap, refl, sym, subst, ◌∙◌, inl, inr}
 use Rattle.std.proofs.lemmas.Bool.{false≢true}
 use Rattle.std.specs.Prelude.{IfErr}
+use Rattle.sqlite.specs.Effect.{Database}
 use Rattle.sqlite.specs.State.{HasCleanDisk}
 use Rattle.vend_core.specs.Law.Life.{Life}
 use Rattle.vend_core.specs.Office.{Office}
@@ -23,7 +24,7 @@ use Rattle.books.proofs.PageLemmas.{kept_read}
 use Rattle.books.proofs.ServeLemmas.{stops_on}
 
 -- books that were stopped are not read
-pub read_stopped : {A : Type 0} (Own : Refusal → Type 0) (books : Seen) → books.stopped ≡ true → ReadsBooks {A = A} Own (Err Stopped) books books
+pub read_stopped : {A : Type 0} {IsSeen : Database → Result A Refusal → Type 0} (Own : Refusal → Type 0) (books : Seen) → books.stopped ≡ true → ReadsBooks {A = A} Own IsSeen (Err Stopped) books books
 read_stopped Own books was = record {
   keeps = λ life keeps. keeps;
   tables = λ has. has;
@@ -34,6 +35,7 @@ read_stopped Own books was = record {
   stops = (λ _. inr refl, λ _. was);
   refusals = inr (inr (inr refl));
   failures = λ clean has runs. absurd (false≢true (sym runs ∙ was));
+  seen = λ clean has runs. absurd (false≢true (sym runs ∙ was));
 }
 
 -- the read has no refusal of its own
@@ -55,11 +57,12 @@ never_stopped {A} Own given never told is =
     elim stopped [ inl own ↦ never own | inr (inl memory) ↦ absurd cc | inr (inr store) ↦ absurd cc ]
 
 -- books that were not stopped were read, by what the read makes of their tables
-pub was_read : {A : Type 0} (Own : Refusal → Type 0) (given : Result A Refusal) (old new : Seen) → old.stopped ≡ false → new.forward ≡ old.forward → new.next_number ≡ old.next_number
+pub was_read : {A : Type 0} {IsSeen : Database → Result A Refusal → Type 0} (Own : Refusal → Type 0) (given : Result A Refusal) (old new : Seen) → old.stopped ≡ false → new.forward ≡ old.forward → new.next_number ≡ old.next_number
     → (HasCleanDisk new.state → HasAllTables old.state → ChangesNothing old.state new.state) → (HasCleanDisk new.state → HasCleanDisk old.state)
     → (HasCleanDisk new.state → HasAllTables old.state → IfErr given (λ why. Own why ⊎ IsToldOfRead why old.state new.state))
-    → IfErr given (λ why. Own why ⊎ ((why ≡ Memory) ⊎ (why ≡ Store))) → ¬ Own Stopped → (IsTrue new.stopped ↔ (given ≡ Err Store)) → ReadsBooks Own given old new
-was_read Own given old new runs forward next nothing back failures refusals own failed =
+    → IfErr given (λ why. Own why ⊎ ((why ≡ Memory) ⊎ (why ≡ Store))) → ¬ Own Stopped → (IsTrue new.stopped ↔ (given ≡ Err Store))
+    → (HasCleanDisk new.state → HasAllTables old.state → IsSeen old.state.now given) → ReadsBooks Own IsSeen given old new
+was_read Own given old new runs forward next nothing back failures refusals own failed seen =
     let never = never_stopped Own given own refusals in record {
       keeps = λ life keeps clean.
           let kept = keeps (back clean) in
@@ -75,6 +78,7 @@ was_read Own given old new runs forward next nothing back failures refusals own 
       stops = stops_on new.stopped given failed never;
       refusals = or_stopped Own given refusals;
       failures = λ clean has running. failures clean (has (back clean) running);
+      seen = λ clean has running. seen clean (has (back clean) running);
     }
 
 -- what is found in the office that the tables hold is found in the present office of the life

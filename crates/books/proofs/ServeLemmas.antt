@@ -1,5 +1,5 @@
 -- What a request at books makes of the life that they keep.
-use Rattle.std.proofs.Common.{◌≡◌, ◌≢◌, ◌⊎◌, ◌↔◌, ℕ, ◌+◌, Bool, true, IsTrue, Result, Err, length, refl, sym, ap, subst, ◌∙◌, inl, inr}
+use Rattle.std.proofs.Common.{◌≡◌, ◌≢◌, ◌⊎◌, ◌↔◌, ℕ, ◌+◌, Bool, true, IsTrue, Option, None, Some, Result, Ok, Err, IfOk, length, refl, sym, ap, subst, ◌∙◌, inl, inr}
 use Rattle.std.proofs.lemmas.Bool.{false≢true}
 use Rattle.sts_token.specs.Token.{BlockFunction}
 use Rattle.vend_core.specs.Decision.{decision}
@@ -8,11 +8,12 @@ use Rattle.vend_core.specs.Law.Life.{IsLife, Life, MayLeave}
 use Rattle.vend_core.specs.Law.LifeLaws.{IsRunning, extended_by}
 use Rattle.vend_core.specs.Office.{IsOffice, Office}
 use Rattle.vend_core.specs.declared.decision.answer.Answer.{Answer}
+use Rattle.vend_core.specs.declared.decision.change.Edit.{Edit}
 use Rattle.vend_core.specs.declared.decision.refusal.Refusal.{Refusal}
 use Rattle.vend_core.specs.declared.decision.refusal.Refusal.TheVariants.{Memory, Store, Stopped}
 use Rattle.vend_core.specs.declared.decision.request.Stamped.{Stamped}
 use Rattle.books.specs.Keeps.{IsNextOrOneBefore, IsRepresented, Seen}
-use Rattle.books.specs.Serving.{HoldsOffice, ServingEnds}
+use Rattle.books.specs.Serving.{HoldsOffice, IsMade, ServesGranted, ServingEnds}
 use Rattle.book_edits.specs.Transaction.{MayBeLeft}
 use Rattle.books.proofs.AttemptLemmas.{sales_step}
 
@@ -70,6 +71,24 @@ pub record GoesOnWith (life : Life) (o : Office) (at : Stamped) : Type 0 where
   pub failed : IsLife (extended_by life at (Err Store))
   pub doubted : (p : Office) → MayLeave (extended_by life at (Err Store)) p ↔ ((p ≡ o) ⊎ (p ≡ step life.forward o at))
   pub alone : (more : Life) (p q : Office) → IsRunning more p → (MayLeave more q ↔ (q ≡ p))
+
+-- what a change left is so whether the books are stopped or not
+made_on : (edit : Option Edit) (prior : ℕ) (old books : Seen) (stopped : Bool) → IsMade edit prior old books → IsMade edit prior old (record books { stopped = stopped })
+made_on None prior old books stopped made = made
+made_on (Some edit) prior old books stopped made = made
+
+-- and so is a granted request
+pub granted_on : (at : Stamped) (reply : Result Answer Refusal) (old books : Seen) (stopped : Bool) → IfOk reply (λ answer. ServesGranted at answer old books)
+    → IfOk reply (λ answer. ServesGranted at answer old (record books { stopped = stopped }))
+granted_on at (Ok answer) old books stopped granted = record {
+  change = granted.change;
+  answers = granted.answers;
+  granted = granted.granted;
+  prior = granted.prior;
+  read = granted.read;
+  made = made_on granted.change.edit granted.prior old books stopped granted.made;
+}
+granted_on at (Err refusal) old books stopped granted = granted
 
 -- whether books are stopped says nothing of what they hold
 pub with_stopped : (forward : BlockFunction) (o : Office) (at : Stamped) (answer : Result Answer Refusal) (books : Seen) (stopped : Bool) → ServingEnds forward o at answer books

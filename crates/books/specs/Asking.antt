@@ -1,5 +1,5 @@
 -- What books make of a request that they are asked at a moment.
-use Rattle.std.specs.Prelude.{◌≡◌, ◌↔◌, ◌⊎◌, ℕ, ◌%◌, false, true, List, [], ◌∷◌, Result, Err, IfErr, OnOk}
+use Rattle.std.specs.Prelude.{◌≡◌, ◌↔◌, ◌⊎◌, ℕ, ◌%◌, false, true, List, [], ◌∷◌, Result, Err, IfErr, IfOk}
 use Rattle.sqlite.specs.State.{HasCleanDisk}
 use Rattle.vend_core.specs.Law.Life.{Life}
 use Rattle.vend_core.specs.Law.LifeLaws.{extended_by}
@@ -21,13 +21,15 @@ pub record IsAsked (moment : ℕ) (request : Request) (books : Seen) (at : Stamp
 -- Books replied so to a stamped request. Every life that they kept, they keep with this request and
 -- this reply. They leave the tables of other names alone. A granted request that changes nothing
 -- commits nothing. They answer as stopped exactly where they were, and are stopped after a failure.
+-- Whatever rows the tables have: but for a failure, and want of memory, all rows that the request
+-- looked at show records, and it was decided by these.
 pub record Replies (at : Stamped) (reply : Result Answer Refusal) (old new : Seen) : Type 0 where
   pub keeps : (life : Life) → Represents life old → Represents (extended_by life at reply) new
   pub tables : BooksHaveTables old → BooksHaveTables new
   pub others : HasCleanDisk new.state → BooksHaveTables old → LeavesOthers old.state new.state
   pub clean : HasCleanDisk new.state → HasCleanDisk old.state
   pub granted : HasCleanDisk new.state → BooksHaveTables old → old.stopped ≡ false
-      → OnOk reply (ServesGranted at old new)
+      → IfOk reply (λ answer. ServesGranted at answer old new)
   pub failures : HasCleanDisk new.state → BooksHaveTables old → old.stopped ≡ false
       → IfErr reply (FailsToServe at old new)
   pub stopped : (reply ≡ Err Stopped) ↔ (old.stopped ≡ true)

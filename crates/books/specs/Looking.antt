@@ -5,9 +5,12 @@ use Rattle.vend_core.specs.Office.{Office}
 use Rattle.vend_core.specs.declared.decision.refusal.Refusal.{Refusal}
 use Rattle.vend_core.specs.declared.decision.refusal.Refusal.TheVariants.{Memory, Store, Stopped}
 use Rattle.vend_core.specs.declared.office.sale.Sale.{Sale}
-use Rattle.book_facts.specs.Lookups.{Finds}
+use Rattle.book_facts.specs.Lookups.{Finds, IsOfRules}
+use Rattle.book_facts.specs.LookupsSeen.{IsFoundSeen}
 use Rattle.book_facts.specs.declared.lookup.Found.{Found}
 use Rattle.book_facts.specs.declared.lookup.Lookup.{Lookup}
+use Rattle.books.specs.Keeps.{Seen}
+use Rattle.books.specs.Reads.{ReadsBooks}
 
 -- that was found at the moment in the present office of the life, or there was no memory, or the
 -- store failed, or the books were stopped
@@ -15,6 +18,11 @@ abbrev pub IsFoundAt : Life → ℕ → Lookup → Result Found Refusal → Type
 IsFoundAt life moment lookup result =
     Finds (present life) moment lookup result
     ⊎ ((result ≡ Err Memory) ⊎ ((result ≡ Err Store) ⊎ (result ≡ Err Stopped)))
+
+-- books were read for what is looked up at a moment, and gave this
+abbrev pub LooksUpBooks : ℕ → Lookup → Result Found Refusal → Seen → Seen → Type 0
+LooksUpBooks moment lookup found old new =
+    ReadsBooks IsOfRules (IsFoundSeen old.next_number moment lookup) found old new
 
 -- the sale is the last one to a meter, by number
 pub record IsLastTo (o : Office) (number : List ℕ) (s : Sale) : Type 0 where

@@ -35,12 +35,13 @@ abbrev pub StandsIn : Image → Office → Type 0
 StandsIn image o = (trees : Trees) → MayFind image trees → FindsOffice trees o
 
 -- A connection was just made to the files, and has what they hold. The rows of each table are in
--- the order of their numbers.
+-- the order of their numbers. No limit on the steps of a statement is set.
 pub record IsConnected (image : Image) (s : State) : Type 0 where
   pub opens : Opens s
   pub live : IsLive s
   pub in_order : HasTablesInOrder s.now
   pub found : MayFind image s.committed.trees
+  pub unlimited : s.step_limit ≡ None
 
 module _ {D : Type 0} {g : Ghosts D} where
   -- An office was opened over a connection that was just made to the files, and a new file was made

@@ -1,5 +1,6 @@
 -- What books make of a call that only reads.
 use Rattle.std.specs.Prelude.{◌≡◌, ◌↔◌, ◌⊎◌, false, true, Result, Err, IfErr}
+use Rattle.sqlite.specs.Effect.{Database}
 use Rattle.sqlite.specs.State.{HasCleanDisk}
 use Rattle.vend_core.specs.Law.Life.{Life}
 use Rattle.vend_core.specs.declared.decision.refusal.Refusal.{Refusal}
@@ -11,9 +12,11 @@ use Rattle.books.specs.Keeps.{BooksHaveTables, Represents, Seen}
 
 -- Books were read, and gave this. Every life that they kept they keep, and nothing was written.
 -- They answer as stopped exactly where they were, and are stopped after a failure. Beside the
--- refusals of its own, a read has those that tell why the tables were not read.
-pub record ReadsBooks {A : Type 0} (Own : Refusal → Type 0) (given : Result A Refusal)
-    (old new : Seen) : Type 0 where
+-- refusals of its own, a read has those that tell why the tables were not read. What is given was
+-- seen in the tables, whatever their rows are.
+pub record ReadsBooks {A : Type 0} (Own : Refusal → Type 0)
+    (IsSeen : Database → Result A Refusal → Type 0) (given : Result A Refusal) (old new : Seen)
+    : Type 0 where
   pub keeps : (life : Life) → Represents life old → Represents life new
   pub tables : BooksHaveTables old → BooksHaveTables new
   pub others : HasCleanDisk new.state → BooksHaveTables old → LeavesOthers old.state new.state
@@ -25,3 +28,5 @@ pub record ReadsBooks {A : Type 0} (Own : Refusal → Type 0) (given : Result A 
       (λ why. Own why ⊎ ((why ≡ Memory) ⊎ ((why ≡ Store) ⊎ (why ≡ Stopped))))
   pub failures : HasCleanDisk new.state → BooksHaveTables old → old.stopped ≡ false
       → IfErr given (λ why. Own why ⊎ IsToldOfRead why old.state new.state)
+  pub seen : HasCleanDisk new.state → BooksHaveTables old → old.stopped ≡ false
+      → IsSeen old.state.now given

@@ -11,7 +11,7 @@ use Rattle.vend_core.specs.declared.decision.refusal.Refusal.{Refusal}
 use Rattle.vend_core.specs.declared.decision.refusal.Refusal.TheVariants.{Memory, Store}
 use Rattle.vend_core.specs.declared.decision.request.Stamped.{Stamped}
 use Rattle.book_states.specs.Changing.{IsCounted}
-use Rattle.book_states.specs.Failing.{IsPriorRead, RefusesUnchanged}
+use Rattle.book_states.specs.Failing.{IsChangeRead, RefusesUnchanged}
 use Rattle.book_edits.specs.Transaction.{FailsToEdit, HasEdit, MayBeLeft}
 use Rattle.book_states.specs.Stores.{Stores}
 use Rattle.books.specs.Keeps.{Seen}
@@ -31,25 +31,32 @@ IsGrantedWith at books edit =
 abbrev pub IsDecidedFor : Stamped → Seen → Edit → Type 0
 IsDecidedFor at books edit = IsGrantedWith at books (Some edit)
 
--- What a granted request left: where it changes nothing, nothing was written and a crash leaves
--- nothing new; else its edit was committed, and the tenths that are told of a sale's month are
--- those that were read for it and its own.
-abbrev pub ServesGranted : Stamped → Seen → Seen → Type 0
-ServesGranted at old new =
-    (IsGrantedWith at old None × ChangesNothing old.state new.state)
-    ⊎ ((edit : Edit) × IsDecidedFor at old edit × HasEdit edit old.state new.state
-    × ((prior : ℕ) × IsPriorRead at old.next_number old.state prior
-    × IsCounted edit prior old.state.now))
+-- What a change left: where it has no edit, nothing was written and a crash leaves nothing new; else
+-- its edit was committed, and the tenths that are told of a sale's month are these and its own.
+abbrev pub IsMade : Option Edit → ℕ → Seen → Seen → Type 0
+IsMade None prior old new = ChangesNothing old.state new.state
+IsMade (Some edit) prior old new =
+    HasEdit edit old.state new.state × IsCounted edit prior old.state.now
+
+-- A granted request: the rules grant its change, by the facts that were read, and it was made.
+pub record ServesGranted (at : Stamped) (answer : Answer) (old new : Seen) : Type 0 where
+  pub change : Change
+  pub answers : change.answer ≡ answer
+  pub granted : IsGrantedWith at old change.edit
+  pub prior : ℕ
+  pub read : IsChangeRead old.forward at old.next_number old.state change prior
+  pub made : IsMade change.edit prior old new
 
 -- Why a request is refused by books that are not stopped. It was refused before anything changed,
 -- or its edit is not known to be committed.
 abbrev pub FailsToServe : Stamped → Seen → Seen → Refusal → Type 0
 FailsToServe at old new refusal =
     (ChangesNothing old.state new.state
-    × RefusesUnchanged at old.next_number old.state new.state refusal)
+    × RefusesUnchanged old.forward at old.next_number old.state new.state refusal)
     ⊎ ((edit : Edit) × IsDecidedFor at old edit
-    × ((prior : ℕ) × IsPriorRead at old.next_number old.state prior
-    × FailsToEdit old.been edit prior old.state new.state refusal))
+    × ((change : Change) × (change.edit ≡ Some edit)
+    × ((prior : ℕ) × IsChangeRead old.forward at old.next_number old.state change prior
+    × FailsToEdit old.been edit prior old.state new.state refusal)))
 
 -- the office served the request, and the books hold the office after it; or no memory was found,
 -- and they hold the office from before; or the store failed, and may be opened again with either,

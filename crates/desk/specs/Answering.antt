@@ -2,9 +2,7 @@
 use Rattle.std.specs.Prelude.{◌≡◌, ◌≢◌, ℕ, ◌+◌, ◌%◌, ℤ, ◌⊎◌, true, List, length, Option, Result, Err}
 use Rattle.books.specs.Asking.{ReplyAt}
 use Rattle.books.specs.Keeps.{Represents, Seen}
-use Rattle.books.specs.Looking.{IsFoundAt}
-use Rattle.books.specs.Reads.{ReadsBooks}
-use Rattle.book_facts.specs.Lookups.{IsOfRules}
+use Rattle.books.specs.Looking.{IsFoundAt, LooksUpBooks}
 use Rattle.book_facts.specs.declared.lookup.Found.{Found}
 use Rattle.book_facts.specs.declared.lookup.Lookup.{Lookup}
 use Rattle.sqlite.specs.State.{HasCleanDisk}
@@ -59,7 +57,7 @@ pub record FoundAt (moment : ℕ) (lookup : Lookup) (found : Result Found Refusa
     : Type 0 where
   pub of_life : HasCleanDisk new.state → (life : Life) → Represents life old
       → IsFoundAt life moment lookup found
-  pub reads : ReadsBooks IsOfRules found old new
+  pub reads : LooksUpBooks moment lookup found old new
 
 -- how books of any kind serve, by what contracts see of them
 abbrev pub books_serve : {B : Type 0} → (B → Seen) → Serving B

@@ -1,7 +1,7 @@
 //! One request: it is decided by what the tables hold, and what it changes is committed before the
 //! answer.
 
-ghost use Rattle.std.specs.Prelude.{◌≡◌, ◌≢◌, ◌+◌, Err, IfErr, OnOk, length};
+ghost use Rattle.std.specs.Prelude.{◌≡◌, ◌≢◌, ◌+◌, Err, IfErr, IfOk, length};
 ghost use Rattle.sqlite.specs.State.{HasCleanDisk};
 ghost use Rattle.sqlite.specs.Held.{state};
 ghost use Rattle.vend_core.specs.Decision.Edits.{applied};
@@ -32,7 +32,8 @@ impl<S: Alter, T: BlockTransform> Books<S, T> {
         ensures failures { HasCleanDisk (seen self.new).state → HasAllTables (seen self.old).state
             → IfErr result (FailsToServe at.now (seen self.old) (seen self.new)) }
         ensures granted { HasCleanDisk (seen self.new).state → HasAllTables (seen self.old).state
-            → OnOk result (ServesGranted at.now (seen self.old) (seen self.new)) }
+            → IfOk result (λ answer. ServesGranted at.now answer (seen self.old)
+            (seen self.new)) }
         ensures clean { HasCleanDisk (seen self.new).state → HasCleanDisk (seen self.old).state }
         ensures never_stopped { result ≢ Err Refusal.Stopped }
         ensures transform { self.new.transform ≡ self.old.transform }

@@ -4,9 +4,7 @@ ghost use Rattle.std.specs.Prelude.{◌≡◌, true, Err};
 ghost use Rattle.sqlite.specs.State.{HasCleanDisk};
 ghost use Rattle.vend_core.specs.Law.Life.{Life};
 ghost use Rattle.books.specs.Keeps.{Represents, seen};
-ghost use Rattle.books.specs.Looking.{IsFoundAt};
-ghost use Rattle.books.specs.Reads.{ReadsBooks};
-ghost use Rattle.book_facts.specs.Lookups.{IsOfRules};
+ghost use Rattle.books.specs.Looking.{IsFoundAt, LooksUpBooks};
 
 use super::Books;
 use book_facts::{Found, Lookup, look_up};
@@ -26,7 +24,7 @@ impl<S: Alter, T: BlockTransform> Books<S, T> {
         ensures found { HasCleanDisk (seen self.new).state → (life : Life)
             → Represents life (seen self.old)
             → IsFoundAt life moment lookup.now result }
-        ensures reads { ReadsBooks IsOfRules result (seen self.old) (seen self.new) }
+        ensures reads { LooksUpBooks moment lookup.now result (seen self.old) (seen self.new) }
         ensures idle { self.old.stopped ≡ true → self.new ≡ self.old }
     {
         if self.stopped {

@@ -5,6 +5,8 @@ ghost use Rattle.sqlite.specs.State.{HasCleanDisk};
 ghost use Rattle.vend_core.specs.Law.Life.{Life, MayLeave, present};
 ghost use Rattle.vend_core.specs.Office.{Office};
 ghost use Rattle.vend_core.specs.Law.Store.{sales_above};
+ghost use Rattle.book_tables.specs.reading.Questions.{the_sales_after};
+ghost use Rattle.book_tables.specs.reading.Seen.{ShowsAll};
 ghost use Rattle.books.specs.Keeps.{IsNextOrOneBefore, Represents, seen};
 ghost use Rattle.books.specs.Reads.{ReadsBooks};
 
@@ -27,7 +29,9 @@ impl<S: Alter, T: BlockTransform> Books<S, T> {
         ensures given { HasCleanDisk (seen self.new).state → (life : Life)
             → Represents life (seen self.old)
             → IfOk result (λ sales. sales.items ≡ sales_above (present life) number limit) }
-        ensures reads { ReadsBooks (λ why. ⊥) result (seen self.old) (seen self.new) }
+        ensures reads { ReadsBooks (λ why. ⊥) (λ db given. IfOk given (λ sales.
+            ShowsAll (the_sales_after number limit) db sales.items)) result
+            (seen self.old) (seen self.new) }
         ensures idle { self.old.stopped ≡ true → self.new ≡ self.old }
     {
         if self.stopped {

@@ -5,7 +5,7 @@ ghost use Rattle.sqlite.specs.State.{HasCleanDisk};
 ghost use Rattle.vend_core.specs.Law.Life.{Life, present};
 ghost use Rattle.books.specs.Keeps.{Represents, seen};
 ghost use Rattle.books.specs.Reads.{ReadsBooks};
-ghost use Rattle.book_facts.specs.Totals.{shift_totals};
+ghost use Rattle.book_facts.specs.Totals.{GivesTotals, shift_totals};
 
 use super::Books;
 use book_facts::totals;
@@ -30,7 +30,7 @@ impl<S: Alter, T: BlockTransform> Books<S, T> {
         ensures none { HasCleanDisk (seen self.new).state → (life : Life)
             → Represents life (seen self.old)
             → result ≡ Err Refusal.NoSuchShift → shift_totals (present life) number ≡ None }
-        ensures reads { ReadsBooks (λ why. why ≡ Refusal.NoSuchShift) result
+        ensures reads { ReadsBooks (λ why. why ≡ Refusal.NoSuchShift) (GivesTotals number) result
             (seen self.old) (seen self.new) }
         ensures idle { self.old.stopped ≡ true → self.new ≡ self.old }
     {

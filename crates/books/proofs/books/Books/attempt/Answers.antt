@@ -1,8 +1,9 @@
-use Rattle.std.proofs.Common.{None, Some, inl, inr, refl, subst}
+use Rattle.std.proofs.Common.{None, Option, Some, inl, inr, refl, subst, sym}
 use Rattle.sqlite.specs.Held.{state}
 use Rattle.vend_core.specs.Office.{IsOffice}
-use Rattle.books.specs.Keeps.{seen}
-use Rattle.books.specs.Serving.{IsDecidedFor, IsGrantedWith}
+use Rattle.vend_core.specs.declared.decision.change.Edit.{Edit}
+use Rattle.books.specs.Keeps.{Seen, seen}
+use Rattle.books.specs.Serving.{IsDecidedFor, IsMade}
 use Rattle.books.proofs.AttemptLemmas.{committed_ends, failed_ends, handed_on, is_applied, is_decision, refused_ends, unchanged_ends}
 use Rattle.book_facts.proofs.FactsLemmas.{none_of}
 use Rattle.book_edits.proofs.CommitLemmas.{commits_others, counted_after, fails_after, has_after}
@@ -124,7 +125,8 @@ returns-in_err-commit-clause-failures g c clean tables =
       c.in-Some.is,
     ) in
     let prior = c.in_ok-decided.decided.prior in
-    rw same (inr (c.in-Some.edit, decided, (prior, c.in_ok-decided.ensures.prior early, fails_after c.in-Some.edit old mid new clean nothing g.S.Store prior c.in_err-commit.field-0.0 commits.failed)))
+    let change = c.in_ok-decided.decided.change in
+    rw same (inr (c.in-Some.edit, decided, (change, c.in-Some.is, (prior, c.in_ok-decided.ensures.read early, fails_after c.in-Some.edit old mid new clean nothing g.S.Store prior c.in_err-commit.field-0.0 commits.failed))))
 
 pub returns-clause-granted : goal.returns-clause-granted
 returns-clause-granted g c clean tables =
@@ -132,27 +134,35 @@ returns-clause-granted g c clean tables =
     let mid = state g.S.Store c.decision_of.new.conn in
     let books = seen c.args.self.now in
     let change = c.in_ok-decided.decided.change in
+    let prior = c.in_ok-decided.decided.prior in
     elim c.match-decided.branch [
       | in-Some+in_ok-commit w ↦
           let late = rw w.self-is at clean in
           let early = w.commit.ensures.clean late in
           let new = state g.S.Store w.commit.new.conn in
+          let after : Seen = record books { state = new; next_number = w.next_after-self.result } in
           let nothing = c.decision_of.ensures.nothing early tables in
           let commits = w.in_ok-commit.ensures.commits late (tables_stay old mid (nothing_others old mid early nothing) tables) in
-          let decided : IsGrantedWith c.args.at.now books (Some w.in-Some.edit) = λ o held. (
-            change,
-            is_decision (g.T.BlockTransform.forwards c.args.self.now.transform) o c.args.at.now change (c.in_ok-decided.ensures.decides early o held.at held.next),
-            w.in-Some.is,
-          ) in
-          let prior = c.in_ok-decided.decided.prior in
           let counted = counted_after w.in-Some.edit old mid new late nothing prior commits.done.was_open commits.counted in
-          rw w.self-is (inr (w.in-Some.edit, decided, has_after w.in-Some.edit old mid new late nothing commits.done, (prior, c.in_ok-decided.ensures.prior early, counted)))
+          let made = subst (λ (edit : Option Edit). IsMade edit prior books after) (sym w.in-Some.is) (has_after w.in-Some.edit old mid new late nothing commits.done, counted) in
+          rw w.self-is (record {
+            change = change;
+            answers = refl;
+            granted = λ o held. (change, is_decision (g.T.BlockTransform.forwards c.args.self.now.transform) o c.args.at.now change (c.in_ok-decided.ensures.decides early o held.at held.next), refl);
+            prior = prior;
+            read = c.in_ok-decided.ensures.read early;
+            made = made;
+          })
       | in_default w ↦
           let late = rw w.self-is at clean in
-          let decided : IsGrantedWith c.args.at.now books None = λ o held. (
-            change,
-            is_decision (g.T.BlockTransform.forwards c.args.self.now.transform) o c.args.at.now change (c.in_ok-decided.ensures.decides late o held.at held.next),
-            none_of change.edit w.in_default.not-Some,
-          ) in
-          rw w.self-is (inl (decided, c.decision_of.ensures.nothing late tables))
+          let after : Seen = record books { state = mid } in
+          let made = subst (λ (edit : Option Edit). IsMade edit prior books after) (sym (none_of change.edit w.in_default.not-Some)) (c.decision_of.ensures.nothing late tables) in
+          rw w.self-is (record {
+            change = change;
+            answers = refl;
+            granted = λ o held. (change, is_decision (g.T.BlockTransform.forwards c.args.self.now.transform) o c.args.at.now change (c.in_ok-decided.ensures.decides late o held.at held.next), refl);
+            prior = prior;
+            read = c.in_ok-decided.ensures.read late;
+            made = made;
+          })
     ]

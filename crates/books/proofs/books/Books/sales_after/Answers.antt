@@ -14,4 +14,4 @@ returns-clause-reads g c =
     let given = c.page-sales.result in
     let told = c.page-sales.ensures in
     was_read (λ why. ⊥) given old new c.if-self.false refl refl told.nothing told.clean
-    (λ clean has. none_own given _ (told.failures clean has)) (none_own given _ told.refusals) (λ none. none) c.has_failed-self.ensures
+    (λ clean has. none_own given _ (told.failures clean has)) (none_own given _ told.refusals) (λ none. none) c.has_failed-self.ensures told.seen

@@ -2,7 +2,7 @@ use Rattle.std.proofs.Common.{rules, ap, sym, subst, ◌∙◌}
 use Rattle.books.specs.Keeps.{seen}
 use Rattle.books.specs.Serving.{ServingEnds}
 use Rattle.book_states.proofs.OthersLemmas.{others_same, tables_stay}
-use Rattle.books.proofs.ServeLemmas.{GoesOnWith, kept_attempted, kept_stopped, stops_on, with_stopped}
+use Rattle.books.proofs.ServeLemmas.{GoesOnWith, granted_on, kept_attempted, kept_stopped, stops_on, with_stopped}
 use Rattle.books.proofs.books.Books.serve.Goals as goal
 
 pub returns-then-self-clause-replies : goal.returns-then-self-clause-replies
@@ -53,7 +53,7 @@ returns-clause-replies g c =
           tables_stay old.state mid.state (tried.others clean before) before;
       others = λ clean has. tried.others clean (has (tried.clean clean) c.if-self.false);
       clean = tried.clean;
-      granted = λ clean has runs. tried.granted clean (has (tried.clean clean) runs);
+      granted = λ clean has runs. granted_on at answer old mid c.has_failed-self.result (tried.granted clean (has (tried.clean clean) runs));
       failures = λ clean has runs. tried.failures clean (has (tried.clean clean) runs);
       stopped = search rules;
       stops = stops_on c.has_failed-self.result answer c.has_failed-self.ensures tried.never_stopped;
