@@ -1,0 +1,160 @@
+-- What a desk answers to a question is read whole.
+use Rattle.std.proofs.Common.{◌≡◌, ◌≢◌, ◌∙◌, ℕ, pos, ◌≤◌, false, List, length, Some, Result, Ok, Err, refl, sym, ap, subst, arith}
+use Rattle.std.specs.Borrow.{Bor}
+use Rattle.sts_fields.specs.Moment.{IsMoment}
+use Rattle.papers.specs.declared.file_kind.FileKind.{FileKind}
+use Rattle.papers.specs.declared.row_fault.RowFault.{RowFault}
+use Rattle.papers.specs.declared.row_fault.RowFault.TheVariants as row_faults
+use Rattle.vend_core.specs.Decision.Fold.{after}
+use Rattle.vend_core.specs.Law.Life.{IsLife, Life, present}
+use Rattle.vend_core.specs.Office.{IsOffice}
+use Rattle.vend_core.specs.declared.decision.answer.Answer.{Answer}
+use Rattle.vend_core.specs.declared.decision.refusal.Refusal.{Refusal}
+use Rattle.vend_core.specs.declared.decision.refusal.Refusal.TheVariants.{ImportRow}
+use Rattle.vend_core.specs.declared.decision.request.Request.{Request}
+use Rattle.vend_core.specs.declared.decision.request.Request.TheVariants as requests
+use Rattle.vend_core.specs.declared.office.row.Row.{Row}
+use Rattle.book_facts.specs.declared.lookup.Lookup.{Lookup}
+use Rattle.book_facts.specs.declared.lookup.Lookup.TheVariants as lookups
+use Rattle.conversation.specs.Exchanges.{Timed}
+use Rattle.desk.specs.Meaning.{MessageAsks, MessageLooks, lookup_form}
+use Rattle.desk.specs.declared.reply.form.Form.TheVariants as forms
+use Rattle.desk.specs.declared.reply.outcome.Outcome.{Outcome}
+use Rattle.desk.specs.declared.reply.outcome.Outcome.TheVariants as outcomes
+use Rattle.desk.specs.reply.Text.{reply_bytes_of}
+use Rattle.desk_client.specs.Asks.{IsAskable, question_message}
+use Rattle.desk_client.specs.Question.{question_text, wanted_by}
+use Rattle.desk_client.specs.Reply.{IsReply, longest_body, reply_text}
+use Rattle.desk_client.specs.Tells.{Tells}
+use Rattle.desk_client.specs.Told.{IsTellable}
+use Rattle.desk_client.specs.declared.question.Question.{Question}
+use Rattle.desk_client.specs.declared.question.Question.TheVariants as questions
+use Rattle.desk_client.specs.declared.told.Told.{Told}
+use Rattle.desk_client.specs.declared.told.Wanted.{Wanted}
+use Rattle.desk_client.specs.declared.told.Wanted.TheVariants as wants
+use Rattle.desk_client.proofs.TellsLemmas.{says}
+use Rattle.program_laws.specs.AtDesk.{IsAnsweredAt}
+use Rattle.program_laws.proofs.AtDeskLemmas.OneLemmas.{Came, DeskLaws, came_of, few_rows, import_for, may_be, reply_length, row_tellable}
+use Rattle.program_laws.proofs.AtDeskLemmas.MeaningLemmas.{ComesOfRows, IsRead, came_rows, looked, replied}
+use Rattle.program_laws.proofs.AtDeskLemmas.RuleLemmas.{present_is}
+use Rattle.program_laws.proofs.AtDeskLemmas.TellableLemmas.{MayAsk, MayLook, form_for, look_tells, no_count, reply_tells, tellable_look, tellable_reply, told_look, told_reply, wanted_for, wanted_look}
+
+-- what came of a message, as it is told
+pub record Reads (w : Wanted) (outcome : Outcome) : Type 0 where
+  pub told : Told
+  pub tellable : IsTellable w told
+  pub tells : Tells outcome told
+
+module _ (laws : DeskLaws) (moment : ℕ) (is_moment : IsMoment moment) (old new : Timed Life) (came : List ℕ) (opening : IsOffice old.0.opening)
+    (life : IsLife new.0) where
+  request_reads : (q : Question) (request : Request) → MessageAsks (question_message q) (Some (pos moment)) (form_for request) moment request → MayAsk request
+      → wanted_by q ≡ wanted_for request → (c : Came laws q (pos moment) old new came) → Reads (wanted_by q) c.outcome
+  request_reads q request asks ask wanted c =
+      let m = question_message q in
+      let now = Some (pos moment) in
+      let r = replied m now (laws.meaning m now) (form_for request) moment request asks c.outcome old.0 new.0 c.comes in
+      let may = may_be laws old.0 new.0 moment request r.0 life opening r.2 in
+      let u = told_reply (form_for request) r.0 in
+      record {
+        told = u;
+        tellable = subst (λ (w : Wanted). IsTellable w u) (sym wanted) (tellable_reply request r.0 ask may.1 may.0);
+        tells = subst (λ (x : Outcome). Tells x u) (sym r.1) (reply_tells (form_for request) r.0);
+      }
+
+  look_reads : (q : Question) (lookup : Lookup) → MessageLooks (question_message q) (Some (pos moment)) (lookup_form lookup) moment lookup → MayLook lookup
+      → wanted_by q ≡ wanted_look lookup → wanted_look lookup ≢ wants.Done → (c : Came laws q (pos moment) old new came) → Reads (wanted_by q) c.outcome
+  look_reads q lookup looks may wanted some c =
+      let m = question_message q in
+      let now = Some (pos moment) in
+      let r = looked m now (laws.meaning m now) (lookup_form lookup) moment lookup looks c.outcome old.0 new.0 c.comes in
+      let office : IsOffice (present old.0) = present_is laws.along old.0 (subst IsLife r.3 life) opening in
+      let u = told_look (lookup_form lookup) r.0 in
+      let keeps : IsTellable (wanted_look lookup) u = tellable_look laws.ranges old.0 office moment lookup r.0 may r.2 in
+      record {
+        told = u;
+        tellable = subst (λ (w : Wanted). IsTellable w u) (sym wanted) keeps;
+        tells =
+            subst (λ (x : Outcome). Tells x u) (sym r.1)
+            (look_tells (lookup_form lookup) r.0 (no_count (lookup_form lookup) (wanted_look lookup) r.0 some keeps));
+      }
+
+  json_reads : (r : Result Answer Refusal) (outcome : Outcome) → outcome ≡ outcomes.Replied forms.Json r → IsTellable wants.Imported (told_reply forms.Json r)
+      → Reads wants.Imported outcome
+  json_reads r outcome is keeps =
+      record {
+        told = told_reply forms.Json r;
+        tellable = keeps;
+        tells = subst (λ (x : Outcome). Tells x (told_reply forms.Json r)) (sym is)
+            (reply_tells forms.Json r);
+      }
+
+  import_reads : (kind : FileKind) (csv : Bor (List ℕ)) → (c : Came laws (questions.Import kind csv) (pos moment) old new came) → Reads wants.Imported c.outcome
+  import_reads kind csv c =
+      let m = question_message (questions.Import kind csv) in
+      let rows = came_rows laws.routed m kind (import_for kind csv) moment old.0 new.0 is_moment c.outcome c.comes in
+      by_rows rows.0 rows.1 rows.2
+    where
+      by_rows : (read : Result (List Row) RowFault) → IsRead kind (question_message (questions.Import kind csv)).body read
+          → ComesOfRows moment read c.outcome old.0 new.0 → Reads wants.Imported c.outcome
+      by_rows (Ok rows) read (r, outcome, replies) =
+          let may = may_be laws old.0 new.0 moment (requests.Import rows) r life opening replies in
+          json_reads r c.outcome outcome (tellable_reply (requests.Import rows) r (few_rows laws kind _ rows read) may.1 may.0)
+      by_rows (Err (row_faults.At row cause)) read (outcome, same) =
+          json_reads (Err (ImportRow row cause)) c.outcome outcome (row_tellable laws kind _ row cause read)
+      by_rows (Err row_faults.Memory) read none = absurd none
+
+  -- what came of a question
+  question_reads : (q : Question) → IsAskable q → (c : Came laws q (pos moment) old new came) → Reads (wanted_by q) c.outcome
+  question_reads (questions.Import kind csv) askable c = import_reads kind csv c
+  question_reads (questions.MoveBase meter base) askable c =
+      request_reads (questions.MoveBase meter base) (requests.MoveBase meter base)
+      (laws.means (questions.MoveBase meter base) moment askable is_moment) tt refl c
+  question_reads (questions.OpenShift operator) askable c =
+      request_reads (questions.OpenShift operator) (requests.OpenShift operator) (laws.means (questions.OpenShift operator) moment askable is_moment) tt refl c
+  question_reads (questions.CloseShift operator) askable c =
+      request_reads (questions.CloseShift operator) (requests.CloseShift operator)
+      (laws.means (questions.CloseShift operator) moment askable is_moment) tt refl c
+  question_reads (questions.Sell order) askable c =
+      request_reads (questions.Sell order) (requests.Sell order) (laws.means (questions.Sell order) moment askable is_moment) tt refl c
+  question_reads (questions.ShiftReport number) askable c =
+      request_reads (questions.ShiftReport number) (requests.ShiftReport number) (laws.means (questions.ShiftReport number) moment askable is_moment) tt refl c
+  question_reads (questions.Receipt number) askable c =
+      request_reads (questions.Receipt number) (requests.Reprint number) (laws.means (questions.Receipt number) moment askable is_moment) tt refl c
+  question_reads (questions.ShiftTotals number) askable c =
+      look_reads (questions.ShiftTotals number) (lookups.ShiftTotals number) (laws.means (questions.ShiftTotals number) moment askable is_moment)
+      (omega (arith, askable.most)) refl (λ e. absurd cc) c
+  question_reads (questions.Meter number) askable c =
+      look_reads (questions.Meter number) (lookups.Meter number) (laws.means (questions.Meter number) moment askable is_moment) tt refl (λ e. absurd cc) c
+  question_reads (questions.LastSale number) askable c =
+      look_reads (questions.LastSale number) (lookups.LastSale number) (laws.means (questions.LastSale number) moment askable is_moment) tt refl
+      (λ e. absurd cc) c
+  question_reads (questions.SaleOfRef operator order_ref) askable c =
+      look_reads (questions.SaleOfRef operator order_ref) (lookups.SaleOfRef operator order_ref)
+      (laws.means (questions.SaleOfRef operator order_ref) moment askable is_moment) tt refl (λ e. absurd cc) c
+  question_reads (questions.Quote number tender) askable c =
+      look_reads (questions.Quote number tender) (lookups.Quote number tender)
+      (laws.means (questions.Quote number tender) moment askable is_moment) askable refl (λ e. absurd cc) c
+  question_reads (questions.Tariffs after) askable c =
+      look_reads (questions.Tariffs after) (lookups.Tariffs after) (laws.means (questions.Tariffs after) moment askable is_moment) tt refl (λ e. absurd cc) c
+  question_reads (questions.Meters after) askable c =
+      look_reads (questions.Meters after) (lookups.Meters after) (laws.means (questions.Meters after) moment askable is_moment) tt refl (λ e. absurd cc) c
+  question_reads (questions.Shifts after) askable c =
+      look_reads (questions.Shifts after) (lookups.Shifts after) (laws.means (questions.Shifts after) moment askable is_moment) tt refl (λ e. absurd cc) c
+  question_reads (questions.Sales after) askable c =
+      look_reads (questions.Sales after) (lookups.Sales after) (laws.means (questions.Sales after) moment askable is_moment) tt refl (λ e. absurd cc) c
+
+-- a reply that is not too long tells it
+pub whole_reply : (laws : DeskLaws) (w : Wanted) (outcome : Outcome) (came : List ℕ) → came ≡ reply_bytes_of outcome false → length came ≤ longest_body
+    → (reads : Reads w outcome) → IsReply w came reads.told
+whole_reply laws w outcome came is few reads =
+    let text : came ≡ reply_text reads.told = is ∙ says laws.texts w outcome reads.told reads.tellable reads.tells in
+    record { tellable = reads.tellable; short = omega (arith, few, ap length text, reply_length reads.told); is_text = text }
+
+-- what a desk answers to a question is read whole
+pub question_read : (laws : DeskLaws) (q : Question) (moment : ℕ) (old new : Timed Life) (came : List ℕ) → IsAskable q → IsMoment moment
+    → IsOffice old.0.opening → IsLife new.0
+    → IsAnsweredAt (pos moment) old (question_text q) came new → length came ≤ longest_body → (t : Told) × IsReply (wanted_by q) came t
+question_read laws q moment old new came askable is_moment opening life at few =
+    let c = came_of laws q (pos moment) old new came askable at in
+    let reads = question_reads laws moment is_moment old new came opening life q askable c in
+    (reads.told, whole_reply laws (wanted_by q) c.outcome came c.text few reads)

@@ -1,0 +1,437 @@
+-- What a desk tells of its office keeps the rules of what is told.
+use Rattle.std.proofs.Common.{◌≡◌, ◌≢◌, ◌↔◌, ℕ, ◌+◌, ◌^◌, ◌<◌, ◌≤◌, Bool, true, false, List, [], length, Option, None, Some, Result, Ok, Err, inl, inr, refl, sym, ap, subst, arith}
+use Rattle.std.specs.Prelude.{⊤, All, Contains, IfSome, IsSome, if◌then◌else◌, nat_lt, option_map}
+use Rattle.std.specs.Option.{ok_or}
+use Rattle.std.proofs.lemmas.List.Elements.{All-head}
+use Rattle.sts_fields.specs.Amount.{IsRepresentable, greatest_amount}
+use Rattle.sts_fields.specs.Calendar.{month_at}
+use Rattle.sts_fields.specs.Day.{day_at}
+use Rattle.sts_fields.specs.Tid.{fresh_after, minute_of}
+use Rattle.sts_fields.specs.declared.base.Base.{Base}
+use Rattle.sts_fields.specs.declared.base.Base.TheVariants.{Y1993, Y2014, Y2035}
+use Rattle.sts_fields.specs.declared.fault.TidFault.{TidFault}
+use Rattle.sts_fields.specs.declared.fault.TidFault.TheVariants as tids
+use Rattle.tariff.specs.Purchase.{IsPurchase, purchase_of}
+use Rattle.tariff.specs.Tender.{IsTender}
+use Rattle.tariff.specs.declared.bought.Buy.{Buy}
+use Rattle.tariff.specs.declared.step.Step.{Step}
+use Rattle.papers.specs.Receipt.{receipt_of}
+use Rattle.papers.specs.Report.{report_of}
+use Rattle.vend_core.specs.Decision.{◌>>=◌, MeterAccount, account_of, or_refusal}
+use Rattle.vend_core.specs.Law.Handed.{sales_of}
+use Rattle.vend_core.specs.Name.{IsMeterNo}
+use Rattle.vend_core.specs.Office.{IsOffice, Office, greatest_count}
+use Rattle.vend_core.specs.Office.Lookup.{prior, sale_of_ref, sales_of_shift, shift_numbered}
+use Rattle.vend_core.specs.declared.decision.answer.Answer.{Answer}
+use Rattle.vend_core.specs.declared.decision.answer.Answer.TheVariants as answers
+use Rattle.vend_core.specs.declared.decision.refusal.Refusal.{Refusal}
+use Rattle.vend_core.specs.declared.decision.refusal.Refusal.TheVariants as refusals
+use Rattle.vend_core.specs.declared.decision.request.Order.{Order}
+use Rattle.vend_core.specs.declared.decision.request.Request.{Request}
+use Rattle.vend_core.specs.declared.decision.request.Request.TheVariants as requests
+use Rattle.vend_core.specs.declared.decision.row_cause.RowCause.{RowCause}
+use Rattle.vend_core.specs.declared.decision.row_cause.RowCause.TheVariants as causes
+use Rattle.vend_core.specs.declared.office.meter.Meter.{Meter}
+use Rattle.vend_core.specs.declared.office.row.Row.{Row}
+use Rattle.vend_core.specs.declared.office.sale.Sale.{Sale}
+use Rattle.vend_core.specs.declared.office.shift.Shift.{Shift}
+use Rattle.book_tables.specs.Stands.{all_totals}
+use Rattle.book_facts.specs.Lookups.{Finds, FindsMeters, FindsSales, FindsShifts, FindsTariffs, last_found, last_sale, last_under, meter_found, quote_for, sale_found, sale_of_some_tid, totals_found}
+use Rattle.book_facts.specs.declared.lookup.Found.{Found}
+use Rattle.book_facts.specs.declared.lookup.Found.TheVariants as found
+use Rattle.book_facts.specs.declared.lookup.Lookup.{Lookup}
+use Rattle.book_facts.specs.declared.lookup.Lookup.TheVariants as lookups
+use Rattle.books.specs.Looking.{IsFoundAt}
+use Rattle.vend_core.specs.Law.Life.{Life, present}
+use Rattle.desk.specs.Meaning.{lookup_form}
+use Rattle.desk.specs.declared.reply.form.Form.{Form}
+use Rattle.desk.specs.declared.reply.form.Form.TheVariants as forms
+use Rattle.desk.specs.declared.reply.outcome.Outcome.TheVariants as outcomes
+use Rattle.desk_client.specs.Meter.{IsLastSale}
+use Rattle.desk_client.specs.Page.{page_text}
+use Rattle.desk_client.specs.Sale.{IsTold}
+use Rattle.desk_client.specs.Tells.{Tells, as_told}
+use Rattle.desk_client.specs.Told.{IsTellable, IsTellableRefusal}
+use Rattle.desk_client.specs.declared.told.Granted.TheVariants as granted
+use Rattle.desk_client.specs.declared.told.Told.{Told}
+use Rattle.desk_client.specs.declared.told.Told.TheVariants as told
+use Rattle.desk_client.specs.declared.told.Wanted.{Wanted}
+use Rattle.desk_client.specs.declared.told.Wanted.TheVariants as wanted
+use Rattle.vend_core.proofs.OfficeLemmas.RowLemmas.{option_map_some}
+use Rattle.program_laws.proofs.AtDeskLemmas.RangeLemmas.{cash_within, count_within, found_stands, meter_row, or_keeps, sale_number, sale_row, sale_shift, tariff_named, tenths_within}
+use Rattle.program_laws.proofs.AtDeskLemmas.RuleLemmas.{IsRowFrom, MayReply, RefusesOf}
+
+-- ---- what is told of a reply, and of what was looked up
+
+-- a paper
+abbrev pub paper : List ℕ → Told
+paper text = told.Granted (granted.Paper (record { ref_ptr = (0, 0); now = text }))
+
+abbrev pub page : List ℕ → Told
+page text = told.Granted (granted.Page (record { ref_ptr = (0, 0); now = text }))
+
+abbrev pub told_sale : Form → Sale → Told
+told_sale forms.Json s = told.Granted (granted.Sale (as_told s))
+told_sale forms.Paper s = paper (receipt_of s)
+
+abbrev pub told_answer : Form → Answer → Told
+told_answer form answers.Done = told.Granted granted.Done
+told_answer form (answers.Imported n) = told.Granted (granted.Imported n)
+told_answer form (answers.Opened n) = told.Granted (granted.Shift n)
+told_answer form (answers.Closed n) = told.Granted (granted.Shift n)
+told_answer form (answers.Sold s) = told_sale form s
+told_answer form (answers.Reprinted s) = told_sale form s
+told_answer form (answers.Report shift sales) = paper (report_of shift sales)
+
+abbrev pub told_reply : Form → Result Answer Refusal → Told
+told_reply form (Ok answer) = told_answer form answer
+told_reply form (Err refusal) = told.Refused refusal
+
+abbrev pub told_found : Form → Found → Told
+told_found form (found.SaleCount n) = told.Granted granted.Done
+told_found form (found.Meter m) = told.Granted (granted.Meter m)
+told_found form (found.Sale s) = told_sale form s
+told_found form (found.Quote q) = told.Granted (granted.Quote q)
+told_found form (found.ShiftTotals n totals) = told.Granted (granted.Totals n totals)
+told_found form (found.Tariffs items) = page (page_text (found.Tariffs items))
+told_found form (found.Meters items) = page (page_text (found.Meters items))
+told_found form (found.Shifts items) = page (page_text (found.Shifts items))
+told_found form (found.Sales items) = page (page_text (found.Sales items))
+
+abbrev pub told_look : Form → Result Found Refusal → Told
+told_look form (Ok it) = told_found form it
+told_look form (Err refusal) = told.Refused refusal
+
+sale_tells : (form : Form) (s : Sale) → Tells (outcomes.Replied form (Ok (answers.Sold s))) (told_sale form s)
+sale_tells forms.Json s = refl
+sale_tells forms.Paper s = refl
+
+pub reply_tells : (form : Form) (r : Result Answer Refusal) → Tells (outcomes.Replied form r) (told_reply form r)
+reply_tells form (Ok answers.Done) = refl
+reply_tells form (Ok (answers.Imported n)) = refl
+reply_tells form (Ok (answers.Opened n)) = refl
+reply_tells form (Ok (answers.Closed n)) = refl
+reply_tells form (Ok (answers.Sold s)) = sale_tells form s
+reply_tells form (Ok (answers.Reprinted s)) = sale_tells form s
+reply_tells form (Ok (answers.Report shift sales)) = refl
+reply_tells form (Err refusal) = refl
+
+-- what was found is no count of sales
+abbrev pub IsNoCount : Result Found Refusal → Type 0
+IsNoCount (Ok (found.SaleCount n)) = ⊥
+IsNoCount r = ⊤
+
+pub look_tells : (form : Form) (r : Result Found Refusal) → IsNoCount r → Tells (outcomes.Found form r) (told_look form r)
+look_tells form (Ok (found.SaleCount n)) h = absurd h
+look_tells form (Ok (found.Meter m)) h = refl
+look_tells form (Ok (found.Sale s)) h = sale_tells form s
+look_tells form (Ok (found.Quote q)) h = refl
+look_tells form (Ok (found.ShiftTotals n totals)) h = refl
+look_tells form (Ok (found.Tariffs items)) h = refl
+look_tells form (Ok (found.Meters items)) h = refl
+look_tells form (Ok (found.Shifts items)) h = refl
+look_tells form (Ok (found.Sales items)) h = refl
+look_tells form (Err refusal) h = refl
+
+-- where something else is wanted than that it was done, it is told of no count
+pub no_count : (form : Form) (w : Wanted) (r : Result Found Refusal) → w ≢ wanted.Done → IsTellable w (told_look form r) → IsNoCount r
+no_count form w (Ok (found.SaleCount n)) other h = absurd (other (sym h.1))
+no_count form w (Ok (found.Meter m)) other h = tt
+no_count form w (Ok (found.Sale s)) other h = tt
+no_count form w (Ok (found.Quote q)) other h = tt
+no_count form w (Ok (found.ShiftTotals n totals)) other h = tt
+no_count form w (Ok (found.Tariffs items)) other h = tt
+no_count form w (Ok (found.Meters items)) other h = tt
+no_count form w (Ok (found.Shifts items)) other h = tt
+no_count form w (Ok (found.Sales items)) other h = tt
+no_count form w (Err refusal) other h = tt
+
+-- ---- sales and refusals
+
+pub sale_told : (o : Office) (s : Sale) → IsOffice o → Contains o.sales s → IsTold (as_told s)
+sale_told o s office there =
+    let row = sale_row o s office there in
+    record {
+      number = omega (arith, sale_number o s office there);
+      moment = row.moment;
+      shift = omega (arith, sale_shift o s office there);
+      operator = row.operator;
+      order_ref = row.order_ref;
+      meter = meter_row o s.meter office row.meter;
+      tid = omega (arith, row.tid);
+      nibble = refl;
+      tenths = row.tenths;
+      price = row.price;
+      tender = row.tender;
+      digits = row.digits;
+    }
+
+tellable_row : (most row : ℕ) (cause : RowCause) → most < 4294967295 → IsRowFrom 1 most (row, cause) → IsTellableRefusal (refusals.ImportRow row cause)
+tellable_row most row causes.Header few h = absurd h.2
+tellable_row most row causes.Columns few h = absurd h.2
+tellable_row most row (causes.Field number) few h = absurd h.2
+tellable_row most row causes.TooManyRows few h = absurd h.2
+tellable_row most row causes.Differs few h = (omega (arith, h.1, few), tt)
+tellable_row most row causes.NoTariff few h = (omega (arith, h.1, few), tt)
+tellable_row most row causes.DayPast few h = (omega (arith, h.1, few), tt)
+
+pub tellable_refusal : (most : ℕ) (refusal : Refusal) → most < 4294967295 → RefusesOf most refusal → IsTellableRefusal refusal
+tellable_refusal most (refusals.ImportRow row cause) few h = tellable_row most row cause few h
+tellable_refusal most refusal few h = tt
+
+-- ---- replies
+
+tellable_base : (number : List ℕ) (base : Base) (r : Result Answer Refusal) → MayReply (requests.MoveBase number base) r
+    → IsTellable wanted.Done (told_reply forms.Json r)
+tellable_base number base (Ok answers.Done) h = (tt, refl)
+tellable_base number base (Ok answer) h = absurd h
+tellable_base number base (Err refusal) h = tellable_refusal 0 refusal (omega arith) h
+
+tellable_open : (operator : List ℕ) (r : Result Answer Refusal) → MayReply (requests.OpenShift operator) r → IsTellable wanted.Shift (told_reply forms.Json r)
+tellable_open operator (Ok (answers.Opened n)) h = (omega (arith, h), refl)
+tellable_open operator (Ok answer) h = absurd h
+tellable_open operator (Err refusal) h = tellable_refusal 0 refusal (omega arith) h
+
+tellable_close : (operator : List ℕ) (r : Result Answer Refusal) → MayReply (requests.CloseShift operator) r → IsTellable wanted.Shift (told_reply forms.Json r)
+tellable_close operator (Ok (answers.Closed n)) h = (omega (arith, h), refl)
+tellable_close operator (Ok answer) h = absurd h
+tellable_close operator (Err refusal) h = tellable_refusal 0 refusal (omega arith) h
+
+-- the sales of a reply keep the rules
+abbrev pub AreToldSales : Result Answer Refusal → Type 0
+AreToldSales r = All (λ s. IsTold (as_told s)) (sales_of r)
+
+tellable_sell : (order : Order) (r : Result Answer Refusal) → AreToldSales r → MayReply (requests.Sell order) r
+    → IsTellable wanted.Sale (told_reply forms.Json r)
+tellable_sell order (Ok (answers.Sold s)) sales h = (All-head (λ s. IsTold (as_told s)) s [] sales, refl)
+tellable_sell order (Ok answer) sales h = absurd h
+tellable_sell order (Err refusal) sales h = tellable_refusal 0 refusal (omega arith) h
+
+tellable_reprint : (number : ℕ) (r : Result Answer Refusal) → MayReply (requests.Reprint number) r → IsTellable wanted.Paper (told_reply forms.Paper r)
+tellable_reprint number (Ok (answers.Reprinted s)) h = (tt, refl)
+tellable_reprint number (Ok answer) h = absurd h
+tellable_reprint number (Err refusal) h = tellable_refusal 0 refusal (omega arith) h
+
+tellable_report : (number : ℕ) (r : Result Answer Refusal) → MayReply (requests.ShiftReport number) r → IsTellable wanted.Paper (told_reply forms.Json r)
+tellable_report number (Ok (answers.Report shift sales)) h = (tt, refl)
+tellable_report number (Ok answer) h = absurd h
+tellable_report number (Err refusal) h = tellable_refusal 0 refusal (omega arith) h
+
+tellable_import : (rows : List Row) (r : Result Answer Refusal) → length rows ≤ 10000 → MayReply (requests.Import rows) r
+    → IsTellable wanted.Imported (told_reply forms.Json r)
+tellable_import rows (Ok (answers.Imported n)) few h = (omega (arith, h, few), refl)
+tellable_import rows (Ok answer) few h = absurd h
+tellable_import rows (Err refusal) few h = tellable_refusal (length rows) refusal (omega (arith, few)) h
+
+-- what is wanted of the reply to a request, and the form in which it is told
+abbrev pub wanted_for : Request → Wanted
+wanted_for (requests.OpenShift operator) = wanted.Shift
+wanted_for (requests.CloseShift operator) = wanted.Shift
+wanted_for (requests.Sell order) = wanted.Sale
+wanted_for (requests.Reprint number) = wanted.Paper
+wanted_for (requests.ShiftReport number) = wanted.Paper
+wanted_for (requests.Import rows) = wanted.Imported
+wanted_for request = wanted.Done
+
+abbrev pub form_for : Request → Form
+form_for (requests.Reprint number) = forms.Paper
+form_for request = forms.Json
+
+-- a command asks it of a desk; rows are no more than a file has
+abbrev pub MayAsk : Request → Type 0
+MayAsk (requests.AddTariff name steps) = ⊥
+MayAsk (requests.AddSteps name day steps) = ⊥
+MayAsk (requests.AddMeter number m) = ⊥
+MayAsk (requests.SetTariff number name) = ⊥
+MayAsk (requests.Import rows) = length rows ≤ 10000
+MayAsk request = ⊤
+
+pub tellable_reply : (q : Request) (r : Result Answer Refusal) → MayAsk q → AreToldSales r → MayReply q r
+    → IsTellable (wanted_for q) (told_reply (form_for q) r)
+tellable_reply (requests.AddTariff name steps) r ask sales h = absurd ask
+tellable_reply (requests.AddSteps name day steps) r ask sales h = absurd ask
+tellable_reply (requests.AddMeter number m) r ask sales h = absurd ask
+tellable_reply (requests.SetTariff number name) r ask sales h = absurd ask
+tellable_reply (requests.Import rows) r ask sales h = tellable_import rows r ask h
+tellable_reply (requests.MoveBase number base) r ask sales h = tellable_base number base r h
+tellable_reply (requests.OpenShift operator) r ask sales h = tellable_open operator r h
+tellable_reply (requests.CloseShift operator) r ask sales h = tellable_close operator r h
+tellable_reply (requests.Sell order) r ask sales h = tellable_sell order r sales h
+tellable_reply (requests.Reprint number) r ask sales h = tellable_reprint number r h
+tellable_reply (requests.ShiftReport number) r ask sales h = tellable_report number r h
+
+-- ---- look-ups
+
+-- what lower laws say of amounts, of the tenths of a month and of purchases
+pub record RangeLaws : Type 0 where
+  pub greatest : (t : ℕ) → IsRepresentable t → t ≤ greatest_amount
+  pub prior : (o : Office) (number : List ℕ) (month : ℕ) → IsOffice o → prior o number month ≤ 10 ^ 17
+  pub purchase : (steps : List Step) (before tender : ℕ) (b : Buy) → (purchase_of steps before tender ≡ Some b) ↔ IsPurchase steps before tender b
+
+last_stands : (o : Office) (number : List ℕ) → IfSome (last_sale o number) (Contains o.sales)
+last_stands o number =
+    or_keeps (Contains o.sales) (last_under o number Y2035) _ (under Y2035)
+    (or_keeps (Contains o.sales) (last_under o number Y2014) (last_under o number Y1993) (under Y2014) (under Y1993))
+  where
+    of_tid : (base : Base) (tid : Option ℕ) → IfSome (sale_of_some_tid o number base tid) (Contains o.sales)
+    of_tid base None = tt
+    of_tid base (Some tid) = found_stands _ o.sales
+
+    under : (base : Base) → IfSome (last_under o number base) (Contains o.sales)
+    under base = of_tid base _
+
+last_number : (o : Office) → IsOffice o → (last : Option Sale) → IfSome last (Contains o.sales) → IsLastSale (option_map (λ s. s.number) last)
+last_number o office None h = tt
+last_number o office (Some s) h = omega (arith, sale_number o s office h)
+
+sale_or_none : (o : Office) → IsOffice o → (there : Option Sale) → IfSome there (Contains o.sales)
+    → IsTellable wanted.Sale (told_look forms.Json (sale_found there))
+sale_or_none o office None h = tt
+sale_or_none o office (Some s) h = (sale_told o s office h, refl)
+
+receipt_or_none : (there : Option Meter) (last : Option Sale) → IsTellable wanted.Paper (told_look forms.Paper (last_found there last))
+receipt_or_none None last = tt
+receipt_or_none (Some m) None = tt
+receipt_or_none (Some m) (Some s) = (tt, refl)
+
+meter_or_none : RangeLaws → (o : Office) → IsOffice o → (number : List ℕ) (moment : ℕ) (there : Option Meter) → o.meters number ≡ there
+    → IsTellable wanted.Meter (told_look forms.Json (meter_found number there (prior o number (month_at moment)) (last_sale o number)))
+meter_or_none laws o office number moment None is = tt
+meter_or_none laws o office number moment (Some m) is =
+    let row = office.meters number m is in (
+      record {
+        number = row.numbered;
+        last_sale = last_number o office (last_sale o number) (last_stands o number);
+        tariff = tariff_named o m.tariff office row.tariff;
+        tenths = omega (arith, laws.prior o number (month_at moment) office);
+      },
+      refl,
+    )
+
+totals_or_none : RangeLaws → (o : Office) → IsOffice o → (number : ℕ) → number < 2 ^ 32 → (there : Option Shift)
+    → IsTellable wanted.Totals (told_look forms.Json (totals_found number (option_map (λ shift. all_totals (sales_of_shift o number)) there)))
+totals_or_none laws o office number small None = tt
+totals_or_none laws o office number small (Some shift) = (
+  record {
+    shift = small;
+    sales = omega (arith, count_within o number office);
+    tenths = omega (arith, tenths_within laws.greatest o number office);
+    cash = omega (arith, cash_within o number office);
+  },
+  refl,
+)
+
+-- ---- quotes
+
+abbrev IsQuoteTold : Result Found Refusal → Type 0
+IsQuoteTold r = IsTellable wanted.Quote (told_look forms.Json r)
+
+there_quoted : {A : Type 0} (there : Option A) (why : Refusal) (f : A → Result Found Refusal) → IsTellableRefusal why
+    → ((x : A) → there ≡ Some x → IsQuoteTold (f x)) → IsQuoteTold (ok_or there why >>= f)
+there_quoted None why f refused rest = refused
+there_quoted (Some x) why f refused rest = rest x refl
+
+minute_quoted : {A : Type 0} (r : Result A TidFault) (f : A → Result Found Refusal) → ((x : A) → IsQuoteTold (f x)) → IsQuoteTold (or_refusal r >>= f)
+minute_quoted (Ok x) f rest = rest x
+minute_quoted (Err tids.BeforeBase) f rest = tt
+minute_quoted (Err tids.PastEnd) f rest = tt
+minute_quoted (Err tids.IdentifiersSpent) f rest = tt
+minute_quoted (Err tids.IdentifierAhead) f rest = tt
+
+room_quoted : (count : ℕ) (b : Bool) (f : ℕ → Result Found Refusal) → ((x : ℕ) → IsQuoteTold (f x))
+    → IsQuoteTold ((if b then Ok (count + 1) else Err refusals.OfficeFull) >>= f)
+room_quoted count true f rest = rest (count + 1)
+room_quoted count false f rest = tt
+
+quote_or_none : RangeLaws → (o : Office) → IsOffice o → (moment : ℕ) (number : List ℕ) (tender : ℕ) → IsMeterNo number → IsTender tender
+    → (there : Option Meter) → o.meters number ≡ there
+    → IsQuoteTold (quote_for moment number tender (account_of o number moment) (length o.sales))
+quote_or_none laws o office moment number tender is_number is_tender there is =
+    there_quoted (account_of o number moment) refusals.NoMeter _ tt (λ m is_m.
+    minute_quoted (minute_of m.meter.base moment) _ (λ now. minute_quoted (fresh_after now m.last) _ (λ tid.
+    there_quoted (purchase_of m.steps m.prior tender) refusals.TooLittle _ tt (λ buy is_buy.
+    room_quoted (length o.sales) (nat_lt (length o.sales) greatest_count) _ (λ next.
+    let bought = (laws.purchase m.steps m.prior tender buy).0 is_buy in
+    let meter = option_map_some _ (o.meters number) m is_m in
+    let tariff : m.meter ≡ meter.0 = sym (ap (λ (a : MeterAccount). a.meter) meter.2) in
+    let row = office.meters number meter.0 meter.1 in (
+      record {
+        meter = is_number;
+        tariff = tariff_named o m.meter.tariff office (subst (λ (m : Meter). IsSome (o.tariffs m.tariff)) (sym tariff) row.tariff);
+        tender = is_tender;
+        tenths = bought.representable;
+        price = bought.within;
+      },
+      refl,
+    ))))))
+
+-- ---- all look-ups
+
+abbrev pub wanted_look : Lookup → Wanted
+wanted_look lookups.SaleCount = wanted.Done
+wanted_look (lookups.Meter number) = wanted.Meter
+wanted_look (lookups.LastSale number) = wanted.Paper
+wanted_look (lookups.SaleOfRef operator order_ref) = wanted.Sale
+wanted_look (lookups.Quote number tender) = wanted.Quote
+wanted_look (lookups.ShiftTotals number) = wanted.Totals
+wanted_look (lookups.Tariffs after) = wanted.Page
+wanted_look (lookups.Meters after) = wanted.Page
+wanted_look (lookups.Shifts after) = wanted.Page
+wanted_look (lookups.Sales after) = wanted.Page
+
+-- a command looks it up at a desk, by names and numbers that keep their rules
+abbrev pub MayLook : Lookup → Type 0
+MayLook lookups.SaleCount = ⊥
+MayLook (lookups.Quote number tender) = IsMeterNo number × IsTender tender
+MayLook (lookups.ShiftTotals number) = number < 2 ^ 32
+MayLook lookup = ⊤
+
+tellable_tariffs : (o : Office) (day : ℕ) (after : Option (List ℕ)) (r : Result Found Refusal) → FindsTariffs o day after r
+    → IsTellable wanted.Page (told_look forms.Json r)
+tellable_tariffs o day after (Ok (found.Tariffs items)) h = (tt, refl)
+tellable_tariffs o day after (Ok it) h = absurd h
+tellable_tariffs o day after (Err refusal) h = absurd h
+
+tellable_meters : (o : Office) (after : Option (List ℕ)) (r : Result Found Refusal) → FindsMeters o after r → IsTellable wanted.Page (told_look forms.Json r)
+tellable_meters o after (Ok (found.Meters items)) h = (tt, refl)
+tellable_meters o after (Ok it) h = absurd h
+tellable_meters o after (Err refusal) h = absurd h
+
+tellable_shifts : (o : Office) (after : ℕ) (r : Result Found Refusal) → FindsShifts o after r → IsTellable wanted.Page (told_look forms.Json r)
+tellable_shifts o after (Ok (found.Shifts items)) h = (tt, refl)
+tellable_shifts o after (Ok it) h = absurd h
+tellable_shifts o after (Err refusal) h = absurd h
+
+tellable_sales : (o : Office) (after : ℕ) (r : Result Found Refusal) → FindsSales o after r → IsTellable wanted.Page (told_look forms.Json r)
+tellable_sales o after (Ok (found.Sales items)) h = (tt, refl)
+tellable_sales o after (Ok it) h = absurd h
+tellable_sales o after (Err refusal) h = absurd h
+
+abbrev LookTold : Lookup → Result Found Refusal → Type 0
+LookTold lookup r = IsTellable (wanted_look lookup) (told_look (lookup_form lookup) r)
+
+tellable_finds : RangeLaws → (o : Office) → IsOffice o → (moment : ℕ) (lookup : Lookup) (r : Result Found Refusal) → MayLook lookup → Finds o moment lookup r
+    → LookTold lookup r
+tellable_finds laws o office moment lookups.SaleCount r may h = absurd may
+tellable_finds laws o office moment (lookups.Meter number) r may h =
+    subst (LookTold (lookups.Meter number)) (sym h) (meter_or_none laws o office number moment (o.meters number) refl)
+tellable_finds laws o office moment (lookups.LastSale number) r may h =
+    subst (LookTold (lookups.LastSale number)) (sym h) (receipt_or_none (o.meters number) (last_sale o number))
+tellable_finds laws o office moment (lookups.SaleOfRef operator order_ref) r may h =
+    subst (LookTold (lookups.SaleOfRef operator order_ref)) (sym h) (sale_or_none o office (sale_of_ref o operator order_ref) (found_stands _ o.sales))
+tellable_finds laws o office moment (lookups.Quote number tender) r may h =
+    subst (LookTold (lookups.Quote number tender)) (sym h) (quote_or_none laws o office moment number tender may.0 may.1 (o.meters number) refl)
+tellable_finds laws o office moment (lookups.ShiftTotals number) r may h =
+    subst (LookTold (lookups.ShiftTotals number)) (sym h) (totals_or_none laws o office number may (shift_numbered o number))
+tellable_finds laws o office moment (lookups.Tariffs after) r may h = tellable_tariffs o (day_at moment) after r h
+tellable_finds laws o office moment (lookups.Meters after) r may h = tellable_meters o after r h
+tellable_finds laws o office moment (lookups.Shifts after) r may h = tellable_shifts o after r h
+tellable_finds laws o office moment (lookups.Sales after) r may h = tellable_sales o after r h
+
+-- what was looked up keeps the rules, or the office had no answer
+pub tellable_look : RangeLaws → (life : Life) → IsOffice (present life) → (moment : ℕ) (lookup : Lookup) (r : Result Found Refusal) → MayLook lookup
+    → IsFoundAt life moment lookup r → LookTold lookup r
+tellable_look laws life office moment lookup r may (inl finds) = tellable_finds laws (present life) office moment lookup r may finds
+tellable_look laws life office moment lookup r may (inr (inl is)) = subst (LookTold lookup) (sym is) tt
+tellable_look laws life office moment lookup r may (inr (inr (inl is))) = subst (LookTold lookup) (sym is) tt
+tellable_look laws life office moment lookup r may (inr (inr (inr is))) = subst (LookTold lookup) (sym is) tt

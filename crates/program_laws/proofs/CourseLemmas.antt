@@ -1,0 +1,118 @@
+-- The lives of one office along connections.
+use Rattle.std.proofs.Common.{◌≡◌, ◌⊎◌, ◌∙◌, ℕ, zero, suc, List, [], ◌∷◌, ◌++◌, Option, inl, inr, refl, ap, subst, sym}
+use Rattle.std.proofs.Math.Logic.{∥∥₁_elim}
+use Rattle.sqlite.specs.State.{HasCleanDisk}
+use Rattle.books.specs.Headline.{RepresentTheLast, with_last}
+use Rattle.books.specs.Keeps.{Seen}
+use Rattle.desk.specs.Answering.{answers_by, life_serves, message_refusal_of}
+use Rattle.conversation.specs.Exchanges.{Exchanged, GaveUp, MessageExchange, Timed, timed}
+use Rattle.conversation.specs.message.Messages.{BeginsMessage, Message}
+use Rattle.conversation.specs.Run.{IsRun}
+use Rattle.conversation.specs.declared.end.End as conversation
+use Rattle.conversation.specs.declared.end.End.TheVariants.{Closed, BadMessage, ReadFault, WriteFault, Memory}
+use Rattle.sts_fields.specs.Text.{Text}
+use Rattle.sts_token.specs.Token.{BlockFunction}
+use Rattle.vend_core.specs.Law.Life.{AreLives, IsLife, Life, MayLeave}
+use Rattle.vend_core.specs.Law.LifeLaws.{opened}
+use Rattle.vend_core.specs.Office.{Office}
+use Rattle.vend_commands.specs.serving.Connections.{AreHeld, AreReady, Service, service}
+use Rattle.program_laws.specs.Courses.{Course, IsNext, LiveOn, course}
+use Rattle.vend_commands.specs.port.Places.{Way}
+
+-- ---- a life goes on from the office that it opened
+
+answered_opening : (old new : Timed Life) (x : MessageExchange) → timed (answers_by life_serves) old x new → new.0.opening ≡ old.0.opening
+answered_opening old new x ((outcome, inl (idle, same), told), clock) = ap (λ l. l.opening) same
+answered_opening old new x ((outcome, inr (inl (form, moment, request, reply, is, asks, (at, stamped, goes))), told), clock) = ap (λ l. l.opening) goes
+answered_opening old new x ((outcome, inr (inr (form, moment, lookup, found, is, looks, (finds, same))), told), clock) = ap (λ l. l.opening) same
+
+exchanged_opening : (old new : Timed Life) (xs : List MessageExchange) → Exchanged (timed (answers_by life_serves)) old xs new → new.0.opening ≡ old.0.opening
+exchanged_opening old new [] same = ap (λ l. l.0.opening) same
+exchanged_opening old new (x ∷ xs) (mid, first, rest) = exchanged_opening mid new xs rest ∙ answered_opening old mid x first
+
+late_opening : (rest : List ℕ) (mid new : Timed Life)
+    → (new ≡ mid) ⊎ ((m : Message) × (after : List ℕ) × BeginsMessage rest m after × GaveUp (answers_by life_serves) mid m new) → new.0.opening ≡ mid.0.opening
+late_opening rest mid new (inl same) = ap (λ l. l.0.opening) same
+late_opening rest mid new (inr (m, after, begins, (now, reads, inl same))) = ap (λ l. l.opening) same
+late_opening rest mid new (inr (m, after, begins, (now, reads, inr (reply, step)))) = answered_opening mid new (record { message = m; now = now; reply = reply }) (step, reads)
+
+run_opening : (old new : Timed Life) (unread left held holds : Option (List ℕ)) (end : conversation.End) → IsRun (answers_by life_serves) message_refusal_of old new unread left held holds end → new.0.opening ≡ old.0.opening
+run_opening old new unread left held holds Closed (input, all, inl said) = exchanged_opening old new said.conversation.exchanges said.conversation.served
+run_opening old new unread left held holds Closed (input, all, inr said) = exchanged_opening old new said.conversation.exchanges said.conversation.served
+run_opening old new unread left held holds BadMessage (input, all, fault, said) = exchanged_opening old new said.conversation.exchanges said.conversation.served
+run_opening old new unread left held holds ReadFault (input, taken, said) = exchanged_opening old new said.conversation.exchanges said.conversation.served
+run_opening old new unread left held holds WriteFault (input, all, text, appends, cut) =
+    let before = exchanged_opening old cut.mid cut.before.exchanges cut.before.served in
+    elim cut.is_last [
+      | inl reply ↦ answered_opening cut.mid new reply.exchange reply.answered ∙ before
+      | inr refusal ↦ ap (λ l. l.0.opening) refusal.same ∙ before
+    ]
+run_opening old new unread left held holds Memory (input, all, text, appends, given) =
+    late_opening given.rest given.mid new given.after ∙ exchanged_opening old given.mid given.before.exchanges given.before.served
+
+-- ---- one life after another
+
+module _ {D R W B : Type 0} (way : Way D R W) (forward : BlockFunction) (see : B → Seen)
+    (goes_on : (lives : List Life) (life : Life) (o p : Office) → AreLives lives o → IsLife life → life.opening ≡ o → MayLeave life p → AreLives (lives ++ life ∷ []) p) where
+  pub ready_clean : (old new : B) → AreReady see forward old new → HasCleanDisk (see new).state → HasCleanDisk (see old).state
+  ready_clean old new (inl (runs, same)) clean = subst (λ b. HasCleanDisk (see b).state) same clean
+  ready_clean old new (inr (stopped, reopened)) clean = (reopened.next clean).clean
+
+  -- books that are made ready keep the same life, or the next one
+  pub next_course : (old new : B) → AreReady see forward old new → HasCleanDisk (see new).state → (c : Course) → RepresentTheLast c.over c.life (see old)
+      → ∥ ((next : Course) × IsNext forward c next × RepresentTheLast next.over next.life (see new)) ∥₁
+  next_course old new (inl (runs, same)) clean c last = ∣ (c, inl refl, subst (λ b. RepresentTheLast c.over c.life (see b)) (sym same) last) ∣₁
+  next_course old new (inr (stopped, reopened)) clean c last =
+      let next = reopened.next clean in
+      ∥∥₁_elim next.left squash₁ (λ found.
+      let here = last.kept next.clean in
+      let office = here.left found.0 found.1 in
+      let o = office.0 in
+      ∣ (
+        course (with_last c.over c.life) (opened forward o),
+        inr (o, office.1, refl),
+        record {
+          led = goes_on c.over c.life c.life.opening o last.led here.is_life refl office.1;
+          kept = found.2 o office.2;
+          clean = clean;
+        },
+      ) ∣₁)
+
+  pub live_on : (count : ℕ) (old new : Service D B) (printed : Text) → AreHeld way forward see count old new printed → HasCleanDisk (see new.books).state → (start : Course) → RepresentTheLast start.over start.life (see old.books)
+      → ∥ LiveOn way forward see count (service old.door start old.answers) new ∥₁
+  live_on zero old new printed (same, none) clean start last =
+      ∣ (start, ap (λ s. service s.door start s.answers) same, subst (λ s. RepresentTheLast start.over start.life (see s.books)) (sym same) last) ∣₁
+  live_on (suc count) old new printed (mid, before, held, (ready, are, one), all) clean start last =
+      let ready_is_clean = one.clean clean in
+      ∥∥₁_elim (live_on count old mid before held (ready_clean mid.books ready are ready_is_clean) start last) squash₁ (λ so_far.
+      ∥∥₁_elim (next_course mid.books ready are ready_is_clean so_far.0 so_far.2) squash₁ (λ next.
+      let kept = next.2 in
+      let goes = one.lives clean next.0.life kept.kept in
+      let opening = run_opening (next.0.life, mid.answers) (goes.0, new.answers) _ _ _ _ one.end goes.1 in
+      ∣ (
+        course next.0.over goes.0,
+        (
+          service mid.door so_far.0 mid.answers,
+          so_far.1,
+          (
+            next.0,
+            next.1,
+            record {
+              reader = one.reader;
+              writer = one.writer;
+              read = one.read;
+              written = one.written;
+              end = one.end;
+              accepted = one.accepted;
+              run = goes.1;
+              ended = one.ended;
+              over = refl;
+            },
+          ),
+        ),
+        record {
+          led = subst (AreLives next.0.over) (sym opening) kept.led;
+          kept = goes.2;
+          clean = clean;
+        },
+      ) ∣₁))

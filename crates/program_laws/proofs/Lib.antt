@@ -1,0 +1,14 @@
+mod AgainLemmas
+mod AtDeskLemmas
+mod CourseLemmas
+mod DeskLemmas
+mod FoundLemmas
+mod KeyedLemmas
+mod OfferLemmas
+mod OrderLemmas
+mod ReceiptLemmas
+mod RunsLemmas
+mod SellLemmas
+mod SoundLemmas
+mod ToldLemmas
+mod WholeLemmas

@@ -1,0 +1,7 @@
+pub mod AtDesk
+pub mod Courses
+pub mod SalesTold
+pub mod Selling
+pub mod Sound
+pub mod WholeLists
+pub mod runs

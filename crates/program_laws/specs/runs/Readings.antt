@@ -1,0 +1,53 @@
+-- What a run read of an office, and the sales in it.
+use Rattle.std.specs.Prelude.{◌≡◌, ℕ, true, List, [], ◌∷◌, ◌++◌, Option, Some, Result, Ok, Contains}
+use Rattle.std.specs.List.{flat_map}
+use Rattle.book_facts.specs.declared.lookup.Found.{Found}
+use Rattle.book_facts.specs.declared.lookup.Lookup.{Lookup}
+use Rattle.books.specs.Keeps.{Seen}
+use Rattle.books.specs.Looking.{IsFoundAt}
+use Rattle.command_line.specs.declared.commands.list.Listed.{Listed}
+use Rattle.papers.specs.Export.{export_of}
+use Rattle.sts_fields.specs.Text.{Text}
+use Rattle.vend_core.specs.Law.Life.{Life, present}
+use Rattle.vend_core.specs.declared.decision.refusal.Refusal.{Refusal}
+use Rattle.vend_core.specs.declared.office.sale.Sale.{Sale}
+use Rattle.vend_commands.specs.commands.LookedUp.{IsRead}
+use Rattle.vend_commands.specs.print.Listing.{ArePages}
+use Rattle.vend_commands.specs.print.Told.{Outputs}
+use Rattle.program_laws.specs.SalesTold.{sales_found}
+use Rattle.vend_commands.specs.declared.office.wanted.Wanted.{Wanted}
+use Rattle.vend_commands.specs.declared.office.wanted.Wanted.TheVariants.{One, Listing}
+use Rattle.vend_commands.specs.declared.command_end.CommandEnd.{CommandEnd}
+
+-- something was looked up, and this was found, or was why nothing was; or the pages of a list were
+-- found, and this was left of it; or the sales were exported by this text
+pub data Reading : Type 0 where
+  one_found : Lookup → Result Found Refusal → Reading
+  pages_found : Listed → List Found → (left : Option Listed) → Reading
+  exported : Text → Reading
+
+-- it was read at the moment in the present office of the life
+abbrev pub IsReadIn : Life → (moment : ℕ) → Reading → Type 0
+IsReadIn life moment (one_found lookup found) = IsFoundAt life moment lookup found
+IsReadIn life moment (pages_found list pages left) =
+    ArePages (present life) moment (Some list) pages left
+IsReadIn life moment (exported text) =
+    (rest : Text) × (text ++ rest ≡ export_of true (present life).sales)
+
+-- the text begins with the export of the sales up to this one
+abbrev pub ExportsUpTo : Text → List Sale → Sale → Type 0
+ExportsUpTo text sales s = (front : List Sale) × (back : List Sale) × (rest : Text)
+    × (sales ≡ front ++ s ∷ back) × (text ≡ export_of true (front ++ s ∷ []) ++ rest)
+
+-- the sale is in what was read of the life
+abbrev pub IsSaleRead : Life → Reading → Sale → Type 0
+IsSaleRead life (one_found lookup found) s = Contains (sales_found found) s
+IsSaleRead life (pages_found list pages left) s =
+    Contains (flat_map (λ page. sales_found (Ok page)) pages) s
+IsSaleRead life (exported text) s = ExportsUpTo text (present life).sales s
+
+-- what a command read, which it told
+abbrev pub reading_of : (moment : ℕ) → (wanted : Wanted) → (old new : Seen) → (o : Outputs)
+    → (end : CommandEnd) → IsRead moment wanted old new o end → Reading
+reading_of moment (One lookup json) old new o end done = one_found lookup done.found
+reading_of moment (Listing list json) old new o end done = pages_found list done.pages done.left

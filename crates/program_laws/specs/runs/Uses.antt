@@ -1,0 +1,338 @@
+-- What a run of the program made of the file that its words name.
+use Rattle.std.proofs.Common.{inl, inr}
+use Rattle.std.specs.Prelude.{◌≡◌, ◌≢◌, ℕ, ℤ, ◌+◌, ◌%◌, Bool, true, false, List, [], ◌∷◌, ◌++◌, length, Option, Some, None, Result, Ok, Err, option_map}
+use Rattle.sqlite.specs.Files.{file_state, image_of, over_files}
+use Rattle.sqlite.specs.State.{State}
+use Rattle.sqlite.specs.declared.file.Leftover.{Leftover}
+use Rattle.sqlite_disk.specs.declared.Disk as disk
+use Rattle.sqlite_disk.specs.declared.Files.{Files}
+use Rattle.sqlite_trees.specs.declared.store.Store.{Ghosts}
+use Rattle.sqlite_wal.specs.Recovery.{Image}
+use Rattle.sts_fields.specs.Moment.{first_moment}
+use Rattle.sts_fields.specs.Text.{Text}
+use Rattle.sts_token.specs.Token.{BlockFunction}
+use Rattle.vend_core.specs.Law.Life.{Life}
+use Rattle.vend_core.specs.Law.LifeLaws.{extended_by, opened}
+use Rattle.vend_core.specs.Office.{Office}
+use Rattle.vend_core.specs.declared.decision.answer.Answer.{Answer}
+use Rattle.vend_core.specs.declared.decision.refusal.Refusal.{Refusal}
+use Rattle.vend_core.specs.declared.decision.refusal.Refusal.TheVariants.{Stopped}
+use Rattle.vend_core.specs.declared.decision.request.Request.{Request}
+use Rattle.vend_core.specs.declared.decision.request.Request.TheVariants as requests
+use Rattle.vend_core.specs.declared.decision.request.Stamped.{Stamped}
+use Rattle.vend_core.specs.declared.office.row.Row.{Row}
+use Rattle.vend_core.specs.declared.office.sale.Sale.{Sale}
+use Rattle.papers.specs.declared.row_fault.RowFault.{RowFault}
+use Rattle.book_facts.specs.declared.lookup.Lookup.TheVariants as lookups
+use Rattle.book_opening.specs.declared.fault.OpenFault.{OpenFault}
+use Rattle.books.specs.Headline.{with_last}
+use Rattle.books.specs.Keeps.{Seen}
+use Rattle.books.specs.declared.refused_files.RefusedFiles.TheVariants.{Connected, Unconnected}
+use Rattle.command_line.specs.Transform.{forward_of}
+use Rattle.command_line.specs.declared.asked.Asked.{Asked}
+use Rattle.command_line.specs.declared.asked.Asked.TheVariants as asks
+use Rattle.command_line.specs.declared.commands.audit.AuditWords.{AuditWords}
+use Rattle.command_line.specs.declared.commands.import.ImportWords.{ImportWords}
+use Rattle.command_line.specs.declared.commands.report.Paper.{Paper}
+use Rattle.command_line.specs.declared.commands.report.Paper.TheVariants.{Receipt, Sales, Shift, Totals}
+use Rattle.command_line.specs.declared.commands.report.ReportWords.{ReportWords}
+use Rattle.command_line.specs.declared.commands.serve.ServeWords.{ServeWords}
+use Rattle.command_line.specs.declared.transform.Shipped.{Shipped}
+use Rattle.command_line.specs.declared.transform.Shipped.TheVariants.{Plain}
+use Rattle.vend_commands.specs.Run.{IsCarriedOut, IsProgramRun}
+use Rattle.vend_commands.specs.Run.IsProgramRun.{answered, bad_word, explained, no_room}
+use Rattle.vend_commands.specs.commands.Asked.{IsAskedAt}
+use Rattle.vend_commands.specs.commands.Audited.{IsAudited}
+use Rattle.vend_commands.specs.commands.Audited.IsAudited.{absent as audit_absent, looked as audit_looked, unopened as audit_unopened}
+use Rattle.vend_commands.specs.commands.Imported.{AreAdded, IsFileImported}
+use Rattle.vend_commands.specs.commands.LookedUp.{IsShownAt, lookup_of}
+use Rattle.vend_commands.specs.commands.LookedUp.IsShownAt.{absent as shown_absent, present as shown_present}
+use Rattle.vend_commands.specs.commands.Reported.{IsReported, PrintsPaper}
+use Rattle.vend_commands.specs.commands.Reported.IsReported.{absent as report_absent, present as report_present}
+use Rattle.vend_commands.specs.commands.Timed.{IsDoneAt}
+use Rattle.vend_commands.specs.office.Served.{IsServedAndTold}
+use Rattle.vend_commands.specs.office.Visited.{IsVisited, seen_in}
+use Rattle.vend_commands.specs.office.Visited.IsVisited.{unopened as visit_unopened, visited as visit_opened}
+use Rattle.vend_commands.specs.office.Lost.{IsUnreopened}
+use Rattle.vend_commands.specs.office.Lost.IsUnreopened.{refused as lost_refused, unsalted as lost_unsalted}
+use Rattle.vend_commands.specs.port.Places.{IsUnopened, Machine, Place, Way, places_of, where_present}
+use Rattle.vend_commands.specs.port.Places.IsUnopened.{unfound, unopened as found_unopened}
+use Rattle.vend_commands.specs.port.Places.IsUnopenedIn.{refused, unsalted}
+use Rattle.vend_commands.specs.print.Told.{Outputs, Sink}
+use Rattle.program_laws.specs.runs.Readings.{IsReadIn, IsSaleRead, Reading, exported, reading_of}
+use Rattle.vend_commands.specs.serving.Connections.{AreServed, Service, service}
+use Rattle.program_laws.specs.Courses.{AreLived, Course, IsNext, course}
+use Rattle.vend_commands.specs.serving.Listening.{IsServing}
+use Rattle.vend_commands.specs.serving.Listening.IsServing.{unheard as serve_unheard, unopened as serve_unopened, was_open as serve_open}
+use Rattle.program_laws.specs.SalesTold.{ConnectionsTell}
+use Rattle.vend_commands.specs.declared.office.wanted.Wanted.{Wanted}
+use Rattle.vend_commands.specs.declared.office.wanted.Wanted.TheVariants.{One, Listing}
+use Rattle.vend_commands.specs.declared.command_end.CommandEnd.{CommandEnd}
+use Rattle.vend_commands.specs.declared.port.ports.OfficeFile as file
+use Rattle.vend_commands.specs.declared.port.ports.SaltSource as source
+
+-- ---- the lives of a run
+
+-- a request that a run asked of the office at a moment, and the reply that it got and told
+pub record Question : Type 0 where
+  pub transform : Shipped
+  pub moment : ℕ
+  pub request : Request
+  pub reply : Result Answer Refusal
+
+-- how an office lived in a run: it was not opened, or nothing was asked of it, or something was
+-- read at a moment, or one request was asked, or many along connections, whose lives follow those
+-- before
+pub data Living : Type 1 where
+  no_life : Living
+  idle_life : Shipped → Living
+  reading_life : (moment : ℕ) → Reading → Living
+  asking_life : Question → Living
+  many_lives : {D R W : Type 0} → Way D R W → BlockFunction → (count : ℕ) → (door : D)
+      → (answers : Option (List ℤ)) → (last : D) → (left : Option (List ℤ)) → Living
+
+-- the life of one request, with the nibble of the next sale's number, in an office that runs
+pub record IsAskedLife (q : Question) (life : Life) : Type 0 where
+  pub at : Stamped
+  pub at_moment : at.moment ≡ q.moment
+  pub for_request : at.request ≡ q.request
+  pub by_number : at.nibble ≡ (length life.opening.sales + 1) % 16
+  pub life_is : life ≡ extended_by (opened (forward_of q.transform) life.opening) at q.reply
+  pub running : q.reply ≢ Err Stopped
+
+-- Lives went on along so many connections, after those before, from one that just opened an office.
+-- Behind the last connection the same life goes on, or the next one was opened.
+abbrev pub AreCoursed : {D R W : Type 0} → Way D R W → BlockFunction → ℕ → D → Option (List ℤ) → D
+    → Option (List ℤ) → (before lives : List Life) → Type 0
+AreCoursed way forward count door answers last_door left before lives =
+    (office : Office) × (last : Course) × (next : Course)
+    × AreLived way forward count (service door (course before (opened forward office)) answers)
+    (service last_door last left)
+    × IsNext forward last next × (before ++ lives ≡ with_last next.over next.life)
+
+-- these are the lives that it lived so, after those before
+abbrev pub LivesSo : Living → (before lives : List Life) → Type 0
+LivesSo no_life before lives = lives ≡ []
+LivesSo (idle_life transform) before lives =
+    (office : Office) × (lives ≡ opened (forward_of transform) office ∷ [])
+LivesSo (reading_life moment reading) before lives =
+    (office : Office) × IsReadIn (opened (forward_of Plain) office) moment reading
+    × (lives ≡ opened (forward_of Plain) office ∷ [])
+LivesSo (asking_life q) before lives = (life : Life) × IsAskedLife q life × (lives ≡ life ∷ [])
+LivesSo (many_lives way forward count door answers last left) before lives =
+    AreCoursed way forward count door answers last left before lives
+
+-- this sale was read in them, or a connection was told it along them
+abbrev pub TellsSo : (living : Living) → (before lives : List Life) → LivesSo living before lives
+    → Sale → Type 0
+TellsSo no_life before lives is s = ⊥
+TellsSo (idle_life transform) before lives is s = ⊥
+TellsSo (reading_life moment reading) before lives (office, is, all) s =
+    IsSaleRead (opened (forward_of Plain) office) reading s
+TellsSo (asking_life q) before lives is s = ⊥
+TellsSo (many_lives way forward count door answers last_door left) before lives
+    (office, last, next, lived, follows, all) s =
+    ConnectionsTell way forward count
+    (service door (course before (opened forward office)) answers)
+    (service last_door last left) lived s
+
+-- ---- what a run made of the file
+
+-- how the last connection ended: in this state it was let go; or then its files were found again,
+-- no connection could be made to them, and this is what was left of them
+pub data Ending : Type 1 where
+  let_go : State → Ending
+  cut_off : {D : Type 0} → State → (g : disk.Ghosts D) → (found : Files D) → (left : Leftover D g)
+      → Ending
+
+-- Nothing of the file was seen: none was found, or it was not looked into. Or it was found as these
+-- files, and no connection could be made to them: then this is what was left of them. Or one was
+-- made while the file held this, the office lived so, and the last one ended so.
+pub data Use : Type 1 where
+  unseen : Use
+  unconnected : {D : Type 0} → (g : disk.Ghosts D) → (found : Files D) → (left : Leftover D g) → Use
+  connected : (image : Image) → (living : Living) → (last : Ending) → Use
+
+-- where no office was opened
+abbrev pub use_refused : {D S : Type 0} → {disk : disk.Ghosts D} → {salts : source.Ghosts S}
+    → {finds lets_go : D → D → Type 0} → {fails : OpenFault → Type 0} → (fault : OpenFault)
+    → IsUnopened disk salts finds lets_go fails fault → Use
+use_refused fault (unfound none) = unseen
+use_refused fault (found_unopened found finds (unsalted it lacks is gone)) = unseen
+use_refused {disk = disk} fault
+    (found_unopened found finds (refused left (Connected last) why taken gone)) =
+    connected (image_of disk found) no_life (let_go (file_state last))
+use_refused {disk = disk} fault
+    (found_unopened found finds (refused left (Unconnected rest) why taken gone)) =
+    unconnected disk found rest
+
+-- a visit, by what is known where it opened none, and by how the office lives in it
+abbrev pub use_visited : {S : Type 0} → {store : Ghosts S} → {place : Place}
+    → {transform : Shipped} → {Does : (old new : Seen) → Type 0} → {o : Outputs}
+    → {end : CommandEnd} → ((fault : OpenFault) → place.fails fault → Use)
+    → ((old new : Seen) → Does old new → Living)
+    → IsVisited store place transform Does o end → Use
+use_visited if_refused lives (visit_unopened fault fails told) = if_refused fault fails
+use_visited {place = place} if_refused lives (visit_opened old new opens finds does closes) =
+    connected place.image (lives (seen_in old) (seen_in new) does) (let_go (seen_in new).state)
+
+-- a request that was served, and a paper that was printed
+abbrev pub lives_asking : (transform : Shipped) → (moment : ℕ) → (request : Request)
+    → (o : Outputs) → (end : CommandEnd) → (old new : Seen)
+    → IsServedAndTold moment request old new o end → Living
+lives_asking transform moment request o end old new done = asking_life (record {
+  transform = transform;
+  moment = moment;
+  request = request;
+  reply = done.reply;
+})
+
+abbrev pub lives_printing : (paper : Paper) → (o : Outputs) → (end : CommandEnd)
+    → (old new : Seen) → PrintsPaper paper old new o end → Living
+lives_printing (Shift number) o end old new done =
+    lives_asking Plain first_moment (requests.ShiftReport number) o end old new done
+lives_printing (Receipt number) o end old new done =
+    lives_asking Plain first_moment (requests.Reprint number) o end old new done
+lives_printing (Totals number) o end old new done = idle_life Plain
+lives_printing Sales o end old new done = reading_life first_moment (exported done.text)
+
+-- what is done at a moment, if there is one
+abbrev pub use_timed : (Idle : Type 0) → (At : ℕ → Type 0) → (o : Outputs) → (end : CommandEnd)
+    → ((moment : ℕ) → At moment → Use) → (moment : Option ℕ) → IsDoneAt Idle At o end moment → Use
+use_timed Idle At o end at (Some moment) done = at moment done
+use_timed Idle At o end at None idle = unseen
+
+-- the end of stopped books whose file was not opened again
+abbrev pub ends_lost : {D S : Type 0} → {disk : disk.Ghosts D} → {salts : source.Ghosts S}
+    → {lets_go : D → D → Type 0} → (old : Seen) → (fault : OpenFault)
+    → IsUnreopened disk salts lets_go old fault → Ending
+ends_lost old fault (lost_unsalted it lacks is conn seen left taken gone) = let_go old.state
+ends_lost old fault (lost_refused it salt draws conn seen (Connected last) why left taken gone) =
+    let_go (file_state last)
+ends_lost {disk = disk} old fault
+    (lost_refused it salt draws conn seen (Unconnected rest) why left taken gone) =
+    cut_off old.state disk why.2.here rest
+
+-- connections that are served, by how lost books end
+abbrev pub use_served : {D R W B : Type 0} → (way : Way D R W) → (forward : BlockFunction)
+    → (see : B → Seen) → (loses : Seen → OpenFault → Type 0)
+    → ((old : Seen) → (fault : OpenFault) → loses old fault → Ending) → (wanted : ℕ)
+    → (old : Service D B) → (door : D) → (answers : Option (List ℤ)) → (printed : Text) → Image
+    → (served : Result (B × Bool) OpenFault)
+    → AreServed way forward see loses wanted old door answers served printed → Use
+use_served way forward see loses ends wanted old door answers printed image (Ok (books, true))
+    held = connected image (many_lives way forward wanted old.door old.answers door answers)
+    (let_go (see books).state)
+use_served way forward see loses ends wanted old door answers printed image (Ok (books, false))
+    none = connected image
+    (many_lives way forward none.count old.door old.answers none.last.door none.last.answers)
+    (let_go (see books).state)
+use_served way forward see loses ends wanted old door answers printed image (Err fault) lost =
+    connected image
+    (many_lives way forward lost.count old.door old.answers lost.last.door lost.last.answers)
+    (ends (see lost.last.books) fault lost.lost.1)
+
+module _ {M S H D R W : Type 0} (disk : disk.Ghosts M) (salts : source.Ghosts S)
+    (of : file.Ghosts H M S) (office : H) (m : Machine D R W) where
+  -- the machine, with this file of an office
+  abbrev pub with_file : Machine D R W
+  with_file = record m { at = places_of disk salts of office }
+
+  -- one request
+  abbrev pub use_asked : (transform : Shipped) → (path : Text) → (wait moment : ℕ)
+      → (request : Request) → (o : Outputs) → (end : CommandEnd)
+      → IsAskedAt (over_files {g = disk}) with_file.at transform path wait moment request o end
+      → Use
+  use_asked transform path wait moment request o end asks =
+      use_visited {place = with_file.at path wait} use_refused
+      (lives_asking transform moment request o end) asks
+
+  abbrev pub use_added : (words : ImportWords) → (moment : ℕ)
+      → (rows : Result (List Row) RowFault) → (o : Outputs) → (end : CommandEnd)
+      → AreAdded (over_files {g = disk}) with_file.at m.untouched words moment rows o end → Use
+  use_added words moment (Ok rows) o end added =
+      use_asked words.transform words.file.now words.wait moment (requests.Import rows) o end added
+  use_added words moment (Err fault) o end told = unseen
+
+  abbrev pub use_imported : (words : ImportWords) → (moment : ℕ) → (o : Outputs)
+      → (end : CommandEnd)
+      → IsFileImported (over_files {g = disk}) with_file.at m.untouched m.texts words
+      moment o end → Use
+  use_imported words moment o end (inl (bytes, reads, (records, rows, are, reading, added))) =
+      use_added words moment rows o end added
+  use_imported words moment o end (inr unread) = unseen
+
+  abbrev pub use_reported : (words : ReportWords) → (o : Outputs) → (end : CommandEnd)
+      → IsReported (over_files {g = disk}) with_file.at words o end → Use
+  use_reported words o end (report_absent misses told) = unseen
+  use_reported words o end (report_present visit) =
+      use_visited {place = where_present (with_file.at words.file.now words.wait)} use_refused
+      (lives_printing words.paper o end) visit
+
+  -- a look-up, or a list
+  abbrev pub use_shown : (path : Text) → (wait moment : ℕ) → (wanted : Wanted) → (o : Outputs)
+      → (end : CommandEnd)
+      → IsShownAt (over_files {g = disk}) with_file.at path wait moment wanted o end → Use
+  use_shown path wait moment wanted o end (shown_absent misses told) = unseen
+  use_shown path wait moment wanted o end (shown_present visit) =
+      use_visited {place = where_present (with_file.at path wait)} use_refused
+      (λ old new done. reading_life moment (reading_of moment wanted old new o end done)) visit
+
+  abbrev pub use_serving : (words : ServeWords) → (err_old err_new : Sink) → (end : CommandEnd)
+      → IsServing (over_files {g = disk}) m.way with_file.at m.door m.clock.answers words err_old
+      err_new end → Use
+  use_serving words err_old err_new end (serve_unopened fault fails leaves told ends) =
+      use_refused fault fails
+  use_serving words err_old err_new end
+      (serve_unheard old opens finds last deaf leaves closes ends) =
+      connected (of.image office words.file.now) (idle_life words.transform)
+      (let_go (seen_in old).state)
+  use_serving words err_old err_new end (serve_open old opens finds were) =
+      use_served m.way (forward_of words.transform) seen_in
+      (with_file.at words.file.now words.wait).loses ends_lost words.connections
+      (service were.listening old m.clock.answers) were.last were.left were.printed
+      (of.image office words.file.now) were.served were.are_served
+
+  abbrev pub use_audited : (words : AuditWords) → (o : Outputs) → (end : CommandEnd)
+      → IsAudited (with_file.at words.file.now words.wait) (option_map forward_of words.transform)
+      o end → Use
+  use_audited words o end (audit_absent misses told) = unseen
+  use_audited words o end (audit_unopened fault why told) = use_refused fault why
+  use_audited words o end (audit_looked answer meets audit told) =
+      connected (of.image office words.file.now) no_life (let_go (file_state audit.last))
+
+  -- what is asked for
+  abbrev pub use_carried : (asked : Asked) → (o : Outputs) → (end : CommandEnd)
+      → IsCarriedOut (over_files {g = disk}) with_file asked o end → Use
+  use_carried (asks.Trial words) o end done = unseen
+  use_carried (asks.Import words) o end (shut, (moment, taken, done)) =
+      use_timed (m.untouched × m.texts.leaves) _ o end
+      (λ at it. use_imported words at o end it) moment done
+  use_carried (asks.Request words) o end (shut, (moment, taken, done)) =
+      use_timed m.untouched _ o end (λ at it. use_asked words.transform words.file.now words.wait at
+      words.request o end it) moment done
+  use_carried (asks.Report words) o end (shut, done) = use_reported words o end done
+  use_carried (asks.Show words) o end (shut, (moment, taken, done)) =
+      use_timed m.untouched _ o end (λ at it. use_shown words.file.now words.wait at
+      (One (lookup_of words.shown) words.json) o end it) moment done
+  use_carried (asks.List words) o end (shut, (moment, taken, done)) =
+      use_timed m.untouched _ o end (λ at it. use_shown words.file.now words.wait at
+      (Listing words.listed words.json) o end it) moment done
+  use_carried (asks.Offer words) o end (shut, (moment, taken, done)) =
+      use_timed m.untouched _ o end (λ at it. use_shown words.file.now words.wait at
+      (One (lookups.Quote words.meter words.tender) words.json) o end it) moment done
+  use_carried (asks.Meter words) o end done = unseen
+  use_carried (asks.Quote words) o end done = unseen
+  use_carried (asks.Serve words) o end (left, (silent, done)) =
+      use_serving words o.err_old o.err_new end done
+  use_carried (asks.Selfcheck words) o end done = unseen
+  use_carried (asks.Desk words) o end done = unseen
+  use_carried (asks.Audit words) o end (shut, done) = use_audited words o end done
+
+  -- a run, whatever its words are
+  abbrev pub use_run : (words : List Text) → (o : Outputs) → (end : CommandEnd)
+      → IsProgramRun (over_files {g = disk}) with_file words o end → Use
+  use_run words o end (answered asked for done) = use_carried asked o end done
+  use_run words o end (bad_word idle none asks_none told) = unseen
+  use_run words o end (explained idle kind text among some says) = unseen
+  use_run words o end (no_room idle told) = unseen

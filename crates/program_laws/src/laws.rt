@@ -1,0 +1,333 @@
+ghost use Rattle.std.specs.Prelude.{◌≡◌, ◌≢◌, ◌≤◌, ◌⊎◌, ◌<◌, ◌^◌, ℕ, List, [], Option, Some};
+ghost use Rattle.std.specs.Prelude.{None, Ok, Contains, false, true, filter, map, nat_lt};
+ghost use Rattle.std.specs.Prelude.{unwrap_or, Result, IfErr, IfSome, All, ℤ, pos, Bool, length};
+ghost use Rattle.sqlite.specs.Files.{file_state};
+ghost use Rattle.sqlite.specs.State.{HasCleanDisk};
+ghost use Rattle.sqlite_wal.specs.Recovery.{Image};
+ghost use Rattle.audit.specs.Fails.{IsFailure};
+ghost use Rattle.audit.specs.declared.audited.Audited.{Audited};
+ghost use Rattle.audit_rows.specs.declared.finding.AuditFault.{AuditFault};
+ghost use Rattle.sts_fields.specs.Day.{day_at};
+ghost use Rattle.sts_fields.specs.Text.{Text};
+ghost use Rattle.sts_token.specs.Token.{BlockFunction};
+ghost use Rattle.book_tables.specs.row.Rows.{present_format};
+ghost use Rattle.book_facts.specs.Lookups.{listed_shift, IsOfRules};
+ghost use Rattle.book_facts.specs.declared.lookup.Found.{Found as WhatIsFound};
+ghost use Rattle.book_facts.specs.declared.lookup.Found.TheVariants.{Quote as Quoted};
+ghost use Rattle.book_facts.specs.declared.lookup.ListedMeter.{ListedMeter};
+ghost use Rattle.book_facts.specs.declared.lookup.ListedTariff.{ListedTariff};
+ghost use Rattle.book_facts.specs.declared.lookup.Quote.{Quote};
+ghost use Rattle.books.specs.Headline.{RepresentTheLast};
+ghost use Rattle.books.specs.Lookups.{quote};
+ghost use Rattle.books.specs.Path.{StandsIn};
+ghost use Rattle.books.specs.declared.books.Books.{Books};
+ghost use Rattle.sqlite_store.specs.declared.store.FileStore.{FileStore as Files};
+ghost use Rattle.command_line.specs.Transform.{shipped};
+ghost use Rattle.command_line.specs.declared.transform.Shipped.{Shipped};
+ghost use Rattle.papers.specs.Export.{export_of};
+ghost use Rattle.papers.specs.Receipt.{receipt_of};
+ghost use Rattle.desk.specs.reply.Body.{sale_members};
+ghost use Rattle.desk.specs.reply.Members.{json_text};
+ghost use Rattle.program_laws.specs.Sound.{EndsSound};
+ghost use Rattle.vend_commands.specs.commands.Asked.{IsAskedAt};
+ghost use Rattle.vend_commands.specs.commands.Audited.{IsAudited};
+ghost use Rattle.vend_commands.specs.commands.LookedUp.{IsPurchaseFor};
+ghost use Rattle.vend_commands.specs.office.Audits.{AuditsIn};
+ghost use Rattle.vend_commands.specs.office.Closed.{IsClosed};
+ghost use Rattle.vend_commands.specs.serving.Connections.{AreHeld, Service, service};
+ghost use Rattle.program_laws.specs.Courses.{Course, LiveOn};
+ghost use Rattle.vend_core.specs.Law.Life.{AreLives, Life, IsLife, acknowledges};
+ghost use Rattle.vend_core.specs.Office.{IsOffice, Office};
+ghost use Rattle.vend_core.specs.declared.decision.answer.Answer.TheVariants.{Sold};
+ghost use Rattle.vend_core.specs.declared.decision.request.Order.{Order};
+ghost use Rattle.vend_core.specs.declared.decision.request.Request.TheVariants.{Sell};
+ghost use Rattle.vend_core.specs.declared.office.sale.Sale.{Sale};
+ghost use Rattle.vend_commands.specs.port.Places.{loop_of, places_of, way};
+ghost use Rattle.program_laws.specs.runs.Follow.{here_of};
+ghost use Rattle.program_laws.specs.runs.OneOffice.{KeepsPromise};
+ghost use Rattle.program_laws.specs.Selling.{EndsSold, TellsSale};
+ghost use Rattle.vend_commands.specs.office.Served.{TellsReply};
+ghost use Rattle.vend_commands.specs.print.Listing.{ArePages};
+ghost use Rattle.vend_commands.specs.print.ListTexts.{pages_text, shifts_text};
+ghost use Rattle.program_laws.specs.WholeLists.{AreAllMeters, AreAllTariffs, meters_text, tariffs_text};
+ghost use Rattle.vend_commands.specs.print.Told.{Outputs, IsTold};
+ghost use Rattle.vend_commands.specs.office.Visited.{seen_in};
+ghost use Rattle.vend_commands.specs.declared.command_end.CommandEnd.{CommandEnd};
+ghost use Rattle.vend_commands.specs.declared.command_end.CommandEnd.TheVariants.{Done, Refused};
+ghost use Rattle.books.specs.Looking.{IsFoundAt};
+ghost use Rattle.book_facts.specs.declared.lookup.Lookup.{Lookup};
+ghost use Rattle.vend_core.specs.declared.decision.answer.Answer.{Answer};
+ghost use Rattle.vend_core.specs.declared.decision.refusal.Refusal.{Refusal};
+ghost use Rattle.vend_core.specs.declared.decision.request.Request.{Request};
+ghost use Rattle.sts_fields.specs.Moment.{IsMoment};
+ghost use Rattle.conversation.specs.Conversation.{Conversation};
+ghost use Rattle.conversation.specs.Exchanges.{Timed, timed};
+ghost use Rattle.conversation.specs.message.Messages.{Ending, ended};
+ghost use Rattle.desk.specs.Answering.{LifeReplies, answers_by, life_serves, message_refusal_of};
+ghost use Rattle.vend_core.specs.Law.LifeLaws.{IsReadingRequest};
+ghost use Rattle.desk_client.specs.Asks.{IsAskable, IsNoMoment};
+ghost use Rattle.desk_client.specs.Question.{question_text, wanted_by};
+ghost use Rattle.desk_client.specs.Reply.{IsReply, longest_body};
+ghost use Rattle.desk_client.specs.declared.question.Question.{Question as WhatIsAsked};
+ghost use Rattle.desk_client.specs.declared.told.Told.{Told};
+ghost use Rattle.program_laws.specs.AtDesk.{AreAnsweredOn, IsAnsweredAt, IsAskedByOne, IsGivenOn, IsOneLookup, IsPageOrRefusal, PrintsAsOnFile, PrintsList, came_in, sent_in};
+ghost use Rattle.std.specs.Borrow.{Bor};
+ghost use Rattle.clap.specs.Walk.{Row};
+ghost use Rattle.command_line.specs.Commands.{SaysDeskQuestion};
+ghost use Rattle.vend_commands.specs.commands.AskedOfDesk.{TellsTold, is_json, question_of};
+ghost use Rattle.conversation.specs.message.Framing.{longest_body as longest_message};
+ghost use Rattle.vend_commands.specs.commands.ListedAtDesk.{TellPages, page_question};
+ghost use Rattle.vend_commands.specs.port.Exchanged.{Round};
+ghost use Rattle.vend_commands.specs.print.Printed.{clock_line};
+
+use book_tables::PRESENT_FORMAT;
+use books::{found_law, opening_law};
+use command_line::{DeskQuestion, Listed};
+use desk::{Clock, conversation_law, reply_law, route_law};
+use desk_client::{page_law, question_law, told_law};
+use papers::{export_fields_law, export_law};
+use sqlite::FileStore;
+use sqlite_trees::store::Store;
+use sts_fields::amount_law;
+use tariff::purchase_law;
+use vend_commands::{Door, Loopback, OfficeFile, TextFiles};
+use vend_core::{history_law, life_law, office_law, reached_law, store_law};
+
+/// What the pages of a list print together where the last one is not full: the lines of all
+/// tariffs after a name and of all meters after a number, each once, in the order of their bytes;
+/// of all shifts after a number; and all sales after a number, as the export has them.
+pub fn list_law()
+    ensures tariffs { (office : Office) (moment : ℕ) (after : Option Text)
+        (pages : List WhatIsFound)
+        → ArePages office moment (Some (Listed.Tariffs after)) pages None
+        → (tariffs : List ListedTariff)
+        × AreAllTariffs office (day_at moment) (unwrap_or after []) tariffs
+        × (pages_text false pages ≡ tariffs_text true tariffs) }
+    ensures meters { (office : Office) (moment : ℕ) (after : Option Text)
+        (pages : List WhatIsFound)
+        → ArePages office moment (Some (Listed.Meters after)) pages None
+        → (meters : List ListedMeter) × AreAllMeters office (unwrap_or after []) meters
+        × (pages_text false pages ≡ meters_text true meters) }
+    ensures shifts { (office : Office) (moment after : ℕ) (pages : List WhatIsFound)
+        → IsOffice office
+        → ArePages office moment (Some (Listed.Shifts after)) pages None
+        → pages_text false pages ≡ shifts_text true
+        (map (listed_shift office) (filter (λ s. nat_lt after s.number) office.shifts)) }
+    ensures sales { (office : Office) (moment after : ℕ) (pages : List WhatIsFound)
+        → IsOffice office
+        → ArePages office moment (Some (Listed.Sales after)) pages None
+        → pages_text false pages
+        ≡ export_of true (filter (λ s. nat_lt after s.number) office.sales) }
+{
+    export_law();
+}
+
+/// What `sell` has done where it ends as done: where the files stood for an office, it printed the
+/// receipt of the sale that the office's rules give for the order, and the sale stands in all that
+/// a crash may leave of them as they are closed. Of a sale nothing is told but the receipt: what is
+/// told of want of memory came before any sale stood.
+pub fn sell_law<H: OfficeFile>()
+    ensures done { (file : H) (path : Text) (wait : ℕ) (transform : Shipped) (order : Order)
+        (moment : ℕ)
+        (office : Office)
+        (o : Outputs) → StandsIn (H.image file path) office
+        → IsAskedAt ⟦<FileStore<H::Medium> as Store>⟧
+        (places_of H.Medium.Disk H.Salts.SaltSource H.OfficeFile file)
+        transform path wait moment (Sell order) o Done
+        → EndsSold ⟦<FileStore<H::Medium> as Store>⟧
+        (IsClosed H.Medium.Disk (H.lets_go H.Medium)) transform order
+        moment office o }
+    ensures told { (sale : Sale) (o : Outputs) (end : CommandEnd)
+        → TellsReply (Ok (Sold sale)) o end → TellsSale sale o end }
+{
+    office_law();
+}
+
+/// The format of the files that the program writes, and tells.
+pub fn format_law()
+    ensures { PRESENT_FORMAT ≡ present_format }
+{}
+
+/// What `quote` of a file prints is a purchase that `quote` prints: of the steps that hold for the
+/// meter on the day, after the tenths that its month has before.
+pub fn offer_law()
+    ensures { (office : Office) (moment : ℕ) (meter : Text) (tender : ℕ) (quoted : Quote)
+        → quote office moment meter tender ≡ Ok (Quoted quoted)
+        → IsPurchaseFor office moment meter tender quoted }
+{}
+
+/// What `audit` has shown where it ends as done: it printed what it counted. Where the disk
+/// returned what was written, that is the count of a database that an opening of the files may
+/// find, which stands for an office that requests may lead to, whose tokens the transform that was
+/// given wrote, where one was.
+pub fn sound_law<H: OfficeFile>()
+    ensures { (file : H) (path : Text) (wait : ℕ) (given : Option BlockFunction) (o : Outputs)
+        → IsAudited (places_of H.Medium.Disk H.Salts.SaltSource H.OfficeFile file path wait)
+        given o Done
+        → EndsSound H.Medium.Disk (H.image file path) (H.lets_go H.Medium) given o }
+{}
+
+/// What `audit` tells of files that stand for an office that requests lead to, whatever lives it is
+/// of, where these had the transform that is given, if one is, as long as the disk returned what
+/// was written: what it counted, or that they were not read. So of files that nothing else wrote it
+/// tells no row that breaks a rule.
+pub fn broken_law<H: OfficeFile>()
+    ensures { (image : Image) (given : Option BlockFunction)
+        (answer : Result Audited AuditFault) (lives : List Life) (office : Office)
+        → AreLives lives office
+        → IfSome given (λ forward. All (λ life. life.forward ≡ forward) lives)
+        → StandsIn image office
+        → (told : AuditsIn H.Medium.Disk image (H.lets_go H.Medium) given answer)
+        → HasCleanDisk (file_state told.last) → IfErr answer IsFailure }
+{
+    found_law::<FileStore<H::Medium>>();
+    reached_law();
+}
+
+/// What holds of connections that are served one after another, and of the openings between them:
+/// while the disk returns what was written, they are lives of one office. Each connection went on
+/// the last of them by the conversation over its own bytes, and by nothing beside; so what
+/// `headline_law` of `books` says of lives holds of these.
+pub fn serve_law<H: OfficeFile, D: Door>()
+    ensures { (forward : BlockFunction) (count : ℕ)
+        (old new : Service D (Books (Files H.Medium H.Medium.Disk) Shipped
+        ⟦<FileStore<H::Medium> as Store>⟧ shipped)) (printed : Text) (start : Course)
+        → AreHeld (way D.Door D.Reader.remaining D.Writer.contents)
+        forward seen_in count old new printed
+        → HasCleanDisk (seen_in new.books).state
+        → RepresentTheLast start.over start.life (seen_in old.books)
+        → ∥ LiveOn (way D.Door D.Reader.remaining D.Writer.contents)
+        forward seen_in count (service old.door start old.answers) new ∥₁ }
+{
+    history_law();
+}
+
+/// What holds of runs of the program on one file, one after another, each opened on what a stop of
+/// the one before may leave: stopped between two calls or within one, or not at all.
+///
+/// While the disk returns what was written and nobody else writes the file, what these runs lived
+/// are lives of one office; so what `headline_law` of `books` says of lives holds of them.
+///
+/// Each sale that one of them got in a reply, read, exported or told a connection of `serve` stands
+/// for ever, and no two of them differ under one identifier, number or reference. An order that a
+/// command or a desk sold is sold once.
+pub fn program_law<H: OfficeFile, F: TextFiles, C: Clock, D: Door, L: Loopback>()
+    ensures { KeepsPromise (here_of H.Medium.Disk H.Salts.SaltSource H.OfficeFile F.TextFiles
+        C.Clock (way D.Door D.Reader.remaining D.Writer.contents)
+        (loop_of L.Loopback L.Stream.remaining L.Stream.contents)) }
+{
+    history_law();
+    life_law();
+    office_law();
+    store_law();
+    opening_law::<FileStore<H::Medium>>();
+    found_law::<FileStore<H::Medium>>();
+}
+
+/// What is told of a sale names it: two sales of an office with one receipt are one sale, and so
+/// are two with one text in JSON. So the bytes that a customer holds acknowledge one sale.
+pub fn receipt_once()
+    ensures receipt { (o : Office) (s t : Sale) → IsOffice o → Contains o.sales s
+        → Contains o.sales t → receipt_of s ≡ receipt_of t → s ≡ t }
+    ensures json { (o : Office) (s t : Sale) → IsOffice o → Contains o.sales s
+        → Contains o.sales t → json_text (sale_members s) ≡ json_text (sale_members t) → s ≡ t }
+{
+    export_fields_law();
+    reply_law();
+}
+
+/// What a command that asks a desk prints is what the same command prints of the desk's office. The
+/// desk read what the command sent, and answered it by its own law, and its whole reply came.
+pub fn at_desk_law()
+    // One question: the reply or what was found, printed as on the file.
+    ensures one { (question : WhatIsAsked) (json : Bool) (moment : ℕ) (old new : Timed Life)
+        (came : Text) (told : Told) (o : Outputs) (end : CommandEnd)
+        → IsAskedByOne json question → IsAskable question → IsMoment moment
+        → IsOffice old.0.opening → IsLife new.0
+        → IsAnsweredAt (pos moment) old (question_text question) came new
+        → IsReply (wanted_by question) came told → TellsTold json question told o end
+        → PrintsAsOnFile json question moment old.0 new.0 o end }
+
+    // A list: its pages, of one day, and the list that is left behind them.
+    ensures pages { (list : Listed) (day : ℕ) (old new : Timed Life) (rounds : List Round)
+        (pages : List WhatIsFound) (left : Option Listed)
+        → IsAskable (page_question list)
+        → IsOffice old.0.opening → IsLife old.0
+        → AreAnsweredOn day old rounds new → TellPages (Some list) rounds pages left
+        → PrintsList day list pages left old.0 new.0 }
+
+    // The command takes each of these answers for what it is, up to the longest body.
+    ensures read { (question : WhatIsAsked) (moment : ℕ) (old new : Timed Life) (came : Text)
+        → IsAskable question → IsMoment moment → IsOffice old.0.opening → IsLife new.0
+        → IsAnsweredAt (pos moment) old (question_text question) came new
+        → length came ≤ longest_body → (told : Told) × IsReply (wanted_by question) came told }
+    ensures page_read { (list : Listed) (moment : ℕ) (old new : Timed Life) (came : Text)
+        → IsAskable (page_question list) → IsMoment moment
+        → IsOffice old.0.opening → IsLife old.0
+        → IsAnsweredAt (pos moment) old (question_text (page_question list)) came new
+        → length came ≤ longest_body → IsPageOrRefusal list came }
+
+    // What the words of a command say is such a question: it can be asked, and but for a list it is
+    // asked by one message.
+    ensures askable { (name : Text) (words : List Row) (asked : DeskQuestion) (rows : Bor Text)
+        → SaysDeskQuestion name words asked → length rows.now ≤ longest_message
+        → IsAskable (question_of asked rows) }
+    ensures by_one { (name : Text) (words : List Row) (asked : DeskQuestion) (rows : Bor Text)
+        → SaysDeskQuestion name words asked
+        → ((list : Listed) (json : Bool) → asked ≢ DeskQuestion.List list json)
+        → IsAskedByOne (is_json asked) (question_of asked rows) }
+
+    // So a desk answers what a question sends, and what a list sends: a conversation over these
+    // bytes is their exchanges and no others, as long as the line loses and changes none of them,
+    // nor any of what the desk writes.
+    ensures line { (question : WhatIsAsked) (old new : Timed Life) (came : Text) (ending : Ending)
+        → IsAskable question
+        → Conversation (timed (answers_by life_serves)) message_refusal_of ended
+        (question_text question) old came ending new
+        → (second : ℤ) × IsAnsweredAt second old (question_text question) came new }
+
+    ensures lines { (list : Listed) (day : ℕ) (old new : Timed Life) (rounds : List Round)
+        (pages : List WhatIsFound) (left : Option Listed) (ending : Ending)
+        → IsAskable (page_question list)
+        → IsOffice old.0.opening → IsLife old.0
+        → TellPages (Some list) rounds pages left → length (came_in rounds) < 2 ^ 64
+        → (held : Conversation (timed (answers_by life_serves)) message_refusal_of ended
+        (sent_in rounds) old (came_in rounds) ending new)
+        → All (λ x. IsGivenOn day x.now) held.exchanges
+        → AreAnsweredOn day old rounds new }
+
+    // A desk's clock outside the moments of an office: that is printed, and the office is as it
+    // was.
+    ensures clock { (question : WhatIsAsked) (json : Bool) (second : ℤ) (old new : Timed Life)
+        (came : Text) (told : Told) (o : Outputs) (end : CommandEnd)
+        → IsAskable question → IsNoMoment second
+        → IsAnsweredAt second old (question_text question) came new
+        → IsReply (wanted_by question) came told → TellsTold json question told o end
+        → IsTold o [] clock_line Refused end × (new.0 ≡ old.0) }
+
+    // One life has one reply to a request at a moment, and one of what is looked up then, but for
+    // want of memory and a store that fails: so books that keep the desk's life in its file reply
+    // and find the same. A report and a receipt are the same at each moment.
+    ensures same_reply { (life one other : Life) (moment later : ℕ) (request : Request)
+        (desk file : Result Answer Refusal)
+        → (moment ≡ later) ⊎ IsReadingRequest request
+        → LifeReplies moment request desk life one → LifeReplies later request file life other
+        → IsLife one → IsLife other
+        → acknowledges desk ≡ true → acknowledges file ≡ true → desk ≡ file }
+    ensures same_found { (life : Life) (moment : ℕ) (lookup : Lookup)
+        (desk file : Result WhatIsFound Refusal)
+        → IsOneLookup lookup
+        → IsFoundAt life moment lookup desk → IsFoundAt life moment lookup file
+        → IfErr desk IsOfRules → IfErr file IsOfRules → desk ≡ file }
+{
+    amount_law();
+    purchase_law();
+    office_law();
+    store_law();
+    route_law();
+    conversation_law();
+    reply_law();
+    told_law();
+    question_law();
+    page_law();
+}

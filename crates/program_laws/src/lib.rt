@@ -1,0 +1,11 @@
+//! What holds of the program's commands together, as laws: contracts of functions without work.
+//!
+//! `README.md` has the laws in words, and `specs/` has what they speak of as definitions.
+#![tactic(auto)]
+
+mod laws;
+
+pub use laws::{
+    at_desk_law, broken_law, format_law, list_law, offer_law, program_law, receipt_once, sell_law,
+    serve_law, sound_law,
+};
