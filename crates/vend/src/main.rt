@@ -37,7 +37,7 @@ fn unreadable(error: io::Error) -> BadWords {
 fn run_given(rt: &HostRuntime, given: &[String]) -> u8 {
     let words: Result<Vec<&str>, _> = given.iter().map(|word| word.as_str()).collect(rt.alloc());
     match words {
-        Ok(words) => run(rt, Unknown, &words, &mut rt.stdout(), &mut rt.stderr()),
+        Ok(words) => run(rt, rt, Unknown, &words, &mut rt.stdout(), &mut rt.stderr()),
         Err(_) => refuse_words(rt, BadWords::Memory),
     }
 }

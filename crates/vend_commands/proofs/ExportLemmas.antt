@@ -8,8 +8,10 @@ use Rattle.papers.specs.Export.{export_of}
 use Rattle.vend_core.specs.Law.Life.{Life, present}
 use Rattle.vend_core.specs.declared.decision.refusal.Refusal.{Refusal}
 use Rattle.vend_core.specs.declared.office.sale.Sale.{Sale}
+use Rattle.vend_commands.proofs.OnlyReadLemmas.{read_none, read_then}
 use Rattle.vend_commands.proofs.RefusedLemmas.{stopped_before}
 use Rattle.vend_commands.proofs.TakeLemmas.{takes_last, takes_next, takes_none}
+use Rattle.vend_commands.specs.office.OnlyRead.{AreOnlyRead}
 use Rattle.vend_commands.specs.print.Exported.{IsExported, IsPage, page_of}
 use Rattle.vend_commands.specs.print.Printed.{refusal_line}
 use Rattle.vend_commands.specs.print.Told.{Sink, Takes, outputs}
@@ -52,11 +54,11 @@ past_short sales page short = omega (arith, short, length-take 1000 (drop (page 
 pub record SoFar (old now : Seen) (before after : Sink) (page : ℕ) (front : List ℕ) : Type 0 where
   pub put : Takes before after front
   pub left : HasCleanDisk now.state → (life : Life) → Represents life old → front ++ export_from (present life).sales page ≡ export_of true (present life).sales
-  pub keeps : (life : Life) → Represents life old → Represents life now
+  pub reads : AreOnlyRead old now
   pub stopped : now.stopped ≡ old.stopped
 
 pub no_pages : (books : Seen) (before : Sink) → SoFar books books before before 0 []
-no_pages books before = record { put = takes_none before; left = λ clean life keeps. refl; keeps = λ life keeps. keeps; stopped = refl }
+no_pages books before = record { put = takes_none before; left = λ clean life kept. refl; reads = read_none books; stopped = refl }
 
 -- a page that no other follows was not full, or a write failed
 ended : (n : ℕ) (failed more : Bool) → more ≡ ((n == 1000) && not failed) → more ≡ false → failed ≡ false → n ≢ 1000
@@ -64,23 +66,23 @@ ended n true more is none sound = cc
 ended n false more is none sound = λ e. let full : (n == 1000) ≡ true = eq-eqb n 1000 e in cc
 
 module _ (old mid new : Seen) (before part after : Sink) (page : ℕ) (front : List ℕ) (law : PagesLaw) (so_far : SoFar old mid before part page front)
-    (keeps : (life : Life) → Represents life mid → Represents life new) (clean_mid : HasCleanDisk new.state → HasCleanDisk mid.state) where
+    (reads : AreOnlyRead mid new) where
   -- what is left behind the page of these sales
   behind : (sales : List Sale) → (HasCleanDisk new.state → (life : Life) → Represents life mid → sales ≡ page_of (present life).sales page)
       → HasCleanDisk new.state → (life : Life) → Represents life old → (front ++ export_of (page == 0) sales) ++ export_from (present life).sales (page + 1) ≡ export_of true (present life).sales
   behind sales given clean life kept =
       let all = (present life).sales in
-      let are = given clean life (so_far.keeps life kept) in
+      let are = given clean life (so_far.reads.keeps life kept) in
       append_assoc front (export_of (page == 0) sales) (export_from all (page + 1))
       ∙ ap (λ s. front ++ (export_of (page == 0) s ++ export_from all (page + 1))) are
       ∙ ap (λ l. front ++ l) (sym (page_split law all page))
-      ∙ so_far.left (clean_mid clean) life kept
+      ∙ so_far.left (reads.clean clean) life kept
 
   pub page_more : (page_put : IsPage mid new page part after (Ok true)) → SoFar old new before after (page + 1) (front ++ export_of (page == 0) page_put.0)
   page_more put = record {
     put = takes_next before part after front (export_of (page == 0) put.0) so_far.put put.2;
     left = behind put.0 put.1;
-    keeps = λ life kept. keeps life (so_far.keeps life kept);
+    reads = read_then old mid new so_far.reads reads;
     stopped = put.4 ∙ so_far.stopped;
   }
 
@@ -89,7 +91,7 @@ module _ (old mid new : Seen) (before part after : Sink) (page : ℕ) (front : L
       let text = front ++ export_of (page == 0) put.0 in
       let whole : after.failed ≡ false → HasCleanDisk new.state → (life : Life) → Represents life old → text ≡ export_of true (present life).sales = λ sound clean life kept.
       let all = (present life).sales in
-      let are = put.1 clean life (so_far.keeps life kept) in
+      let are = put.1 clean life (so_far.reads.keeps life kept) in
       let past = past_short all page (λ e. ended (length put.0) after.failed more put.3 none sound (ap length are ∙ e)) in
       sym (append-nil text) ∙ ap (λ l. text ++ l) (sym (export_end all (page + 1) (omega arith) past)) ∙ behind put.0 put.1 clean life kept in
       record {
@@ -98,7 +100,7 @@ module _ (old mid new : Seen) (before part after : Sink) (page : ℕ) (front : L
         told = (takes_next before part after front (export_of (page == 0) put.0) so_far.put put.2, takes_none err, refl);
         stops = put.4 ∙ so_far.stopped;
         sales = λ clean life kept. record { begins = (_, behind put.0 put.1 clean life kept); whole = λ _ sound. whole sound clean life kept };
-        keeps = λ life kept. keeps life (so_far.keeps life kept);
+        reads = read_then old mid new so_far.reads reads;
       }
 
   pub page_refused : (err told : Sink) (refusal : Refusal) → IsPage mid new page part after (Err refusal) → Takes err told (refusal_line refusal)
@@ -109,8 +111,8 @@ module _ (old mid new : Seen) (before part after : Sink) (page : ℕ) (front : L
         stop = Some refusal;
         told = (takes_last before part after front [] front so_far.put (sym (append-nil front)) same.0, says, refl);
         stops = (same.1, stopped_before old mid new refusal so_far.stopped same.2.tells);
-        sales = λ clean life kept. record { begins = (_, so_far.left (clean_mid clean) life kept); whole = λ e sound. cc };
-        keeps = λ life kept. keeps life (so_far.keeps life kept);
+        sales = λ clean life kept. record { begins = (_, so_far.left (reads.clean clean) life kept); whole = λ e sound. cc };
+        reads = read_then old mid new so_far.reads reads;
       }
 
 -- all pages that an office may have were printed
@@ -120,7 +122,7 @@ pub all_pages : (old new : Seen) (before after err : Sink) (page : ℕ) (front :
 all_pages old new before after err page front later so_far few =
     let whole : HasCleanDisk new.state → (life : Life) → Represents life old → front ≡ export_of true (present life).sales = λ clean life kept.
     let all = (present life).sales in
-    let past = few clean life (so_far.keeps life kept) in
+    let past = few clean life (so_far.reads.keeps life kept) in
     sym (append-nil front) ∙ ap (λ l. front ++ l) (sym (export_end all page later past)) ∙ so_far.left clean life kept in
     record {
       text = front;
@@ -128,5 +130,5 @@ all_pages old new before after err page front later so_far few =
       told = (so_far.put, takes_none err, refl);
       stops = so_far.stopped;
       sales = λ clean life kept. record { begins = ([], append-nil front ∙ whole clean life kept); whole = λ _ sound. whole clean life kept };
-      keeps = so_far.keeps;
+      reads = so_far.reads;
     }

@@ -1,29 +1,21 @@
-pub mod AgainLemmas
-pub mod AtDeskLemmas
 pub mod AuditLemmas
+mod ClosingLemmas
+mod FileAuditLemmas
 pub mod ConnectionLemmas
-pub mod CourseLemmas
-pub mod DeskLemmas
 pub mod DeskListLemmas
 pub mod ExportLemmas
-pub mod FoundLemmas
-pub mod KeyedLemmas
 pub mod ListingLemmas
 pub mod MeteringLemmas
-pub mod OfferLemmas
-pub mod ReceiptLemmas
+pub mod OnlyReadLemmas
 pub mod RefusedLemmas
+pub mod ReopeningLemmas
 pub mod RunLemmas
-pub mod RunsLemmas
 pub mod SameLemmas
 pub mod SelfcheckLemmas
-pub mod SellLemmas
 pub mod TableLemmas
 pub mod TakeLemmas
 pub mod TimedLemmas
-pub mod ToldLemmas
 pub mod TrialLemmas
 pub mod UntoldLemmas
 pub mod UnwatchedLemmas
-pub mod WholeLemmas
 pub mod WordLemmas

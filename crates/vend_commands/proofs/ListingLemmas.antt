@@ -17,8 +17,10 @@ use Rattle.vend_core.specs.Law.Life.{Life, present}
 use Rattle.vend_core.specs.Office.{Office}
 use Rattle.vend_core.specs.declared.decision.refusal.Refusal.{Refusal}
 use Rattle.vend_core.specs.declared.decision.refusal.Refusal.TheVariants.{Memory, Store, Stopped}
+use Rattle.vend_commands.proofs.OnlyReadLemmas.{read_none, read_then}
 use Rattle.vend_commands.proofs.RefusedLemmas.{stopped_before}
 use Rattle.vend_commands.proofs.TakeLemmas.{takes_as, takes_last, takes_next, takes_none}
+use Rattle.vend_commands.specs.office.OnlyRead.{AreOnlyRead}
 use Rattle.vend_commands.specs.print.Exported.{IsPageRefusal}
 use Rattle.vend_commands.specs.print.Listing.{ArePages, IsListPage, IsListed, list_behind, most_pages, page_lookup}
 use Rattle.vend_commands.specs.print.ListTexts.{page_text, pages_text}
@@ -93,19 +95,19 @@ pub record ListedSoFar (moment : ℕ) (list : Listed) (json : Bool) (old now : S
   pub put : Takes before after (pages_text json pages)
   pub are : HasCleanDisk now.state → (life : Life) → Represents life old → ArePages (present life) moment (Some list) pages (Some next)
   pub count : length pages ≡ page
-  pub keeps : (life : Life) → Represents life old → Represents life now
+  pub reads : AreOnlyRead old now
   pub stopped : now.stopped ≡ old.stopped
 
 pub no_pages : (moment : ℕ) (list : Listed) (json : Bool) (books : Seen) (before : Sink) → ListedSoFar moment list json books books before before list 0 []
-no_pages moment list json books before = record { put = takes_none before; are = λ clean life kept. refl; count = refl; keeps = λ life kept. kept; stopped = refl }
+no_pages moment list json books before = record { put = takes_none before; are = λ clean life kept. refl; count = refl; reads = read_none books; stopped = refl }
 
 module _ (moment : ℕ) (list : Listed) (json : Bool) (old mid new : Seen) (before part after : Sink) (next : Listed) (page : ℕ) (pages : List Found)
     (so_far : ListedSoFar moment list json old mid before part next page pages)
-    (keeps : (life : Life) → Represents life mid → Represents life new) (clean_mid : HasCleanDisk new.state → HasCleanDisk mid.state) where
+    (reads : AreOnlyRead mid new) where
   are_more : (found : Found) → (HasCleanDisk new.state → (life : Life) → Represents life mid → Finds (present life) moment (page_lookup next) (Ok found))
       → HasCleanDisk new.state → (life : Life) → Represents life old → ArePages (present life) moment (Some list) (pages ++ found ∷ []) (list_behind found)
   are_more found finds clean life kept =
-      more_pages (present life) moment (Some list) pages next found (so_far.are (clean_mid clean) life kept) (finds clean life (so_far.keeps life kept))
+      more_pages (present life) moment (Some list) pages next found (so_far.are (reads.clean clean) life kept) (finds clean life (so_far.reads.keeps life kept))
 
   put_more : (found : Found) → Takes part after (page_text json (page == 0) found) → Takes before after (pages_text json (pages ++ found ∷ []))
   put_more found put =
@@ -119,7 +121,7 @@ module _ (moment : ℕ) (list : Listed) (json : Bool) (old mid new : Seen) (befo
         put = put_more put.0 put.2;
         are = λ clean life kept. subst (λ (left : Option Listed). ArePages (present life) moment (Some list) (pages ++ put.0 ∷ []) left) is (are_more put.0 put.1 clean life kept);
         count = length-append pages (put.0 ∷ []) ∙ ap (λ n. n + 1) so_far.count;
-        keeps = λ life kept. keeps life (so_far.keeps life kept);
+        reads = read_then old mid new so_far.reads reads;
         stopped = put.4 ∙ so_far.stopped;
       }
 
@@ -133,7 +135,7 @@ module _ (moment : ℕ) (list : Listed) (json : Bool) (old mid new : Seen) (befo
     whole = λ _ sound. inl (none_behind behind (list_behind put.0) after.failed none put.3 sound);
     refused = λ clean life kept. tt;
     stops = put.4 ∙ so_far.stopped;
-    keeps = λ life kept. keeps life (so_far.keeps life kept);
+    reads = read_then old mid new so_far.reads reads;
   }
 
   pub page_refused : (err told : Sink) (refusal : Refusal) → IsListPage moment next json (page == 0) mid new part after (Err refusal) → Takes err told (refusal_line refusal)
@@ -143,11 +145,11 @@ module _ (moment : ℕ) (list : Listed) (json : Bool) (old mid new : Seen) (befo
     left = Some next;
     stop = Some refusal;
     told = (takes_last before part after (pages_text json pages) [] _ so_far.put (sym (append-nil (pages_text json pages))) put.0, says, refl);
-    are = λ clean life kept. so_far.are (clean_mid clean) life kept;
+    are = λ clean life kept. so_far.are (reads.clean clean) life kept;
     whole = λ e sound. absurd (cc);
-    refused = λ clean life kept. put.1 clean life (so_far.keeps life kept);
+    refused = λ clean life kept. put.1 clean life (so_far.reads.keeps life kept);
     stops = stopped_before old mid new refusal so_far.stopped put.2;
-    keeps = λ life kept. keeps life (so_far.keeps life kept);
+    reads = read_then old mid new so_far.reads reads;
   }
 
 -- more pages than any file has
@@ -162,5 +164,5 @@ most_printed moment list json old new before after err next page pages so_far mo
   whole = λ _ sound. inr (so_far.count ∙ most);
   refused = λ clean life kept. tt;
   stops = so_far.stopped;
-  keeps = so_far.keeps;
+  reads = so_far.reads;
 }

@@ -1,6 +1,6 @@
 -- How a run ends.
 use Rattle.std.proofs.Common.{◌≡◌, ◌≢◌, ◌⊎◌, ℕ, ℤ, ◌≤◌, Bool, true, false, List, [], Option, Some, None, Result, Ok, Err, inl, inr, subst, sym, arith}
-use Rattle.std.specs.Prelude.{⊤}
+use Rattle.std.specs.Prelude.{⊤, option_map}
 use Rattle.clap.specs.Kinds.{HasKind, IsAmong}
 use Rattle.clap.specs.Values.{kind_of}
 use Rattle.clap.specs.declared.error.Error.{Error}
@@ -20,6 +20,8 @@ use Rattle.vend_core.specs.declared.decision.refusal.Refusal.{Refusal}
 use Rattle.vend_core.specs.declared.decision.refusal.Refusal.TheVariants.{Memory}
 use Rattle.vend_core.specs.declared.decision.request.Request.{Request}
 use Rattle.vend_core.specs.declared.office.row.Row.{Row}
+use Rattle.command_line.specs.Transform.{forward_of}
+use Rattle.sts_token.specs.Token.{BlockFunction}
 use Rattle.papers.specs.declared.row_fault.RowFault.{RowFault}
 use Rattle.tariff.specs.Purchase.{purchase_of}
 use Rattle.command_line.specs.Asked.{AskFor}
@@ -30,7 +32,6 @@ use Rattle.vend_commands.specs.commands.AskedOfDesk.IsAskedOnce.{asked as desk_a
 use Rattle.vend_commands.specs.commands.ListedAtDesk.{page_stop_end}
 use Rattle.vend_commands.specs.declared.commands.list_at_desk.PageFault.{PageFault}
 use Rattle.vend_commands.specs.port.Exchanged.{Calls}
-use Rattle.vend_commands.specs.declared.port.file_fault.FileFault.{FileFault}
 use Rattle.desk_client.specs.declared.question.Question.{Question}
 use Rattle.desk_client.specs.declared.told.Told.{Told}
 use Rattle.desk_client.specs.declared.told.Told.TheVariants as tells
@@ -47,6 +48,8 @@ use Rattle.command_line.specs.Line.{faults_in}
 use Rattle.vend_commands.specs.serving.Listening.{IsServing, serving_end}
 use Rattle.vend_commands.specs.serving.Listening.IsServing.{unheard, unopened as serves_unopened, was_open}
 use Rattle.vend_commands.specs.commands.Quoted.{quote_end}
+use Rattle.vend_commands.specs.port.Dial.{Dial}
+use Rattle.vend_commands.specs.port.Texts.{Texts}
 use Rattle.vend_commands.specs.port.Places.{Machine, Place, Places, Way, IsIdle}
 use Rattle.vend_commands.specs.print.Printed.{refusal_line}
 use Rattle.vend_commands.specs.commands.Reported.{IsReported, PrintsPaper}
@@ -138,7 +141,7 @@ added_ends : {S : Type 0} (store : Ghosts S) (at : Places) (untouched : Type 0) 
 added_ends store at untouched words moment (Ok rows) o end added = asked_at_ends store at words.transform words.file.now words.wait moment _ o end added
 added_ends store at untouched words moment (Err fault) o end (left, told) = told_ends o _ _ how.Refused end (omega arith) told
 
-import_ends : {S D R W : Type 0} (store : Ghosts S) (m : Machine D R W) (words : ImportWords) (moment : ℕ) (o : Outputs) (end : CommandEnd) → IsFileImported store m.at m.untouched m.reads m.lacks words moment o end → exit_status_of end ≤ 1
+import_ends : {S D R W : Type 0} (store : Ghosts S) (m : Machine D R W) (words : ImportWords) (moment : ℕ) (o : Outputs) (end : CommandEnd) → IsFileImported store m.at m.untouched m.texts words moment o end → exit_status_of end ≤ 1
 import_ends store m words moment o end (inl (bytes, reads, (records, rows, are, reading, added))) = added_ends store m.at m.untouched words moment rows o end added
 import_ends store m words moment o end (inr (fault, lacks, left, told)) = told_ends o _ _ how.Refused end (omega arith) told
 
@@ -162,10 +165,10 @@ answer_told_ends (Err (Found finding)) o end (row, tells, told) = told_ends o _ 
 answer_told_ends (Err NoOffice) o end told = told_ends o _ _ how.Refused end (omega arith) told
 answer_told_ends (Err (Failed error)) o end told = told_ends o _ _ how.Refused end (omega arith) told
 
-audit_ends : (place : Place) (o : Outputs) (end : CommandEnd) → IsAudited place o end → exit_status_of end ≤ 1
-audit_ends place o end (absent misses told) = told_ends o _ _ how.Refused end (omega arith) told
-audit_ends place o end (audits_unopened fault refuses told) = told_ends o _ _ how.Refused end (omega arith) told
-audit_ends place o end (looked answer meets audits told) = answer_told_ends answer o end told
+audit_ends : (place : Place) (given : Option BlockFunction) (o : Outputs) (end : CommandEnd) → IsAudited place given o end → exit_status_of end ≤ 1
+audit_ends place given o end (absent misses told) = told_ends o _ _ how.Refused end (omega arith) told
+audit_ends place given o end (audits_unopened fault refuses told) = told_ends o _ _ how.Refused end (omega arith) told
+audit_ends place given o end (looked answer meets audits told) = answer_told_ends answer o end told
 
 report_ends : {S : Type 0} (store : Ghosts S) (at : Places) (words : ReportWords) (o : Outputs) (end : CommandEnd) → IsReported store at words o end → exit_status_of end ≤ 1
 report_ends store at words o end (no_file misses told) = told_ends o _ _ how.Refused end (omega arith) told
@@ -196,51 +199,51 @@ desk_asked_ends calls uncalled desk json question o end (broken came exchanged n
 desk_asked_ends calls uncalled desk json question o end (unsent fault why told) = told_ends o _ _ how.Refused end (omega arith) told
 desk_asked_ends calls uncalled desk json question o end (desk_full left told) = told_ends o _ _ how.Refused end (omega arith) told
 
-asked_once_ends : (reads : Text → List ℕ → Type 0) (lacks : Text → FileFault → Type 0) (calls : Calls) (uncalled : Type 0) (desk : Address) (question : DeskQuestion) (o : Outputs) (end : CommandEnd) → IsAskedOnce reads lacks calls uncalled desk question o end → exit_status_of end ≤ 1
-asked_once_ends reads lacks calls uncalled desk question o end (desk_asked rows are done) = desk_asked_ends calls uncalled desk _ _ o end done
-asked_once_ends reads lacks calls uncalled desk question o end (without_rows fault why left told) = told_ends o _ _ how.Refused end (omega arith) told
+asked_once_ends : (texts : Texts) (calls : Calls) (uncalled : Type 0) (desk : Address) (question : DeskQuestion) (o : Outputs) (end : CommandEnd) → IsAskedOnce texts calls uncalled desk question o end → exit_status_of end ≤ 1
+asked_once_ends texts calls uncalled desk question o end (desk_asked rows are done) = desk_asked_ends calls uncalled desk _ _ o end done
+asked_once_ends texts calls uncalled desk question o end (without_rows fault why left told) = told_ends o _ _ how.Refused end (omega arith) told
 
 page_stop_low : (stop : Option PageFault) → exit_status_of (page_stop_end stop) ≤ 1
 page_stop_low None = omega arith
 page_stop_low (Some fault) = omega arith
 
-answered_ends : (reads : Text → List ℕ → Type 0) (lacks : Text → FileFault → Type 0) (calls : Calls) (uncalled : Type 0) (desk : Address) (question : DeskQuestion) (o : Outputs) (end : CommandEnd) → IsAnswered reads lacks calls uncalled desk question o end → exit_status_of end ≤ 1
-answered_ends reads lacks calls uncalled desk (desk_asks.Import kind csv) o end done = asked_once_ends reads lacks calls uncalled desk (desk_asks.Import kind csv) o end done
-answered_ends reads lacks calls uncalled desk (desk_asks.MoveBase meter base) o end done = asked_once_ends reads lacks calls uncalled desk (desk_asks.MoveBase meter base) o end done
-answered_ends reads lacks calls uncalled desk (desk_asks.OpenShift operator) o end done = asked_once_ends reads lacks calls uncalled desk (desk_asks.OpenShift operator) o end done
-answered_ends reads lacks calls uncalled desk (desk_asks.CloseShift operator) o end done = asked_once_ends reads lacks calls uncalled desk (desk_asks.CloseShift operator) o end done
-answered_ends reads lacks calls uncalled desk (desk_asks.Sell order) o end done = asked_once_ends reads lacks calls uncalled desk (desk_asks.Sell order) o end done
-answered_ends reads lacks calls uncalled desk (desk_asks.ShiftReport number) o end done = asked_once_ends reads lacks calls uncalled desk (desk_asks.ShiftReport number) o end done
-answered_ends reads lacks calls uncalled desk (desk_asks.Receipt number) o end done = asked_once_ends reads lacks calls uncalled desk (desk_asks.Receipt number) o end done
-answered_ends reads lacks calls uncalled desk (desk_asks.ShiftTotals number) o end done = asked_once_ends reads lacks calls uncalled desk (desk_asks.ShiftTotals number) o end done
-answered_ends reads lacks calls uncalled desk (desk_asks.Show shown json) o end done = asked_once_ends reads lacks calls uncalled desk (desk_asks.Show shown json) o end done
-answered_ends reads lacks calls uncalled desk (desk_asks.Offer meter tender json) o end done = asked_once_ends reads lacks calls uncalled desk (desk_asks.Offer meter tender json) o end done
-answered_ends reads lacks calls uncalled desk (desk_asks.List list json) o end done = told_ends o _ _ (page_stop_end done.stop) end (page_stop_low done.stop) done.told
+answered_ends : (texts : Texts) (calls : Calls) (uncalled : Type 0) (desk : Address) (question : DeskQuestion) (o : Outputs) (end : CommandEnd) → IsAnswered texts calls uncalled desk question o end → exit_status_of end ≤ 1
+answered_ends texts calls uncalled desk (desk_asks.Import kind csv) o end done = asked_once_ends texts calls uncalled desk (desk_asks.Import kind csv) o end done
+answered_ends texts calls uncalled desk (desk_asks.MoveBase meter base) o end done = asked_once_ends texts calls uncalled desk (desk_asks.MoveBase meter base) o end done
+answered_ends texts calls uncalled desk (desk_asks.OpenShift operator) o end done = asked_once_ends texts calls uncalled desk (desk_asks.OpenShift operator) o end done
+answered_ends texts calls uncalled desk (desk_asks.CloseShift operator) o end done = asked_once_ends texts calls uncalled desk (desk_asks.CloseShift operator) o end done
+answered_ends texts calls uncalled desk (desk_asks.Sell order) o end done = asked_once_ends texts calls uncalled desk (desk_asks.Sell order) o end done
+answered_ends texts calls uncalled desk (desk_asks.ShiftReport number) o end done = asked_once_ends texts calls uncalled desk (desk_asks.ShiftReport number) o end done
+answered_ends texts calls uncalled desk (desk_asks.Receipt number) o end done = asked_once_ends texts calls uncalled desk (desk_asks.Receipt number) o end done
+answered_ends texts calls uncalled desk (desk_asks.ShiftTotals number) o end done = asked_once_ends texts calls uncalled desk (desk_asks.ShiftTotals number) o end done
+answered_ends texts calls uncalled desk (desk_asks.Show shown json) o end done = asked_once_ends texts calls uncalled desk (desk_asks.Show shown json) o end done
+answered_ends texts calls uncalled desk (desk_asks.Offer meter tender json) o end done = asked_once_ends texts calls uncalled desk (desk_asks.Offer meter tender json) o end done
+answered_ends texts calls uncalled desk (desk_asks.List list json) o end (left, done) = told_ends o _ _ (page_stop_end done.stop) end (page_stop_low done.stop) done.told
 
 done_ends : (Idle : Type 0) (At : ℕ → Type 0) (o : Outputs) (end : CommandEnd) (moment : Option ℕ) → ((moment : ℕ) → At moment → exit_status_of end ≤ 1) → IsDoneAt Idle At o end moment → exit_status_of end ≤ 1
 done_ends Idle At o end (Some moment) ends done = ends moment done
 done_ends Idle At o end None ends (idle, told) = told_ends o _ _ how.Refused end (omega arith) told
 
-timed_ends : (Idle : Type 0) (given : Option ℕ) (answers : Option (List ℤ)) (At : ℕ → Type 0) (o : Outputs) (end : CommandEnd) → ((moment : ℕ) → At moment → exit_status_of end ≤ 1) → IsTimed Idle given answers At o end → exit_status_of end ≤ 1
-timed_ends Idle given answers At o end ends (moment, taken, done) = done_ends Idle At o end moment ends done
+timed_ends : (Idle : Type 0) (given : Option ℕ) (clock : Dial) (At : ℕ → Type 0) (o : Outputs) (end : CommandEnd) → ((moment : ℕ) → At moment → exit_status_of end ≤ 1) → IsTimed Idle given clock At o end → exit_status_of end ≤ 1
+timed_ends Idle given clock At o end ends (moment, taken, done) = done_ends Idle At o end moment ends done
 
 answer_ends : {S D R W : Type 0} (store : Ghosts S) (m : Machine D R W) (asked : Asked) (o : Outputs) (end : CommandEnd) → IsCarriedOut store m asked o end → exit_status_of end ≤ 1
-answer_ends store m (asks.Trial words) o end (idle, done) = timed_ends ⊤ words.at m.answers _ o end (λ moment tried. told_ends o _ _ (trial_end tried.2) end (trial_low tried.2) tried.4) done
-answer_ends store m (asks.Import words) o end (shut, done) = timed_ends m.untouched words.at m.answers _ o end (λ moment imported. import_ends store m words moment o end imported) done
-answer_ends store m (asks.Request words) o end (shut, done) = timed_ends m.untouched words.at m.answers _ o end (λ moment asked. asked_at_ends store m.at words.transform words.file.now words.wait moment words.request o end asked) done
+answer_ends store m (asks.Trial words) o end (idle, done) = timed_ends ⊤ words.at m.clock _ o end (λ moment tried. told_ends o _ _ (trial_end tried.2) end (trial_low tried.2) tried.4) done
+answer_ends store m (asks.Import words) o end (shut, done) = timed_ends (m.untouched × m.texts.leaves) words.at m.clock _ o end (λ moment imported. import_ends store m words moment o end imported) done
+answer_ends store m (asks.Request words) o end (shut, done) = timed_ends m.untouched words.at m.clock _ o end (λ moment asked. asked_at_ends store m.at words.transform words.file.now words.wait moment words.request o end asked) done
 answer_ends store m (asks.Report words) o end (shut, done) = report_ends store m.at words o end done
-answer_ends store m (asks.Show words) o end (shut, done) = timed_ends m.untouched words.at m.answers _ o end (λ moment shown. shown_ends store m.at words.file.now words.wait moment _ o end shown) done
-answer_ends store m (asks.List words) o end (shut, done) = timed_ends m.untouched words.at m.answers _ o end (λ moment shown. shown_ends store m.at words.file.now words.wait moment _ o end shown) done
-answer_ends store m (asks.Offer words) o end (shut, done) = timed_ends m.untouched words.at m.answers _ o end (λ moment shown. shown_ends store m.at words.file.now words.wait moment _ o end shown) done
+answer_ends store m (asks.Show words) o end (shut, done) = timed_ends m.untouched words.at m.clock _ o end (λ moment shown. shown_ends store m.at words.file.now words.wait moment _ o end shown) done
+answer_ends store m (asks.List words) o end (shut, done) = timed_ends m.untouched words.at m.clock _ o end (λ moment shown. shown_ends store m.at words.file.now words.wait moment _ o end shown) done
+answer_ends store m (asks.Offer words) o end (shut, done) = timed_ends m.untouched words.at m.clock _ o end (λ moment shown. shown_ends store m.at words.file.now words.wait moment _ o end shown) done
 answer_ends store m (asks.Meter words) o end (idle, done) = told_ends o _ _ how.Done end (omega arith) done
 answer_ends store m (asks.Quote words) o end (idle, done) =
     let bought = purchase_of words.steps words.prior words.tender in
     told_ends o _ _ (quote_end bought) end (quote_low bought) done
-answer_ends store m (asks.Serve words) o end (left, done) = serving_ends store m.way m.at m.door m.answers words o.err_old o.err_new end done.1
+answer_ends store m (asks.Serve words) o end (left, done) = serving_ends store m.way m.at m.door m.clock.answers words o.err_old o.err_new end done.1
 answer_ends store m (asks.Selfcheck words) o end (untouched, shut, agreed has told) = told_ends o _ _ how.Done end (omega arith) told
 answer_ends store m (asks.Selfcheck words) o end (untouched, shut, failed fault why told) = told_ends o _ _ how.Refused end (omega arith) told
-answer_ends store m (asks.Desk words) o end (untouched, shut, done) = answered_ends m.reads m.lacks m.loop.calls m.loop.leaves words.desk words.question o end done
-answer_ends store m (asks.Audit words) o end (shut, done) = audit_ends (m.at words.file.now words.wait) o end done
+answer_ends store m (asks.Desk words) o end (untouched, shut, done) = answered_ends m.texts m.loop.calls m.loop.leaves words.desk words.question o end done
+answer_ends store m (asks.Audit words) o end (shut, done) = audit_ends (m.at words.file.now words.wait) (option_map forward_of words.transform) o end done
 
 -- words that ask for something never end as bad words
 run_ends : {S D R W : Type 0} (store : Ghosts S) (m : Machine D R W) (words : List Text) (o : Outputs) (end : CommandEnd) (asked : Asked) → AskFor words asked → IsProgramRun store m words o end → exit_status_of end ≤ 1

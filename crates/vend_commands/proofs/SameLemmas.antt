@@ -1,6 +1,6 @@
 -- A run ends with the writers that it began with.
 use Rattle.std.proofs.Common.{◌≡◌, ◌∙◌, ℕ, ℤ, Bool, List, [], Option, Some, None, Result, Ok, Err, ap, inl, inr}
-use Rattle.std.specs.Prelude.{⊤}
+use Rattle.std.specs.Prelude.{⊤, option_map}
 use Rattle.clap.specs.declared.error.kind.ErrorKind.{ErrorKind}
 use Rattle.clap.specs.declared.error.kind.ErrorKind.TheVariants.{DisplayHelp, DisplayVersion, OutOfMemory}
 use Rattle.sqlite_trees.specs.declared.store.Store.{Ghosts}
@@ -16,6 +16,8 @@ use Rattle.vend_core.specs.declared.decision.answer.Answer as core
 use Rattle.vend_core.specs.declared.decision.refusal.Refusal.{Refusal}
 use Rattle.vend_core.specs.declared.decision.request.Request.{Request}
 use Rattle.vend_core.specs.declared.office.row.Row.{Row}
+use Rattle.command_line.specs.Transform.{forward_of}
+use Rattle.sts_token.specs.Token.{BlockFunction}
 use Rattle.papers.specs.declared.row_fault.RowFault.{RowFault}
 use Rattle.command_line.specs.declared.address.Address.{Address}
 use Rattle.command_line.specs.declared.asked.Asked.{Asked}
@@ -31,7 +33,6 @@ use Rattle.vend_commands.specs.commands.AskedOfDesk.{IsAnswered, IsAsked, IsAske
 use Rattle.vend_commands.specs.commands.AskedOfDesk.IsAsked.{broken, no_room as desk_full, replied, unsent}
 use Rattle.vend_commands.specs.commands.AskedOfDesk.IsAskedOnce.{asked as desk_asked, without_rows}
 use Rattle.vend_commands.specs.port.Exchanged.{Calls}
-use Rattle.vend_commands.specs.declared.port.file_fault.FileFault.{FileFault}
 use Rattle.desk_client.specs.declared.question.Question.{Question}
 use Rattle.desk_client.specs.declared.told.Told.{Told}
 use Rattle.desk_client.specs.declared.told.Told.TheVariants as tells
@@ -45,6 +46,8 @@ use Rattle.vend_commands.specs.commands.LookedUp.IsShownAt.{absent as shown_abse
 use Rattle.vend_commands.specs.serving.Listening.{IsDeaf, IsServing}
 use Rattle.vend_commands.specs.serving.Listening.IsDeaf.{no_listener, no_room as deaf_for_room, no_text, not_told}
 use Rattle.vend_commands.specs.serving.Listening.IsServing.{unheard, unopened as serves_unopened, was_open}
+use Rattle.vend_commands.specs.port.Dial.{Dial}
+use Rattle.vend_commands.specs.port.Texts.{Texts}
 use Rattle.vend_commands.specs.port.Places.{Machine, Place, Places, Way}
 use Rattle.vend_commands.specs.commands.Reported.{IsReported, PrintsPaper}
 use Rattle.vend_commands.specs.commands.Reported.IsReported.{absent as no_file, present}
@@ -96,7 +99,7 @@ added_same : {S : Type 0} (store : Ghosts S) (at : Places) (untouched : Type 0) 
 added_same store at untouched words moment (Ok rows) o end added = asked_at_same store at words.transform words.file.now words.wait moment _ o end added
 added_same store at untouched words moment (Err fault) o end (left, told) = told_same o _ _ _ end told
 
-import_same : {S D R W : Type 0} (store : Ghosts S) (m : Machine D R W) (words : ImportWords) (moment : ℕ) (o : Outputs) (end : CommandEnd) → IsFileImported store m.at m.untouched m.reads m.lacks words moment o end → AreSame o
+import_same : {S D R W : Type 0} (store : Ghosts S) (m : Machine D R W) (words : ImportWords) (moment : ℕ) (o : Outputs) (end : CommandEnd) → IsFileImported store m.at m.untouched m.texts words moment o end → AreSame o
 import_same store m words moment o end (inl (bytes, reads, (records, rows, are, reading, added))) = added_same store m.at m.untouched words moment rows o end added
 import_same store m words moment o end (inr (fault, lacks, left, told)) = told_same o _ _ _ end told
 
@@ -118,10 +121,10 @@ answer_told_same (Err (Found finding)) o end (row, tells, told) = told_same o _ 
 answer_told_same (Err NoOffice) o end told = told_same o _ _ _ end told
 answer_told_same (Err (Failed error)) o end told = told_same o _ _ _ end told
 
-audit_same : (place : Place) (o : Outputs) (end : CommandEnd) → IsAudited place o end → AreSame o
-audit_same place o end (absent misses told) = told_same o _ _ _ end told
-audit_same place o end (audits_unopened fault refuses told) = told_same o _ _ _ end told
-audit_same place o end (looked answer meets audits told) = answer_told_same answer o end told
+audit_same : (place : Place) (given : Option BlockFunction) (o : Outputs) (end : CommandEnd) → IsAudited place given o end → AreSame o
+audit_same place given o end (absent misses told) = told_same o _ _ _ end told
+audit_same place given o end (audits_unopened fault refuses told) = told_same o _ _ _ end told
+audit_same place given o end (looked answer meets audits told) = answer_told_same answer o end told
 
 report_same : {S : Type 0} (store : Ghosts S) (at : Places) (words : ReportWords) (o : Outputs) (end : CommandEnd) → IsReported store at words o end → AreSame o
 report_same store at words o end (no_file misses told) = told_same o _ _ _ end told
@@ -152,46 +155,46 @@ desk_asked_same calls uncalled desk json question o end (broken came exchanged n
 desk_asked_same calls uncalled desk json question o end (unsent fault why told) = told_same o _ _ _ end told
 desk_asked_same calls uncalled desk json question o end (desk_full left told) = told_same o _ _ _ end told
 
-asked_once_same : (reads : Text → List ℕ → Type 0) (lacks : Text → FileFault → Type 0) (calls : Calls) (uncalled : Type 0) (desk : Address) (question : DeskQuestion) (o : Outputs) (end : CommandEnd) → IsAskedOnce reads lacks calls uncalled desk question o end → AreSame o
-asked_once_same reads lacks calls uncalled desk question o end (desk_asked rows are done) = desk_asked_same calls uncalled desk _ _ o end done
-asked_once_same reads lacks calls uncalled desk question o end (without_rows fault why left told) = told_same o _ _ _ end told
+asked_once_same : (texts : Texts) (calls : Calls) (uncalled : Type 0) (desk : Address) (question : DeskQuestion) (o : Outputs) (end : CommandEnd) → IsAskedOnce texts calls uncalled desk question o end → AreSame o
+asked_once_same texts calls uncalled desk question o end (desk_asked rows are done) = desk_asked_same calls uncalled desk _ _ o end done
+asked_once_same texts calls uncalled desk question o end (without_rows fault why left told) = told_same o _ _ _ end told
 
-answered_same : (reads : Text → List ℕ → Type 0) (lacks : Text → FileFault → Type 0) (calls : Calls) (uncalled : Type 0) (desk : Address) (question : DeskQuestion) (o : Outputs) (end : CommandEnd) → IsAnswered reads lacks calls uncalled desk question o end → AreSame o
-answered_same reads lacks calls uncalled desk (desk_asks.Import kind csv) o end done = asked_once_same reads lacks calls uncalled desk (desk_asks.Import kind csv) o end done
-answered_same reads lacks calls uncalled desk (desk_asks.MoveBase meter base) o end done = asked_once_same reads lacks calls uncalled desk (desk_asks.MoveBase meter base) o end done
-answered_same reads lacks calls uncalled desk (desk_asks.OpenShift operator) o end done = asked_once_same reads lacks calls uncalled desk (desk_asks.OpenShift operator) o end done
-answered_same reads lacks calls uncalled desk (desk_asks.CloseShift operator) o end done = asked_once_same reads lacks calls uncalled desk (desk_asks.CloseShift operator) o end done
-answered_same reads lacks calls uncalled desk (desk_asks.Sell order) o end done = asked_once_same reads lacks calls uncalled desk (desk_asks.Sell order) o end done
-answered_same reads lacks calls uncalled desk (desk_asks.ShiftReport number) o end done = asked_once_same reads lacks calls uncalled desk (desk_asks.ShiftReport number) o end done
-answered_same reads lacks calls uncalled desk (desk_asks.Receipt number) o end done = asked_once_same reads lacks calls uncalled desk (desk_asks.Receipt number) o end done
-answered_same reads lacks calls uncalled desk (desk_asks.ShiftTotals number) o end done = asked_once_same reads lacks calls uncalled desk (desk_asks.ShiftTotals number) o end done
-answered_same reads lacks calls uncalled desk (desk_asks.Show shown json) o end done = asked_once_same reads lacks calls uncalled desk (desk_asks.Show shown json) o end done
-answered_same reads lacks calls uncalled desk (desk_asks.Offer meter tender json) o end done = asked_once_same reads lacks calls uncalled desk (desk_asks.Offer meter tender json) o end done
-answered_same reads lacks calls uncalled desk (desk_asks.List list json) o end done = told_same o _ _ _ end done.told
+answered_same : (texts : Texts) (calls : Calls) (uncalled : Type 0) (desk : Address) (question : DeskQuestion) (o : Outputs) (end : CommandEnd) → IsAnswered texts calls uncalled desk question o end → AreSame o
+answered_same texts calls uncalled desk (desk_asks.Import kind csv) o end done = asked_once_same texts calls uncalled desk (desk_asks.Import kind csv) o end done
+answered_same texts calls uncalled desk (desk_asks.MoveBase meter base) o end done = asked_once_same texts calls uncalled desk (desk_asks.MoveBase meter base) o end done
+answered_same texts calls uncalled desk (desk_asks.OpenShift operator) o end done = asked_once_same texts calls uncalled desk (desk_asks.OpenShift operator) o end done
+answered_same texts calls uncalled desk (desk_asks.CloseShift operator) o end done = asked_once_same texts calls uncalled desk (desk_asks.CloseShift operator) o end done
+answered_same texts calls uncalled desk (desk_asks.Sell order) o end done = asked_once_same texts calls uncalled desk (desk_asks.Sell order) o end done
+answered_same texts calls uncalled desk (desk_asks.ShiftReport number) o end done = asked_once_same texts calls uncalled desk (desk_asks.ShiftReport number) o end done
+answered_same texts calls uncalled desk (desk_asks.Receipt number) o end done = asked_once_same texts calls uncalled desk (desk_asks.Receipt number) o end done
+answered_same texts calls uncalled desk (desk_asks.ShiftTotals number) o end done = asked_once_same texts calls uncalled desk (desk_asks.ShiftTotals number) o end done
+answered_same texts calls uncalled desk (desk_asks.Show shown json) o end done = asked_once_same texts calls uncalled desk (desk_asks.Show shown json) o end done
+answered_same texts calls uncalled desk (desk_asks.Offer meter tender json) o end done = asked_once_same texts calls uncalled desk (desk_asks.Offer meter tender json) o end done
+answered_same texts calls uncalled desk (desk_asks.List list json) o end (left, done) = told_same o _ _ _ end done.told
 
 done_same : (Idle : Type 0) (At : ℕ → Type 0) (o : Outputs) (end : CommandEnd) (moment : Option ℕ) → ((moment : ℕ) → At moment → AreSame o) → IsDoneAt Idle At o end moment → AreSame o
 done_same Idle At o end (Some moment) same done = same moment done
 done_same Idle At o end None same (idle, told) = told_same o _ _ _ end told
 
-timed_same : (Idle : Type 0) (given : Option ℕ) (answers : Option (List ℤ)) (At : ℕ → Type 0) (o : Outputs) (end : CommandEnd) → ((moment : ℕ) → At moment → AreSame o) → IsTimed Idle given answers At o end → AreSame o
-timed_same Idle given answers At o end same (moment, taken, done) = done_same Idle At o end moment same done
+timed_same : (Idle : Type 0) (given : Option ℕ) (clock : Dial) (At : ℕ → Type 0) (o : Outputs) (end : CommandEnd) → ((moment : ℕ) → At moment → AreSame o) → IsTimed Idle given clock At o end → AreSame o
+timed_same Idle given clock At o end same (moment, taken, done) = done_same Idle At o end moment same done
 
 answer_same : {S D R W : Type 0} (store : Ghosts S) (m : Machine D R W) (asked : Asked) (o : Outputs) (end : CommandEnd) → IsCarriedOut store m asked o end → AreSame o
-answer_same store m (asks.Trial words) o end (idle, done) = timed_same ⊤ words.at m.answers _ o end (λ moment tried. told_same o _ _ _ end tried.4) done
-answer_same store m (asks.Import words) o end (shut, done) = timed_same m.untouched words.at m.answers _ o end (λ moment imported. import_same store m words moment o end imported) done
-answer_same store m (asks.Request words) o end (shut, done) = timed_same m.untouched words.at m.answers _ o end (λ moment asked. asked_at_same store m.at words.transform words.file.now words.wait moment words.request o end asked) done
+answer_same store m (asks.Trial words) o end (idle, done) = timed_same ⊤ words.at m.clock _ o end (λ moment tried. told_same o _ _ _ end tried.4) done
+answer_same store m (asks.Import words) o end (shut, done) = timed_same (m.untouched × m.texts.leaves) words.at m.clock _ o end (λ moment imported. import_same store m words moment o end imported) done
+answer_same store m (asks.Request words) o end (shut, done) = timed_same m.untouched words.at m.clock _ o end (λ moment asked. asked_at_same store m.at words.transform words.file.now words.wait moment words.request o end asked) done
 answer_same store m (asks.Report words) o end (shut, done) = report_same store m.at words o end done
-answer_same store m (asks.Show words) o end (shut, done) = timed_same m.untouched words.at m.answers _ o end (λ moment shown. shown_same store m.at words.file.now words.wait moment _ o end shown) done
-answer_same store m (asks.List words) o end (shut, done) = timed_same m.untouched words.at m.answers _ o end (λ moment shown. shown_same store m.at words.file.now words.wait moment _ o end shown) done
-answer_same store m (asks.Offer words) o end (shut, done) = timed_same m.untouched words.at m.answers _ o end (λ moment shown. shown_same store m.at words.file.now words.wait moment _ o end shown) done
+answer_same store m (asks.Show words) o end (shut, done) = timed_same m.untouched words.at m.clock _ o end (λ moment shown. shown_same store m.at words.file.now words.wait moment _ o end shown) done
+answer_same store m (asks.List words) o end (shut, done) = timed_same m.untouched words.at m.clock _ o end (λ moment shown. shown_same store m.at words.file.now words.wait moment _ o end shown) done
+answer_same store m (asks.Offer words) o end (shut, done) = timed_same m.untouched words.at m.clock _ o end (λ moment shown. shown_same store m.at words.file.now words.wait moment _ o end shown) done
 answer_same store m (asks.Meter words) o end (idle, done) = told_same o _ _ _ end done
 answer_same store m (asks.Quote words) o end (idle, done) = told_same o _ _ _ end done
 answer_same store m (asks.Serve words) o end (left, done) =
-    record { out = ap (λ s. s.name) done.0; err = serving_same store m.way m.at m.door m.answers words o.err_old o.err_new end done.1 }
+    record { out = ap (λ s. s.name) done.0; err = serving_same store m.way m.at m.door m.clock.answers words o.err_old o.err_new end done.1 }
 answer_same store m (asks.Selfcheck words) o end (untouched, shut, agreed has told) = told_same o _ _ _ end told
 answer_same store m (asks.Selfcheck words) o end (untouched, shut, failed fault why told) = told_same o _ _ _ end told
-answer_same store m (asks.Desk words) o end (untouched, shut, done) = answered_same m.reads m.lacks m.loop.calls m.loop.leaves words.desk words.question o end done
-answer_same store m (asks.Audit words) o end (shut, done) = audit_same (m.at words.file.now words.wait) o end done
+answer_same store m (asks.Desk words) o end (untouched, shut, done) = answered_same m.texts m.loop.calls m.loop.leaves words.desk words.question o end done
+answer_same store m (asks.Audit words) o end (shut, done) = audit_same (m.at words.file.now words.wait) (option_map forward_of words.transform) o end done
 
 explained_same : (kind : ErrorKind) (text : Text) (o : Outputs) (end : CommandEnd) → IsExplained kind text o end → AreSame o
 explained_same OutOfMemory text o end none = absurd none

@@ -1,5 +1,6 @@
 -- A command that is done at a moment, given or taken from the clock.
-use Rattle.std.proofs.Common.{◌≡◌, ℕ, ℤ, List, [], Option, Some, None, subst}
+use Rattle.std.proofs.Common.{◌≡◌, ℕ, [], Option, Some, None, subst}
+use Rattle.vend_commands.specs.port.Dial.{Dial}
 use Rattle.vend_commands.specs.print.Printed.{clock_line}
 use Rattle.vend_commands.specs.commands.Timed.{IsTakenMoment, IsTimed}
 use Rattle.vend_commands.specs.print.Told.{IsTold, Outputs}
@@ -7,9 +8,9 @@ use Rattle.vend_commands.specs.declared.command_end.CommandEnd.{CommandEnd}
 use Rattle.vend_commands.specs.declared.command_end.CommandEnd.TheVariants.{Refused}
 
 -- it was done at the moment that was taken
-pub timed : (Idle : Type 0) (given : Option ℕ) (answers : Option (List ℤ)) (taken : Option ℕ) (moment : ℕ) (At : ℕ → Type 0) (o : Outputs) (end : CommandEnd) → IsTakenMoment given answers taken → taken ≡ Some moment → At moment → IsTimed Idle given answers At o end
-timed Idle given answers taken moment At o end for is done = (Some moment, subst (IsTakenMoment given answers) is for, done)
+pub timed : (Idle : Type 0) (given : Option ℕ) (clock : Dial) (taken : Option ℕ) (moment : ℕ) (At : ℕ → Type 0) (o : Outputs) (end : CommandEnd) → IsTakenMoment given clock taken → taken ≡ Some moment → At moment → IsTimed Idle given clock At o end
+timed Idle given clock taken moment At o end for is done = (Some moment, subst (IsTakenMoment given clock) is for, done)
 
 -- where there was none, that is told, and nothing was used
-pub untimed : (Idle : Type 0) (given : Option ℕ) (answers : Option (List ℤ)) (taken : Option ℕ) (At : ℕ → Type 0) (o : Outputs) (end : CommandEnd) → IsTakenMoment given answers taken → taken ≡ None → Idle → IsTold o [] clock_line Refused end → IsTimed Idle given answers At o end
-untimed Idle given answers taken At o end for is idle told = (None, subst (IsTakenMoment given answers) is for, (idle, told))
+pub untimed : (Idle : Type 0) (given : Option ℕ) (clock : Dial) (taken : Option ℕ) (At : ℕ → Type 0) (o : Outputs) (end : CommandEnd) → IsTakenMoment given clock taken → taken ≡ None → Idle → IsTold o [] clock_line Refused end → IsTimed Idle given clock At o end
+untimed Idle given clock taken At o end for is idle told = (None, subst (IsTakenMoment given clock) is for, (idle, told))

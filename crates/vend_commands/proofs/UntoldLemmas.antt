@@ -1,6 +1,6 @@
 -- What is left of a run where nothing is told of the door but the bytes of its connections.
 use Rattle.std.proofs.Common.{ℕ, ℤ, zero, suc, Bool, true, false, List, [], Option, None, Some, Result, Ok, Err, inl, inr, ap, refl}
-use Rattle.std.specs.Prelude.{⊤}
+use Rattle.std.specs.Prelude.{⊤, option_map}
 use Rattle.sqlite_trees.specs.declared.store.Store.{Ghosts}
 use Rattle.books.specs.Keeps.{Seen}
 use Rattle.book_opening.specs.declared.fault.OpenFault.{OpenFault}
@@ -15,11 +15,13 @@ use Rattle.vend_commands.specs.serving.Connections.{AreHeld, AreServed, IsHeld, 
 use Rattle.vend_commands.specs.serving.Listening.{IsDeaf, IsServing}
 use Rattle.vend_commands.specs.serving.Listening.IsDeaf.{no_listener, no_room as deaf_for_room, no_text, not_told}
 use Rattle.vend_commands.specs.serving.Listening.IsServing.{unheard, unopened, was_open}
-use Rattle.vend_commands.specs.port.Places.{Loop, Place, Places, Way, machine, untold_loop, untold_place, untold_way, where_present}
+use Rattle.vend_commands.specs.port.Dial.{Dial}
+use Rattle.vend_commands.specs.port.Texts.{Texts}
+use Rattle.vend_commands.specs.port.Places.{Loop, Machine, Place, Places, Way, machine, untold_loop, untold_place, untold_way, where_present}
 use Rattle.vend_commands.specs.Run.{IsCarriedOut, IsProgramRun}
 use Rattle.vend_commands.specs.Run.IsProgramRun.{answered, bad_word, explained, no_room}
 use Rattle.vend_commands.specs.commands.Selfchecked.{HasReplies}
-use Rattle.vend_commands.specs.print.Told.{Outputs, Sink}
+use Rattle.vend_commands.specs.print.Told.{Held, Outputs, Sink}
 use Rattle.vend_commands.proofs.RunLemmas.{selfcheck_done}
 use Rattle.vend_commands.specs.commands.AskedOfDesk.{IsAnswered, IsAsked, IsAskedOnce}
 use Rattle.vend_commands.specs.commands.AskedOfDesk.IsAsked.{broken, no_room as desk_full, replied, unsent as message_unsent}
@@ -52,7 +54,7 @@ use Rattle.command_line.specs.declared.transform.Shipped.{Shipped}
 use Rattle.command_line.specs.declared.transform.Shipped.TheVariants.{Plain}
 use Rattle.papers.specs.declared.row_fault.RowFault.{RowFault}
 use Rattle.vend_core.specs.declared.office.row.Row.{Row}
-use Rattle.vend_commands.specs.declared.port.file_fault.FileFault.{FileFault}
+use Rattle.command_line.specs.Transform.{forward_of}
 
 abbrev bare_place : Place → Place
 bare_place place = untold_place place.image place.opens place.closes place.audits
@@ -61,10 +63,10 @@ visited_bare : {S : Type 0} (store : Ghosts S) (place : Place) (transform : Ship
 visited_bare store place transform Does o end (unvisited fault fails told) = unvisited fault tt told
 visited_bare store place transform Does o end (visited old new opens finds done closes) = visited old new opens tt done closes
 
-audited_bare : (place : Place) (o : Outputs) (end : CommandEnd) → IsAudited place o end → IsAudited (bare_place place) o end
-audited_bare place o end (absent misses told) = absent tt told
-audited_bare place o end (audits_unopened fault refuses told) = audits_unopened fault tt told
-audited_bare place o end (looked answer meets audits told) = looked answer tt audits told
+audited_bare : (place : Place) (given : Option BlockFunction) (o : Outputs) (end : CommandEnd) → IsAudited place given o end → IsAudited (bare_place place) given o end
+audited_bare place given o end (absent misses told) = absent tt told
+audited_bare place given o end (audits_unopened fault refuses told) = audits_unopened fault tt told
+audited_bare place given o end (looked answer meets audits told) = looked answer tt audits told
 
 reported_bare : {S : Type 0} (store : Ghosts S) (at : Places) (words : ReportWords) (o : Outputs) (end : CommandEnd) → IsReported store at words o end → IsReported store (λ path wait. bare_place (at path wait)) words o end
 reported_bare store at words o end (no_file misses told) = no_file tt told
@@ -79,14 +81,15 @@ added_bare : {S : Type 0} (store : Ghosts S) (at : Places) (untouched : Type 0) 
 added_bare store at untouched words moment (Ok rows) o end added = visited_bare store (at words.file.now words.wait) words.transform _ o end added
 added_bare store at untouched words moment (Err fault) o end (left, told) = (tt, told)
 
-imported_bare : {S : Type 0} (store : Ghosts S) (at : Places) (untouched : Type 0) (reads : Text → List ℕ → Type 0) (lacks : Text → FileFault → Type 0) (words : ImportWords) (moment : ℕ) (o : Outputs) (end : CommandEnd)
-    → IsFileImported store at untouched reads lacks words moment o end → IsFileImported store (λ path wait. bare_place (at path wait)) ⊤ reads lacks words moment o end
-imported_bare store at untouched reads lacks words moment o end (inl (bytes, read, (records, rows, are, reading, added))) = inl (bytes, read, (records, rows, are, reading, added_bare store at untouched words moment rows o end added))
-imported_bare store at untouched reads lacks words moment o end (inr (fault, lacked, left, told)) = inr (fault, lacked, tt, told)
+imported_bare : {S : Type 0} (store : Ghosts S) (at : Places) (untouched : Type 0) (texts : Texts) (words : ImportWords) (moment : ℕ) (o : Outputs) (end : CommandEnd)
+    → IsFileImported store at untouched texts words moment o end → IsFileImported store (λ path wait. bare_place (at path wait)) ⊤ texts words moment o end
+imported_bare store at untouched texts words moment o end (inl (bytes, read, (records, rows, are, reading, added))) = inl (bytes, read, (records, rows, are, reading, added_bare store at untouched words moment rows o end added))
+imported_bare store at untouched texts words moment o end (inr (fault, lacked, left, told)) = inr (fault, lacked, tt, told)
 
-timed_bare : (Idle : Type 0) (given : Option ℕ) (answers : Option (List ℤ)) (At Bare : ℕ → Type 0) (o : Outputs) (end : CommandEnd) → ((moment : ℕ) → At moment → Bare moment) → IsTimed Idle given answers At o end → IsTimed ⊤ given answers Bare o end
-timed_bare Idle given answers At Bare o end less (None, taken, (idle, told)) = (None, taken, (tt, told))
-timed_bare Idle given answers At Bare o end less (Some moment, taken, done) = (Some moment, taken, less moment done)
+timed_bare : (Idle Bare_idle : Type 0) (given : Option ℕ) (clock : Dial) (At Bare : ℕ → Type 0) (o : Outputs) (end : CommandEnd) → (Idle → Bare_idle) → ((moment : ℕ) → At moment → Bare moment)
+    → IsTimed Idle given clock At o end → IsTimed Bare_idle given clock Bare o end
+timed_bare Idle Bare_idle given clock At Bare o end idle_less less (None, taken, (idle, told)) = (None, taken, (idle_less idle, told))
+timed_bare Idle Bare_idle given clock At Bare o end idle_less less (Some moment, taken, done) = (Some moment, taken, less moment done)
 
 abbrev bare : {D B : Type 0} → Service D B → Service ⊤ B
 bare s = service tt s.books s.answers
@@ -116,8 +119,8 @@ module _ {D R W B : Type 0} (way : Way D R W) (forward : BlockFunction) (see : B
   all_bare (suc count) old new printed (mid, before, held, (ready, are, one), all) =
       (bare mid, before, all_bare count old mid before held, (ready, are, held_bare way see (service mid.door ready mid.answers) new one), all)
 
-  served_bare : (loses : OpenFault → Type 0) (asked : ℕ) (old : Service D B) (door : D) (answers : Option (List ℤ)) (served : Result (B × Bool) OpenFault) (printed : Text)
-      → AreServed way forward see loses asked old door answers served printed → AreServed untold_way forward see (λ fault. ⊤) asked (bare old) tt answers served printed
+  served_bare : (loses : Seen → OpenFault → Type 0) (asked : ℕ) (old : Service D B) (door : D) (answers : Option (List ℤ)) (served : Result (B × Bool) OpenFault) (printed : Text)
+      → AreServed way forward see loses asked old door answers served printed → AreServed untold_way forward see (λ books fault. ⊤) asked (bare old) tt answers served printed
   served_bare loses asked old door answers (Ok (books, true)) printed held = all_bare asked old (service door books answers) printed held
   served_bare loses asked old door answers (Ok (books, false)) printed none = record {
     count = none.count;
@@ -157,10 +160,10 @@ desk_asked_bare calls uncalled desk json question o end (broken came exchanged n
 desk_asked_bare calls uncalled desk json question o end (message_unsent fault why told) = message_unsent fault (unsent_bare calls desk [] fault why) told
 desk_asked_bare calls uncalled desk json question o end (desk_full left told) = desk_full tt told
 
-asked_once_bare : (reads : Text → List ℕ → Type 0) (lacks : Text → FileFault → Type 0) (calls : Calls) (uncalled : Type 0) (desk : Address) (question : DeskQuestion) (o : Outputs) (end : CommandEnd)
-    → IsAskedOnce reads lacks calls uncalled desk question o end → IsAskedOnce reads lacks untold_calls ⊤ desk question o end
-asked_once_bare reads lacks calls uncalled desk question o end (desk_asked rows are done) = desk_asked rows are (desk_asked_bare calls uncalled desk _ _ o end done)
-asked_once_bare reads lacks calls uncalled desk question o end (without_rows fault why left told) = without_rows fault why tt told
+asked_once_bare : (texts : Texts) (calls : Calls) (uncalled : Type 0) (desk : Address) (question : DeskQuestion) (o : Outputs) (end : CommandEnd)
+    → IsAskedOnce texts calls uncalled desk question o end → IsAskedOnce texts untold_calls ⊤ desk question o end
+asked_once_bare texts calls uncalled desk question o end (desk_asked rows are done) = desk_asked rows are (desk_asked_bare calls uncalled desk _ _ o end done)
+asked_once_bare texts calls uncalled desk question o end (without_rows fault why left told) = without_rows fault why tt told
 
 page_stop_bare : (calls : Calls) (desk : Address) (rounds : List Round) (left : Option Listed) (fault : PageFault) → IsPageStop calls desk rounds left fault → IsPageStop untold_calls desk rounds left fault
 page_stop_bare calls desk rounds left (faults.Unsent fault) why = unsent_bare calls desk rounds fault why
@@ -184,19 +187,19 @@ desk_list_bare calls desk list json o end it = record {
   stops = desk_stop_bare calls desk it.rounds it.pages it.left o.new.failed it.stop it.stops;
 }
 
-answered_bare : (reads : Text → List ℕ → Type 0) (lacks : Text → FileFault → Type 0) (calls : Calls) (uncalled : Type 0) (desk : Address) (question : DeskQuestion) (o : Outputs) (end : CommandEnd)
-    → IsAnswered reads lacks calls uncalled desk question o end → IsAnswered reads lacks untold_calls ⊤ desk question o end
-answered_bare reads lacks calls uncalled desk (desk_asks.Import kind csv) o end done = asked_once_bare reads lacks calls uncalled desk (desk_asks.Import kind csv) o end done
-answered_bare reads lacks calls uncalled desk (desk_asks.MoveBase meter base) o end done = asked_once_bare reads lacks calls uncalled desk (desk_asks.MoveBase meter base) o end done
-answered_bare reads lacks calls uncalled desk (desk_asks.OpenShift operator) o end done = asked_once_bare reads lacks calls uncalled desk (desk_asks.OpenShift operator) o end done
-answered_bare reads lacks calls uncalled desk (desk_asks.CloseShift operator) o end done = asked_once_bare reads lacks calls uncalled desk (desk_asks.CloseShift operator) o end done
-answered_bare reads lacks calls uncalled desk (desk_asks.Sell order) o end done = asked_once_bare reads lacks calls uncalled desk (desk_asks.Sell order) o end done
-answered_bare reads lacks calls uncalled desk (desk_asks.ShiftReport number) o end done = asked_once_bare reads lacks calls uncalled desk (desk_asks.ShiftReport number) o end done
-answered_bare reads lacks calls uncalled desk (desk_asks.Receipt number) o end done = asked_once_bare reads lacks calls uncalled desk (desk_asks.Receipt number) o end done
-answered_bare reads lacks calls uncalled desk (desk_asks.ShiftTotals number) o end done = asked_once_bare reads lacks calls uncalled desk (desk_asks.ShiftTotals number) o end done
-answered_bare reads lacks calls uncalled desk (desk_asks.Show shown json) o end done = asked_once_bare reads lacks calls uncalled desk (desk_asks.Show shown json) o end done
-answered_bare reads lacks calls uncalled desk (desk_asks.Offer meter tender json) o end done = asked_once_bare reads lacks calls uncalled desk (desk_asks.Offer meter tender json) o end done
-answered_bare reads lacks calls uncalled desk (desk_asks.List list json) o end done = desk_list_bare calls desk list json o end done
+answered_bare : (texts : Texts) (calls : Calls) (uncalled : Type 0) (desk : Address) (question : DeskQuestion) (o : Outputs) (end : CommandEnd)
+    → IsAnswered texts calls uncalled desk question o end → IsAnswered texts untold_calls ⊤ desk question o end
+answered_bare texts calls uncalled desk (desk_asks.Import kind csv) o end done = asked_once_bare texts calls uncalled desk (desk_asks.Import kind csv) o end done
+answered_bare texts calls uncalled desk (desk_asks.MoveBase meter base) o end done = asked_once_bare texts calls uncalled desk (desk_asks.MoveBase meter base) o end done
+answered_bare texts calls uncalled desk (desk_asks.OpenShift operator) o end done = asked_once_bare texts calls uncalled desk (desk_asks.OpenShift operator) o end done
+answered_bare texts calls uncalled desk (desk_asks.CloseShift operator) o end done = asked_once_bare texts calls uncalled desk (desk_asks.CloseShift operator) o end done
+answered_bare texts calls uncalled desk (desk_asks.Sell order) o end done = asked_once_bare texts calls uncalled desk (desk_asks.Sell order) o end done
+answered_bare texts calls uncalled desk (desk_asks.ShiftReport number) o end done = asked_once_bare texts calls uncalled desk (desk_asks.ShiftReport number) o end done
+answered_bare texts calls uncalled desk (desk_asks.Receipt number) o end done = asked_once_bare texts calls uncalled desk (desk_asks.Receipt number) o end done
+answered_bare texts calls uncalled desk (desk_asks.ShiftTotals number) o end done = asked_once_bare texts calls uncalled desk (desk_asks.ShiftTotals number) o end done
+answered_bare texts calls uncalled desk (desk_asks.Show shown json) o end done = asked_once_bare texts calls uncalled desk (desk_asks.Show shown json) o end done
+answered_bare texts calls uncalled desk (desk_asks.Offer meter tender json) o end done = asked_once_bare texts calls uncalled desk (desk_asks.Offer meter tender json) o end done
+answered_bare texts calls uncalled desk (desk_asks.List list json) o end (left, done) = (left, desk_list_bare calls desk list json o end done)
 
 module _ {S D R W : Type 0} (store : Ghosts S) (way : Way D R W) (at : Places) (door : D) where
   serving_bare : (answers : Option (List ℤ)) (words : ServeWords) (err_old err_new : Sink) (end : CommandEnd)
@@ -219,27 +222,34 @@ module _ {S D R W : Type 0} (store : Ghosts S) (way : Way D R W) (at : Places) (
         ends = were.ends;
       })
 
-  module _ (untouched : Type 0) (reads : Text → List ℕ → Type 0) (lacks : Text → FileFault → Type 0) (answers : Option (List ℤ)) (loop : Loop)
+  module _ (untouched : Type 0) (texts : Texts) (clock : Dial) (loop : Loop)
       (less : (transform : Shipped) → loop.agrees transform → HasReplies transform) where
-    carried_bare : (asked : Asked) (o : Outputs) (end : CommandEnd) → IsCarriedOut store (machine at untouched reads lacks answers way door loop) asked o end → IsCarriedOut store (machine (λ path wait. bare_place (at path wait)) ⊤ reads lacks answers untold_way tt untold_loop) asked o end
-    carried_bare (asks.Trial words) o end (idle, done) = ((tt, (tt, tt)), done)
-    carried_bare (asks.Import words) o end (left, done) = ((tt, tt), timed_bare untouched words.at answers _ _ o end (λ moment imported. imported_bare store at untouched reads lacks words moment o end imported) done)
-    carried_bare (asks.Request words) o end (left, done) = ((tt, tt), timed_bare untouched words.at answers _ _ o end (λ moment asked. visited_bare store (at words.file.now words.wait) words.transform _ o end asked) done)
-    carried_bare (asks.Report words) o end (left, done) = ((tt, tt), reported_bare store at words o end done)
-    carried_bare (asks.Show words) o end (left, done) = ((tt, tt), timed_bare untouched words.at answers _ _ o end (λ moment shown. shown_bare store at words.file.now words.wait moment _ o end shown) done)
-    carried_bare (asks.List words) o end (left, done) = ((tt, tt), timed_bare untouched words.at answers _ _ o end (λ moment shown. shown_bare store at words.file.now words.wait moment _ o end shown) done)
-    carried_bare (asks.Offer words) o end (left, done) = ((tt, tt), timed_bare untouched words.at answers _ _ o end (λ moment shown. shown_bare store at words.file.now words.wait moment _ o end shown) done)
-    carried_bare (asks.Meter words) o end (idle, done) = ((tt, (tt, tt)), done)
-    carried_bare (asks.Quote words) o end (idle, done) = ((tt, (tt, tt)), done)
-    carried_bare (asks.Serve words) o end (left, done) = (tt, (done.0, serving_bare answers words o.err_old o.err_new end done.1))
-    carried_bare (asks.Selfcheck words) o end (left, shut, done) = (tt, tt, selfcheck_done o end _ _ _ _ (less words.transform) (λ fault why. tt) done)
-    carried_bare (asks.Desk words) o end (left, shut, done) = (tt, tt, answered_bare reads lacks loop.calls loop.leaves words.desk words.question o end done)
-    carried_bare (asks.Audit words) o end (left, done) = ((tt, tt), audited_bare (at words.file.now words.wait) o end done)
+    abbrev told_machine : Machine D R W
+    told_machine = machine at untouched texts clock way door loop
+
+    -- the same, of which less is told
+    abbrev bare_machine : Machine ⊤ Held Held
+    bare_machine = machine (λ path wait. bare_place (at path wait)) ⊤ texts clock untold_way tt untold_loop
+
+    carried_bare : (asked : Asked) (o : Outputs) (end : CommandEnd) → IsCarriedOut store told_machine asked o end → IsCarriedOut store bare_machine asked o end
+    carried_bare (asks.Trial words) o end ((none, (offline, unread)), done) = ((tt, ((tt, tt), unread)), done)
+    carried_bare (asks.Import words) o end (offline, done) =
+        ((tt, tt), timed_bare (untouched × texts.leaves) (⊤ × texts.leaves) words.at clock _ _ o end (λ idle. (tt, idle.1)) (λ moment imported. imported_bare store at untouched texts words moment o end imported) done)
+    carried_bare (asks.Request words) o end ((offline, unread), done) = (((tt, tt), unread), timed_bare untouched ⊤ words.at clock _ _ o end (λ _. tt) (λ moment asked. visited_bare store (at words.file.now words.wait) words.transform _ o end asked) done)
+    carried_bare (asks.Report words) o end ((offline, unread), done) = (((tt, tt), unread), reported_bare store at words o end done)
+    carried_bare (asks.Show words) o end ((offline, unread), done) = (((tt, tt), unread), timed_bare untouched ⊤ words.at clock _ _ o end (λ _. tt) (λ moment shown. shown_bare store at words.file.now words.wait moment _ o end shown) done)
+    carried_bare (asks.List words) o end ((offline, unread), done) = (((tt, tt), unread), timed_bare untouched ⊤ words.at clock _ _ o end (λ _. tt) (λ moment shown. shown_bare store at words.file.now words.wait moment _ o end shown) done)
+    carried_bare (asks.Offer words) o end ((offline, unread), done) = (((tt, tt), unread), timed_bare untouched ⊤ words.at clock _ _ o end (λ _. tt) (λ moment shown. shown_bare store at words.file.now words.wait moment _ o end shown) done)
+    carried_bare (asks.Meter words) o end ((none, (offline, unread)), done) = ((tt, ((tt, tt), unread)), done)
+    carried_bare (asks.Quote words) o end ((none, (offline, unread)), done) = ((tt, ((tt, tt), unread)), done)
+    carried_bare (asks.Serve words) o end ((left, unread), done) = ((tt, unread), (done.0, serving_bare clock.answers words o.err_old o.err_new end done.1))
+    carried_bare (asks.Selfcheck words) o end (left, (shut, unread), done) = (tt, (tt, unread), selfcheck_done o end _ _ _ _ (less words.transform) (λ fault why. tt) done)
+    carried_bare (asks.Desk words) o end (left, shut, done) = (tt, tt, answered_bare texts loop.calls loop.leaves words.desk words.question o end done)
+    carried_bare (asks.Audit words) o end ((offline, unread), done) = (((tt, tt), unread), audited_bare (at words.file.now words.wait) (option_map forward_of words.transform) o end done)
 
     -- a run of the program, of which nothing is told but that
-    pub run_bare : (words : List Text) (o : Outputs) (end : CommandEnd) → IsProgramRun store (machine at untouched reads lacks answers way door loop) words o end
-        → IsProgramRun store (machine (λ path wait. bare_place (at path wait)) ⊤ reads lacks answers untold_way tt untold_loop) words o end
+    pub run_bare : (words : List Text) (o : Outputs) (end : CommandEnd) → IsProgramRun store told_machine words o end → IsProgramRun store bare_machine words o end
     run_bare words o end (answered asked for done) = answered asked for (carried_bare asked o end done)
-    run_bare words o end (bad_word idle no_fault none told) = bad_word (tt, (tt, tt)) no_fault none told
-    run_bare words o end (explained idle kind text among some says) = explained (tt, (tt, tt)) kind text among some says
-    run_bare words o end (no_room idle told) = no_room (tt, (tt, tt)) told
+    run_bare words o end (bad_word (none, (offline, unread)) no_fault asks_none told) = bad_word (tt, ((tt, tt), unread)) no_fault asks_none told
+    run_bare words o end (explained (none, (offline, unread)) kind text among some says) = explained (tt, ((tt, tt), unread)) kind text among some says
+    run_bare words o end (no_room (none, (offline, unread)) told) = no_room (tt, ((tt, tt), unread)) told

@@ -1,11 +1,7 @@
-pub mod AtDesk
 pub mod Run
-pub mod Selling
-pub mod Sound
 pub mod Status
 pub mod port
 pub mod print
 pub mod office
 pub mod commands
 pub mod serving
-pub mod runs

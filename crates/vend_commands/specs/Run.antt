@@ -1,5 +1,5 @@
 -- A run of the program: how what its words ask for is answered.
-use Rattle.std.specs.Prelude.{◌≡◌, ◌≢◌, ⊤, List, []}
+use Rattle.std.specs.Prelude.{◌≡◌, ◌≢◌, ⊤, List, [], option_map}
 use Rattle.clap.specs.Kinds.{IsAmong}
 use Rattle.clap.specs.declared.error.kind.ErrorKind.{ErrorKind}
 use Rattle.clap.specs.declared.error.kind.ErrorKind.TheVariants.{DisplayHelp, DisplayVersion, OutOfMemory}
@@ -8,6 +8,7 @@ use Rattle.sts_fields.specs.Text.{Text}
 use Rattle.vend_core.specs.declared.decision.refusal.Refusal.TheVariants.{Memory}
 use Rattle.command_line.specs.Asked.{AskFor}
 use Rattle.command_line.specs.Line.{faults_in}
+use Rattle.command_line.specs.Transform.{forward_of}
 use Rattle.vend_commands.specs.commands.Asked.{IsAskedAt}
 use Rattle.vend_commands.specs.commands.AskedOfDesk.{IsAskedOfDesk}
 use Rattle.vend_commands.specs.commands.Audited.{IsAudited}
@@ -16,7 +17,7 @@ use Rattle.vend_commands.specs.commands.Imported.{IsFileImported}
 use Rattle.vend_commands.specs.commands.LookedUp.{IsShown, lookup_of}
 use Rattle.vend_commands.specs.serving.Listening.{IsServedTo}
 use Rattle.vend_commands.specs.commands.Metered.{IsMetered}
-use Rattle.vend_commands.specs.port.Places.{IsIdle, IsOffline, IsShut, Machine}
+use Rattle.vend_commands.specs.port.Places.{IsAlone, IsIdle, IsOffline, IsShut, Machine}
 use Rattle.vend_commands.specs.print.Printed.{bad_word_line, refusal_line}
 use Rattle.vend_commands.specs.commands.Quoted.{IsQuoted}
 use Rattle.vend_commands.specs.commands.Reported.{IsReported}
@@ -32,35 +33,39 @@ use Rattle.vend_commands.specs.declared.command_end.CommandEnd.{CommandEnd}
 use Rattle.vend_commands.specs.declared.command_end.CommandEnd.TheVariants.{Done, Refused, BadWords}
 
 -- What is asked for is done, and nothing of the machine is used beside: where no office is needed
--- none is found, only `serve` has the door, only `selfcheck` connects the machine with itself, and
--- only a command that asks a desk connects it with one, and it has no clock.
+-- none is found, only `serve` has the door, only `selfcheck` connects the machine with itself, only
+-- a command that asks a desk connects it with one, and it has no clock, and only `import` reads a
+-- file, once.
 abbrev pub IsCarriedOut : {S D R W : Type 0} → Ghosts S → Machine D R W → Asked → Outputs
     → CommandEnd → Type 0
 IsCarriedOut store m (Trial words) o end =
-    IsIdle m × IsTimed ⊤ words.at m.answers (λ moment. IsTried words moment o end) o end
-IsCarriedOut store m (Import words) o end = IsOffline m × IsTimed m.untouched words.at m.answers
-    (λ moment. IsFileImported store m.at m.untouched m.reads m.lacks words moment o end) o end
-IsCarriedOut store m (Request words) o end = IsOffline m × IsTimed m.untouched words.at m.answers
+    IsIdle m × IsTimed ⊤ words.at m.clock (λ moment. IsTried words moment o end) o end
+IsCarriedOut store m (Import words) o end = IsOffline m
+    × IsTimed (m.untouched × m.texts.leaves) words.at m.clock
+    (λ moment. IsFileImported store m.at m.untouched m.texts words moment o end) o end
+IsCarriedOut store m (Request words) o end = IsAlone m × IsTimed m.untouched words.at m.clock
     (λ moment. IsAskedAt store m.at words.transform words.file.now words.wait moment
     words.request o end) o end
-IsCarriedOut store m (Report words) o end = IsOffline m × IsReported store m.at words o end
-IsCarriedOut store m (Show words) o end = IsOffline m × IsShown store m.at m.untouched m.answers
+IsCarriedOut store m (Report words) o end = IsAlone m × IsReported store m.at words o end
+IsCarriedOut store m (Show words) o end = IsAlone m × IsShown store m.at m.untouched m.clock
     words.at words.file.now words.wait (One (lookup_of words.shown) words.json) o end
-IsCarriedOut store m (asks.List words) o end = IsOffline m × IsShown store m.at m.untouched
-    m.answers words.at words.file.now words.wait (Listing words.listed words.json) o end
-IsCarriedOut store m (Offer words) o end = IsOffline m × IsShown store m.at m.untouched m.answers
+IsCarriedOut store m (asks.List words) o end = IsAlone m × IsShown store m.at m.untouched
+    m.clock words.at words.file.now words.wait (Listing words.listed words.json) o end
+IsCarriedOut store m (Offer words) o end = IsAlone m × IsShown store m.at m.untouched m.clock
     words.at words.file.now words.wait
     (One (lookups.Quote words.meter words.tender) words.json) o end
 IsCarriedOut store m (Meter words) o end = IsIdle m × IsMetered words o end
 IsCarriedOut store m (Quote words) o end = IsIdle m × IsQuoted words o end
 IsCarriedOut store m (Serve words) o end =
-    m.loop.leaves × IsServedTo store m.way m.at m.door m.answers words o end
-IsCarriedOut store m (Selfcheck words) o end = m.untouched × IsShut m
+    (m.loop.leaves × m.texts.leaves)
+    × IsServedTo store m.way m.at m.door m.clock.answers words o end
+IsCarriedOut store m (Selfcheck words) o end = m.untouched × (IsShut m × m.texts.leaves)
     × IsSelfchecked (m.loop.agrees words.transform) (m.loop.disagrees words.transform) o end
 IsCarriedOut store m (asks.Desk words) o end = m.untouched × IsShut m
-    × IsAskedOfDesk m.reads m.lacks m.loop.calls m.loop.leaves words o end
+    × IsAskedOfDesk m.texts m.loop.calls m.loop.leaves words o end
 IsCarriedOut store m (Audit words) o end =
-    IsOffline m × IsAudited (m.at words.file.now words.wait) o end
+    IsAlone m
+    × IsAudited (m.at words.file.now words.wait) (option_map forward_of words.transform) o end
 
 -- what is said of words that are no command's: help, which goes to the output, or what is wrong
 -- with them, which goes to the error output

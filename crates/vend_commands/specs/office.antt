@@ -1,5 +1,7 @@
 pub mod Audits
 pub mod Closed
+pub mod Lost
+pub mod OnlyRead
 pub mod Opened
 pub mod Refused
 pub mod Reopened

@@ -6,4 +6,3 @@ pub mod Listing
 pub mod Printed
 pub mod Told
 pub mod Totalled
-pub mod WholeLists

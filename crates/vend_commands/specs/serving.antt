@@ -1,4 +1,2 @@
 pub mod Connections
-pub mod Courses
 pub mod Listening
-pub mod SalesTold

@@ -1,11 +1,12 @@
 ghost use Rattle.vend_commands.specs.commands.Timed.{IsTakenMoment};
+ghost use Rattle.vend_commands.specs.port.Dial.{dial_of};
 
 use desk::Clock;
 use sts_fields::Moment;
 
 /// The moment that was given, or else the clock's. `None` where the clock has no moment.
 pub(crate) fn moment_or_now<C: Clock>(given: Option<Moment>, clock: &mut C) -> Option<Moment>
-    ensures { IsTakenMoment given (C.answers clock.old) result }
+    ensures { IsTakenMoment given (dial_of C.Clock clock.old) result }
 {
     match given {
         Some(moment) => Some(moment),

@@ -7,7 +7,6 @@
 mod clock;
 mod command_end;
 mod commands;
-mod laws;
 mod office;
 mod port;
 mod print;
@@ -16,12 +15,9 @@ mod selfcheck;
 mod serving;
 mod trials;
 
+pub use audit::{Follows, Part};
 pub use command_end::CommandEnd;
 pub use commands::selfcheck::run_selfcheck;
-pub use laws::{
-    at_desk_law, broken_law, list_law, offer_law, program_law, receipt_once, sell_law, serve_law,
-    sound_law,
-};
 pub use office::reopening::reopen;
 pub use port::door::Door;
 pub use port::file_fault::FileFault;

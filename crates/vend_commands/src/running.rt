@@ -3,7 +3,10 @@ ghost use Rattle.sqlite_wal.specs.Files.{image_at};
 ghost use Rattle.sts_fields.specs.Text.{Text};
 ghost use Rattle.vend_core.specs.declared.decision.refusal.Refusal.TheVariants.{Memory};
 ghost use Rattle.command_line.specs.Asked.{AskFor};
+ghost use Rattle.conversation.specs.declared.machine_clock.MachineClock.{MachineClock};
+ghost use Rattle.vend_commands.specs.port.Dial.{dial_of};
 ghost use Rattle.vend_commands.specs.port.Places.{loop_of, machine, places_of, untold, way};
+ghost use Rattle.vend_commands.specs.port.Texts.{texts_of};
 ghost use Rattle.vend_commands.specs.print.Printed.{refusal_line};
 ghost use Rattle.vend_commands.specs.Run.{IsCarriedOut, IsExplained, IsProgramRun};
 ghost use Rattle.vend_commands.specs.Status.{status_of};
@@ -27,7 +30,7 @@ use crate::print::lines::{put_line, put_refusal};
 use crate::print::watched::Watched;
 use clap::error::ErrorKind;
 use command_line::{Asked, BadWords, meant, parse};
-use desk::{Clock, MachineClock};
+use desk::{Clock, MachineClock, TimeSource};
 use sqlite::{FileFrom, FileStore, Start};
 use sqlite_disk::Disk;
 use sqlite_trees::store::Store;
@@ -39,17 +42,20 @@ use vend_core::Refusal;
 /// status.
 ///
 /// A value outside its rule is told as `bad word`; of words that are no command's `clap` tells what
-/// is wrong, or shows its help. `start` stands for what the office's file holds.
-pub fn run<B: Start, O: Write, E: Write>(
+/// is wrong, or shows its help. `time` tells the time of day, and `start` stands for what the
+/// office's file holds.
+pub fn run<B: Start, T: TimeSource, O: Write, E: Write>(
     rt: &HostRuntime,
+    time: &T,
     start: B,
     words: &[&str],
     out: &mut O,
     err: &mut E,
 ) -> u8
     ensures run { (end : CommandEnd) × (out_failed err_failed : Bool) × (out_name err_name : ℕ)
-        × IsProgramRun ⟦<FileStore<FileFrom<EachTry<B>>> as Store>⟧
-        (untold ⟦<FileFrom<EachTry<B>> as Disk>⟧ (image_at B.Start))
+        × (clock : MachineClock T) × IsProgramRun ⟦<FileStore<FileFrom<EachTry<B>>> as Store>⟧
+        (untold ⟦<FileFrom<EachTry<B>> as Disk>⟧ (image_at B.Start)
+        (dial_of ⟦<MachineClock<'static, T> as Clock>⟧ clock))
         (map (λ w. w.now) words.now)
         (outputs (writer (O.contents out.old) false out_name)
         (writer (O.contents out.new) out_failed out_name)
@@ -61,7 +67,7 @@ pub fn run<B: Start, O: Write, E: Write>(
     let ports = Ports {
         office: MachineFile { rt, start },
         texts: MachineTexts { rt },
-        clock: MachineClock::new(rt),
+        clock: MachineClock::new(time),
         door: MachineDoor::new(rt),
         loopback: rt,
         progress: TerminalProgress::new(rt),
@@ -101,8 +107,8 @@ pub fn run_over<
 ) -> CommandEnd
     ensures { IsProgramRun ⟦<FileStore<H::Medium> as Store>⟧ (machine
         (places_of H.Medium.Disk H.Salts.SaltSource H.OfficeFile ports.office)
-        (H.leaves ports.office)
-        (F.reads ports.texts) (F.lacks ports.texts) (C.answers ports.clock)
+        (H.leaves H ports.office)
+        (texts_of F.TextFiles ports.texts) (dial_of C.Clock ports.clock)
         (way D.Door D.Reader.remaining D.Writer.contents) ports.door
         (loop_of L.Loopback L.Stream.remaining L.Stream.contents ports.loopback))
         (map (λ w. w.now) words.now)
@@ -110,7 +116,7 @@ pub fn run_over<
         (sink E.contents err.old) (sink E.contents err.new)) result }
 {
     let Ok(line) = meant(alloc, words) else {
-        leave_all(ports.office, ports.door, ports.loopback);
+        leave_all(ports.office, ports.texts, ports.door, ports.loopback);
         put_refusal(Refusal::Memory, err);
         return CommandEnd::Refused;
     };
@@ -118,34 +124,50 @@ pub fn run_over<
         Ok(matches) => match Asked::read(alloc, &matches) {
             Ok(asked) => answer(alloc, ports, asked, out, err),
             Err(fault) => {
-                leave_all(ports.office, ports.door, ports.loopback);
+                leave_all(ports.office, ports.texts, ports.door, ports.loopback);
                 refuse(fault, err)
             }
         },
         Err(error) => {
-            leave_all(ports.office, ports.door, ports.loopback);
+            leave_all(ports.office, ports.texts, ports.door, ports.loopback);
             explain(alloc, &error, out, err)
         }
     }
 }
 
 // Uses nothing of the machine.
-fn leave_all<H: OfficeFile, D: Door, L: Loopback>(office: H, door: D, loopback: L)
-    ensures office { H.leaves office }
-    ensures door { D.leaves door }
-    ensures loopback { L.leaves loopback }
+fn leave_all<H: OfficeFile, F: TextFiles, D: Door, L: Loopback>(
+    office: H,
+    texts: F,
+    door: D,
+    loopback: L,
+)
+    ensures office { H.leaves H office }
+    ensures texts { F.leaves F texts }
+    ensures door { D.leaves D door }
+    ensures loopback { L.leaves L loopback }
 {
-    office.leave();
+    H::leave(office);
+    be_alone(texts, door, loopback);
+}
+
+// Has nobody connect, and reads no file.
+fn be_alone<F: TextFiles, D: Door, L: Loopback>(texts: F, door: D, loopback: L)
+    ensures texts { F.leaves F texts }
+    ensures door { D.leaves D door }
+    ensures loopback { L.leaves L loopback }
+{
+    F::leave(texts);
     go_offline(door, loopback);
 }
 
 // Has nobody connect.
 fn go_offline<D: Door, L: Loopback>(door: D, loopback: L)
-    ensures door { D.leaves door }
-    ensures loopback { L.leaves loopback }
+    ensures door { D.leaves D door }
+    ensures loopback { L.leaves L loopback }
 {
-    door.leave();
-    loopback.leave();
+    D::leave(door);
+    L::leave(loopback);
 }
 
 // Does what is asked.
@@ -167,8 +189,8 @@ fn answer<
 ) -> CommandEnd
     ensures { IsCarriedOut ⟦<FileStore<H::Medium> as Store>⟧ (machine
         (places_of H.Medium.Disk H.Salts.SaltSource H.OfficeFile ports.office)
-        (H.leaves ports.office)
-        (F.reads ports.texts) (F.lacks ports.texts) (C.answers ports.clock)
+        (H.leaves H ports.office)
+        (texts_of F.TextFiles ports.texts) (dial_of C.Clock ports.clock)
         (way D.Door D.Reader.remaining D.Writer.contents) ports.door
         (loop_of L.Loopback L.Stream.remaining L.Stream.contents ports.loopback))
         asked.entry (outputs (sink O.contents out.old) (sink O.contents out.new)
@@ -177,7 +199,7 @@ fn answer<
     let mut clock = ports.clock;
     match asked {
         Asked::Trial(words) => {
-            leave_all(ports.office, ports.door, ports.loopback);
+            leave_all(ports.office, ports.texts, ports.door, ports.loopback);
             commands::trial::run(&words, alloc, &mut clock, out, err)
         }
         Asked::Import(words) => {
@@ -186,58 +208,60 @@ fn answer<
                 &words,
                 alloc,
                 ports.office,
-                &ports.texts,
+                ports.texts,
                 &mut clock,
                 out,
                 err,
             )
         }
         Asked::Request(words) => {
-            go_offline(ports.door, ports.loopback);
+            be_alone(ports.texts, ports.door, ports.loopback);
             commands::request::run(words, alloc, ports.office, &mut clock, out, err)
         }
         Asked::Report(words) => {
-            go_offline(ports.door, ports.loopback);
+            be_alone(ports.texts, ports.door, ports.loopback);
             let mut progress = ports.progress;
             commands::report::run(&words, alloc, ports.office, &mut progress, out, err)
         }
         Asked::Show(words) => {
-            go_offline(ports.door, ports.loopback);
+            be_alone(ports.texts, ports.door, ports.loopback);
             commands::show::run(&words, alloc, ports.office, &mut clock, out, err)
         }
         Asked::List(words) => {
-            go_offline(ports.door, ports.loopback);
+            be_alone(ports.texts, ports.door, ports.loopback);
             commands::list::run(&words, alloc, ports.office, &mut clock, out, err)
         }
         Asked::Offer(words) => {
-            go_offline(ports.door, ports.loopback);
+            be_alone(ports.texts, ports.door, ports.loopback);
             commands::offer::run(&words, alloc, ports.office, &mut clock, out, err)
         }
         Asked::Meter(words) => {
-            leave_all(ports.office, ports.door, ports.loopback);
+            leave_all(ports.office, ports.texts, ports.door, ports.loopback);
             commands::meter::run(&words, out)
         }
         Asked::Quote(words) => {
-            leave_all(ports.office, ports.door, ports.loopback);
+            leave_all(ports.office, ports.texts, ports.door, ports.loopback);
             commands::quote::run(&words, out, err)
         }
         Asked::Serve(words) => {
-            ports.loopback.leave();
+            F::leave(ports.texts);
+            L::leave(ports.loopback);
             commands::serve::run(&words, alloc, ports.office, ports.door, &mut clock, err)
         }
         Asked::Selfcheck(words) => {
-            ports.office.leave();
-            ports.door.leave();
+            H::leave(ports.office);
+            F::leave(ports.texts);
+            D::leave(ports.door);
             run_selfcheck(&words, alloc, ports.loopback, out, err)
         }
         Asked::Desk(words) => {
-            ports.office.leave();
-            ports.door.leave();
+            H::leave(ports.office);
+            D::leave(ports.door);
             let loopback = ports.loopback;
-            commands::at_desk::run(&words, alloc, &ports.texts, loopback, out, err)
+            commands::at_desk::run(&words, alloc, ports.texts, loopback, out, err)
         }
         Asked::Audit(words) => {
-            go_offline(ports.door, ports.loopback);
+            be_alone(ports.texts, ports.door, ports.loopback);
             let mut progress = ports.progress;
             commands::file_audit::run(&words, alloc, ports.office, &mut progress, out, err)
         }

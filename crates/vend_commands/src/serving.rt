@@ -5,7 +5,8 @@ ghost use Rattle.std.specs.Bool.{MatchBool};
 ghost use Rattle.command_line.specs.Transform.{forward_of};
 ghost use Rattle.sts_fields.specs.Text.{Text};
 ghost use Rattle.vend_commands.specs.serving.Connections.{AreLost, AreReady, AreServed, IsHeld, IsUnheld, open_text, service, stopped_text};
-ghost use Rattle.vend_commands.specs.port.Places.{IsUnreopened, way};
+ghost use Rattle.vend_commands.specs.office.Lost.{IsUnreopened};
+ghost use Rattle.vend_commands.specs.port.Places.{way};
 ghost use Rattle.vend_commands.specs.office.Visited.{seen_in};
 ghost use Rattle.vend_commands.specs.print.Told.{Takes, sink};
 
@@ -41,7 +42,7 @@ pub fn serve<H: OfficeFile, D: Door, C: Clock, E: Write>(
     ensures { (printed : Text) × AreServed
         (way D.Door D.Reader.remaining D.Writer.contents)
         (forward_of words.now.transform) seen_in
-        (IsUnreopened H.Salts.SaltSource) words.now.connections
+        (IsUnreopened H.Medium.Disk H.Salts.SaltSource (H.lets_go H.Medium)) words.now.connections
         (service door.old books (C.answers clock.old)) door.new (C.answers clock.new) result printed
         × Takes (sink E.contents err.old) (sink E.contents err.new) printed }
 {
@@ -69,7 +70,7 @@ fn readied<H: OfficeFile, E: Write>(
 ) -> Result<Books<FileStore<H::Medium>, Shipped>, OpenFault>
     ensures ready { MatchResult result
         (AreReady seen_in (forward_of transform) books)
-        (AreLost seen_in (IsUnreopened H.Salts.SaltSource) books) }
+        (AreLost seen_in (IsUnreopened H.Medium.Disk H.Salts.SaltSource (H.lets_go H.Medium)) books) }
     ensures told { MatchResult result
         (λ _. Takes (sink E.contents err.old) (sink E.contents err.new)
         (open_text (seen_in books)))

@@ -8,7 +8,7 @@ use sqlite_disk::Memory;
 use std::alloc::Global;
 use std::fs::OpenOptions;
 use std::io::{self, Read, Write};
-use vend_commands::{Door, FileFault, OfficeFile, Progress, SaltSource, TextFiles};
+use vend_commands::{Door, FileFault, Follows, OfficeFile, Part, Progress, SaltSource, TextFiles};
 
 /// What fails of an office's file: some calls of its log, or of its database file.
 #[derive(Clone, Copy)]
@@ -54,9 +54,9 @@ impl OfficeFile for LapsingOffice {
 
     ghost misses = { λ _ _ _. ⊤ };
 
-    ghost lets_go = { λ _ _. ⊤ };
+    ghost lets_go = { λ _ _ _. ⊤ };
 
-    ghost leaves = { λ _. ⊤ };
+    ghost leaves = { λ _ _. ⊤ };
 
     fn salts(&self) -> OneSalt {
         OneSalt
@@ -87,17 +87,17 @@ impl OfficeFile for LapsingOffice {
         }
     }
 
-    fn let_go(log: Lapse<Memory>, db: Lapse<Memory>)
+    fn let_go<D: Drop>(log: D, db: D)
         ensures { ⊤ }
     {
         drop(log);
         drop(db);
     }
 
-    fn leave(self)
+    fn leave<T: Drop>(it: T)
         ensures { ⊤ }
     {
-        drop(self);
+        drop(it);
     }
 }
 
@@ -110,8 +110,16 @@ impl TextFiles for NoTexts {
 
     ghost lacks = { λ _ _ _. ⊤ };
 
-    fn read(&self, _path: &str) -> Result<Vec<u8>, FileFault> {
+    ghost leaves = { λ _ _. ⊤ };
+
+    fn read(self, _path: &str) -> Result<Vec<u8>, FileFault> {
         Err(FileFault::Unreadable)
+    }
+
+    fn leave<T: Drop>(it: T)
+        ensures { ⊤ }
+    {
+        drop(it);
     }
 }
 
@@ -173,9 +181,9 @@ impl<'a> Door for Texts<'a> {
 
     ghost refuses = { λ _ _. ⊤ };
 
-    ghost ends = { λ _ _. ⊤ };
+    ghost ends = { λ _ _ _ _. ⊤ };
 
-    ghost leaves = { λ _. ⊤ };
+    ghost leaves = { λ _ _. ⊤ };
 
     fn listen(&mut self, address: Address) -> Option<u16> {
         if address.port == 0 {
@@ -193,23 +201,27 @@ impl<'a> Door for Texts<'a> {
         Some((reader, Replies { rt: self.rt }))
     }
 
-    fn end(reader: Sent<'a>, writer: Replies<'a>)
+    fn end<R: Drop, W: Drop>(reader: R, writer: W)
         ensures { ⊤ }
     {
         drop(reader);
         drop(writer);
     }
 
-    fn leave(self)
+    fn leave<T: Drop>(it: T)
         ensures { ⊤ }
     {
-        drop(self);
+        drop(it);
     }
 }
 
 /// Nobody is told how far a command is.
 #[derive(Drop)]
 pub(crate) struct Unseen;
+
+impl Follows for Unseen {
+    fn passed(&mut self, _part: Part) {}
+}
 
 impl Progress for Unseen {
     fn tell(&mut self, _printed: u64, _all: u64) {}

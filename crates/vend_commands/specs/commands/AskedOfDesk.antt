@@ -1,7 +1,7 @@
 -- What a command does that asks a running desk: it sends a message, or one for each page of a list,
 -- and prints of the replies what the command on the file would print. It opens no file of an office
 -- and has no clock.
-use Rattle.std.specs.Prelude.{◌⊎◌, ◌<◌, ◌≤◌, ⊤, ℕ, Bool, false, List, [], length}
+use Rattle.std.specs.Prelude.{◌⊎◌, ◌<◌, ◌≤◌, ℕ, Bool, false, List, [], length}
 use Rattle.std.specs.Borrow.{Bor}
 use Rattle.book_facts.specs.declared.lookup.Found.TheVariants as found
 use Rattle.book_facts.specs.declared.lookup.Lookup.TheVariants as lookups
@@ -27,6 +27,7 @@ use Rattle.command_line.specs.declared.commands.show.Shown.TheVariants as shown
 use Rattle.vend_commands.specs.commands.Imported.{read_fault_line}
 use Rattle.vend_commands.specs.commands.ListedAtDesk.{IsListedAtDesk, exchange_fault_line, page_question}
 use Rattle.vend_commands.specs.port.Exchanged.{Calls, IsUnsent, once}
+use Rattle.vend_commands.specs.port.Texts.{Texts}
 use Rattle.vend_commands.specs.print.FoundTexts.{IsMadeWhole, found_text}
 use Rattle.vend_commands.specs.print.Totalled.{totals_line}
 use Rattle.vend_commands.specs.print.Printed.{added_line, clock_line, done_line, file_line, net_line, refusal_line, shift_line}
@@ -36,7 +37,6 @@ use Rattle.vend_commands.specs.declared.commands.at_desk.RowsFault.TheVariants.{
 use Rattle.vend_commands.specs.declared.command_end.CommandEnd.{CommandEnd}
 use Rattle.vend_commands.specs.declared.command_end.CommandEnd.TheVariants.{Done, Refused}
 use Rattle.vend_commands.specs.declared.port.exchange.ExchangeFault.{ExchangeFault}
-use Rattle.vend_commands.specs.declared.port.file_fault.FileFault.{FileFault}
 
 -- ---- the question
 
@@ -59,18 +59,19 @@ question_of (asks.Show what json) rows = shown_question what
 question_of (asks.Offer meter tender json) rows = questions.Quote meter tender
 question_of (asks.List list json) rows = page_question list
 
--- the rows of an import are the bytes of its file, as many as a desk takes
-abbrev pub AreRowsFor : (Text → List ℕ → Type 0) → DeskQuestion → (rows : List ℕ) → Type 0
-AreRowsFor Reads (asks.Import kind csv) rows = Reads csv.now rows × (length rows ≤ longest_body)
-AreRowsFor Reads asked rows = ⊤
+-- the rows of an import are the bytes of its file, as many as a desk takes; for other questions no
+-- file is read
+abbrev pub AreRowsFor : Texts → DeskQuestion → (rows : List ℕ) → Type 0
+AreRowsFor texts (asks.Import kind csv) rows =
+    texts.reads csv.now rows × (length rows ≤ longest_body)
+AreRowsFor texts asked rows = texts.leaves
 
 -- why there are none: the file cannot be read, or has more bytes than a desk takes
-abbrev pub HasNoRows : (Text → List ℕ → Type 0) → (Text → FileFault → Type 0) → DeskQuestion
-    → RowsFault → Type 0
-HasNoRows Reads Lacks (asks.Import kind csv) (Unread fault) = Lacks csv.now fault
-HasNoRows Reads Lacks (asks.Import kind csv) TooLong =
-    (bytes : List ℕ) × Reads csv.now bytes × (longest_body < length bytes)
-HasNoRows Reads Lacks asked fault = ⊥
+abbrev pub HasNoRows : Texts → DeskQuestion → RowsFault → Type 0
+HasNoRows texts (asks.Import kind csv) (Unread fault) = texts.lacks csv.now fault
+HasNoRows texts (asks.Import kind csv) TooLong =
+    (bytes : List ℕ) × texts.reads csv.now bytes × (longest_body < length bytes)
+HasNoRows texts asked fault = ⊥
 
 -- ---- what is told
 
@@ -155,27 +156,26 @@ pub data IsAsked (calls : Calls) (uncalled : Type 0) (desk : Address) (json : Bo
 
 -- the words ask a desk one question; or they name a file of rows that it cannot be asked with, and
 -- it is not called
-pub data IsAskedOnce (reads : Text → List ℕ → Type 0) (lacks : Text → FileFault → Type 0)
-    (calls : Calls) (uncalled : Type 0) (desk : Address) (question : DeskQuestion) (o : Outputs)
-    (end : CommandEnd) : Type 0 where
-  asked : (rows : Bor Text) → AreRowsFor reads question rows.now
+pub data IsAskedOnce (texts : Texts) (calls : Calls) (uncalled : Type 0) (desk : Address)
+    (question : DeskQuestion) (o : Outputs) (end : CommandEnd) : Type 0 where
+  asked : (rows : Bor Text) → AreRowsFor texts question rows.now
       → IsAsked calls uncalled desk (is_json question) (question_of question rows) o end
-      → IsAskedOnce reads lacks calls uncalled desk question o end
-  without_rows : (fault : RowsFault) → HasNoRows reads lacks question fault → uncalled
+      → IsAskedOnce texts calls uncalled desk question o end
+  without_rows : (fault : RowsFault) → HasNoRows texts question fault → uncalled
       → IsTold o [] (rows_fault_line fault) Refused end
-      → IsAskedOnce reads lacks calls uncalled desk question o end
+      → IsAskedOnce texts calls uncalled desk question o end
 
 -- ---- the command
 
 -- the words ask a desk one question, or for the pages of a list
-abbrev pub IsAnswered : (Text → List ℕ → Type 0) → (Text → FileFault → Type 0) → Calls
-    → (uncalled : Type 0) → Address → DeskQuestion → Outputs → CommandEnd → Type 0
-IsAnswered reads lacks calls uncalled desk (asks.List list json) o end =
-    IsListedAtDesk calls desk list json o end
-IsAnswered reads lacks calls uncalled desk question o end =
-    IsAskedOnce reads lacks calls uncalled desk question o end
+abbrev pub IsAnswered : Texts → Calls → (uncalled : Type 0) → Address → DeskQuestion → Outputs
+    → CommandEnd → Type 0
+IsAnswered texts calls uncalled desk (asks.List list json) o end =
+    texts.leaves × IsListedAtDesk calls desk list json o end
+IsAnswered texts calls uncalled desk question o end =
+    IsAskedOnce texts calls uncalled desk question o end
 
-abbrev pub IsAskedOfDesk : (Text → List ℕ → Type 0) → (Text → FileFault → Type 0) → Calls
-    → (uncalled : Type 0) → DeskWords → Outputs → CommandEnd → Type 0
-IsAskedOfDesk reads lacks calls uncalled words o end =
-    IsAnswered reads lacks calls uncalled words.desk words.question o end
+abbrev pub IsAskedOfDesk : Texts → Calls → (uncalled : Type 0) → DeskWords → Outputs → CommandEnd
+    → Type 0
+IsAskedOfDesk texts calls uncalled words o end =
+    IsAnswered texts calls uncalled words.desk words.question o end

@@ -1,5 +1,5 @@
 -- What `audit` prints of the file that it is asked to look at.
-use Rattle.std.specs.Prelude.{List, [], Result, Ok, Err}
+use Rattle.std.specs.Prelude.{List, [], Option, Result, Ok, Err}
 use Rattle.audit.specs.declared.audited.Audited.{Audited}
 use Rattle.audit_rows.specs.declared.finding.AuditFault.{AuditFault}
 use Rattle.audit_rows.specs.declared.finding.AuditFault.TheVariants.{Failed, Found, NoOffice}
@@ -7,6 +7,7 @@ use Rattle.book_opening.specs.Opening.{fault_of}
 use Rattle.book_opening.specs.declared.fault.OpenFault.{OpenFault}
 use Rattle.book_opening.specs.declared.fault.OpenFault.TheVariants.{NotAnOffice}
 use Rattle.sts_fields.specs.Text.{Text}
+use Rattle.sts_token.specs.Token.{BlockFunction}
 use Rattle.vend_commands.specs.port.Places.{Place}
 use Rattle.vend_commands.specs.print.AuditLines.{TellsRow, broken_line, sound_line}
 use Rattle.vend_commands.specs.print.Printed.{file_line, opening_line}
@@ -24,10 +25,11 @@ TellsAudit (Err NoOffice) o end = IsTold o [] (opening_line NotAnOffice) Refused
 TellsAudit (Err (Failed error)) o end = IsTold o [] (opening_line (fault_of error)) Refused end
 
 -- The file is not there, and is not made; or it is there and no connection is made to it; or it is
--- audited. That is told, and nothing else.
-pub data IsAudited (place : Place) (o : Outputs) (end : CommandEnd) : Type 0 where
-  absent : place.misses → IsTold o [] file_line Refused end → IsAudited place o end
+-- audited, by the transform that is given, where one is. That is told, and nothing else.
+pub data IsAudited (place : Place) (given : Option BlockFunction) (o : Outputs) (end : CommandEnd)
+    : Type 0 where
+  absent : place.misses → IsTold o [] file_line Refused end → IsAudited place given o end
   unopened : (fault : OpenFault) → place.refuses fault
-      → IsTold o [] (opening_line fault) Refused end → IsAudited place o end
-  looked : (answer : Result Audited AuditFault) → place.meets → place.audits answer
-      → TellsAudit answer o end → IsAudited place o end
+      → IsTold o [] (opening_line fault) Refused end → IsAudited place given o end
+  looked : (answer : Result Audited AuditFault) → place.meets → place.audits given answer
+      → TellsAudit answer o end → IsAudited place given o end

@@ -11,6 +11,7 @@ use Rattle.vend_core.specs.declared.decision.refusal.Refusal.TheVariants as refu
 use Rattle.vend_core.specs.declared.decision.request.Request.TheVariants.{Import}
 use Rattle.vend_core.specs.declared.office.row.Row.{Row}
 use Rattle.vend_commands.specs.port.Places.{Places}
+use Rattle.vend_commands.specs.port.Texts.{Texts}
 use Rattle.vend_commands.specs.print.Printed.{file_line, refusal_line}
 use Rattle.vend_commands.specs.commands.Asked.{IsAskedAt}
 use Rattle.vend_commands.specs.print.Told.{Outputs, IsTold}
@@ -51,10 +52,9 @@ read_fault_line read.Memory = refusal_line refusal.Memory
 -- the file of the words has some bytes, which are imported; or it is not read, and that is told,
 -- and no office is found
 abbrev pub IsFileImported : {S : Type 0} → Ghosts S → Places → (untouched : Type 0)
-    → (Text → List ℕ → Type 0) → (Text → FileFault → Type 0) → ImportWords → ℕ → Outputs
-    → CommandEnd → Type 0
-IsFileImported store at untouched Reads Lacks words moment o end =
-    ((bytes : List ℕ) × Reads words.csv.now bytes
+    → Texts → ImportWords → ℕ → Outputs → CommandEnd → Type 0
+IsFileImported store at untouched texts words moment o end =
+    ((bytes : List ℕ) × texts.reads words.csv.now bytes
     × IsImported store at untouched words moment bytes o end)
-    ⊎ ((fault : FileFault) × Lacks words.csv.now fault × untouched
+    ⊎ ((fault : FileFault) × texts.lacks words.csv.now fault × untouched
     × IsTold o [] (read_fault_line fault) Refused end)

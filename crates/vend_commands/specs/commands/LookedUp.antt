@@ -1,15 +1,13 @@
 -- What `show` and `list` print, and `quote` of a file: what is looked up in the office there.
-use Rattle.std.specs.Prelude.{◌≡◌, ◌⊎◌, ℕ, ℤ, Bool, List, [], Option, Some, Result, Ok, Err}
+use Rattle.std.specs.Prelude.{◌≡◌, ◌⊎◌, ℕ, Bool, [], Option, Some, Result, Ok, Err}
 use Rattle.sqlite.specs.State.{HasCleanDisk}
 use Rattle.sqlite_trees.specs.declared.store.Store.{Ghosts}
-use Rattle.book_facts.specs.Lookups.{IsOfRules}
 use Rattle.book_facts.specs.declared.lookup.Found.{Found}
 use Rattle.book_facts.specs.declared.lookup.Lookup.{Lookup}
 use Rattle.book_facts.specs.declared.lookup.Lookup.TheVariants as lookups
 use Rattle.book_facts.specs.declared.lookup.Quote.{Quote}
 use Rattle.books.specs.Keeps.{Represents, Seen}
-use Rattle.books.specs.Looking.{IsFoundAt}
-use Rattle.books.specs.Reads.{ReadsBooks}
+use Rattle.books.specs.Looking.{IsFoundAt, LooksUpBooks}
 use Rattle.command_line.specs.declared.commands.show.Shown.{Shown}
 use Rattle.command_line.specs.declared.commands.show.Shown.TheVariants as shown
 use Rattle.command_line.specs.declared.transform.Shipped.TheVariants.{Plain}
@@ -22,6 +20,7 @@ use Rattle.vend_core.specs.declared.decision.refusal.Refusal.{Refusal}
 use Rattle.vend_core.specs.declared.decision.refusal.Refusal.TheVariants.{Memory}
 use Rattle.vend_commands.specs.commands.Timed.{IsTimed}
 use Rattle.vend_commands.specs.office.Visited.{IsVisited}
+use Rattle.vend_commands.specs.port.Dial.{Dial}
 use Rattle.vend_commands.specs.port.Places.{Places, where_present}
 use Rattle.vend_commands.specs.print.FoundTexts.{IsMadeWhole, found_text, purchase_in}
 use Rattle.vend_commands.specs.print.Listing.{IsListed}
@@ -57,7 +56,7 @@ pub record IsLookedUp (moment : ℕ) (lookup : Lookup) (json : Bool) (old new : 
   pub found : Result Found Refusal
   pub is_found : HasCleanDisk new.state → (life : Life) → Represents life old
       → IsFoundAt life moment lookup found
-  pub reads : ReadsBooks IsOfRules found old new
+  pub reads : LooksUpBooks moment lookup found old new
   pub told : TellsFound json lookup found o end
 
 -- one thing is looked up, or the pages of a list are
@@ -77,10 +76,10 @@ pub data IsShownAt {S : Type 0} (store : Ghosts S) (at : Places) (file : Text) (
 
 -- so at the moment that is given, or else at the clock's
 abbrev pub IsShown : {S : Type 0} → Ghosts S → Places → (untouched : Type 0)
-    → (answers : Option (List ℤ)) → (at : Option ℕ) → (file : Text) → (wait : ℕ) → Wanted
-    → Outputs → CommandEnd → Type 0
-IsShown store places untouched answers at file wait wanted o end =
-    IsTimed untouched at answers
+    → (clock : Dial) → (at : Option ℕ) → (file : Text) → (wait : ℕ) → Wanted → Outputs
+    → CommandEnd → Type 0
+IsShown store places untouched clock at file wait wanted o end =
+    IsTimed untouched at clock
     (λ moment. IsShownAt store places file wait moment wanted o end) o end
 
 -- what is quoted is what `quote` prints of the steps that hold for the meter on the day, after the

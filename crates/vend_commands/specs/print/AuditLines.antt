@@ -6,6 +6,8 @@ use Rattle.sqlite_value.specs.declared.value.Value.{Value}
 use Rattle.sqlite_value.specs.declared.value.Value.TheVariants.{Int, Text as IsText}
 use Rattle.audit_rows.specs.Tables.{name_of}
 use Rattle.audit.specs.declared.audited.Audited.{Audited}
+use Rattle.audit.specs.declared.following.Part.{Part}
+use Rattle.audit.specs.declared.following.Part.TheVariants as part
 use Rattle.audit_rows.specs.declared.finding.Finding.{Finding}
 use Rattle.audit_rows.specs.declared.finding.RowKey.{RowKey}
 use Rattle.audit_rows.specs.declared.finding.RowKey.TheVariants.{Number, Tariff, Step, DatedStep, Meter, Base, Month, Columns}
@@ -21,6 +23,16 @@ abbrev pub sound_line : Audited → Text
 sound_line a = line_of (codes "sound" ∷ codes "format" ∷ decimal a.format
     ∷ codes "tariffs" ∷ decimal a.tariffs ∷ codes "meters" ∷ decimal a.meters
     ∷ codes "shifts" ∷ decimal a.shifts ∷ codes "sales" ∷ decimal a.sales ∷ [])
+
+-- the part of an audit that has passed, in a word: each row by itself, the rows together and the
+-- totals, and the requests that may have led to them
+abbrev pub part_text : Part → Text
+part_text part.Rows = codes "rows"
+part_text part.Ties = codes "rules"
+part_text part.Requests = codes "requests"
+
+abbrev pub passed_line : Part → Text
+passed_line passed = line_of (part_text passed ∷ [])
 
 -- the rule that a row breaks, in a word
 abbrev pub rule_text : Rule → Text

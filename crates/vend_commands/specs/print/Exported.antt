@@ -9,6 +9,7 @@ use Rattle.vend_core.specs.declared.decision.refusal.Refusal.{Refusal}
 use Rattle.vend_core.specs.declared.decision.refusal.Refusal.TheVariants.{Memory, Stopped, Store}
 use Rattle.vend_core.specs.declared.office.sale.Sale.{Sale}
 use Rattle.vend_commands.specs.print.Printed.{refusal_line}
+use Rattle.vend_commands.specs.office.OnlyRead.{AreOnlyRead}
 use Rattle.vend_commands.specs.office.Refused.{RefusesToRead, TellsStopped}
 use Rattle.vend_commands.specs.print.Told.{IsTold, Outputs, Sink, Takes}
 use Rattle.vend_commands.specs.declared.command_end.CommandEnd.{CommandEnd}
@@ -65,8 +66,8 @@ StopsBy old new None = new.stopped ≡ old.stopped
 StopsBy old new (Some refusal) = IsPageRefusal refusal × TellsStopped old new refusal
 
 -- The export of all sales of the present office is told, or a beginning of it up to a page that is
--- refused, and then the refusal, or up to a page that the output did not take. The books keep what
--- they kept.
+-- refused, and then the refusal, or up to a page that the output did not take. The books are only
+-- read.
 pub record IsExported (old new : Seen) (o : Outputs) (end : CommandEnd) : Type 0 where
   pub text : Text
   pub stop : Option Refusal
@@ -74,4 +75,4 @@ pub record IsExported (old new : Seen) (o : Outputs) (end : CommandEnd) : Type 0
   pub stops : StopsBy old new stop
   pub sales : HasCleanDisk new.state → (life : Life) → Represents life old
       → IsExportOf (present life).sales text stop o.new.failed
-  pub keeps : (life : Life) → Represents life old → Represents life new
+  pub reads : AreOnlyRead old new

@@ -13,6 +13,7 @@ use Rattle.command_line.specs.declared.commands.list.Listed.TheVariants as liste
 use Rattle.vend_core.specs.Law.Life.{Life, present}
 use Rattle.vend_core.specs.Office.{Office}
 use Rattle.vend_core.specs.declared.decision.refusal.Refusal.{Refusal}
+use Rattle.vend_commands.specs.office.OnlyRead.{AreOnlyRead}
 use Rattle.vend_commands.specs.office.Refused.{TellsStopped}
 use Rattle.vend_commands.specs.print.Exported.{IsPageRefusal, export_stop_end, stop_errors}
 use Rattle.vend_commands.specs.print.ListTexts.{page_text, pages_text}
@@ -91,8 +92,8 @@ abbrev pub most_pages : ℕ
 most_pages = 2 ^ 64 - 1
 
 -- The pages of a list are told, up to the last one, which is not full; or those before a page that
--- is refused, and then the refusal; or those up to one that the output did not take. The books keep
--- what they kept.
+-- is refused, and then the refusal; or those up to one that the output did not take. The books are
+-- only read.
 pub record IsListed (moment : ℕ) (list : Listed) (json : Bool) (old new : Seen) (o : Outputs)
     (end : CommandEnd) : Type 0 where
   pub pages : List Found
@@ -106,4 +107,4 @@ pub record IsListed (moment : ℕ) (list : Listed) (json : Bool) (old new : Seen
   pub refused : HasCleanDisk new.state → (life : Life) → Represents life old
       → IfSome stop IsPageRefusal
   pub stops : IsListStop old new stop
-  pub keeps : (life : Life) → Represents life old → Represents life new
+  pub reads : AreOnlyRead old new

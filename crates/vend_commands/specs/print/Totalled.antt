@@ -9,6 +9,7 @@ use Rattle.vend_core.specs.Law.Life.{Life, present}
 use Rattle.vend_core.specs.declared.decision.refusal.Refusal.{Refusal}
 use Rattle.vend_core.specs.declared.decision.refusal.Refusal.TheVariants.{NoSuchShift}
 use Rattle.vend_commands.specs.print.Printed.{line_of, refusal_line}
+use Rattle.vend_commands.specs.office.OnlyRead.{AreOnlyRead}
 use Rattle.vend_commands.specs.office.Refused.{RefusesToRead}
 use Rattle.vend_commands.specs.print.Told.{Outputs, IsTold}
 use Rattle.vend_commands.specs.declared.command_end.CommandEnd.{CommandEnd}
@@ -38,10 +39,9 @@ abbrev pub TellsTotals : ℕ → Result Totals Refusal → Outputs → CommandEn
 TellsTotals number (Ok totals) o end = IsTold o (totals_line number totals) [] Done end
 TellsTotals number (Err refusal) o end = IsTold o [] (refusal_line refusal) Refused end
 
--- The totals of the shift in the present office are told, or why not. The books keep what they
--- kept.
+-- The totals of the shift in the present office are told, or why not. The books are only read.
 pub record IsTotalled (number : ℕ) (old new : Seen) (o : Outputs) (end : CommandEnd) : Type 0 where
   pub totals : Result Totals Refusal
   pub are_totals : AreTotals number old new totals
   pub told : TellsTotals number totals o end
-  pub keeps : (life : Life) → Represents life old → Represents life new
+  pub reads : AreOnlyRead old new

@@ -72,8 +72,8 @@ module _ {B : Type 0} (see : B → Seen) where
       ⊎ (((see old).stopped ≡ true) × IsReopened forward (see old) (see new))
 
   -- it cannot be, for this fault
-  abbrev pub AreLost : (OpenFault → Type 0) → B → OpenFault → Type 0
-  AreLost loses old fault = ((see old).stopped ≡ true) × loses fault
+  abbrev pub AreLost : (Seen → OpenFault → Type 0) → B → OpenFault → Type 0
+  AreLost loses old fault = ((see old).stopped ≡ true) × loses (see old) fault
 
 -- what is printed of books once they are made ready: if they were stopped, that they are open again
 abbrev pub open_text : Seen → Text
@@ -109,8 +109,8 @@ module _ {D R W B : Type 0} (way : Way D R W) (forward : BlockFunction) (see : B
 
   -- after fewer the file of stopped books could not be opened again, and nothing else has changed
   -- since
-  pub record IsLost (loses : OpenFault → Type 0) (asked : ℕ) (old : Service D B) (new_door : D)
-      (left : Option (List ℤ)) (fault : OpenFault) (printed : Text) : Type 0 where
+  pub record IsLost (loses : Seen → OpenFault → Type 0) (asked : ℕ) (old : Service D B)
+      (new_door : D) (left : Option (List ℤ)) (fault : OpenFault) (printed : Text) : Type 0 where
     pub count : ℕ
     pub fewer : count < asked
     pub last : Service D B
@@ -120,7 +120,7 @@ module _ {D R W B : Type 0} (way : Way D R W) (forward : BlockFunction) (see : B
     pub answers : left ≡ last.answers
 
   -- as many as were asked for, which is all; or fewer, for one of those causes; and this is printed
-  abbrev pub AreServed : (OpenFault → Type 0) → ℕ → Service D B → D → Option (List ℤ)
+  abbrev pub AreServed : (Seen → OpenFault → Type 0) → ℕ → Service D B → D → Option (List ℤ)
       → Result (B × Bool) OpenFault → (printed : Text) → Type 0
   AreServed loses asked old door answers (Ok (books, true)) printed =
       AreHeld asked old (service door books answers) printed

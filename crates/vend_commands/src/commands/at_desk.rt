@@ -9,6 +9,7 @@ ghost use Rattle.vend_commands.specs.commands.AskedOfDesk.{granted_output, is_js
 ghost use Rattle.vend_commands.specs.commands.AskedOfDesk.{question_of, rows_fault_line};
 ghost use Rattle.vend_commands.specs.commands.AskedOfDesk.{shown_question, told_sale_text};
 ghost use Rattle.vend_commands.specs.port.Exchanged.{calls_of};
+ghost use Rattle.vend_commands.specs.port.Texts.{texts_of};
 ghost use Rattle.vend_commands.specs.print.Told.{Takes, outputs, sink};
 
 use crate::command_end::CommandEnd;
@@ -44,18 +45,19 @@ pub enum RowsFault {
 pub(crate) fn run<F: TextFiles, L: Loopback, O: Write, E: Write>(
     words: &DeskWords,
     alloc: Global,
-    texts: &F,
+    texts: F,
     loopback: L,
     out: &mut Watched<'_, O>,
     err: &mut Watched<'_, E>,
 ) -> CommandEnd
-    ensures { IsAskedOfDesk (F.reads texts.now) (F.lacks texts.now)
-        (calls_of L.Loopback L.Stream.remaining L.Stream.contents loopback) (L.leaves loopback)
+    ensures { IsAskedOfDesk (texts_of F.TextFiles texts)
+        (calls_of L.Loopback L.Stream.remaining L.Stream.contents loopback) (L.leaves L loopback)
         words.now (outputs (sink O.contents out.old) (sink O.contents out.new)
         (sink E.contents err.old) (sink E.contents err.new)) result }
 {
     match &words.question {
         DeskQuestion::List { listed, json } => {
+            F::leave(texts);
             list(alloc, words.desk, *listed, *json, loopback, out, err)
         }
         question => ask_once(question, words.desk, alloc, texts, loopback, out, err),
@@ -67,13 +69,13 @@ fn ask_once<F: TextFiles, L: Loopback, O: Write, E: Write>(
     asked: &DeskQuestion,
     desk: Address,
     alloc: Global,
-    texts: &F,
+    texts: F,
     loopback: L,
     out: &mut Watched<'_, O>,
     err: &mut Watched<'_, E>,
 ) -> CommandEnd
-    ensures { IsAskedOnce (F.reads texts.now) (F.lacks texts.now)
-        (calls_of L.Loopback L.Stream.remaining L.Stream.contents loopback) (L.leaves loopback)
+    ensures { IsAskedOnce (texts_of F.TextFiles texts)
+        (calls_of L.Loopback L.Stream.remaining L.Stream.contents loopback) (L.leaves L loopback)
         desk asked.now (outputs (sink O.contents out.old) (sink O.contents out.new)
         (sink E.contents err.old) (sink E.contents err.new)) result }
 {
@@ -83,7 +85,7 @@ fn ask_once<F: TextFiles, L: Loopback, O: Write, E: Write>(
             ask(alloc, desk, &question, is_json(asked), loopback, out, err)
         }
         Err(fault) => {
-            loopback.leave();
+            L::leave(loopback);
             put_rows_fault(fault, err);
             CommandEnd::Refused
         }
@@ -94,10 +96,11 @@ fn ask_once<F: TextFiles, L: Loopback, O: Write, E: Write>(
 fn rows_for<F: TextFiles>(
     asked: &DeskQuestion,
     alloc: Global,
-    texts: &F,
+    texts: F,
 ) -> Result<Vec<u8>, RowsFault>
-    ensures rows { IfOk result (λ rows. AreRowsFor (F.reads texts.now) asked.now rows.items) }
-    ensures none { IfErr result (HasNoRows (F.reads texts.now) (F.lacks texts.now) asked.now) }
+    ensures rows { IfOk result
+        (λ rows. AreRowsFor (texts_of F.TextFiles texts) asked.now rows.items) }
+    ensures none { IfErr result (HasNoRows (texts_of F.TextFiles texts) asked.now) }
 {
     match asked {
         DeskQuestion::Import(_, csv) => match texts.read(csv) {
@@ -105,7 +108,10 @@ fn rows_for<F: TextFiles>(
             Ok(_) => Err(RowsFault::TooLong),
             Err(fault) => Err(RowsFault::Unread(fault)),
         },
-        _ => Ok(Vec::new(alloc)),
+        _ => {
+            F::leave(texts);
+            Ok(Vec::new(alloc))
+        }
     }
 }
 
@@ -160,12 +166,12 @@ fn ask<L: Loopback, O: Write, E: Write>(
     err: &mut Watched<'_, E>,
 ) -> CommandEnd
     ensures { IsAsked (calls_of L.Loopback L.Stream.remaining L.Stream.contents loopback)
-        (L.leaves loopback) desk json question.now
+        (L.leaves L loopback) desk json question.now
         (outputs (sink O.contents out.old) (sink O.contents out.new)
         (sink E.contents err.old) (sink E.contents err.new)) result }
 {
     let Ok(message) = question.message(alloc) else {
-        loopback.leave();
+        L::leave(loopback);
         put_refusal(Refusal::Memory, err);
         return CommandEnd::Refused;
     };

@@ -1,10 +1,11 @@
+ghost use Rattle.std.specs.Prelude.{option_map};
+ghost use Rattle.command_line.specs.Transform.{forward_of};
 ghost use Rattle.vend_commands.specs.commands.Audited.{IsAudited, TellsAudit};
 ghost use Rattle.vend_commands.specs.port.Places.{places_of};
 ghost use Rattle.vend_commands.specs.print.Told.{outputs, sink};
 
 use crate::command_end::CommandEnd;
-use crate::office::auditing::{audit_files, connect};
-use crate::office::opening::close_connection;
+use crate::office::auditing::{audit_files, connect, end_audit};
 use crate::port::ports::OfficeFile;
 use crate::port::progress::Progress;
 use crate::print::audit_lines::{put_broken, put_sound};
@@ -17,8 +18,9 @@ use command_line::AuditWords;
 use std::alloc::Global;
 use std::io::Write;
 
-/// Looks at the file of the words, where it is there, and prints what it keeps, or the first row
-/// that is no office's; and closes it as it was. It tells once that the file is open.
+/// Looks at the file of the words, where it is there, closes it as it was, and prints what it
+/// keeps, or the first row that is no office's. It tells that the file is open, and which parts
+/// have passed.
 pub(crate) fn run<H: OfficeFile, P: Progress, O: Write, E: Write>(
     words: &AuditWords,
     alloc: Global,
@@ -29,7 +31,7 @@ pub(crate) fn run<H: OfficeFile, P: Progress, O: Write, E: Write>(
 ) -> CommandEnd
     ensures { IsAudited
         (places_of H.Medium.Disk H.Salts.SaltSource H.OfficeFile office words.now.file.now
-        words.now.wait)
+        words.now.wait) (option_map forward_of words.now.transform)
         (outputs (sink O.contents out.old) (sink O.contents out.new)
         (sink E.contents err.old) (sink E.contents err.new)) result }
 {
@@ -37,10 +39,9 @@ pub(crate) fn run<H: OfficeFile, P: Progress, O: Write, E: Write>(
     match connect(alloc, office, &salts, words.file, words.wait) {
         Ok(Some(mut conn)) => {
             progress.tell_opened();
-            let answer = audit_files(alloc, &mut conn);
-            let end = tell(answer, out, err);
-            close_connection::<H>(conn);
-            end
+            let found = audit_files(alloc, &mut conn, words.transform, progress);
+            let answer = end_audit::<H>(alloc, found, conn);
+            tell(answer, out, err)
         }
         Ok(None) => {
             put_line(&[b"file"], err);

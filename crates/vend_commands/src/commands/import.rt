@@ -2,7 +2,9 @@ ghost use Rattle.std.specs.Prelude.{◌≡◌, List};
 ghost use Rattle.papers.specs.File.{AreFileRecords, Fields};
 ghost use Rattle.papers.specs.Import.{IsReading};
 ghost use Rattle.vend_commands.specs.commands.Imported.{IsFileImported, IsImported, read_fault_line, refusal_of_rows};
+ghost use Rattle.vend_commands.specs.port.Dial.{dial_of};
 ghost use Rattle.vend_commands.specs.port.Places.{places_of};
+ghost use Rattle.vend_commands.specs.port.Texts.{texts_of};
 ghost use Rattle.vend_commands.specs.commands.Timed.{IsTimed};
 ghost use Rattle.vend_commands.specs.print.Told.{Takes, outputs, sink};
 
@@ -29,23 +31,23 @@ pub(crate) fn run<H: OfficeFile, F: TextFiles, C: Clock, O: Write, E: Write>(
     words: &ImportWords,
     alloc: Global,
     office: H,
-    texts: &F,
+    texts: F,
     clock: &mut C,
     out: &mut Watched<'_, O>,
     err: &mut Watched<'_, E>,
 ) -> CommandEnd
     ensures { let o = outputs (sink O.contents out.old) (sink O.contents out.new)
         (sink E.contents err.old) (sink E.contents err.new) in
-        IsTimed (H.leaves office) words.now.at (C.answers clock.old)
+        IsTimed (H.leaves H office × F.leaves F texts) words.now.at (dial_of C.Clock clock.old)
         (λ moment. IsFileImported ⟦<FileStore<H::Medium> as Store>⟧
         (places_of H.Medium.Disk H.Salts.SaltSource H.OfficeFile office)
-        (H.leaves office) (F.reads texts.now)
-        (F.lacks texts.now) words.now moment o result) o result }
+        (H.leaves H office) (texts_of F.TextFiles texts) words.now moment o result) o result }
 {
     match moment_or_now(words.at, clock) {
         Some(moment) => import_at(words, alloc, office, texts, moment, out, err),
         None => {
-            office.leave();
+            H::leave(office);
+            F::leave(texts);
             put_no_moment(err);
             CommandEnd::Refused
         }
@@ -57,21 +59,21 @@ fn import_at<H: OfficeFile, F: TextFiles, O: Write, E: Write>(
     words: &ImportWords,
     alloc: Global,
     office: H,
-    texts: &F,
+    texts: F,
     moment: Moment,
     out: &mut Watched<'_, O>,
     err: &mut Watched<'_, E>,
 ) -> CommandEnd
     ensures { IsFileImported ⟦<FileStore<H::Medium> as Store>⟧
         (places_of H.Medium.Disk H.Salts.SaltSource H.OfficeFile office)
-        (H.leaves office) (F.reads texts.now) (F.lacks texts.now) words.now moment
+        (H.leaves H office) (texts_of F.TextFiles texts) words.now moment
         (outputs (sink O.contents out.old) (sink O.contents out.new)
         (sink E.contents err.old) (sink E.contents err.new)) result }
 {
     match texts.read(words.csv) {
         Ok(bytes) => add(words, alloc, office, moment, &bytes, out, err),
         Err(fault) => {
-            office.leave();
+            H::leave(office);
             put_read_fault(fault, err);
             CommandEnd::Refused
         }
@@ -90,7 +92,7 @@ fn add<H: OfficeFile, O: Write, E: Write>(
 ) -> CommandEnd
     ensures { IsImported ⟦<FileStore<H::Medium> as Store>⟧
         (places_of H.Medium.Disk H.Salts.SaltSource H.OfficeFile office)
-        (H.leaves office) words.now moment bytes.now
+        (H.leaves H office) words.now moment bytes.now
         (outputs (sink O.contents out.old) (sink O.contents out.new)
         (sink E.contents err.old) (sink E.contents err.new)) result }
 {
@@ -106,7 +108,7 @@ fn add<H: OfficeFile, O: Write, E: Write>(
             ask_at(words, alloc, office, moment, out, err)
         }
         Err(fault) => {
-            office.leave();
+            H::leave(office);
             put_refusal(refusal_of(fault), err);
             CommandEnd::Refused
         }

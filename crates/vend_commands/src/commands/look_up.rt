@@ -1,6 +1,7 @@
 //! Something that is looked up in the office of a file: `show`, `list`, and `quote` of a file.
 
 ghost use Rattle.vend_commands.specs.commands.LookedUp.{IsShown, IsShownAt};
+ghost use Rattle.vend_commands.specs.port.Dial.{dial_of};
 ghost use Rattle.vend_commands.specs.port.Places.{places_of};
 ghost use Rattle.vend_commands.specs.print.Told.{outputs, sink};
 
@@ -43,7 +44,7 @@ pub(crate) fn run<H: OfficeFile, C: Clock, O: Write, E: Write>(
 ) -> CommandEnd
     ensures { IsShown ⟦<FileStore<H::Medium> as Store>⟧
         (places_of H.Medium.Disk H.Salts.SaltSource H.OfficeFile office)
-        (H.leaves office) (C.answers clock.old)
+        (H.leaves H office) (dial_of C.Clock clock.old)
         asked.now.at asked.now.file.now asked.now.wait asked.now.wanted
         (outputs (sink O.contents out.old) (sink O.contents out.new)
         (sink E.contents err.old) (sink E.contents err.new)) result }
@@ -51,7 +52,7 @@ pub(crate) fn run<H: OfficeFile, C: Clock, O: Write, E: Write>(
     match moment_or_now(asked.at, clock) {
         Some(moment) => run_at(asked, alloc, office, moment, out, err),
         None => {
-            office.leave();
+            H::leave(office);
             put_no_moment(err);
             CommandEnd::Refused
         }

@@ -1,4 +1,5 @@
 ghost use Rattle.vend_commands.specs.commands.LookedUp.{IsShown};
+ghost use Rattle.vend_commands.specs.port.Dial.{dial_of};
 ghost use Rattle.vend_commands.specs.port.Places.{places_of};
 ghost use Rattle.vend_commands.specs.print.Told.{outputs, sink};
 
@@ -26,7 +27,7 @@ pub(crate) fn run<H: OfficeFile, C: Clock, O: Write, E: Write>(
 ) -> CommandEnd
     ensures { IsShown ⟦<FileStore<H::Medium> as Store>⟧
         (places_of H.Medium.Disk H.Salts.SaltSource H.OfficeFile office)
-        (H.leaves office) (C.answers clock.old)
+        (H.leaves H office) (dial_of C.Clock clock.old)
         words.now.at words.now.file.now words.now.wait
         (Wanted.One (Lookup.Quote words.now.meter words.now.tender) words.now.json)
         (outputs (sink O.contents out.old) (sink O.contents out.new)

@@ -1,4 +1,5 @@
 ghost use Rattle.vend_commands.specs.commands.Asked.{IsAskedAt};
+ghost use Rattle.vend_commands.specs.port.Dial.{dial_of};
 ghost use Rattle.vend_commands.specs.port.Places.{places_of};
 ghost use Rattle.vend_commands.specs.commands.Timed.{IsTimed};
 ghost use Rattle.vend_commands.specs.print.Told.{outputs, sink};
@@ -30,7 +31,7 @@ pub(crate) fn run<H: OfficeFile, C: Clock, O: Write, E: Write>(
 ) -> CommandEnd
     ensures { let o = outputs (sink O.contents out.old) (sink O.contents out.new)
         (sink E.contents err.old) (sink E.contents err.new) in
-        IsTimed (H.leaves office) words.entry.at (C.answers clock.old)
+        IsTimed (H.leaves H office) words.entry.at (dial_of C.Clock clock.old)
         (λ moment. IsAskedAt ⟦<FileStore<H::Medium> as Store>⟧
         (places_of H.Medium.Disk H.Salts.SaltSource H.OfficeFile office)
         words.entry.transform words.entry.file.now words.entry.wait moment words.entry.request o
@@ -39,7 +40,7 @@ pub(crate) fn run<H: OfficeFile, C: Clock, O: Write, E: Write>(
     match moment_or_now(words.at, clock) {
         Some(moment) => ask_at(words, alloc, office, moment, out, err),
         None => {
-            office.leave();
+            H::leave(office);
             put_no_moment(err);
             CommandEnd::Refused
         }

@@ -53,17 +53,17 @@ pub(crate) fn run<H: OfficeFile, D: Door, C: Clock, E: Write>(
                 let served = serve::<H, D, C, E>(
                     words, alloc, &desk, &salts, &mut door, books, clock, err,
                 );
-                door.leave();
+                D::leave(door);
                 end_with::<H, E>(served, err)
             }
             None => {
-                door.leave();
+                D::leave(door);
                 close_office::<H>(books);
                 CommandEnd::Refused
             }
         },
         Err(fault) => {
-            door.leave();
+            D::leave(door);
             put_opening(fault, err);
             CommandEnd::Refused
         }
@@ -109,7 +109,7 @@ fn end_with<H: OfficeFile, E: Write>(
     err: &mut Watched<'_, E>,
 ) -> CommandEnd
     ensures closed { IsClosedAfter
-        (λ books. IsClosed H.Medium.Disk H.lets_go (seen_in books)) served }
+        (λ books. IsClosed H.Medium.Disk (H.lets_go H.Medium) (seen_in books)) served }
     ensures told { Takes (sink E.contents err.old) (sink E.contents err.new) (last_line served) }
     ensures end { result ≡ serving_end served }
 {

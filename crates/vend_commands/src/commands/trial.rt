@@ -1,6 +1,7 @@
 ghost use Rattle.std.specs.Prelude.{⊤, ℕ, List};
 ghost use Rattle.command_line.specs.Transform.{forward_of};
 ghost use Rattle.vend_commands.specs.commands.Timed.{IsTimed};
+ghost use Rattle.vend_commands.specs.port.Dial.{dial_of};
 ghost use Rattle.vend_commands.specs.print.Told.{Takes, outputs, sink};
 ghost use Rattle.vend_commands.specs.commands.Trial.{IsTrial};
 ghost use Rattle.vend_commands.specs.commands.Tried.{IsTried, token_lines, trial_fault_line};
@@ -28,7 +29,7 @@ pub(crate) fn run<C: Clock, O: Write, E: Write>(
 ) -> CommandEnd
     ensures { let o = outputs (sink O.contents out.old) (sink O.contents out.new)
         (sink E.contents err.old) (sink E.contents err.new) in
-        IsTimed ⊤ words.now.at (C.answers clock.old)
+        IsTimed ⊤ words.now.at (dial_of C.Clock clock.old)
         (λ moment. IsTried words.now moment o result) o result }
 {
     match moment_or_now(words.at, clock) {

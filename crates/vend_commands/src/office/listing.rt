@@ -2,12 +2,11 @@
 
 ghost use Rattle.std.specs.Prelude.{◌≡◌, [], MatchResult};
 ghost use Rattle.std.specs.Option.{option_copied};
-ghost use Rattle.sqlite.specs.State.{HasCleanDisk};
-ghost use Rattle.books.specs.Keeps.{Represents, seen};
+ghost use Rattle.books.specs.Keeps.{seen};
+ghost use Rattle.vend_commands.specs.office.OnlyRead.{AreOnlyRead};
 ghost use Rattle.vend_commands.specs.print.Listing.{IsListPage, IsListed, IsPagePut, last_of_full};
 ghost use Rattle.vend_commands.specs.print.Listing.{list_behind, page_lookup};
 ghost use Rattle.vend_commands.specs.print.Told.{Takes, outputs, sink};
-ghost use Rattle.vend_core.specs.Law.Life.{Life};
 
 use crate::command_end::CommandEnd;
 use crate::print::lines::put_refusal;
@@ -65,9 +64,7 @@ fn print_page<S: Alter, T: BlockTransform, O: Write>(
 ) -> Result<Option<Listed>, Refusal>
     ensures page { IsListPage moment list json is_first (seen books.old) (seen books.new)
         (sink O.contents out.old) (sink O.contents out.new) result }
-    ensures keeps { (life : Life) → Represents life (seen books.old)
-        → Represents life (seen books.new) }
-    ensures clean { HasCleanDisk (seen books.new).state → HasCleanDisk (seen books.old).state }
+    ensures reads { AreOnlyRead (seen books.old) (seen books.new) }
 {
     let page = match books.look_up(moment, &page_lookup(list)) {
         Ok(page) => page,

@@ -2,16 +2,19 @@
 
 ghost use Rattle.std.specs.Prelude.{◌≡◌, IfErr, IfNone, IfOk, IfSome, IsTrue};
 ghost use Rattle.sqlite.specs.Files.{file_state};
+ghost use Rattle.sqlite_disk.specs.declared.Files.{Files};
+ghost use Rattle.sqlite_store.specs.FileStore.{files as store_files};
 ghost use Rattle.sqlite_wal.specs.Files.{seen_image};
+ghost use Rattle.books.specs.Path.{AreTakenFrom};
 ghost use Rattle.vend_commands.specs.office.Closed.{AreClosed, IsClosed};
 ghost use Rattle.vend_commands.specs.office.Opened.{OpensIn};
 ghost use Rattle.vend_commands.specs.port.Places.{IsUnopenedIn, places_of};
 ghost use Rattle.vend_commands.specs.office.Visited.{IsOpened, seen_in};
 
 use crate::port::ports::{OfficeFile, SaltSource};
-use books::{Books, OpenFault};
+use books::{Books, OpenFault, RefusedFiles};
 use command_line::Shipped;
-use sqlite::{Connection, FileStore, Options};
+use sqlite::{Connection, Error, FileStore, Options};
 use sqlite_disk::Files;
 use std::alloc::Global;
 
@@ -21,7 +24,9 @@ const CACHE_PAGES: usize = 256;
 
 /// How the files of an office are opened, with this salt for a new log.
 pub(crate) fn options_of(salt: u64) -> Options
-    ensures { result.seed ≡ salt }
+    ensures seed { result.seed ≡ salt }
+    ensures memory { (result.cache_pages ≡ 256) × (result.spill_pages ≡ 2000) }
+    ensures log { result.checkpoint_frames ≡ 1000 }
 {
     Options {
         cache_pages: CACHE_PAGES,
@@ -107,34 +112,52 @@ fn open_in<H: OfficeFile>(
     ensures opened { IfOk result (IsOpened (seen_image H.Medium.Disk found.log found.db)
         (OpensIn H.Medium.Disk (seen_image H.Medium.Disk found.log found.db)) transform) }
     ensures refused { IfErr result
-        (IsUnopenedIn H.Medium.Disk H.Salts.SaltSource H.lets_go found) }
+        (IsUnopenedIn H.Medium.Disk H.Salts.SaltSource (H.lets_go H.Medium) found) }
 {
     let Some(salt) = salts.draw() else {
+        H::let_go(found.log, found.db);
         return Err(OpenFault::Store);
     };
     match Books::open_files(alloc, found, options_of(salt), transform) {
         Ok(books) => Ok(books),
         Err((fault, refused)) => {
-            let files = refused.into_files();
-            H::let_go(files.log, files.db);
+            let_refused_go::<H>(refused);
             Err(fault)
         }
     }
 }
 
+/// Lets the files go in which no office is open.
+pub(crate) fn let_refused_go<H: OfficeFile>(refused: RefusedFiles<H::Medium>)
+    ensures { (left : Files H.Medium) × AreTakenFrom refused left × H.lets_go H.Medium left.log left.db }
+{
+    let files = refused.into_files();
+    H::let_go(files.log, files.db);
+}
+
 /// Closes the file of an office, so that it alone holds the office. That may fail: what was done
 /// stands all the same.
 pub(crate) fn close_office<H: OfficeFile>(books: Books<FileStore<H::Medium>, Shipped>)
-    ensures { IsClosed H.Medium.Disk H.lets_go (seen_in books) }
+    ensures { IsClosed H.Medium.Disk (H.lets_go H.Medium) (seen_in books) }
 {
     close_connection::<H>(books.into_connection());
 }
 
 /// Closes the files of a connection, as it is left.
 pub(crate) fn close_connection<H: OfficeFile>(conn: Connection<FileStore<H::Medium>>)
-    ensures { AreClosed H.Medium.Disk H.lets_go (file_state conn) }
+    ensures { AreClosed H.Medium.Disk (H.lets_go H.Medium) (file_state conn) }
 {
-    match conn.close_files() {
+    let_go_ended::<H>(conn.close_files());
+}
+
+/// Lets the files of a connection go that was ended, be they closed or not.
+pub(crate) fn let_go_ended<H: OfficeFile>(
+    ended: Result<Files<H::Medium>, (Error, FileStore<H::Medium>)>,
+)
+    ensures closed { IfOk ended (λ files. H.lets_go H.Medium files.log files.db) }
+    ensures unclosed { IfErr ended (λ e. H.lets_go H.Medium (store_files e.1).0 (store_files e.1).1) }
+{
+    match ended {
         Ok(files) => H::let_go(files.log, files.db),
         Err((_, store)) => {
             let files = store.close();

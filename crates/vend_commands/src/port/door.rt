@@ -30,10 +30,10 @@ pub trait Door: Drop {
     ghost refuses: { Self → Self → Type 0 };
 
     /// The connection of these halves was let go.
-    ghost ends: { Self.Reader → Self.Writer → Type 0 };
+    ghost ends: { (R W : Type 0) → R → W → Type 0 };
 
     /// The door was left: nobody comes in by it any more.
-    ghost leaves: { Self → Type 0 };
+    ghost leaves: { (T : Type 0) → T → Type 0 };
 
     /// Listens at an address, and answers at which port.
     fn listen(&mut self, address: Address) -> Option<u16>
@@ -46,11 +46,12 @@ pub trait Door: Drop {
         ensures accepts { IfSome result (λ ends. accepts self.old ends.0 ends.1 self.new) }
         ensures refuses { IfNone result (refuses self.old self.new) };
 
-    /// Lets a connection go.
-    fn end(reader: Self::Reader, writer: Self::Writer)
-        ensures { ends reader writer };
+    /// Lets the halves of a connection go. Whatever this is given, it can do nothing else with it.
+    fn end<R: Drop, W: Drop>(reader: R, writer: W)
+        ensures { ends R W reader writer };
 
-    /// Leaves the door, which may never have listened.
-    fn leave(self)
-        ensures { leaves self };
+    /// Leaves the door, which may never have listened. Whatever this is given, it can do nothing
+    /// else with it.
+    fn leave<T: Drop>(it: T)
+        ensures { leaves T it };
 }

@@ -33,7 +33,7 @@ pub trait Loopback: Drop {
     ghost misses: { Self → Address → Type 0 };
 
     /// It was left: none was asked for.
-    ghost leaves: { Self → Type 0 };
+    ghost leaves: { (T : Type 0) → T → Type 0 };
 
     /// Has a connection of the machine with itself, and sends a text on it.
     fn connect(self, text: &[u8]) -> io::Result<(Self::Stream, Self::Stream, Self::Stream)>
@@ -47,9 +47,9 @@ pub trait Loopback: Drop {
         ensures calls { IfOk result (calls self address) }
         ensures misses { IfErr result (λ error. misses self address) };
 
-    /// Leaves it as it is.
-    fn leave(self)
-        ensures { leaves self };
+    /// Leaves it as it is. Whatever this is given, it can do nothing with it.
+    fn leave<T: Drop>(it: T)
+        ensures { leaves T it };
 }
 
 impl<N: Net> Loopback for &N {
@@ -63,7 +63,7 @@ impl<N: Net> Loopback for &N {
 
     ghost misses = { λ _ _. ⊤ };
 
-    ghost leaves = { λ _. ⊤ };
+    ghost leaves = { λ _ _. ⊤ };
 
     fn connect(self, text: &[u8]) -> io::Result<(N::Stream, N::Stream, N::Stream)> {
         let listener = TcpListener::bind(self, "127.0.0.1:0")?;
@@ -86,7 +86,9 @@ impl<N: Net> Loopback for &N {
         Ok(stream)
     }
 
-    fn leave(self)
+    fn leave<T: Drop>(it: T)
         ensures { ⊤ }
-    {}
+    {
+        drop(it);
+    }
 }

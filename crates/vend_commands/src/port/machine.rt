@@ -53,9 +53,9 @@ impl<'a, B: Start> OfficeFile for MachineFile<'a, B> {
 
     ghost misses = { λ _ _ _. ⊤ };
 
-    ghost lets_go = { λ _ _. ⊤ };
+    ghost lets_go = { λ _ _ _. ⊤ };
 
-    ghost leaves = { λ _. ⊤ };
+    ghost leaves = { λ _ _. ⊤ };
 
     fn salts(&self) -> MachineSalts<'a> {
         MachineSalts { rt: self.rt }
@@ -77,17 +77,17 @@ impl<'a, B: Start> OfficeFile for MachineFile<'a, B> {
         }
     }
 
-    fn let_go(log: FileFrom<EachTry<B>>, db: FileFrom<EachTry<B>>)
+    fn let_go<D: Drop>(log: D, db: D)
         ensures { ⊤ }
     {
         drop(log);
         drop(db);
     }
 
-    fn leave(self)
+    fn leave<T: Drop>(it: T)
         ensures { ⊤ }
     {
-        drop(self);
+        drop(it);
     }
 }
 
@@ -102,11 +102,19 @@ impl TextFiles for MachineTexts<'_> {
 
     ghost lacks = { λ _ _ _. ⊤ };
 
-    fn read(&self, path: &str) -> Result<Vec<u8>, FileFault> {
+    ghost leaves = { λ _ _. ⊤ };
+
+    fn read(self, path: &str) -> Result<Vec<u8>, FileFault> {
         match fs::read(self.rt, path) {
             Ok(bytes) => Ok(bytes),
             Err(error) if error.kind() == ErrorKind::OutOfMemory => Err(FileFault::Memory),
             Err(_) => Err(FileFault::Unreadable),
         }
+    }
+
+    fn leave<T: Drop>(it: T)
+        ensures { ⊤ }
+    {
+        drop(it);
     }
 }

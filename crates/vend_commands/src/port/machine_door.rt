@@ -5,6 +5,7 @@ ghost use Rattle.std.specs.Prelude.{◌≡◌, ◌≢◌, ⊤, ℕ, IfSome};
 use crate::port::door::Door;
 use crate::port::patient::PatientReader;
 use command_line::Address;
+use std::io;
 use std::net::{Net, OpenListener, OpenStream, TcpListener};
 use std::time::{Clock, Duration};
 
@@ -41,9 +42,9 @@ impl<'a, N: Net + Clock> Door for MachineDoor<'a, N> {
 
     ghost refuses = { λ _ _. ⊤ };
 
-    ghost ends = { λ _ _. ⊤ };
+    ghost ends = { λ _ _ _ _. ⊤ };
 
-    ghost leaves = { λ _. ⊤ };
+    ghost leaves = { λ _ _. ⊤ };
 
     fn listen(&mut self, address: Address) -> Option<u16> {
         let listener = TcpListener::bind(self.net, address.socket()).ok()?;
@@ -61,26 +62,52 @@ impl<'a, N: Net + Clock> Door for MachineDoor<'a, N> {
         Some((PatientReader::new(self.net, reader), stream))
     }
 
-    fn end(reader: PatientReader<'a, N, N::Stream>, writer: N::Stream) {
+    fn end<R: Drop, W: Drop>(reader: R, writer: W) {
         drop(reader);
         drop(writer);
     }
 
-    fn leave(self)
+    fn leave<T: Drop>(it: T)
         ensures { ⊤ }
     {
-        drop(self);
+        drop(it);
+    }
+}
+
+/// The options of a connection, and no right to read it, to write to it or to shut it.
+pub trait HasOptions {
+    /// Sends each piece at once, and not after the peer has acknowledged the one before.
+    fn send_at_once(&self) -> io::Result<()>;
+
+    /// Waits so long for the peer to send something.
+    fn read_within(&self, patience: Duration) -> io::Result<()>;
+
+    /// Waits so long for the peer to take something.
+    fn write_within(&self, patience: Duration) -> io::Result<()>;
+}
+
+impl<S: OpenStream> HasOptions for S {
+    fn send_at_once(&self) -> io::Result<()> {
+        self.set_nodelay(true)
+    }
+
+    fn read_within(&self, patience: Duration) -> io::Result<()> {
+        self.set_read_timeout(Some(patience))
+    }
+
+    fn write_within(&self, patience: Duration) -> io::Result<()> {
+        self.set_write_timeout(Some(patience))
     }
 }
 
 /// Readies a connection for a conversation. One that refuses an option is served all the same.
-pub fn set_options<S: OpenStream>(stream: &S) {
+pub fn set_options<S: HasOptions>(stream: &S) {
     // Else a reply may wait until the peer acknowledges the one before.
-    let _ = stream.set_nodelay(true);
+    let _ = stream.send_at_once();
     // Else one silent peer holds up all that come after it.
-    let patience = Some(Duration::from_secs(PATIENCE));
-    let _ = stream.set_read_timeout(patience);
-    let _ = stream.set_write_timeout(patience);
+    let patience = Duration::from_secs(PATIENCE);
+    let _ = stream.read_within(patience);
+    let _ = stream.write_within(patience);
 }
 
 /// What has a port of its own, where that can be told.

@@ -2,6 +2,7 @@
 
 ghost use Rattle.std.specs.Prelude.{◌≡◌, true, false, IfOk, IfSome};
 ghost use Rattle.sqlite_std_file.specs.File.{IsFresh, file_is_usable};
+ghost use Rattle.vend_commands.specs.port.Names.{is_address};
 
 use crate::port::tries::Tries;
 use books::OpenFault;
@@ -69,8 +70,7 @@ impl<B: Start> Tries for Openings<'_, B> {
         IfOk outcome (λ pair. IsFresh true pair.0 × IsFresh false pair.1) };
 
     fn attempt(&mut self) -> Option<Result<Pair<B>, OpenFault>> {
-        // What SQLite takes for a database in memory, or for the address of one, is no file's name.
-        if self.path == ":memory:" || self.path.starts_with("file:") {
+        if is_address(self.path) {
             return Some(Err(OpenFault::Store));
         }
         let start = EachTry::<B> { start: PhantomData };
@@ -117,6 +117,14 @@ impl<B: Start> Tries for PresentOpenings<'_, B> {
     fn pause(&mut self) {
         self.openings.pause();
     }
+}
+
+// Whether SQLite takes a path for a database in memory, or for the address of one: such a path is
+// no file's name.
+fn is_address(path: &str) -> bool
+    ensures { result ≡ is_address path.now }
+{
+    path == ":memory:" || path.as_bytes().starts_with(b"file:")
 }
 
 // Why there are no files, by what opening them met.

@@ -1,5 +1,7 @@
 //! A stream that is read with patience where little comes at a time.
 
+ghost use Rattle.std.specs.Prelude.{◌≡◌};
+
 use std::io::{self, Read};
 use std::time::{Clock, Duration};
 
@@ -21,7 +23,9 @@ pub struct PatientReader<'a, K, R> {
 
 impl<'a, K: Clock, R: Read> PatientReader<'a, K, R> {
     /// Nothing has been read.
-    pub(crate) fn new(clock: &'a K, inner: R) -> PatientReader<'a, K, R> {
+    pub(crate) fn new(clock: &'a K, inner: R) -> PatientReader<'a, K, R>
+        ensures { result.inner ≡ inner }
+    {
         PatientReader {
             clock,
             inner,

@@ -55,10 +55,10 @@ pub trait OfficeFile: Drop {
     ghost misses: { Self → Text → (wait : ℕ) → Type 0 };
 
     /// The log and the database file were let go, as their last use left them.
-    ghost lets_go: { Self.Medium → Self.Medium → Type 0 };
+    ghost lets_go: { (D : Type 0) → D → D → Type 0 };
 
     /// It was left as it was: no files were opened.
-    ghost leaves: { Self → Type 0 };
+    ghost leaves: { (T : Type 0) → T → Type 0 };
 
     /// What the salts of its log are drawn from.
     fn salts(&self) -> Self::Salts;
@@ -91,16 +91,18 @@ pub trait OfficeFile: Drop {
         ensures misses { IfOk result (λ found. IfNone found (misses self path.now wait)) }
         ensures fails { IfErr result (fails self path.now wait) };
 
-    /// Lets the log and the database file go.
-    fn let_go(log: Self::Medium, db: Self::Medium)
-        ensures { lets_go log db };
+    /// Lets the log and the database file go. Whatever this is given, it can do nothing else with
+    /// it.
+    fn let_go<D: Drop>(log: D, db: D)
+        ensures { lets_go D log db };
 
-    /// Leaves it as it is. Then no files can be opened any more.
-    fn leave(self)
-        ensures { leaves self };
+    /// Leaves it as it is. Then no files can be opened any more. Whatever this is given, it can do
+    /// nothing with it.
+    fn leave<T: Drop>(it: T)
+        ensures { leaves T it };
 }
 
-/// Files that are read whole.
+/// Files that are read whole: one of them, once.
 pub trait TextFiles: Drop {
     /// The file of this name holds these bytes.
     ghost reads: { Self → Text → List ℕ → Type 0 };
@@ -108,15 +110,23 @@ pub trait TextFiles: Drop {
     /// The file of this name is not read, for this fault.
     ghost lacks: { Self → Text → FileFault → Type 0 };
 
+    /// None was read.
+    ghost leaves: { (T : Type 0) → T → Type 0 };
+
     /// All that a file holds.
-    fn read(&self, path: &str) -> Result<Vec<u8>, FileFault>
-        ensures reads { IfOk result (λ bytes. reads self.now path.now bytes.items) }
-        ensures lacks { IfErr result (lacks self.now path.now) };
+    fn read(self, path: &str) -> Result<Vec<u8>, FileFault>
+        ensures reads { IfOk result (λ bytes. reads self path.now bytes.items) }
+        ensures lacks { IfErr result (lacks self path.now) };
+
+    /// Leaves them as they are. Then none can be read any more. Whatever this is given, it can do
+    /// nothing with it.
+    fn leave<T: Drop>(it: T)
+        ensures { leaves T it };
 }
 
 /// The ports of one run. A command uses up what it needs and leaves the rest: the file of an
-/// office, the door and the connection with itself by a call that takes them, whose fact no other
-/// call gives.
+/// office, the files that are read, the door and the connection with itself by a call that takes
+/// them, whose fact no other call gives.
 #[derive(Drop)]
 pub struct Ports<H: OfficeFile, F: TextFiles, C, D: Door, L: Loopback, P: Progress> {
     pub office: H,

@@ -1,15 +1,18 @@
 //! Whom a command that takes long tells how far it is.
 
+use crate::print::audit_lines::put_passed;
 use crate::print::lines::{put_opened, put_progress};
 use crate::print::watched::Watched;
+use audit::{Follows, Part};
 use std::io::IsTerminal;
 use std::time::{Duration, Instant};
 
 // So many seconds lie between two lines, at the least.
 const PAUSE: u64 = 1;
 
-/// Whom a command that takes long tells how far it is. No contract says what becomes of it.
-pub trait Progress: Drop {
+/// Whom a command that takes long tells how far it is, and an audit which parts have passed. No
+/// contract says what becomes of it.
+pub trait Progress: Follows + Drop {
     /// So many of all sales are printed.
     fn tell(&mut self, printed: u64, all: u64);
 
@@ -44,6 +47,15 @@ impl<'a> TerminalProgress<'a> {
         }
         self.last = Some(now);
         true
+    }
+}
+
+impl Follows for TerminalProgress<'_> {
+    fn passed(&mut self, part: Part) {
+        let mut terminal = self.rt.stderr();
+        if terminal.is_terminal() && self.is_due() {
+            put_passed(part, &mut Watched::new(&mut terminal));
+        }
     }
 }
 

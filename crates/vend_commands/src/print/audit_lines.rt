@@ -5,12 +5,12 @@ ghost use Rattle.sqlite_value.specs.Order.{column};
 ghost use Rattle.sqlite_value.specs.Value.{owned};
 ghost use Rattle.sts_fields.specs.Text.{Text};
 ghost use Rattle.vend_commands.specs.print.AuditLines.{TellsRow, TellsValue, broken_line};
-ghost use Rattle.vend_commands.specs.print.AuditLines.{rule_text, sound_line};
+ghost use Rattle.vend_commands.specs.print.AuditLines.{part_text, passed_line, rule_text, sound_line};
 ghost use Rattle.vend_commands.specs.print.Told.{Takes, sink};
 
 use crate::print::lines::put_line;
 use crate::print::watched::Watched;
-use audit::{Audited, Finding, RowKey, Rule};
+use audit::{Audited, Finding, Part, RowKey, Rule};
 use itoa::Buffer;
 use sqlite::Row;
 use sqlite::types::ValueRef;
@@ -38,6 +38,13 @@ pub(crate) fn put_sound<W: Write>(audited: Audited, out: &mut Watched<'_, W>)
         ],
         out,
     );
+}
+
+/// Prints which part of an audit has passed.
+pub(crate) fn put_passed<W: Write>(part: Part, out: &mut Watched<'_, W>)
+    ensures { Takes (sink W.contents out.old) (sink W.contents out.new) (passed_line part) }
+{
+    put_line(&[part_name(part)], out);
 }
 
 /// Prints which row breaks which rule: its key, as the file has it, or of a row of no record the
@@ -117,6 +124,17 @@ fn first_of(row: &Row) -> ValueRef<'_>
     match row.get_ref(0) {
         Ok(value) => value,
         Err(_) => ValueRef::Null,
+    }
+}
+
+// The part, in a word.
+fn part_name(part: Part) -> &'static [u8]
+    ensures { result.now ≡ part_text part }
+{
+    match part {
+        Part::Rows => b"rows",
+        Part::Ties => b"rules",
+        Part::Requests => b"requests",
     }
 }
 

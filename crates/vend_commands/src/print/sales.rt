@@ -1,11 +1,10 @@
 //! All sales of an open office, printed as CSV in pages.
 
 ghost use Rattle.std.specs.Prelude.{◌≤◌};
-ghost use Rattle.sqlite.specs.State.{HasCleanDisk};
-ghost use Rattle.books.specs.Keeps.{Represents, seen};
+ghost use Rattle.books.specs.Keeps.{seen};
+ghost use Rattle.vend_commands.specs.office.OnlyRead.{AreOnlyRead};
 ghost use Rattle.vend_commands.specs.print.Exported.{IsExported, IsPage};
 ghost use Rattle.vend_commands.specs.print.Told.{outputs, sink};
-ghost use Rattle.vend_core.specs.Law.Life.{Life};
 
 use crate::command_end::CommandEnd;
 use crate::port::progress::Progress;
@@ -65,9 +64,7 @@ fn print_page<S: Alter, T: BlockTransform, O: Write>(
     requires { page ≤ 1000000 }
     ensures page { IsPage (seen books.old) (seen books.new)
         page (sink O.contents out.old) (sink O.contents out.new) result }
-    ensures keeps { (life : Life) → Represents life (seen books.old)
-        → Represents life (seen books.new) }
-    ensures clean { HasCleanDisk (seen books.new).state → HasCleanDisk (seen books.old).state }
+    ensures reads { AreOnlyRead (seen books.old) (seen books.new) }
 {
     life_law();
     store_law();

@@ -19,12 +19,13 @@ returns-clause-run g c =
       ran.new.err.failed,
       out.result.inner.ghost_name,
       err.result.inner.ghost_name,
+      c.new.result,
       run_of _ _ _ _ _ _ _ _ _ _ _ ran.result
           (sink_before g.O.Write.contents out.result c.args.out.now out.ensures.held out.ensures.sound)
           (sink_after g.O.Write.contents out.result ran.new.out _ (search rules) same.out)
           (sink_before g.E.Write.contents err.result c.args.err.now err.ensures.held err.ensures.sound)
           (sink_after g.E.Write.contents err.result ran.new.err _ (search rules) same.err)
-          (run_bare _ _ _ _ _ _ _ _ _ (λ transform agrees. (agrees.text, agrees.replies)) _ _ ran.result ran.ensures),
+          (run_bare _ _ _ _ _ _ _ _ (λ transform agrees. (agrees.text, agrees.replies)) _ _ ran.result ran.ensures),
       c.status.ensures ∙ ap (status_of ran.result) c.has_failed.ensures,
     )
 

@@ -8,7 +8,7 @@ use Rattle.vend_commands.proofs.commands.serve.end_with.Goals as goal
 
 pub returns-then-all-clause-closed : goal.returns-then-all-clause-closed
 returns-then-all-clause-closed g c =
-    subst (IsClosedAfter (λ books. IsClosed g.H.Medium.Disk g.H.OfficeFile.lets_go (seen_in books))) (sym c.in-Ok.is) c.close_office.ensures
+    subst (IsClosedAfter (λ books. IsClosed g.H.Medium.Disk (g.H.OfficeFile.lets_go _) (seen_in books))) (sym c.in-Ok.is) c.close_office.ensures
 
 pub returns-then-all-clause-told : goal.returns-then-all-clause-told
 returns-then-all-clause-told g c =
@@ -17,4 +17,4 @@ returns-then-all-clause-told g c =
 
 pub returns-else-all-clause-closed : goal.returns-else-all-clause-closed
 returns-else-all-clause-closed g c =
-    subst (IsClosedAfter (λ books. IsClosed g.H.Medium.Disk g.H.OfficeFile.lets_go (seen_in books))) (sym c.in-Ok.is) c.close_office.ensures
+    subst (IsClosedAfter (λ books. IsClosed g.H.Medium.Disk (g.H.OfficeFile.lets_go _) (seen_in books))) (sym c.in-Ok.is) c.close_office.ensures

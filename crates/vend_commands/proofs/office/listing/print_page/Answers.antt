@@ -5,6 +5,7 @@ use Rattle.books.specs.Looking.{IsFoundAt}
 use Rattle.vend_commands.specs.print.Listing.{page_lookup}
 use Rattle.vend_commands.specs.print.Told.{sink}
 use Rattle.vend_commands.proofs.ListingLemmas.{page_found, page_refusal}
+use Rattle.vend_commands.proofs.OnlyReadLemmas.{read_once}
 use Rattle.vend_commands.proofs.RefusedLemmas.{stopped_as_before, tells_no_memory, tells_refusal}
 use Rattle.vend_commands.proofs.TakeLemmas.{takes_none}
 use Rattle.vend_commands.proofs.office.listing.print_page.Goals as goal
@@ -39,3 +40,12 @@ returns-clause-page g c =
       λ clean life kept. inl refl,
       tells_no_memory old new c.in-Ok.page (c.in-Ok.ensures.reads.stopped, c.in-Ok.ensures.reads.stops),
     )
+
+pub returns-in-Err-clause-reads : goal.returns-in-Err-clause-reads
+returns-in-Err-clause-reads g c = read_once (seen c.args.books.now) (seen c.look_up.new.self) c.in-Err.ensures.reads
+
+pub returns-in-Ok-put_page-clause-reads : goal.returns-in-Ok-put_page-clause-reads
+returns-in-Ok-put_page-clause-reads g c = read_once (seen c.args.books.now) (seen c.look_up.new.self) c.in-Ok.ensures.reads
+
+pub returns-clause-reads : goal.returns-clause-reads
+returns-clause-reads g c = read_once (seen c.args.books.now) (seen c.look_up.new.self) c.in-Ok.ensures.reads

@@ -5,4 +5,4 @@ use Rattle.vend_commands.proofs.office.opening.close_office.Goals as goal
 
 pub returns : goal.returns
 returns g c =
-    subst (λ conn. AreClosed g.H.Medium.Disk g.H.OfficeFile.lets_go (file_state conn)) c.into_connection.ensures.same c.close_connection.ensures
+    subst (λ conn. AreClosed g.H.Medium.Disk (g.H.OfficeFile.lets_go _) (file_state conn)) c.into_connection.ensures.same c.close_connection.ensures

@@ -3,7 +3,7 @@ use Rattle.vend_commands.specs.port.Places.IsUnopenedIn.{refused, unsalted}
 use Rattle.vend_commands.proofs.office.opening.open_in.Goals as goal
 
 pub returns-in_default-clause-refused : goal.returns-in_default-clause-refused
-returns-in_default-clause-refused g c = unsalted c.args.salts.now c.in_default.ensures.lacks refl
+returns-in_default-clause-refused g c = unsalted c.args.salts.now c.in_default.ensures.lacks refl c.let_go.ensures
 
 pub returns-in-Ok-clause-opened : goal.returns-in-Ok-clause-opened
 returns-in-Ok-clause-opened g c = record {
@@ -18,4 +18,4 @@ returns-in-Ok-clause-opened g c = record {
 }
 
 pub returns-in-Err-clause-refused : goal.returns-in-Err-clause-refused
-returns-in-Err-clause-refused g c = refused c.into_files-files.result c.in-Err.refused c.in-Err.ensures.refused c.into_files-files.ensures c.let_go.ensures
+returns-in-Err-clause-refused g c = let left = c.let_refused_go.ensures in refused left.0 c.in-Err.refused c.in-Err.ensures.refused left.1 left.2

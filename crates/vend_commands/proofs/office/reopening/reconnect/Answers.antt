@@ -1,10 +1,11 @@
-use Rattle.std.proofs.Common.{arith, subst, sym, ◌∙◌}
+use Rattle.std.proofs.Common.{arith, inl, inr, subst, sym, ◌∙◌}
 use Rattle.std.proofs.Math.Logic.{∥∥₁_map}
 use Rattle.std.proofs.lemmas.Bool.{and_parts}
 use Rattle.sqlite.proofs.Theorems.{next_run}
 use Rattle.sqlite.specs.Files.{file_state, image_of}
 use Rattle.sqlite_pool.proofs.StateLemmas.{clean_is, may_leave_is}
 use Rattle.sqlite_store.specs.FileStore.{state, view}
+use Rattle.sqlite_store.specs.Laws.{settled_at}
 use Rattle.sqlite_trees.proofs.Doubt.{no_doubt}
 use Rattle.sqlite_trees.specs.View.{IsClean}
 use Rattle.sqlite_wal.specs.Files.{outcomes}
@@ -33,4 +34,26 @@ returns-in-Ok-clause-next g c clean =
       opens = opened.0;
       live = opened.1;
       left = ∥∥₁_map (next_run store (c.into_store.ensures.numbered none) (c.into_store.ensures.sound none) image may (file_state c.in-Ok.next) (record { holds = found.holds; reads = found.reads })) (λ it. quiet.outcomes _ it);
+      settled = λ trees may. settled_at c.in-Ok.next.store stays trees opened.0.is_open may;
+      unlimited = c.in-Ok.ensures.fresh.unlimited;
     }
+
+pub returns-then-not-may_be_used-clause-fails : goal.returns-then-not-may_be_used-clause-fails
+returns-then-not-may_be_used-clause-fails g c = record {
+  last = c.into_store.result;
+  closed = record { quiet = c.into_store.ensures.quiet; sound = c.into_store.ensures.sound };
+  here = c.close-files.result;
+  files = sym c.close-files.ensures;
+  cause = inl (sym c.may_be_used.ensures ∙ c.if-not-may_be_used.true);
+  kept = λ clean image may. may;
+}
+
+pub returns-in-Err-clause-fails : goal.returns-in-Err-clause-fails
+returns-in-Err-clause-fails g c = record {
+  last = c.into_store.result;
+  closed = record { quiet = c.into_store.ensures.quiet; sound = c.into_store.ensures.sound };
+  here = c.close-files.result;
+  files = sym c.close-files.ensures;
+  cause = inr c.in-Err.ensures.cause;
+  kept = c.in-Err.ensures.unharmed;
+}

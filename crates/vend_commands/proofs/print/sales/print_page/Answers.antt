@@ -4,6 +4,7 @@ use Rattle.papers.specs.Export.{export_of}
 use Rattle.vend_core.specs.Law.Life.{present}
 use Rattle.vend_commands.specs.print.Told.{Takes, sink}
 use Rattle.books.specs.Keeps.{seen}
+use Rattle.vend_commands.proofs.OnlyReadLemmas.{read_once}
 use Rattle.vend_commands.proofs.RefusedLemmas.{stopped_as_before, tells_no_memory, tells_refusal}
 use Rattle.vend_commands.proofs.TakeLemmas.{takes_none}
 use Rattle.vend_commands.proofs.print.sales.print_page.Goals as goal
@@ -64,3 +65,12 @@ returns-clause-page g c =
       ],
       stopped_as_before (seen c.args.books.now) (seen c.sales_after.new.self) c.in-Ok.sales (c.in-Ok.ensures.reads.stopped, c.in-Ok.ensures.reads.stops),
     )
+
+pub returns-in_default-clause-reads : goal.returns-in_default-clause-reads
+returns-in_default-clause-reads g c = read_once (seen c.args.books.now) (seen c.sales_after.new.self) c.in-Ok.ensures.reads
+
+pub returns-in-Err-clause-reads : goal.returns-in-Err-clause-reads
+returns-in-Err-clause-reads g c = read_once (seen c.args.books.now) (seen c.sales_after.new.self) c.in-Err.ensures.reads
+
+pub returns-clause-reads : goal.returns-clause-reads
+returns-clause-reads g c = read_once (seen c.args.books.now) (seen c.sales_after.new.self) c.in-Ok.ensures.reads

@@ -13,13 +13,13 @@ loop-page-init g c = ([], no_pages (seen c.args.books.now) (sink g.O.Write.conte
 pub returns-in-Ok-false : goal.returns-in-Ok-false
 returns-in-Ok-false g c =
     let so_far = c.loop-page.invariant in
-    rw so_far.2 (page_last (seen c.args.books.now) (seen c.loop-page.books) (seen c.print_page.new.books) (sink g.O.Write.contents c.args.out.now) (sink g.O.Write.contents c.loop-page.out) (sink g.O.Write.contents c.print_page.new.out) c.loop-page.page so_far.0 c.export_law.ensures.pages so_far.1 c.in-Ok-false.ensures.keeps c.in-Ok-false.ensures.clean (sink g.E.Write.contents c.args.err.now) _ c.in-Ok-false.field-0-test c.in-Ok-false.ensures.page)
+    rw so_far.2 (page_last (seen c.args.books.now) (seen c.loop-page.books) (seen c.print_page.new.books) (sink g.O.Write.contents c.args.out.now) (sink g.O.Write.contents c.loop-page.out) (sink g.O.Write.contents c.print_page.new.out) c.loop-page.page so_far.0 c.export_law.ensures.pages so_far.1 c.in-Ok-false.ensures.reads (sink g.E.Write.contents c.args.err.now) _ c.in-Ok-false.field-0-test c.in-Ok-false.ensures.page)
 
 pub returns-in-Err : goal.returns-in-Err
 returns-in-Err g c =
     let so_far = c.loop-page.invariant in
     let told = subst (λ e. Takes e (sink g.E.Write.contents c.put_refusal.new.out) (refusal_line c.in-Err.refusal)) so_far.2 c.put_refusal.ensures in
-    page_refused (seen c.args.books.now) (seen c.loop-page.books) (seen c.print_page.new.books) (sink g.O.Write.contents c.args.out.now) (sink g.O.Write.contents c.loop-page.out) (sink g.O.Write.contents c.print_page.new.out) c.loop-page.page so_far.0 c.export_law.ensures.pages so_far.1 c.in-Err.ensures.keeps c.in-Err.ensures.clean (sink g.E.Write.contents c.args.err.now) (sink g.E.Write.contents c.put_refusal.new.out) c.in-Err.refusal c.in-Err.ensures.page told
+    page_refused (seen c.args.books.now) (seen c.loop-page.books) (seen c.print_page.new.books) (sink g.O.Write.contents c.args.out.now) (sink g.O.Write.contents c.loop-page.out) (sink g.O.Write.contents c.print_page.new.out) c.loop-page.page so_far.0 c.export_law.ensures.pages so_far.1 c.in-Err.ensures.reads (sink g.E.Write.contents c.args.err.now) (sink g.E.Write.contents c.put_refusal.new.out) c.in-Err.refusal c.in-Err.ensures.page told
 
 pub loop-page-preserved : goal.loop-page-preserved
 loop-page-preserved g c =
@@ -31,7 +31,7 @@ loop-page-preserved g c =
     let after = sink g.O.Write.contents c.print_page.new.out in
     let so_far = c.loop-page.invariant in
     let put = subst (λ full. IsPage mid new c.loop-page.page part after (Ok full)) c.in-Ok-true.field-0-test c.in-Ok-true.ensures.page in
-    (_, page_more old mid new before part after c.loop-page.page so_far.0 c.export_law.ensures.pages so_far.1 c.in-Ok-true.ensures.keeps c.in-Ok-true.ensures.clean put, so_far.2)
+    (_, page_more old mid new before part after c.loop-page.page so_far.0 c.export_law.ensures.pages so_far.1 c.in-Ok-true.ensures.reads put, so_far.2)
 
 pub returns : goal.returns
 returns g c =

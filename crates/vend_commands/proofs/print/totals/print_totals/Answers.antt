@@ -1,9 +1,18 @@
-use Rattle.std.proofs.Common.{Err, ap, refl}
+use Rattle.std.proofs.Common.{Err, Ok, ap, refl}
 use Rattle.books.specs.Keeps.{seen}
 use Rattle.vend_commands.specs.print.Told.{sink}
+use Rattle.vend_commands.proofs.OnlyReadLemmas.{read_once}
 use Rattle.vend_commands.proofs.RefusedLemmas.{tells_refusal}
 use Rattle.vend_commands.proofs.TakeLemmas.{takes_none}
 use Rattle.vend_commands.proofs.print.totals.print_totals.Goals as goal
+
+pub returns-in-Ok : goal.returns-in-Ok
+returns-in-Ok g c = record {
+  totals = Ok c.in-Ok.totals;
+  are_totals = c.in-Ok.ensures.given;
+  told = (c.put_totals.ensures, takes_none (sink g.E.Write.contents c.args.err.now), refl);
+  reads = read_once _ _ c.in-Ok.ensures.reads;
+}
 
 pub returns-in-Err : goal.returns-in-Err
 returns-in-Err g c = record {
@@ -16,5 +25,5 @@ returns-in-Err g c = record {
     };
   };
   told = (takes_none (sink g.O.Write.contents c.args.out.now), c.put_refusal.ensures, refl);
-  keeps = c.in-Err.ensures.reads.keeps;
+  reads = read_once _ _ c.in-Err.ensures.reads;
 }
