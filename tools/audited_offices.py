@@ -20,6 +20,7 @@ METERS = f"meter,base,tariff,key\n{METER},2014,flat,0000000000000000\n" \
     f"{OTHER_METER},1993,block,0123456789abcdef\n"
 METERS_DRAWN = [meter_of(f"{30 + number:010}") for number in range(12)]
 COUNTS = "tariffs 2 meters 2 shifts 3 sales 4"
+PLAIN, DEMO = ("--transform", "plain"), ("--transform", "demo")
 NEW_SALE = ("INSERT INTO sales VALUES (5, 1391990460, 253, 1, 'ann', 'A-3', '12345678903', 2014, 57601, 5,"
             " 2, 20, 20, '00288477766268123565');")
 # The first sale, by the later steps of its tariff, if these begin on such a day.
@@ -168,6 +169,16 @@ FORGED = [
     ("UPDATE sales SET digits = '99999999999999999999' WHERE number = 1;", "sales 1 token"),
     ("UPDATE sales SET digits = '00000000000134217728' WHERE number = 4;", "sales 4 token"),
 ]
+# One shift is stored without its last column, which SQLite reads as NULL.
+CUT = (
+    "CREATE TABLE cut (number INTEGER PRIMARY KEY, operator TEXT NOT NULL, opened INTEGER NOT NULL) STRICT;"
+    " INSERT INTO cut SELECT number, operator, opened FROM shifts WHERE number = {0};"
+    " ALTER TABLE cut ADD COLUMN closed INTEGER;"
+    " INSERT INTO cut SELECT * FROM shifts WHERE number <> {0};"
+    " PRAGMA writable_schema = ON; UPDATE sqlite_schema SET rootpage = (SELECT sum(rootpage) FROM"
+    " sqlite_schema WHERE name IN ('cut', 'shifts')) - rootpage WHERE name IN ('cut', 'shifts');"
+    " PRAGMA writable_schema = RESET; DROP TABLE cut;")
+SHORT = [(CUT.format(number), f"shifts {number} value") for number in (2, 3)]
 # Only the newer formats have a meter with an earlier base, and steps from a day on.
 FORGED_NEWER = [
     (f"UPDATE sales SET base = 2014, tid = 2 WHERE number = 2; UPDATE sales SET base = 1993, tid = 11044803"
@@ -201,11 +212,18 @@ FIRST_OF_TWO = [
     ("UPDATE sales SET operator = 'eve', digits = '99999999999999999999' WHERE number > 1;",
      "sales 2 operator"),
     ("UPDATE sales SET digits = '99999999999999999999', tender = 99999 WHERE number > 1;", "sales 2 price"),
+    (CUT.format(1), "shifts 3 open"),
+    (CUT.format(2) + "UPDATE sales SET digits = '00000000000134217728' WHERE number = 4;", "sales 4 token"),
+]
+# Digits of a token, but of another: they are found by the transform of the office.
+OTHER_DIGITS = [
+    ("UPDATE sales SET digits = '00000000000000000000' WHERE number = 1;", "sales 1 token"),
+    ("UPDATE sales SET digits = (SELECT digits FROM sales WHERE number = 2) WHERE number = 1;", "sales 1 token"),
+    ("UPDATE sales SET digits = (SELECT digits FROM sales WHERE number = 3) WHERE number > 2;", "sales 4 token"),
+    ("UPDATE sales SET rnd = (rnd + 1) % 16 WHERE number = 2;", "sales 2 token"),
 ]
 # What leaves an office: the rules ask nothing of it.
 STILL_SOUND = [
-    ("UPDATE sales SET digits = '00000000000000000000' WHERE number = 1;", COUNTS),
-    ("UPDATE sales SET digits = (SELECT digits FROM sales WHERE number = 2) WHERE number = 1;", COUNTS),
     (f"UPDATE meters SET tariff = 'block' WHERE meter = '{METER}';", COUNTS),
     ("DELETE FROM shifts WHERE number = 3;", "tariffs 2 meters 2 shifts 2 sales 4"),
     ("DELETE FROM dated_steps WHERE tariff = 'block';", COUNTS),
@@ -254,16 +272,37 @@ def full_office(file, folder):
     change(file, "PRAGMA wal_checkpoint(TRUNCATE);")
 
 
-def is_told(file, status, out=b"", err=b""):
+def is_told(file, status, out=b"", err=b"", words=()):
     """Compares what is printed of a file, which is left as it was."""
     before = file.read_bytes()
-    expect(vend("audit", "--file", str(file)), status, out, err)
+    expect(vend("audit", "--file", str(file), *words), status, out, err)
     if file.read_bytes() != before:
         raise SystemExit(f"wrong: {file} has changed when it was audited")
 
 
 def is_sound_office(file, number, counts):
-    is_told(file, 0, f"sound format {number} {counts}\n".encode())
+    """Also where its tokens are tested, by the transform that wrote them."""
+    for words in ((), PLAIN):
+        is_told(file, 0, f"sound format {number} {counts}\n".encode(), words=words)
+
+
+def is_broken_office(file, found):
+    """Tokens are tested after the rules, so that none is found, whatever the transform."""
+    for words in ((), PLAIN, DEMO):
+        is_told(file, 1, f"broken {found}\n".encode(), words=words)
+
+
+def has_other_digits(file, found):
+    """They are digits of some token, which is seen by the transform alone."""
+    is_told(file, 1, f"broken {found}\n".encode(), words=PLAIN)
+    is_told(file, 1, b"broken sales 1 token\n", words=DEMO)
+
+
+def has_short_shift(file, found):
+    """Shifts are looked at last of all."""
+    for words in ((), PLAIN):
+        is_told(file, 1, f"broken {found}\n".encode(), words=words)
+    is_told(file, 1, b"broken sales 1 token\n", words=DEMO)
 
 
 def spoil(whole, file, text):
@@ -283,10 +322,21 @@ def check_formats(whole, folder):
         if number == 2:
             back += "DELETE FROM last_ids WHERE base = 1993;"
         spoil(whole, file, back)
-        is_sound_office(file, number, COUNTS)
+        if number < 3:
+            # Its digits are still those of the identifier that it had.
+            is_told(file, 0, f"sound format {number} {COUNTS}\n".encode())
+            has_other_digits(file, "sales 2 token")
+        else:
+            is_sound_office(file, number, COUNTS)
         for text, found in FORGED + (FORGED_NEWER if number > 2 else []):
             spoil(whole, file, text + back)
+            is_broken_office(file, found)
+        for text, found in SHORT:
+            spoil(whole, file, text + back)
             is_told(file, 1, f"broken {found}\n".encode())
+        for text, found in OTHER_DIGITS[:1]:
+            spoil(whole, file, text + back)
+            has_other_digits(file, found)
 
 
 def check_pairs(whole, folder):
@@ -382,7 +432,14 @@ def check_audits(folder):
     is_sound_office(whole, FORMAT, COUNTS)
     for text, found in SPOILT + FORGED + FORGED_NEWER:
         spoil(whole, file, text)
-        is_told(file, 1, f"broken {found}\n".encode())
+        is_broken_office(file, found)
+    for text, found in SHORT:
+        spoil(whole, file, text)
+        has_short_shift(file, found)
+    for text, found in OTHER_DIGITS:
+        spoil(whole, file, text)
+        is_told(file, 0, f"sound format {FORMAT} {COUNTS}\n".encode())
+        has_other_digits(file, found)
     for text, counts in STILL_SOUND:
         spoil(whole, file, text)
         is_sound_office(file, FORMAT, counts)
@@ -393,5 +450,6 @@ def check_audits(folder):
     twice = check_pairs(whole, folder)
     sold = check_drawn(folder, 3000)
     print(f"audits: {len(SPOILT)} spoilt offices and {len(FORGED + FORGED_NEWER)} forged ones in each format,"
+          f" {len(SHORT)} with a shift cut short, {len(OTHER_DIGITS)} with digits of other tokens,"
           f" {twice} with two breaks, each named by the first; {len(STILL_SOUND) + FORMAT} sound ones; 3000"
           f" drawn requests, {sold} of them sales, sound in each format")

@@ -47,6 +47,7 @@ def claims():
     migrations = cells(older, "1 to 4, times as long")
     audits = [(int(row["Sales in the file"].replace(",", "")), number(row["audit, ms"]))
               for row in all_tables[audit]]
+    longer = cells(audit, "times as long")
     most = all_tables[older][-1]
     instructions = [number(row["Instructions"]) for row in all_tables["Instructions of a sale at the desk"]]
     syncs = [number(row["Syncs"]) for row in all_tables["Syncs"]]
@@ -77,7 +78,10 @@ def claims():
     yield page, r"it holds (\d+) MiB where they hold (\d+)", \
         [number(most["format 1, MiB at most"]), number(most["format 4, MiB at most"])]
     per_sale = [ms * 1000 / count for count, ms in audits if count >= 10000]
-    yield page, r"opening, (\d+) to (\d+) µs a sale", [min(per_sale), max(per_sale)]
+    yield page, r"An audit\*\* takes (\S+) to (\S+) times as long as an opening, (\d+) to (\d+) µs a sale", \
+        [min(longer), max(longer), min(per_sale), max(per_sale)]
+    yield page, r"holds all rows in memory: (\d+) MiB with 100,000 sales", \
+        [number(all_tables[audit][-1]["audit, MiB at most"])]
     yield "docs/FAQ.md", r"a `sell` takes (\S+) s\. .*`sell --desk` takes (\S+) ms", \
         [number(sells["100000"]["vend"]) / 1000, max(at_desk[0])]
     yield "CHANGELOG.md", r"takes (\S+) to (\S+) times as long as a later one", \
