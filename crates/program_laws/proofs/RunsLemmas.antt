@@ -451,7 +451,7 @@ module _ (laws : Laws) (Before : Image → Type 0) (lives : List Life) where
       serving_on words err_old err_new end (serve_unheard old begins finds last deaf leaves closes ends) found clean kept =
           let was = kept.left (of.image office words.file.now) found.0 in
           ∣ idle_on (here.at words.file.now words.wait) old old begins (λ life it. it) clean was.0 was.1 was.2 ∣₁
-      serving_on words err_old err_new end (serve_open old begins finds were) found clean kept =
+      serving_on words err_old err_new end (serve_open old begins met were) found clean kept =
           let image = of.image office words.file.now in
           let loses = (here.at words.file.now words.wait).loses in
           let service_old = service were.listening old m.clock.answers in

@@ -37,5 +37,6 @@ ends_sound g image LetsGo given place o so (looked (Ok audited) meets audits tol
           let before : HasCleanDisk (file_state it.first) = omega (arith, it.audited.survives.clean, clean) in
           let at = it.connected before in
           let found = subst (λ db. MayFind image db.trees) (sym at.opens.clean) at.found in
-          ((file_state it.first).now, found, at.in_order, it.audited.passes clean);
+          let passed = it.audited.passes clean in
+          ((file_state it.first).now, found, at.in_order, passed.0, passed.1);
     }
