@@ -12,9 +12,9 @@ use Rattle.conversation.specs.Exchanges.{MessageExchange, Exchanged, Timed, time
 use Rattle.conversation.specs.message.Messages.{Message}
 use Rattle.desk.specs.Along.{AreAsked}
 use Rattle.desk.specs.Answering.{answers_by, life_serves}
-use Rattle.desk.specs.Meaning.{MessageAsks}
-use Rattle.desk.specs.reply.Text.{reply_bytes_of}
-use Rattle.desk.specs.declared.reply.form.Form.{Form}
+use Rattle.desk_messages.specs.Meaning.{MessageAsks}
+use Rattle.desk_messages.specs.reply.Text.{reply_bytes_of}
+use Rattle.desk_messages.specs.declared.reply.form.Form.{Form}
 
 along_none : (life : Life) → life ≡ extended_along life [] []
 along_none life = sym (ap (λ es. record life { exchanges = es }) (append-nil life.exchanges))

@@ -1,15 +1,3 @@
 pub mod AlongLemmas
-pub mod ArrayLemmas
-pub mod AskingLemmas
-pub mod BodyLemmas
-pub mod MemberLemmas
 pub mod OneLemmas
-pub mod PageLemmas
-pub mod ParameterLemmas
-pub mod PlainLemmas
-pub mod ReplyLemmas
-pub mod RouteLemmas
-pub mod SaleLemmas
-pub mod SaleTextLemmas
 pub mod ServingLemmas
-pub mod TableLemmas

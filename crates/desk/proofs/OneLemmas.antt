@@ -13,23 +13,23 @@ use Rattle.conversation.specs.declared.message.method.Method.{Method}
 use Rattle.conversation.specs.Conversation.{messages_of}
 use Rattle.conversation.specs.Exchanges.{MessageExchange}
 use Rattle.conversation.specs.message.Messages.{AgreeBy, Ending, Message, Stop, ended, failed}
-use Rattle.desk.specs.declared.body_fault.BodyFault.{BodyFault}
-use Rattle.desk.specs.declared.body_fault.BodyFault.TheVariants as body_faults
-use Rattle.desk.specs.declared.desk_fault.DeskFault.{DeskFault}
-use Rattle.desk.specs.declared.desk_fault.DeskFault.TheVariants as faults
-use Rattle.desk.specs.declared.reply.form.Form.{Form}
-use Rattle.desk.specs.declared.reply.form.Form.TheVariants.{Json}
-use Rattle.desk.specs.declared.reply.outcome.Outcome.{Outcome}
-use Rattle.desk.specs.declared.reply.outcome.Outcome.TheVariants.{Faulty, Replied}
-use Rattle.desk.specs.declared.reply.outcome.Outcome.TheVariants as outcomes
-use Rattle.desk.specs.declared.route.Route.{Route}
-use Rattle.desk.specs.declared.route.Route.TheVariants.{LookUp}
+use Rattle.desk_messages.specs.declared.body_fault.BodyFault.{BodyFault}
+use Rattle.desk_messages.specs.declared.body_fault.BodyFault.TheVariants as body_faults
+use Rattle.desk_messages.specs.declared.desk_fault.DeskFault.{DeskFault}
+use Rattle.desk_messages.specs.declared.desk_fault.DeskFault.TheVariants as faults
+use Rattle.desk_messages.specs.declared.reply.form.Form.{Form}
+use Rattle.desk_messages.specs.declared.reply.form.Form.TheVariants.{Json}
+use Rattle.desk_messages.specs.declared.reply.outcome.Outcome.{Outcome}
+use Rattle.desk_messages.specs.declared.reply.outcome.Outcome.TheVariants.{Faulty, Replied}
+use Rattle.desk_messages.specs.declared.reply.outcome.Outcome.TheVariants as outcomes
+use Rattle.desk_messages.specs.declared.route.Route.{Route}
+use Rattle.desk_messages.specs.declared.route.Route.TheVariants.{LookUp}
 use Rattle.desk.specs.Along.{AreAsked}
-use Rattle.desk.specs.Asking.{BodyAsks}
-use Rattle.desk.specs.Meaning.{AsksRequest, ComesAt, ComesOutside, IsFor, IsIdle, MessageAsks, MessageLooks, lookup_form, sale_form_of}
+use Rattle.desk_messages.specs.Asking.{BodyAsks}
+use Rattle.desk_messages.specs.Meaning.{AsksRequest, ComesAt, ComesOutside, IsFor, IsIdle, MessageAsks, MessageLooks, lookup_form, sale_form_of}
 use Rattle.desk.specs.OneConversation.{HasOneMeaning, IsOneConversation, asked_at, conversation_text, moments_of}
-use Rattle.desk.specs.reply.Text.{reply_bytes_of}
-use Rattle.desk.specs.route.Route.{IsRouted}
+use Rattle.desk_messages.specs.reply.Text.{reply_bytes_of}
+use Rattle.desk_messages.specs.route.Route.{IsRouted}
 
 -- a target and a method ask for one thing, and so does a body of a route
 pub record AreOne : Type 0 where

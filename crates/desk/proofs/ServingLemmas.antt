@@ -24,14 +24,14 @@ use Rattle.conversation.specs.declared.message.message_fault.MessageFault.{Messa
 use Rattle.conversation.proofs.FollowLemmas.{Follows, run_along, run_well}
 use Rattle.desk.specs.Answering.{Comes, LifeReplies, Serving, answers_by, books_serve, life_serves, message_refusal_of}
 use Rattle.desk.specs.Converses.{Converses}
-use Rattle.desk.specs.Meaning.{IsIdle, IsMeaning}
-use Rattle.desk.specs.reply.Text.{reply_bytes_of}
-use Rattle.desk.specs.declared.reply.form.Form.{Form}
-use Rattle.desk.specs.declared.meaning.Meaning.{Meaning}
-use Rattle.desk.specs.declared.meaning.Meaning.TheVariants as meanings
-use Rattle.desk.specs.declared.reply.outcome.Outcome.{Outcome}
-use Rattle.desk.specs.declared.reply.outcome.Outcome.TheVariants.{Replied}
-use Rattle.desk.specs.declared.reply.outcome.Outcome.TheVariants as outcomes
+use Rattle.desk_messages.specs.Meaning.{IsIdle, IsMeaning}
+use Rattle.desk_messages.specs.reply.Text.{reply_bytes_of}
+use Rattle.desk_messages.specs.declared.reply.form.Form.{Form}
+use Rattle.desk_messages.specs.declared.meaning.Meaning.{Meaning}
+use Rattle.desk_messages.specs.declared.meaning.Meaning.TheVariants as meanings
+use Rattle.desk_messages.specs.declared.reply.outcome.Outcome.{Outcome}
+use Rattle.desk_messages.specs.declared.reply.outcome.Outcome.TheVariants.{Replied}
+use Rattle.desk_messages.specs.declared.reply.outcome.Outcome.TheVariants as outcomes
 
 -- a message asks something, which is served
 pub comes_asked : {O : Type 0} (serves : Serving O) (m : Message) (now : Option ℤ) (meaning : Meaning) (form : Form) (moment : ℕ) (request : Request) (reply : Result Answer Refusal)

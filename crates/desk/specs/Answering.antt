@@ -16,12 +16,12 @@ use Rattle.vend_core.specs.declared.decision.request.Stamped.{Stamped}
 use Rattle.conversation.specs.declared.message.message_fault.MessageFault.{MessageFault}
 use Rattle.conversation.specs.Exchanges.{MessageExchange}
 use Rattle.conversation.specs.message.Messages.{Message}
-use Rattle.desk.specs.declared.reply.form.Form.{Form}
-use Rattle.desk.specs.declared.reply.outcome.Outcome.{Outcome}
-use Rattle.desk.specs.declared.reply.outcome.Outcome.TheVariants.{Refused, Replied}
-use Rattle.desk.specs.declared.reply.outcome.Outcome.TheVariants as outcomes
-use Rattle.desk.specs.Meaning.{MessageAsks, MessageLooks, IsIdle}
-use Rattle.desk.specs.reply.Text.{reply_bytes_of}
+use Rattle.desk_messages.specs.declared.reply.form.Form.{Form}
+use Rattle.desk_messages.specs.declared.reply.outcome.Outcome.{Outcome}
+use Rattle.desk_messages.specs.declared.reply.outcome.Outcome.TheVariants.{Refused, Replied}
+use Rattle.desk_messages.specs.declared.reply.outcome.Outcome.TheVariants as outcomes
+use Rattle.desk_messages.specs.Meaning.{MessageAsks, MessageLooks, IsIdle}
+use Rattle.desk_messages.specs.reply.Text.{reply_bytes_of}
 
 -- How an office serves: at a moment a request gets a reply, and a look-up finds something or is
 -- refused, between the office before it and the office after it.

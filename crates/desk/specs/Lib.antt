@@ -1,11 +1,4 @@
 pub mod Along
 pub mod Answering
-pub mod Asking
 pub mod Converses
-pub mod DeskFault
-pub mod Meaning
 pub mod OneConversation
-pub mod Reads
-pub mod json_body
-pub mod reply
-pub mod route

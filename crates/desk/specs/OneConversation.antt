@@ -6,10 +6,10 @@ use Rattle.book_facts.specs.declared.lookup.Lookup.{Lookup}
 use Rattle.conversation.specs.Conversation.{last_words, replies_of}
 use Rattle.conversation.specs.Exchanges.{MessageExchange}
 use Rattle.conversation.specs.message.Messages.{AgreeBy, Ending, Message, Stop, ended}
-use Rattle.desk.specs.declared.reply.form.Form.{Form}
-use Rattle.desk.specs.declared.reply.outcome.Outcome.{Outcome}
+use Rattle.desk_messages.specs.declared.reply.form.Form.{Form}
+use Rattle.desk_messages.specs.declared.reply.outcome.Outcome.{Outcome}
 use Rattle.desk.specs.Answering.{message_refusal_of}
-use Rattle.desk.specs.Meaning.{IsIdle, MessageAsks, MessageLooks}
+use Rattle.desk_messages.specs.Meaning.{IsIdle, MessageAsks, MessageLooks}
 
 -- With what the clock gave for it a message asks one thing of the office, or looks one thing up, or
 -- one thing comes of it without the office, and never two of these.

@@ -12,9 +12,8 @@ ghost use Rattle.desk.specs.Along.{AreAsked};
 ghost use Rattle.desk.specs.Answering.{answers_by, life_serves};
 ghost use Rattle.desk.specs.OneConversation.{HasOneMeaning, IsOneConversation, moments_of};
 
-use crate::asking::asking_law;
-use crate::route::routes::route_law;
 use conversation::message_law;
+use desk_messages::{asking_law, route_law};
 
 /// A life goes on along a conversation by the requests that its messages asked and the replies that
 /// they were told, each once and in order, and by nothing beside: a look-up is no request.

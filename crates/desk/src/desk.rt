@@ -4,14 +4,11 @@ ghost use Rattle.conversation.specs.Exchanges.{ReadsClock};
 ghost use Rattle.conversation.specs.message.Next.{message_of};
 ghost use Rattle.conversation.specs.Uses.{Grows, Use};
 ghost use Rattle.desk.specs.Converses.{Converses};
-ghost use Rattle.desk.specs.Meaning.{IsMeaning};
+ghost use Rattle.desk_messages.specs.Meaning.{IsMeaning};
 
-use crate::meaning::{Meaning, meaning_at};
-use crate::reply::outcome::Outcome;
-use crate::reply::text::reply_bytes;
-use crate::route::routes::Routes;
 use books::Books;
 use conversation::{Clock, End, Line, MessageFault, Received, Service, Untold, run};
+use desk_messages::{Meaning, Outcome, Routes, meaning_at, reply_bytes};
 use sqlite::Alter;
 use std::alloc::{AllocError, Global};
 use std::io::{Read, Write};

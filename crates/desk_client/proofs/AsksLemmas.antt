@@ -6,16 +6,16 @@ use Rattle.std.proofs.lemmas.Bool.Decides.{nat_tests}
 use Rattle.std.specs.List.{AllByRecursion, concat, flat_map, list_all}
 use Rattle.book_facts.specs.declared.lookup.Lookup.TheVariants as lookups
 use Rattle.conversation.specs.message.Messages.{BeginsMessage, Message}
-use Rattle.desk.specs.Asking.{BodyAsks, import_of}
-use Rattle.desk.specs.Meaning.{ComesAt, IsFor, IsIdle, sale_form_of}
-use Rattle.desk.specs.declared.desk_fault.DeskFault.TheVariants.{Clock}
-use Rattle.desk.specs.declared.reply.form.Form.TheVariants.{Json}
-use Rattle.desk.specs.declared.reply.outcome.Outcome.TheVariants.{Faulty}
-use Rattle.desk.specs.declared.route.Route.{Route}
-use Rattle.desk.specs.declared.route.Route.TheVariants as routes
-use Rattle.desk.specs.json_body.Body.{BodySaysBase, BodySaysOperator, BodySaysOrder, IsJson}
-use Rattle.desk.specs.route.Endpoint.{endpoint_method}
-use Rattle.desk.specs.route.Route.{LeadsTo, Names, endpoint_of}
+use Rattle.desk_messages.specs.Asking.{BodyAsks, import_of}
+use Rattle.desk_messages.specs.Meaning.{ComesAt, IsFor, IsIdle, sale_form_of}
+use Rattle.desk_messages.specs.declared.desk_fault.DeskFault.TheVariants.{Clock}
+use Rattle.desk_messages.specs.declared.reply.form.Form.TheVariants.{Json}
+use Rattle.desk_messages.specs.declared.reply.outcome.Outcome.TheVariants.{Faulty}
+use Rattle.desk_messages.specs.declared.route.Route.{Route}
+use Rattle.desk_messages.specs.declared.route.Route.TheVariants as routes
+use Rattle.desk_messages.specs.json_body.Body.{BodySaysBase, BodySaysOperator, BodySaysOrder, IsJson}
+use Rattle.desk_messages.specs.route.Endpoint.{endpoint_method}
+use Rattle.desk_messages.specs.route.Route.{LeadsTo, Names, endpoint_of}
 use Rattle.papers.specs.File.{AreFileRecords, Fields}
 use Rattle.papers.specs.declared.file_kind.FileKind.TheVariants as files
 use Rattle.papers.specs.declared.row_fault.RowFault.{RowFault}

@@ -4,9 +4,9 @@ use Rattle.std.specs.Prelude.{decimal}
 use Rattle.std.proofs.lemmas.Fmt.{decimal_injective}
 use Rattle.book_facts.specs.declared.lookup.ListedMeter.{ListedMeter}
 use Rattle.book_facts.specs.declared.lookup.ListedShift.{ListedShift}
-use Rattle.desk.specs.reply.Lists.{listed_shift_data}
-use Rattle.desk.specs.reply.Lists as lists
-use Rattle.desk.specs.reply.Members.{some_number}
+use Rattle.desk_messages.specs.reply.Lists.{listed_shift_data}
+use Rattle.desk_messages.specs.reply.Lists as lists
+use Rattle.desk_messages.specs.reply.Members.{some_number}
 use Rattle.serde_json.proofs.OnLiterals.{serde_json_on_literals}
 use Rattle.serde_json.specs.Written.{compact_text}
 use Rattle.vend_core.specs.Name.{IsOperator}

@@ -10,9 +10,9 @@ use Rattle.book_facts.specs.declared.lookup.Found.TheVariants as found
 use Rattle.book_facts.specs.declared.lookup.ListedMeter.{ListedMeter}
 use Rattle.book_facts.specs.declared.lookup.ListedShift.{ListedShift}
 use Rattle.book_facts.specs.declared.lookup.ListedTariff.{ListedTariff}
-use Rattle.desk.specs.reply.Body.{sale_data}
-use Rattle.desk.specs.reply.Lists.{comma, list_members, list_text, listed_meter_data, listed_shift_data, tariff_data, tariff_text}
-use Rattle.desk.specs.reply.Members.{json_text}
+use Rattle.desk_messages.specs.reply.Body.{sale_data}
+use Rattle.desk_messages.specs.reply.Lists.{comma, list_members, list_text, listed_meter_data, listed_shift_data, tariff_data, tariff_text}
+use Rattle.desk_messages.specs.reply.Members.{json_text}
 use Rattle.serde_json.specs.Data.{Data}
 use Rattle.serde_json.specs.Written.{compact_text}
 use Rattle.vend_core.specs.Name.{IsName, is_name_byte}

@@ -1,9 +1,9 @@
 -- The values of a sale.
 use Rattle.std.proofs.Common.{◌≡◌, ◌∙◌, ℕ, ◌≤◌, List, [], ◌∷◌, ◌++◌, length, map, Option, refl, ap, sym, arith}
 use Rattle.std.specs.Borrow.{Bor}
-use Rattle.desk.specs.reply.Body.{sale_data}
-use Rattle.desk.specs.reply.SaleText.{IsTellableSale}
-use Rattle.desk.specs.reply.SaleText as desk_text
+use Rattle.desk_messages.specs.reply.Body.{sale_data}
+use Rattle.desk_messages.specs.reply.SaleText.{IsTellableSale}
+use Rattle.desk_messages.specs.reply.SaleText as desk_text
 use Rattle.papers.specs.Text.{change_of}
 use Rattle.serde_json.specs.Written.{compact_text}
 use Rattle.sts_fields.specs.Amount.{IsRepresentable, greatest_amount}

@@ -5,9 +5,9 @@ use Rattle.matchit.specs.Router.{RouteOf}
 use Rattle.matchit.specs.Rows.{param_token}
 use Rattle.matchit.specs.Seek.{cuts, first, longest_suffix, own, step, with_suffix}
 use Rattle.matchit.proofs.OnLiterals.{matchit_on_literals}
-use Rattle.desk.specs.declared.route.endpoint.Endpoint.{Endpoint}
-use Rattle.desk.specs.declared.route.endpoint.Endpoint.TheVariants.{MeterBase, Shifts, ShiftClosing, Shift, Sales, SaleReceipt, MeterImports, TariffImports, Meter, LastSale, Quote, SaleOfRef, ShiftTotals, FirstTariffs, TariffsAfter, FirstMeters, MetersAfter, ShiftsAfter, SalesAfter}
-use Rattle.desk.specs.route.Endpoint.{table, Table}
+use Rattle.desk_messages.specs.declared.route.endpoint.Endpoint.{Endpoint}
+use Rattle.desk_messages.specs.declared.route.endpoint.Endpoint.TheVariants.{MeterBase, Shifts, ShiftClosing, Shift, Sales, SaleReceipt, MeterImports, TariffImports, Meter, LastSale, Quote, SaleOfRef, ShiftTotals, FirstTariffs, TariffsAfter, FirstMeters, MetersAfter, ShiftsAfter, SalesAfter}
+use Rattle.desk_messages.specs.route.Endpoint.{table, Table}
 use Rattle.desk_client.proofs.WordLemmas.{IsNumberText, IsValue}
 use Rattle.desk_client.proofs.WalkLemmas.{IsInside, Leads, at_end, before_slash, behind, through}
 

@@ -12,8 +12,8 @@ use Rattle.tariff.specs.StepsText.{steps_text}
 use Rattle.tariff.specs.declared.step.Step.{Step}
 use Rattle.book_facts.specs.declared.lookup.LaterSteps.{LaterSteps}
 use Rattle.book_facts.specs.declared.lookup.ListedTariff.{ListedTariff}
-use Rattle.desk.specs.reply.Members.{array_of}
-use Rattle.desk.specs.reply.Lists.{array_text, day_text, later_data, later_text, tariff_text}
+use Rattle.desk_messages.specs.reply.Members.{array_of}
+use Rattle.desk_messages.specs.reply.Lists.{array_text, day_text, later_data, later_text, tariff_text}
 use Rattle.desk_client.specs.Items.{AreReadInOneWay, closed_text}
 use Rattle.desk_client.specs.Page.{IsToldLater, IsToldTariff}
 use Rattle.desk_client.specs.TariffItem.{with_steps}

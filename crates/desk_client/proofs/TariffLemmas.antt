@@ -11,7 +11,7 @@ use Rattle.sts_fields.specs.declared.calendar.date_time.Civil.{Civil}
 use Rattle.tariff.specs.Steps.{IsSteps}
 use Rattle.tariff.specs.StepsText.{IsWritable, end_text, step_text, steps_text}
 use Rattle.tariff.specs.declared.step.Step.{Step}
-use Rattle.desk.specs.reply.Lists.{beginning, day_text}
+use Rattle.desk_messages.specs.reply.Lists.{beginning, day_text}
 use Rattle.desk_client.specs.TariffItem.{with_steps}
 use Rattle.desk_client.specs.Text.{LacksStop, is_stop}
 use Rattle.desk_client.proofs.PlainLemmas.{plain_append, plain_number}

@@ -3,18 +3,18 @@ use Rattle.std.proofs.Common.{◌≡◌, ◌∙◌, ℕ, ◌≤◌, false, List,
 use Rattle.std.specs.Fmt.{decimal, digits}
 use Rattle.book_facts.specs.declared.lookup.Found.{Found}
 use Rattle.book_facts.specs.declared.lookup.Found.TheVariants as found
-use Rattle.desk.specs.declared.desk_fault.DeskFault.{DeskFault}
-use Rattle.desk.specs.declared.desk_fault.DeskFault.TheVariants as faults
-use Rattle.desk.specs.declared.reply.form.Form.{Form}
-use Rattle.desk.specs.declared.reply.form.Form.TheVariants as forms
-use Rattle.desk.specs.declared.reply.outcome.Outcome.{Outcome}
-use Rattle.desk.specs.declared.reply.outcome.Outcome.TheVariants as outcomes
-use Rattle.desk.specs.reply.Body.{refusal_members, sale_body, sale_members}
-use Rattle.desk.specs.reply.Head.{category_status}
-use Rattle.desk.specs.reply.Members.{json_text}
-use Rattle.desk.specs.reply.SaleText.{IsTellableSale}
-use Rattle.desk.specs.reply.SaleText as desk_text
-use Rattle.desk.specs.reply.Text.{field_line, line_end, reply_bytes_of, reply_text, status_line}
+use Rattle.desk_messages.specs.declared.desk_fault.DeskFault.{DeskFault}
+use Rattle.desk_messages.specs.declared.desk_fault.DeskFault.TheVariants as faults
+use Rattle.desk_messages.specs.declared.reply.form.Form.{Form}
+use Rattle.desk_messages.specs.declared.reply.form.Form.TheVariants as forms
+use Rattle.desk_messages.specs.declared.reply.outcome.Outcome.{Outcome}
+use Rattle.desk_messages.specs.declared.reply.outcome.Outcome.TheVariants as outcomes
+use Rattle.desk_messages.specs.reply.Body.{refusal_members, sale_body, sale_members}
+use Rattle.desk_messages.specs.reply.Head.{category_status}
+use Rattle.desk_messages.specs.reply.Members.{json_text}
+use Rattle.desk_messages.specs.reply.SaleText.{IsTellableSale}
+use Rattle.desk_messages.specs.reply.SaleText as desk_text
+use Rattle.desk_messages.specs.reply.Text.{field_line, line_end, reply_bytes_of, reply_text, status_line}
 use Rattle.vend_core.specs.Decision.Refusals.{refusal_category}
 use Rattle.vend_core.specs.declared.decision.answer.Answer.{Answer}
 use Rattle.vend_core.specs.declared.decision.answer.Answer.TheVariants as answers

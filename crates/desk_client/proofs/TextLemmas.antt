@@ -13,8 +13,8 @@ use Rattle.serde_json.specs.Data.{boolean, string}
 use Rattle.book_facts.specs.declared.lookup.MeterSummary.{MeterSummary}
 use Rattle.book_facts.specs.declared.lookup.Quote.{Quote}
 use Rattle.book_tables.specs.declared.row.totals.Totals.{Totals}
-use Rattle.desk.specs.reply.Body.{fault_members, meter_members, quote_members, refusal_members, row_members, totals_members}
-use Rattle.desk.specs.reply.Members.{json_text, some_number, whole_number}
+use Rattle.desk_messages.specs.reply.Body.{fault_members, meter_members, quote_members, refusal_members, row_members, totals_members}
+use Rattle.desk_messages.specs.reply.Members.{json_text, some_number, whole_number}
 use Rattle.sts_fields.specs.Base.{year_of}
 use Rattle.vend_core.specs.Name.{is_name_byte}
 use Rattle.vend_core.specs.Decision.RowCauses.{cause_text}

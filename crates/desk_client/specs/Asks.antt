@@ -5,11 +5,11 @@ use Rattle.book_facts.specs.declared.lookup.Lookup.{Lookup}
 use Rattle.book_facts.specs.declared.lookup.Lookup.TheVariants as lookups
 use Rattle.conversation.specs.message.Framing.{longest_body}
 use Rattle.conversation.specs.message.Messages.{Message}
-use Rattle.desk.specs.declared.reply.form.Form.{Form}
-use Rattle.desk.specs.declared.reply.form.Form.TheVariants.{Json, Paper}
-use Rattle.desk.specs.declared.reply.outcome.Outcome.TheVariants.{Replied}
-use Rattle.desk.specs.Meaning.{IsIdle, MessageAsks, MessageLooks, lookup_form}
-use Rattle.desk.specs.route.Route.{IsPageStart, IsTargetNumber}
+use Rattle.desk_messages.specs.declared.reply.form.Form.{Form}
+use Rattle.desk_messages.specs.declared.reply.form.Form.TheVariants.{Json, Paper}
+use Rattle.desk_messages.specs.declared.reply.outcome.Outcome.TheVariants.{Replied}
+use Rattle.desk_messages.specs.Meaning.{IsIdle, MessageAsks, MessageLooks, lookup_form}
+use Rattle.desk_messages.specs.route.Route.{IsPageStart, IsTargetNumber}
 use Rattle.papers.specs.File.{AreFileRecords, Fields}
 use Rattle.papers.specs.Import.{IsReading}
 use Rattle.papers.specs.declared.file_kind.FileKind.{FileKind}

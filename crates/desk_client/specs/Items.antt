@@ -2,7 +2,7 @@
 use Rattle.std.specs.Prelude.{◌≡◌, ◌≢◌, ℕ, List, ◌++◌, Option, Some, None, codes, slice_index}
 use Rattle.std.specs.Borrow.{Bor}
 use Rattle.std.specs.List.{join_with_byte}
-use Rattle.desk.specs.reply.Lists.{comma}
+use Rattle.desk_messages.specs.reply.Lists.{comma}
 
 -- a told item begins the text, and this follows it; or none does, whatever follows
 abbrev pub IsFront : {A : Type 0} → (A → Type 0) → (A → List ℕ) → List ℕ

@@ -7,8 +7,8 @@ use Rattle.book_facts.specs.declared.lookup.ListedMeter.{ListedMeter}
 use Rattle.book_facts.specs.declared.lookup.ListedShift.{ListedShift}
 use Rattle.book_facts.specs.declared.lookup.ListedTariff.{ListedTariff}
 use Rattle.book_lists.specs.Pages.{page_size}
-use Rattle.desk.specs.declared.reply.form.Form.TheVariants.{Json}
-use Rattle.desk.specs.reply.Body.{found_body}
+use Rattle.desk_messages.specs.declared.reply.form.Form.TheVariants.{Json}
+use Rattle.desk_messages.specs.reply.Body.{found_body}
 use Rattle.sts_fields.specs.Day.{IsDay}
 use Rattle.sts_fields.specs.Moment.{IsMoment}
 use Rattle.tariff.specs.Steps.{IsSteps}

@@ -2,12 +2,12 @@
 use Rattle.std.specs.Prelude.{◌≡◌, ℕ, List, Ok, Err}
 use Rattle.book_facts.specs.declared.lookup.Found.{Found}
 use Rattle.book_facts.specs.declared.lookup.Found.TheVariants as found
-use Rattle.desk.specs.declared.desk_fault.DeskFault.{DeskFault}
-use Rattle.desk.specs.declared.desk_fault.DeskFault.TheVariants as faults
-use Rattle.desk.specs.declared.reply.form.Form.{Form}
-use Rattle.desk.specs.declared.reply.form.Form.TheVariants as forms
-use Rattle.desk.specs.declared.reply.outcome.Outcome.{Outcome}
-use Rattle.desk.specs.declared.reply.outcome.Outcome.TheVariants as outcomes
+use Rattle.desk_messages.specs.declared.desk_fault.DeskFault.{DeskFault}
+use Rattle.desk_messages.specs.declared.desk_fault.DeskFault.TheVariants as faults
+use Rattle.desk_messages.specs.declared.reply.form.Form.{Form}
+use Rattle.desk_messages.specs.declared.reply.form.Form.TheVariants as forms
+use Rattle.desk_messages.specs.declared.reply.outcome.Outcome.{Outcome}
+use Rattle.desk_messages.specs.declared.reply.outcome.Outcome.TheVariants as outcomes
 use Rattle.papers.specs.Receipt.{receipt_of}
 use Rattle.papers.specs.Report.{report_of}
 use Rattle.vend_core.specs.declared.decision.answer.Answer.{Answer}

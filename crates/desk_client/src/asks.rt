@@ -1,8 +1,8 @@
 ghost use Rattle.std.specs.Prelude.{◌++◌, ℕ, ℤ, List, Some};
 ghost use Rattle.conversation.specs.message.Messages.{BeginsMessage};
-ghost use Rattle.desk.specs.Meaning.{IsIdle};
-ghost use Rattle.desk.specs.declared.desk_fault.DeskFault.TheVariants.{Clock};
-ghost use Rattle.desk.specs.declared.reply.outcome.Outcome.TheVariants.{Faulty};
+ghost use Rattle.desk_messages.specs.Meaning.{IsIdle};
+ghost use Rattle.desk_messages.specs.declared.desk_fault.DeskFault.TheVariants.{Clock};
+ghost use Rattle.desk_messages.specs.declared.reply.outcome.Outcome.TheVariants.{Faulty};
 ghost use Rattle.desk_client.specs.Asks.{IsAskable, IsNoMoment, MeansAsked, asked_by, question_message};
 ghost use Rattle.desk_client.specs.Question.{question_text};
 ghost use Rattle.desk_client.specs.declared.question.Question.{Question};

@@ -1,6 +1,6 @@
 ghost use Rattle.std.specs.Prelude.{◌≡◌, ◌≤◌, ℕ, List, false, length};
-ghost use Rattle.desk.specs.declared.reply.outcome.Outcome.{Outcome};
-ghost use Rattle.desk.specs.reply.Text.{reply_bytes_of};
+ghost use Rattle.desk_messages.specs.declared.reply.outcome.Outcome.{Outcome};
+ghost use Rattle.desk_messages.specs.reply.Text.{reply_bytes_of};
 ghost use Rattle.desk_client.specs.Alike.{TellAlike};
 ghost use Rattle.desk_client.specs.Reply.{IsReading, IsReply, longest_body};
 ghost use Rattle.desk_client.specs.Tells.{Tells};
@@ -10,7 +10,7 @@ ghost use Rattle.desk_client.specs.declared.reply.Reading.TheVariants.{Whole};
 ghost use Rattle.desk_client.specs.declared.told.Told.{Told};
 ghost use Rattle.desk_client.specs.declared.told.Wanted.{Wanted};
 
-use desk::reply_law;
+use desk_messages::reply_law;
 use sts_fields::amount_law;
 
 /// What a desk replies, where the conversation goes on, is the text of what the reply tells; it is

@@ -9,7 +9,7 @@ ghost use Rattle.desk_client.specs.declared.page.PageKind.TheVariants.{Meters, S
 use crate::items::{Item, read_list};
 use crate::tariff_items::tariff_law;
 use book_facts::{Found, ListedMeter, ListedShift, ListedTariff};
-use desk::list_law;
+use desk_messages::list_law;
 use std::alloc::{AllocError, Global};
 use sts_fields::amount_law;
 use vend_core::Sale;

@@ -5,7 +5,7 @@ ghost use Rattle.sts_fields.specs.Day.{IsDay};
 ghost use Rattle.tariff.specs.Steps.{IsSteps};
 ghost use Rattle.tariff.specs.StepsText.{steps_text};
 ghost use Rattle.book_facts.specs.declared.lookup.ListedTariff.{ListedTariff as Tariff};
-ghost use Rattle.desk.specs.reply.Lists.{day_text, tariff_text};
+ghost use Rattle.desk_messages.specs.reply.Lists.{day_text, tariff_text};
 ghost use Rattle.desk_client.specs.Page.{IsToldTariff, tariff_view};
 ghost use Rattle.desk_client.specs.TariffItem.{with_steps};
 ghost use Rattle.desk_client.specs.Text.{IsFound, LacksStop};
@@ -14,13 +14,13 @@ use crate::items::{Item, read_items};
 use crate::text::value_at;
 use crate::values::tariff_of;
 use book_facts::{LaterSteps, ListedTariff};
-use desk::list_law;
+use desk_messages::list_law;
 use std::alloc::{AllocError, Global};
 use sts_fields::{Day, calendar_law, day_law};
 use tariff::{Steps, StepsFault, steps_text_law};
 
 impl Item for LaterSteps {
-    ghost use Rattle.desk.specs.reply.Lists.{later_text};
+    ghost use Rattle.desk_messages.specs.reply.Lists.{later_text};
     ghost use Rattle.desk_client.specs.Page.{IsToldLater};
 
     ghost is_told = { IsToldLater };
@@ -48,7 +48,7 @@ impl Item for LaterSteps {
 }
 
 impl Item for ListedTariff {
-    ghost use Rattle.desk.specs.reply.Lists.{tariff_text};
+    ghost use Rattle.desk_messages.specs.reply.Lists.{tariff_text};
     ghost use Rattle.desk_client.specs.Page.{IsToldTariff};
 
     ghost is_told = { IsToldTariff };

@@ -1,5 +1,5 @@
 use Rattle.std.proofs.Common.{◌≡◌, codes}
-use Rattle.desk.specs.reply.Lists.{listed_meter_data}
+use Rattle.desk_messages.specs.reply.Lists.{listed_meter_data}
 use Rattle.desk_client.specs.ListedMeter.{listed_meter_text}
 use Rattle.desk_client.specs.Page.{IsToldListedMeter, page_text}
 use Rattle.desk_client.proofs.PageLemmas.{by_meters, is_page, of_page, meters-named}

@@ -1,5 +1,5 @@
 use Rattle.std.proofs.Common.{◌≡◌, codes}
-use Rattle.desk.specs.reply.Body.{sale_data}
+use Rattle.desk_messages.specs.reply.Body.{sale_data}
 use Rattle.desk_client.specs.Page.{page_text}
 use Rattle.desk_client.specs.Sale.{IsTold, sale_text}
 use Rattle.desk_client.proofs.SaleLemmas.{sale-written}

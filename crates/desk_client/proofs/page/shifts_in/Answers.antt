@@ -1,5 +1,5 @@
 use Rattle.std.proofs.Common.{◌≡◌, codes}
-use Rattle.desk.specs.reply.Lists.{listed_shift_data}
+use Rattle.desk_messages.specs.reply.Lists.{listed_shift_data}
 use Rattle.desk_client.specs.ListedShift.{listed_shift_text}
 use Rattle.desk_client.specs.Page.{IsToldListedShift, page_text}
 use Rattle.desk_client.proofs.ListedLemmas.{shift-written}

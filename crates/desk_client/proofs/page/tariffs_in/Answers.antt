@@ -1,5 +1,5 @@
 use Rattle.std.proofs.Common.{◌≡◌, codes}
-use Rattle.desk.specs.reply.Lists.{tariff_data, tariff_text}
+use Rattle.desk_messages.specs.reply.Lists.{tariff_data, tariff_text}
 use Rattle.desk_client.specs.Page.{IsToldTariff, page_text}
 use Rattle.desk_client.proofs.PageLemmas.{by_tariffs, is_page, of_page, tariffs-named}
 use Rattle.desk_client.proofs.page.tariffs_in.Goals as goal

@@ -1,5 +1,5 @@
 use Rattle.std.proofs.Common.{◌∙◌, codes, sym}
-use Rattle.desk.specs.reply.Lists.{day_text}
+use Rattle.desk_messages.specs.reply.Lists.{day_text}
 use Rattle.desk_client.proofs.TariffItemLemmas.{lent}
 use Rattle.desk_client.proofs.TariffLemmas.{one_with_steps, plain_day}
 use Rattle.desk_client.proofs.tariff_items.LaterStepsItem.read_front.Goals as goal

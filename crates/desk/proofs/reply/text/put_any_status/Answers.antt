@@ -1,7 +1,0 @@
-use Rattle.std.proofs.Common.{arith, append_assoc}
-use Rattle.desk.specs.reply.Text.{status_line}
-use Rattle.desk.proofs.reply.text.put_any_status.Goals as goal
-
-pub returns : goal.returns
-unfolding status_line
-returns c = grind (arith, append_assoc)

@@ -1,7 +1,0 @@
-use Rattle.std.proofs.Common.{arith, append_assoc}
-use Rattle.desk.specs.reply.Text.{field_line}
-use Rattle.desk.proofs.reply.text.put_field.Goals as goal
-
-pub returns : goal.returns
-unfolding field_line
-returns c = grind (arith, append_assoc)

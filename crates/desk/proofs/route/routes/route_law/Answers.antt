@@ -1,9 +1,0 @@
-use Rattle.desk.proofs.RouteLemmas.{one_routing}
-use Rattle.desk.proofs.TableLemmas.{each_found}
-use Rattle.desk.proofs.route.routes.route_law.Goals as goal
-
-pub returns-clause-one : goal.returns-clause-one
-returns-clause-one c = one_routing
-
-pub returns-clause-each : goal.returns-clause-each
-returns-clause-each c = each_found

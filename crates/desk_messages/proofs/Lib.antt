@@ -1,0 +1,12 @@
+pub mod ArrayLemmas
+pub mod AskingLemmas
+pub mod BodyLemmas
+pub mod MemberLemmas
+pub mod PageLemmas
+pub mod ParameterLemmas
+pub mod PlainLemmas
+pub mod ReplyLemmas
+pub mod RouteLemmas
+pub mod SaleLemmas
+pub mod SaleTextLemmas
+pub mod TableLemmas

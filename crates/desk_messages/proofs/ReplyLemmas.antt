@@ -1,0 +1,37 @@
+-- The parts of a reply, one behind the other.
+use Rattle.std.proofs.Common.{◌≡◌, ◌∙◌, ◌++◌, ℕ, List, [], ◌∷◌, length, codes, refl, ap, sym, append_assoc}
+use Rattle.desk_messages.specs.declared.reply.form.Form.{Form}
+use Rattle.std.specs.Fmt.{decimal, digits}
+use Rattle.desk_messages.specs.declared.reply.head.ReplyHead.{ReplyHead}
+use Rattle.desk_messages.specs.reply.Text.{allow_line, connection_line, field_line, media_type, reply_text, status_line}
+
+-- each part of a reply stands behind those before it
+pub reply_text-parts : (head : ReplyHead) (body none a b c d e text : List ℕ) → none ≡ []
+    → a ≡ none ++ status_line head.status
+    → b ≡ a ++ field_line (codes "Content-Type") (media_type head.form) ++ field_line (codes "Content-Length") (decimal (length body))
+    → c ≡ b ++ allow_line head.allowed → d ≡ c ++ connection_line head.closes
+    → e ≡ d ++ 13 ∷ 10 ∷ [] → text ≡ e ++ body → text ≡ reply_text head body
+unfolding reply_text
+reply_text-parts head body none a b c d e text e0 e1 e2 e3 e4 e5 e6 = rw (e6, e5, e4, e3, e2, e1, e0) refl
+
+-- the line of the status that most replies have
+pub ok_line : status_line 200 ≡ codes "HTTP/1.1 200 OK" ++ 13 ∷ 10 ∷ []
+unfolding status_line digits
+ok_line = refl
+
+-- the length of a body behind its name
+length-pieces : (old kind : List ℕ) (len : ℕ)
+    → old ++ (kind ++ codes "Content-Length: ") ++ decimal len ++ 13 ∷ 10 ∷ [] ≡ old ++ kind ++ field_line (codes "Content-Length") (decimal len)
+unfolding field_line
+length-pieces old kind len =
+    ap (λ front. front ++ decimal len ++ 13 ∷ 10 ∷ []) (sym (append_assoc old kind (codes "Content-Length: ")))
+    ∙ ap (λ front. front ++ 13 ∷ 10 ∷ []) (append_assoc (old ++ kind) (codes "Content-Length: ") (decimal len))
+    ∙ append_assoc (old ++ kind) (codes "Content-Length: " ++ decimal len) (13 ∷ 10 ∷ [])
+
+-- the fields that tell of a body, piece by piece
+pub content-parts : (form : Form) (len : ℕ) (old front digits a b text : List ℕ)
+    → front ≡ field_line (codes "Content-Type") (media_type form) ++ codes "Content-Length: " → digits ≡ decimal len
+    → a ≡ old ++ front → b ≡ a ++ digits → text ≡ b ++ 13 ∷ 10 ∷ []
+    → text ≡ old ++ field_line (codes "Content-Type") (media_type form) ++ field_line (codes "Content-Length") (decimal len)
+content-parts form len old front digits a b text e1 e2 e3 e4 e5 =
+    rw (e5, e4, e3, e2, e1) (length-pieces old (field_line (codes "Content-Type") (media_type form)) len)

@@ -1,0 +1,52 @@
+-- The text of a reply.
+use Rattle.std.specs.Prelude.{ℕ, Bool, List, [], ◌∷◌, ◌++◌, length, codes, decimal, Option, None, Some, if◌then◌else◌}
+use Rattle.http.specs.StatusCode.{status_text}
+use Rattle.conversation.specs.declared.message.method.Method.{Method}
+use Rattle.conversation.specs.declared.message.method.Method.TheVariants.{Get, Post}
+use Rattle.desk_messages.specs.declared.reply.form.Form.{Form}
+use Rattle.desk_messages.specs.declared.reply.form.Form.TheVariants.{Json, Paper}
+use Rattle.desk_messages.specs.declared.reply.outcome.Outcome.{Outcome}
+use Rattle.desk_messages.specs.declared.reply.head.ReplyHead.{ReplyHead}
+use Rattle.desk_messages.specs.reply.Body.{body_of}
+use Rattle.desk_messages.specs.reply.Head.{head_of}
+
+abbrev pub line_end : List ℕ
+line_end = 13 ∷ 10 ∷ []
+
+-- the line of a status, with its phrase
+unfoldable pub status_line : ℕ → List ℕ
+status_line status = codes "HTTP/1.1 " ++ status_text status ++ line_end
+
+-- the line of a field
+unfoldable pub field_line : List ℕ → List ℕ → List ℕ
+field_line name value = name ++ codes ": " ++ value ++ line_end
+
+-- the media type of a body
+abbrev pub media_type : Form → List ℕ
+media_type Json = codes "application/json"
+media_type Paper = codes "text/plain"
+
+-- the method that is allowed, where another one was used
+abbrev pub allow_line : Option Method → List ℕ
+allow_line None = []
+allow_line (Some Get) = field_line (codes "Allow") (codes "GET")
+allow_line (Some Post) = field_line (codes "Allow") (codes "POST")
+
+-- that the conversation ends, where it does
+abbrev pub connection_line : Bool → List ℕ
+connection_line closes = if closes then field_line (codes "Connection") (codes "close") else []
+
+-- the status with its phrase, the fields, an empty line and the body
+unfoldable pub reply_text : ReplyHead → List ℕ → List ℕ
+reply_text head body =
+    status_line head.status
+    ++ field_line (codes "Content-Type") (media_type head.form)
+    ++ field_line (codes "Content-Length") (decimal (length body))
+    ++ allow_line head.allowed
+    ++ connection_line head.closes
+    ++ line_end
+    ++ body
+
+-- the reply that tells what came of a message, and after which the conversation ends or not
+abbrev pub reply_bytes_of : Outcome → Bool → List ℕ
+reply_bytes_of outcome closes = reply_text (head_of outcome closes) (body_of outcome)

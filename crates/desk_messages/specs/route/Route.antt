@@ -1,0 +1,125 @@
+-- The routes that targets lead to.
+use Rattle.std.specs.Prelude.{◌≡◌, ◌≢◌, ℕ, ◌≤◌, List, Some, None, option_map, Result, Ok, Err, IsUtf8, decimal, ⊤}
+use Rattle.matchit.specs.Router.{RouteOf}
+use Rattle.matchit.specs.Seek.{first}
+use Rattle.tariff.specs.Tender.{IsTender}
+use Rattle.vend_core.specs.Name.{IsMeterNo, IsName, IsOperator}
+use Rattle.book_facts.specs.declared.lookup.Lookup.{Lookup}
+use Rattle.book_facts.specs.declared.lookup.Lookup.TheVariants as lookups
+use Rattle.conversation.specs.declared.message.method.Method.{Method}
+use Rattle.desk_messages.specs.declared.desk_fault.DeskFault.{DeskFault}
+use Rattle.desk_messages.specs.declared.desk_fault.DeskFault.TheVariants as faults
+use Rattle.desk_messages.specs.declared.route.endpoint.Endpoint.{Endpoint}
+use Rattle.desk_messages.specs.declared.route.endpoint.Endpoint.TheVariants.{Tariffs, TariffSteps, Meters, MeterTariff, MeterBase, Shifts, ShiftClosing, Shift, Sales, Sale, SaleReceipt, MeterImports, TariffImports, Health, Meter, LastSale, Quote, SaleOfRef, ShiftTotals, FirstTariffs, TariffsAfter, FirstMeters, MetersAfter, ShiftsAfter, SalesAfter}
+use Rattle.desk_messages.specs.declared.route.Route.{Route}
+use Rattle.desk_messages.specs.declared.route.Route.TheVariants.{AddTariff, AddSteps, AddMeter, SetTariff, MoveBase, OpenShift, CloseShift, ShiftReport, Sell, Reprint, Receipt, ImportMeters, ImportTariffs, LookUp}
+use Rattle.desk_messages.specs.route.Endpoint.{endpoint_method, filled, pattern_of, quote_target, sale_target, table}
+
+-- the endpoint at which something is looked up
+abbrev pub lookup_endpoint : Lookup → Endpoint
+lookup_endpoint lookups.SaleCount = Health
+lookup_endpoint (lookups.Meter meter) = Meter
+lookup_endpoint (lookups.LastSale meter) = LastSale
+lookup_endpoint (lookups.SaleOfRef operator order_ref) = SaleOfRef
+lookup_endpoint (lookups.Quote meter tender) = Quote
+lookup_endpoint (lookups.ShiftTotals number) = ShiftTotals
+lookup_endpoint (lookups.Tariffs None) = FirstTariffs
+lookup_endpoint (lookups.Tariffs (Some name)) = TariffsAfter
+lookup_endpoint (lookups.Meters None) = FirstMeters
+lookup_endpoint (lookups.Meters (Some meter)) = MetersAfter
+lookup_endpoint (lookups.Shifts number) = ShiftsAfter
+lookup_endpoint (lookups.Sales number) = SalesAfter
+
+-- the endpoint that a route is asked at
+abbrev pub endpoint_of : Route → Endpoint
+endpoint_of AddTariff = Tariffs
+endpoint_of (AddSteps tariff) = TariffSteps
+endpoint_of AddMeter = Meters
+endpoint_of (SetTariff meter) = MeterTariff
+endpoint_of (MoveBase meter) = MeterBase
+endpoint_of OpenShift = Shifts
+endpoint_of CloseShift = ShiftClosing
+endpoint_of (ShiftReport number) = Shift
+endpoint_of Sell = Sales
+endpoint_of (Reprint number) = Sale
+endpoint_of (Receipt number) = SaleReceipt
+endpoint_of ImportMeters = MeterImports
+endpoint_of ImportTariffs = TariffImports
+endpoint_of (LookUp lookup) = lookup_endpoint lookup
+
+-- a number that a target may name
+pub record IsTargetNumber (number : ℕ) : Type 0 where
+  pub from_one : 1 ≤ number
+  pub most : number ≤ 1000000000
+
+-- a number after which a page begins; nothing has the number 0
+pub record IsPageStart (number : ℕ) : Type 0 where
+  pub most : number ≤ 1000000000
+
+-- the target is text, and `matchit` finds the endpoint for it
+pub record Finds (target : List ℕ) (endpoint : Endpoint) : Type 0 where
+  pub text : IsUtf8 target
+  pub found : option_map (λ (row : RouteOf Endpoint). row.value) (first table target)
+      ≡ Some endpoint
+
+-- The target names what is looked up: nothing; a meter's number; a shift's; an operator and a ref;
+-- or a meter's number and, as its query, a tender in decimal digits without leading zeros. Of a page
+-- its query names what the page begins after: a tariff, a meter, or a number; or nothing.
+abbrev pub NamesLookup : List ℕ → Lookup → Type 0
+NamesLookup target lookups.SaleCount = ⊤
+NamesLookup target (lookups.Meter meter) =
+    (target ≡ filled (pattern_of Meter) meter) × IsMeterNo meter
+NamesLookup target (lookups.LastSale meter) =
+    (target ≡ filled (pattern_of LastSale) meter) × IsMeterNo meter
+NamesLookup target (lookups.SaleOfRef operator order_ref) =
+    (target ≡ sale_target operator order_ref) × IsOperator operator × IsName order_ref
+NamesLookup target (lookups.Quote meter tender) =
+    (target ≡ quote_target meter tender) × IsMeterNo meter × IsTender tender
+NamesLookup target (lookups.ShiftTotals number) =
+    (target ≡ filled (pattern_of ShiftTotals) (decimal number)) × IsTargetNumber number
+NamesLookup target (lookups.Tariffs None) = ⊤
+NamesLookup target (lookups.Tariffs (Some name)) =
+    (target ≡ filled (pattern_of TariffsAfter) name) × IsName name
+NamesLookup target (lookups.Meters None) = ⊤
+NamesLookup target (lookups.Meters (Some meter)) =
+    (target ≡ filled (pattern_of MetersAfter) meter) × IsMeterNo meter
+NamesLookup target (lookups.Shifts number) =
+    (target ≡ filled (pattern_of ShiftsAfter) (decimal number)) × IsPageStart number
+NamesLookup target (lookups.Sales number) =
+    (target ≡ filled (pattern_of SalesAfter) (decimal number)) × IsPageStart number
+
+-- The target names what the route is for, where the pattern has its parameter: a tariff's name, a
+-- meter's number, or a number without leading zeros. A route whose pattern has none names nothing.
+abbrev pub Names : List ℕ → Route → Type 0
+Names target AddTariff = ⊤
+Names target (AddSteps tariff) = (target ≡ filled (pattern_of TariffSteps) tariff) × IsName tariff
+Names target AddMeter = ⊤
+Names target (SetTariff meter) = (target ≡ filled (pattern_of MeterTariff) meter) × IsMeterNo meter
+Names target (MoveBase meter) = (target ≡ filled (pattern_of MeterBase) meter) × IsMeterNo meter
+Names target OpenShift = ⊤
+Names target CloseShift = ⊤
+Names target (ShiftReport number) =
+    (target ≡ filled (pattern_of Shift) (decimal number)) × IsTargetNumber number
+Names target Sell = ⊤
+Names target (Reprint number) =
+    (target ≡ filled (pattern_of Sale) (decimal number)) × IsTargetNumber number
+Names target (Receipt number) =
+    (target ≡ filled (pattern_of SaleReceipt) (decimal number)) × IsTargetNumber number
+Names target ImportMeters = ⊤
+Names target ImportTariffs = ⊤
+Names target (LookUp lookup) = NamesLookup target lookup
+
+-- the target leads to the route, by whatever method
+pub record LeadsTo (target : List ℕ) (route : Route) : Type 0 where
+  pub finds : Finds target (endpoint_of route)
+  pub names : Names target route
+
+-- what a target and a method ask for: a route by its own method, or why there is none
+abbrev pub IsRouted : List ℕ → Method → Result Route DeskFault → Type 0
+IsRouted target method (Ok route) =
+    LeadsTo target route × (endpoint_method (endpoint_of route) ≡ method)
+IsRouted target method (Err faults.NoRoute) = (route : Route) → ¬ LeadsTo target route
+IsRouted target method (Err (faults.Method allowed)) =
+    (route : Route) × LeadsTo target route × (endpoint_method (endpoint_of route) ≡ allowed)
+    × (allowed ≢ method)
+IsRouted target method (Err fault) = ⊥

@@ -1,0 +1,77 @@
+//! What is found in an office, as JSON.
+
+ghost use Rattle.std.specs.Prelude.{◌≡◌, IfOk};
+ghost use Rattle.desk_messages.specs.reply.Body.{health_members, meter_members, quote_members, totals_members};
+ghost use Rattle.desk_messages.specs.reply.Members.{data_of, json_text, some_number};
+
+use crate::reply::members::{Member, object_text};
+use book_facts::{MeterSummary, Quote};
+use book_tables::{PRESENT_FORMAT, Totals};
+use std::alloc::{AllocError, Global};
+
+// The format of the office's file, and how many sales there are.
+pub(crate) fn health_body(alloc: Global, sales: u64) -> Result<Vec<u8>, AllocError>
+    ensures { IfOk result (λ body. body.items ≡ json_text (health_members sales)) }
+{
+    let members = [
+        ("format", Member::Number(u64::from(PRESENT_FORMAT))),
+        ("sales", Member::Number(sales)),
+    ];
+    object_text(alloc, &members)
+}
+
+// A meter, without its key.
+pub(crate) fn meter_body(alloc: Global, meter: &MeterSummary) -> Result<Vec<u8>, AllocError>
+    ensures { IfOk result (λ body. body.items ≡ json_text (meter_members meter.now)) }
+{
+    let members = [
+        ("base", Member::Number(u64::from(meter.base.year()))),
+        ("meter", Member::Text(meter.number.as_bytes())),
+        ("sale", number_or_nothing(meter.last_sale)),
+        ("tariff", Member::Text(meter.tariff.as_bytes())),
+        ("tenths", Member::Number(meter.tenths)),
+    ];
+    object_text(alloc, &members)
+}
+
+// A number, or that there is none.
+fn number_or_nothing<'a>(number: Option<u32>) -> Member<'a>
+    ensures { data_of result ≡ some_number number }
+{
+    match number {
+        Some(number) => Member::Number(u64::from(number)),
+        None => Member::Nothing,
+    }
+}
+
+// What a tender would buy. A price is at most its tender, so nothing of the change is cut off.
+pub(crate) fn quote_body(alloc: Global, quote: &Quote) -> Result<Vec<u8>, AllocError>
+    ensures { IfOk result (λ body. body.items ≡ json_text (quote_members quote.now)) }
+{
+    let tender = quote.tender.cents();
+    let members = [
+        (
+            "change",
+            Member::Number(u64::from(tender.saturating_sub(quote.price))),
+        ),
+        ("meter", Member::Text(quote.meter.as_bytes())),
+        ("price", Member::Number(u64::from(quote.price))),
+        ("tariff", Member::Text(quote.tariff.as_bytes())),
+        ("tender", Member::Number(u64::from(tender))),
+        ("tenths", Member::Number(u64::from(quote.tenths.tenths()))),
+    ];
+    object_text(alloc, &members)
+}
+
+// The running totals of the shift of a number.
+pub(crate) fn totals_body(alloc: Global, shift: u32, totals: &Totals) -> Result<Vec<u8>, AllocError>
+    ensures { IfOk result (λ body. body.items ≡ json_text (totals_members shift totals.now)) }
+{
+    let members = [
+        ("cash", Member::Number(totals.cash)),
+        ("sales", Member::Number(totals.sales)),
+        ("shift", Member::Number(u64::from(shift))),
+        ("tenths", Member::Number(totals.tenths)),
+    ];
+    object_text(alloc, &members)
+}

@@ -1,0 +1,119 @@
+ghost use Rattle.std.specs.Prelude.{◌≡◌, ◌++◌, IfOk, OnOk, codes, decimal};
+ghost use Rattle.http.specs.StatusCode.{IsStatusCode};
+ghost use Rattle.desk_messages.specs.reply.Text.{allow_line, connection_line, field_line, media_type, reply_bytes_of, reply_text, status_line};
+
+use crate::reply::body::{body_of, plain_sale};
+use crate::reply::form::Form;
+use crate::reply::head::ReplyHead;
+use crate::reply::outcome::Outcome;
+use crate::reply::sale_text::sale_text;
+use conversation::Method;
+use http::StatusCode;
+use itoa::Buffer;
+use std::alloc::{AllocError, Global};
+
+// More bytes than the longest head takes.
+const HEAD_ROOM: usize = 160;
+
+/// The bytes of the whole reply that tells what came of a message (`docs/DESK.md`, "Replies"), or
+/// want of memory. Where the conversation ends after it the reply says so: that is where it is to
+/// close, and always after a message that is refused.
+pub fn reply_bytes(alloc: Global, outcome: &Outcome, closes: bool) -> Result<Vec<u8>, AllocError>
+    ensures { IfOk result (λ text. text.items ≡ reply_bytes_of outcome.now closes) }
+{
+    let head = ReplyHead::of(outcome, closes);
+    if let Some(sale) = plain_sale(outcome) {
+        return reply_text(alloc, head, &sale_text(sale));
+    }
+    let body = body_of(alloc, outcome)?;
+    reply_text(alloc, head, &body)
+}
+
+// A whole reply with this head and body.
+#[inline(always)]
+fn reply_text(alloc: Global, head: ReplyHead, body: &[u8]) -> Result<Vec<u8>, AllocError>
+    requires { IsStatusCode head.status }
+    ensures { IfOk result (λ text. text.items ≡ reply_text head body.now) }
+{
+    let mut text = Vec::with_capacity(alloc, HEAD_ROOM + body.len())?;
+    put_status(alloc, &mut text, head.status)?;
+    put_content(&mut text, head.form, body.len())?;
+    put_allowed(&mut text, head.allowed)?;
+    put_closing(&mut text, head.closes)?;
+    text.extend_from_slice(b"\r\n")?;
+    text.extend_from_slice(body)?;
+    Ok(text)
+}
+
+// Adds the line of a status. That of 200, which most replies have, is written out.
+fn put_status(alloc: Global, text: &mut Vec<u8>, status: u16) -> Result<(), AllocError>
+    requires { IsStatusCode status }
+    ensures { OnOk result (text.new.items ≡ text.old.items ++ status_line status) }
+{
+    if status == 200 {
+        text.extend_from_slice(b"HTTP/1.1 200 OK\r\n")?;
+        Ok(())
+    } else {
+        put_any_status(alloc, text, status)
+    }
+}
+
+// Adds the line of any status.
+#[cold]
+#[inline(never)]
+fn put_any_status(alloc: Global, text: &mut Vec<u8>, status: u16) -> Result<(), AllocError>
+    requires { IsStatusCode status }
+    ensures { OnOk result (text.new.items ≡ text.old.items ++ status_line status) }
+{
+    let status = StatusCode::from_u16(status).unwrap();
+    let shown = format!(in alloc; "{status}")?;
+    text.extend_from_slice(b"HTTP/1.1 ")?;
+    text.extend_from_slice(shown.as_bytes())?;
+    text.extend_from_slice(b"\r\n")
+}
+
+// Adds the fields that tell of a body: its media type and its length.
+#[inline(always)]
+fn put_content(text: &mut Vec<u8>, form: Form, len: usize) -> Result<(), AllocError>
+    ensures { OnOk result (text.new.items ≡ text.old.items
+        ++ field_line (codes "Content-Type") (media_type form)
+        ++ field_line (codes "Content-Length") (decimal len)) }
+{
+    let mut digits = Buffer::new();
+    text.extend_from_slice(form.content_front().as_bytes())?;
+    text.extend_from_slice(digits.format(len).as_bytes())?;
+    text.extend_from_slice(b"\r\n")?;
+    Ok(())
+}
+
+// Adds the line of a field.
+fn put_field(text: &mut Vec<u8>, name: &str, value: &str) -> Result<(), AllocError>
+    ensures { OnOk result (text.new.items ≡ text.old.items ++ field_line name.now value.now) }
+{
+    text.extend_from_slice(name.as_bytes())?;
+    text.extend_from_slice(b": ")?;
+    text.extend_from_slice(value.as_bytes())?;
+    text.extend_from_slice(b"\r\n")
+}
+
+// Adds the method that is allowed, where another one was used.
+fn put_allowed(text: &mut Vec<u8>, allowed: Option<Method>) -> Result<(), AllocError>
+    ensures { OnOk result (text.new.items ≡ text.old.items ++ allow_line allowed) }
+{
+    match allowed {
+        None => Ok(()),
+        Some(Method::Get) => put_field(text, "Allow", "GET"),
+        Some(Method::Post) => put_field(text, "Allow", "POST"),
+    }
+}
+
+// Adds that the conversation ends, where it does.
+fn put_closing(text: &mut Vec<u8>, closes: bool) -> Result<(), AllocError>
+    ensures { OnOk result (text.new.items ≡ text.old.items ++ connection_line closes) }
+{
+    if closes {
+        put_field(text, "Connection", "close")
+    } else {
+        Ok(())
+    }
+}
