@@ -1,14 +1,11 @@
-ghost use Rattle.std.specs.Prelude.{ℤ, List, Option};
+ghost use Rattle.std.specs.Prelude.{List};
 ghost use Rattle.books.specs.Keeps.{seen};
-ghost use Rattle.conversation.specs.Exchanges.{ReadsClock};
-ghost use Rattle.conversation.specs.message.Next.{message_of};
 ghost use Rattle.conversation.specs.Uses.{Grows, Use};
 ghost use Rattle.desk.specs.Converses.{Converses};
-ghost use Rattle.desk_messages.specs.Meaning.{IsMeaning};
 
 use books::Books;
 use conversation::{Clock, End, Line, MessageFault, Received, Service, Untold, run};
-use desk_messages::{Meaning, Outcome, Routes, meaning_at, reply_bytes};
+use desk_messages::{Meaning, Outcome, Routes, reply_bytes};
 use sqlite::Alter;
 use std::alloc::{AllocError, Global};
 use std::io::{Read, Write};
@@ -73,17 +70,6 @@ impl Desk {
     {
         run(self, alloc, line, reader, writer, books, clock)
     }
-
-    // What a message means. The clock is read once where it has a route, and else not.
-    fn meaning_of<C: Clock>(&self, alloc: Global, clock: &mut C, message: &Received<'_>) -> Meaning
-        ensures { (now : Option ℤ) × ReadsClock (C.answers clock.old) now (C.answers clock.new)
-            × IsMeaning (message_of message.now) now result }
-    {
-        match self.routes.route_of(message.target, message.method) {
-            Ok(route) => meaning_at(alloc, route, clock.now(), message),
-            Err(fault) => Meaning::Told(Outcome::Faulty(fault)),
-        }
-    }
 }
 
 impl<S: Alter, T: BlockTransform> Service<Books<S, T>> for Desk {
@@ -101,7 +87,7 @@ impl<S: Alter, T: BlockTransform> Service<Books<S, T>> for Desk {
         clock: &mut C,
         message: &Received<'_>,
     ) -> Result<Vec<u8>, AllocError> {
-        let outcome = match self.meaning_of(alloc, clock, message) {
+        let outcome = match self.routes.meaning_of(alloc, clock, message) {
             Meaning::Asks(form, moment, request) => {
                 Outcome::Replied(form, office.ask(moment, request))
             }

@@ -14,7 +14,7 @@ pub use asking::{asking_law, request_of};
 pub use body_fault::BodyFault;
 pub use desk_fault::DeskFault;
 pub use json_body::kind::JsonKind;
-pub use meaning::{Meaning, meaning_at};
+pub use meaning::Meaning;
 pub use reply::body::found_json;
 pub use reply::dates::put_day;
 pub use reply::form::Form;

@@ -1,6 +1,7 @@
 //! What a message means, before the office is asked.
 
-ghost use Rattle.std.specs.Prelude.{◌≡◌, ◌≢◌, MatchOption, Some, Ok, pos};
+ghost use Rattle.std.specs.Prelude.{◌≡◌, ◌≢◌, ℤ, MatchOption, Option, Some, Ok, pos};
+ghost use Rattle.conversation.specs.Exchanges.{ReadsClock};
 ghost use Rattle.conversation.specs.message.Next.{message_of};
 ghost use Rattle.book_facts.specs.declared.lookup.Lookup.{Lookup};
 ghost use Rattle.desk_messages.specs.Meaning.{AsksRequest, IsFor, IsMeaning, lookup_form, sale_form_of};
@@ -12,8 +13,9 @@ use crate::desk_fault::DeskFault;
 use crate::reply::form::Form;
 use crate::reply::outcome::Outcome;
 use crate::route::Route;
+use crate::route::routes::Routes;
 use book_facts::Lookup;
-use conversation::Received;
+use conversation::{Clock, Received};
 use std::alloc::Global;
 use vend_core::{Moment, Refusal, Request};
 
@@ -30,9 +32,27 @@ pub enum Meaning {
     Memory,
 }
 
+impl Routes {
+    /// What a message means. The clock is read once where it has a route, and else not.
+    pub fn meaning_of<C: Clock>(
+        &self,
+        alloc: Global,
+        clock: &mut C,
+        message: &Received<'_>,
+    ) -> Meaning
+        ensures { (now : Option ℤ) × ReadsClock (C.answers clock.old) now (C.answers clock.new)
+            × IsMeaning (message_of message.now) now result }
+    {
+        match self.route_of(message.target, message.method) {
+            Ok(route) => meaning_at(alloc, route, clock.now(), message),
+            Err(fault) => Meaning::Told(Outcome::Faulty(fault)),
+        }
+    }
+}
+
 impl Route {
     // The form in which a sale is told.
-    pub(crate) fn form(&self) -> Form
+    fn form(&self) -> Form
         ensures { result ≡ sale_form_of self.now }
     {
         match self {
@@ -95,13 +115,8 @@ fn lookup_form(lookup: &Lookup) -> Form
     }
 }
 
-/// What a message for this route means at this second, which the clock gave for it.
-pub fn meaning_at(
-    alloc: Global,
-    route: Route,
-    second: i64,
-    message: &Received<'_>,
-) -> Meaning
+// What a message for this route means at this second, which the clock gave for it.
+fn meaning_at(alloc: Global, route: Route, second: i64, message: &Received<'_>) -> Meaning
     requires { IsFor (message_of message.now) route }
     ensures { IsMeaning (message_of message.now) (Some second) result }
 {
