@@ -10,12 +10,12 @@ use Rattle.vend_core.specs.declared.decision.refusal.Refusal.{Refusal}
 use Rattle.vend_core.specs.declared.office.sale.Sale.{Sale}
 use Rattle.vend_commands.proofs.OnlyReadLemmas.{read_none, read_then}
 use Rattle.vend_commands.proofs.RefusedLemmas.{stopped_before}
-use Rattle.vend_commands.proofs.TakeLemmas.{takes_last, takes_next, takes_none}
+use Rattle.vend_ports.proofs.TakeLemmas.{takes_last, takes_next, takes_none}
 use Rattle.vend_commands.specs.office.OnlyRead.{AreOnlyRead}
 use Rattle.vend_commands.specs.print.Exported.{IsExported, IsPage, page_of}
-use Rattle.vend_commands.specs.print.Printed.{refusal_line}
-use Rattle.vend_commands.specs.print.Told.{Sink, Takes, outputs}
-use Rattle.vend_commands.specs.declared.command_end.CommandEnd.TheVariants as how
+use Rattle.vend_ports.specs.print.Printed.{refusal_line}
+use Rattle.vend_ports.specs.print.Told.{Sink, Takes, outputs}
+use Rattle.vend_ports.specs.declared.command_end.CommandEnd.TheVariants as how
 
 -- the export from a page on
 abbrev pub export_from : List Sale → ℕ → List ℕ

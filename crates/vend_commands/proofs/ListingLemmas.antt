@@ -1,9 +1,6 @@
 -- Pages of a list.
-use Rattle.std.proofs.Common.{◌≡◌, ◌∙◌, ℕ, ◌+◌, ◌==◌, Bool, true, false, List, [], ◌∷◌, ◌++◌, length, Option, Some, None, Result, Ok, Err, refl, ap, sym, subst, append_assoc, append-nil, inl, inr, arith}
+use Rattle.std.proofs.Common.{◌≡◌, ◌∙◌, ℕ, ◌+◌, ◌==◌, Bool, true, false, List, [], ◌∷◌, ◌++◌, length, Option, Some, None, Result, Ok, Err, refl, ap, sym, subst, append-nil, inl, inr}
 use Rattle.std.specs.Prelude.{if◌then◌else◌}
-use Rattle.std.specs.List.{flat_map}
-use Rattle.std.proofs.lemmas.Bool.{ne_eqb}
-use Rattle.std.proofs.lemmas.Grind.{flat_map-append}
 use Rattle.std.proofs.lemmas.List.{length-append}
 use Rattle.sqlite.specs.State.{HasCleanDisk}
 use Rattle.book_facts.specs.Lookups.{Finds}
@@ -19,14 +16,15 @@ use Rattle.vend_core.specs.declared.decision.refusal.Refusal.{Refusal}
 use Rattle.vend_core.specs.declared.decision.refusal.Refusal.TheVariants.{Memory, Store, Stopped}
 use Rattle.vend_commands.proofs.OnlyReadLemmas.{read_none, read_then}
 use Rattle.vend_commands.proofs.RefusedLemmas.{stopped_before}
-use Rattle.vend_commands.proofs.TakeLemmas.{takes_as, takes_last, takes_next, takes_none}
+use Rattle.vend_ports.proofs.TakeLemmas.{takes_as, takes_last, takes_next, takes_none}
 use Rattle.vend_commands.specs.office.OnlyRead.{AreOnlyRead}
 use Rattle.vend_commands.specs.print.Exported.{IsPageRefusal}
-use Rattle.vend_commands.specs.print.Listing.{ArePages, IsListPage, IsListed, list_behind, most_pages, page_lookup}
-use Rattle.vend_commands.specs.print.ListTexts.{page_text, pages_text}
-use Rattle.vend_commands.specs.print.Printed.{refusal_line}
-use Rattle.vend_commands.specs.print.Told.{Sink, Takes, outputs}
-use Rattle.vend_commands.specs.declared.command_end.CommandEnd.TheVariants as how
+use Rattle.vend_commands.specs.print.Listing.{IsListPage, IsListed}
+use Rattle.desk_commands.specs.print.Pages.{ArePages, list_behind, most_pages, page_lookup}
+use Rattle.desk_commands.specs.print.ListTexts.{page_text, pages_text}
+use Rattle.vend_ports.specs.print.Printed.{refusal_line}
+use Rattle.vend_ports.specs.print.Told.{Sink, Takes, outputs}
+use Rattle.vend_ports.specs.declared.command_end.CommandEnd.TheVariants as how
 
 -- ---- what is found
 
@@ -68,22 +66,7 @@ more_pages o moment list [] next page is finds = subst (λ (l : Option Listed). 
 more_pages o moment None (first ∷ pages) next page are finds = absurd are
 more_pages o moment (Some list) (first ∷ pages) next page are finds = (are.0, more_pages o moment (list_behind first) pages next page are.1 finds)
 
-pub more_text : (json : Bool) (pages : List Found) (page : Found) → pages_text json pages ++ page_text json (length pages == 0) page ≡ pages_text json (pages ++ page ∷ [])
-more_text json [] page = sym (append-nil (page_text json true page))
-more_text json (first ∷ pages) page =
-    let later : (length (first ∷ pages) == 0) ≡ false = ne_eqb (length (first ∷ pages)) 0 (λ e. omega (arith, e)) in
-    let front = page_text json true first in
-    let middle = flat_map (page_text json false) pages in
-    ap (λ b. (front ++ middle) ++ page_text json b page) later
-    ∙ append_assoc front middle (page_text json false page)
-    ∙ ap (λ l. front ++ (middle ++ l)) (sym (append-nil (page_text json false page)))
-    ∙ ap (λ l. front ++ l) (sym (flat_map-append (page_text json false) pages (page ∷ [])))
-
 -- what follows a page that was taken, and one that no other follows
-pub some_behind : (next : Listed) (behind : Option Listed) (failed : Bool) → Some next ≡ (if failed then None else behind) → behind ≡ Some next
-some_behind next behind true is = absurd (cc)
-some_behind next behind false is = sym is
-
 none_behind : (next behind : Option Listed) (failed : Bool) → next ≡ None → next ≡ (if failed then None else behind) → failed ≡ false → behind ≡ None
 none_behind next behind true none is sound = absurd (cc)
 none_behind next behind false none is sound = sym is ∙ none

@@ -26,12 +26,12 @@ use Rattle.papers.specs.declared.row_fault.RowFault.{RowFault}
 use Rattle.tariff.specs.Purchase.{purchase_of}
 use Rattle.command_line.specs.Asked.{AskFor}
 use Rattle.vend_commands.specs.commands.Asked.{IsAskedAt}
-use Rattle.vend_commands.specs.commands.AskedOfDesk.{IsAnswered, IsAsked, IsAskedOnce, TellsTold}
-use Rattle.vend_commands.specs.commands.AskedOfDesk.IsAsked.{broken, no_room as desk_full, replied, unsent}
-use Rattle.vend_commands.specs.commands.AskedOfDesk.IsAskedOnce.{asked as desk_asked, without_rows}
-use Rattle.vend_commands.specs.commands.ListedAtDesk.{page_stop_end}
-use Rattle.vend_commands.specs.declared.commands.list_at_desk.PageFault.{PageFault}
-use Rattle.vend_commands.specs.port.Exchanged.{Calls}
+use Rattle.desk_commands.specs.AskedOfDesk.{IsAnswered, IsAsked, IsAskedOnce, TellsTold}
+use Rattle.desk_commands.specs.AskedOfDesk.IsAsked.{broken, no_room as desk_full, replied, unsent}
+use Rattle.desk_commands.specs.AskedOfDesk.IsAskedOnce.{asked as desk_asked, without_rows}
+use Rattle.desk_commands.specs.ListedAtDesk.{page_stop_end}
+use Rattle.desk_commands.specs.declared.list_at_desk.PageFault.{PageFault}
+use Rattle.desk_commands.specs.Exchanged.{Calls}
 use Rattle.desk_client.specs.declared.question.Question.{Question}
 use Rattle.desk_client.specs.declared.told.Told.{Told}
 use Rattle.desk_client.specs.declared.told.Told.TheVariants as tells
@@ -47,11 +47,11 @@ use Rattle.vend_commands.specs.commands.LookedUp.IsShownAt.{absent as shown_abse
 use Rattle.command_line.specs.Line.{faults_in}
 use Rattle.vend_commands.specs.serving.Listening.{IsServing, serving_end}
 use Rattle.vend_commands.specs.serving.Listening.IsServing.{unheard, unopened as serves_unopened, was_open}
-use Rattle.vend_commands.specs.commands.Quoted.{quote_end}
-use Rattle.vend_commands.specs.port.Dial.{Dial}
-use Rattle.vend_commands.specs.port.Texts.{Texts}
+use Rattle.vend_ports.specs.commands.Quoted.{quote_end}
+use Rattle.vend_ports.specs.port.Dial.{Dial}
+use Rattle.vend_ports.specs.port.Texts.{Texts}
 use Rattle.vend_commands.specs.port.Places.{Machine, Place, Places, Way, IsIdle}
-use Rattle.vend_commands.specs.print.Printed.{refusal_line}
+use Rattle.vend_ports.specs.print.Printed.{refusal_line}
 use Rattle.vend_commands.specs.commands.Reported.{IsReported, PrintsPaper}
 use Rattle.vend_commands.specs.commands.Reported.IsReported.{absent as no_file, present}
 use Rattle.vend_commands.specs.Run.{IsCarriedOut, IsExplained, IsProgramRun}
@@ -59,11 +59,11 @@ use Rattle.vend_commands.specs.Run.IsProgramRun.{answered, bad_word, explained, 
 use Rattle.vend_commands.specs.commands.Selfchecked.{IsSelfchecked}
 use Rattle.vend_commands.specs.commands.Selfchecked.IsSelfchecked.{agreed, failed}
 use Rattle.vend_commands.specs.office.Served.{TellsReply}
-use Rattle.vend_commands.specs.Status.{exit_status_of, status_of}
-use Rattle.vend_commands.specs.commands.Timed.{IsDoneAt, IsTimed}
-use Rattle.vend_commands.specs.print.Told.{IsTold, Outputs, Sink}
+use Rattle.vend_ports.specs.Status.{exit_status_of, status_of}
+use Rattle.vend_ports.specs.commands.Timed.{IsDoneAt, IsTimed}
+use Rattle.vend_ports.specs.print.Told.{IsTold, Outputs, Sink}
 use Rattle.vend_commands.specs.print.Totalled.{TellsTotals}
-use Rattle.vend_commands.specs.commands.Tried.{trial_end}
+use Rattle.vend_ports.specs.commands.Tried.{trial_end}
 use Rattle.vend_commands.specs.office.Visited.{IsVisited, seen_in}
 use Rattle.vend_commands.specs.office.Visited.IsVisited.{unopened, visited}
 use Rattle.command_line.specs.declared.asked.Asked.{Asked}
@@ -73,13 +73,13 @@ use Rattle.command_line.specs.declared.commands.report.Paper.{Paper}
 use Rattle.command_line.specs.declared.commands.report.Paper.TheVariants as papers
 use Rattle.command_line.specs.declared.commands.report.ReportWords.{ReportWords}
 use Rattle.command_line.specs.declared.commands.serve.ServeWords.{ServeWords}
-use Rattle.vend_commands.specs.declared.command_end.CommandEnd.TheVariants as how
+use Rattle.vend_ports.specs.declared.command_end.CommandEnd.TheVariants as how
 use Rattle.command_line.specs.declared.transform.Shipped.{Shipped}
 use Rattle.vend_commands.specs.declared.selfcheck.fault.SelfcheckFault.{SelfcheckFault}
-use Rattle.vend_commands.specs.declared.trials.TrialFault.{TrialFault}
+use Rattle.vend_ports.specs.declared.trials.TrialFault.{TrialFault}
 use Rattle.vend_commands.specs.declared.office.wanted.Wanted.{Wanted}
 use Rattle.vend_commands.specs.declared.office.wanted.Wanted.TheVariants.{One, Listing}
-use Rattle.vend_commands.specs.declared.command_end.CommandEnd.{CommandEnd}
+use Rattle.vend_ports.specs.declared.command_end.CommandEnd.{CommandEnd}
 
 -- what was asked for by another name
 pub done_so : {S D R W : Type 0} (store : Ghosts S) (m : Machine D R W) (asked same : Asked) (o : Outputs) (end : CommandEnd) → asked ≡ same → IsCarriedOut store m same o end → IsCarriedOut store m asked o end

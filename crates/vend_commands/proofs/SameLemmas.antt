@@ -29,10 +29,10 @@ use Rattle.command_line.specs.declared.commands.report.ReportWords.{ReportWords}
 use Rattle.command_line.specs.declared.commands.serve.ServeWords.{ServeWords}
 use Rattle.command_line.specs.declared.transform.Shipped.{Shipped}
 use Rattle.vend_commands.specs.commands.Asked.{IsAskedAt}
-use Rattle.vend_commands.specs.commands.AskedOfDesk.{IsAnswered, IsAsked, IsAskedOnce, TellsTold}
-use Rattle.vend_commands.specs.commands.AskedOfDesk.IsAsked.{broken, no_room as desk_full, replied, unsent}
-use Rattle.vend_commands.specs.commands.AskedOfDesk.IsAskedOnce.{asked as desk_asked, without_rows}
-use Rattle.vend_commands.specs.port.Exchanged.{Calls}
+use Rattle.desk_commands.specs.AskedOfDesk.{IsAnswered, IsAsked, IsAskedOnce, TellsTold}
+use Rattle.desk_commands.specs.AskedOfDesk.IsAsked.{broken, no_room as desk_full, replied, unsent}
+use Rattle.desk_commands.specs.AskedOfDesk.IsAskedOnce.{asked as desk_asked, without_rows}
+use Rattle.desk_commands.specs.Exchanged.{Calls}
 use Rattle.desk_client.specs.declared.question.Question.{Question}
 use Rattle.desk_client.specs.declared.told.Told.{Told}
 use Rattle.desk_client.specs.declared.told.Told.TheVariants as tells
@@ -46,8 +46,8 @@ use Rattle.vend_commands.specs.commands.LookedUp.IsShownAt.{absent as shown_abse
 use Rattle.vend_commands.specs.serving.Listening.{IsDeaf, IsServing}
 use Rattle.vend_commands.specs.serving.Listening.IsDeaf.{no_listener, no_room as deaf_for_room, no_text, not_told}
 use Rattle.vend_commands.specs.serving.Listening.IsServing.{unheard, unopened as serves_unopened, was_open}
-use Rattle.vend_commands.specs.port.Dial.{Dial}
-use Rattle.vend_commands.specs.port.Texts.{Texts}
+use Rattle.vend_ports.specs.port.Dial.{Dial}
+use Rattle.vend_ports.specs.port.Texts.{Texts}
 use Rattle.vend_commands.specs.port.Places.{Machine, Place, Places, Way}
 use Rattle.vend_commands.specs.commands.Reported.{IsReported, PrintsPaper}
 use Rattle.vend_commands.specs.commands.Reported.IsReported.{absent as no_file, present}
@@ -55,15 +55,15 @@ use Rattle.vend_commands.specs.Run.{IsCarriedOut, IsExplained, IsProgramRun}
 use Rattle.vend_commands.specs.Run.IsProgramRun.{answered, bad_word, explained, no_room}
 use Rattle.vend_commands.specs.commands.Selfchecked.IsSelfchecked.{agreed, failed}
 use Rattle.vend_commands.specs.office.Served.{TellsReply}
-use Rattle.vend_commands.specs.commands.Timed.{IsDoneAt, IsTimed}
-use Rattle.vend_commands.specs.print.Told.{IsTold, Outputs, Sink}
+use Rattle.vend_ports.specs.commands.Timed.{IsDoneAt, IsTimed}
+use Rattle.vend_ports.specs.print.Told.{IsTold, Outputs, Sink}
 use Rattle.vend_commands.specs.print.Totalled.{TellsTotals}
 use Rattle.vend_commands.specs.office.Visited.{IsVisited, seen_in}
 use Rattle.vend_commands.specs.office.Visited.IsVisited.{unopened, visited}
 use Rattle.vend_commands.specs.declared.office.wanted.Wanted.{Wanted}
 use Rattle.vend_commands.specs.declared.office.wanted.Wanted.TheVariants.{One, Listing}
-use Rattle.vend_commands.specs.declared.command_end.CommandEnd.{CommandEnd}
-use Rattle.vend_commands.specs.declared.command_end.CommandEnd.TheVariants as how
+use Rattle.vend_ports.specs.declared.command_end.CommandEnd.{CommandEnd}
+use Rattle.vend_ports.specs.declared.command_end.CommandEnd.TheVariants as how
 
 -- both writers are still the same ones
 pub record AreSame (o : Outputs) : Type 0 where

@@ -16,9 +16,9 @@ use Rattle.vend_commands.specs.commands.Selfchecked.Disagrees.{no_room, unlike}
 use Rattle.vend_commands.specs.commands.Selfchecked.HasNoReplies.{cut_off}
 use Rattle.vend_core.specs.declared.decision.refusal.Refusal.TheVariants as refusal
 use Rattle.sts_fields.specs.Text.{Text}
-use Rattle.vend_commands.specs.declared.port.loopback.Loopback as loopback
+use Rattle.vend_ports.specs.declared.port.loopback.Loopback as loopback
 use Rattle.sts_token.specs.Token.{BlockFunction}
-use Rattle.vend_commands.specs.print.Told.{Held}
+use Rattle.vend_ports.specs.print.Told.{Held}
 use Rattle.vend_commands.specs.declared.selfcheck.fault.SelfcheckFault.{SelfcheckFault}
 use Rattle.vend_commands.specs.declared.selfcheck.fault.SelfcheckFault.TheVariants.{Net, Refused}
 

@@ -15,25 +15,25 @@ use Rattle.vend_commands.specs.serving.Connections.{AreHeld, AreServed, IsHeld, 
 use Rattle.vend_commands.specs.serving.Listening.{IsDeaf, IsServing}
 use Rattle.vend_commands.specs.serving.Listening.IsDeaf.{no_listener, no_room as deaf_for_room, no_text, not_told}
 use Rattle.vend_commands.specs.serving.Listening.IsServing.{unheard, unopened, was_open}
-use Rattle.vend_commands.specs.port.Dial.{Dial}
-use Rattle.vend_commands.specs.port.Texts.{Texts}
+use Rattle.vend_ports.specs.port.Dial.{Dial}
+use Rattle.vend_ports.specs.port.Texts.{Texts}
 use Rattle.vend_commands.specs.port.Places.{Loop, Machine, Place, Places, Way, machine, untold_loop, untold_place, untold_way, where_present}
 use Rattle.vend_commands.specs.Run.{IsCarriedOut, IsProgramRun}
 use Rattle.vend_commands.specs.Run.IsProgramRun.{answered, bad_word, explained, no_room}
 use Rattle.vend_commands.specs.commands.Selfchecked.{HasReplies}
-use Rattle.vend_commands.specs.print.Told.{Held, Outputs, Sink}
+use Rattle.vend_ports.specs.print.Told.{Held, Outputs, Sink}
 use Rattle.vend_commands.proofs.RunLemmas.{selfcheck_done}
-use Rattle.vend_commands.specs.commands.AskedOfDesk.{IsAnswered, IsAsked, IsAskedOnce}
-use Rattle.vend_commands.specs.commands.AskedOfDesk.IsAsked.{broken, no_room as desk_full, replied, unsent as message_unsent}
-use Rattle.vend_commands.specs.commands.AskedOfDesk.IsAskedOnce.{asked as desk_asked, without_rows}
-use Rattle.vend_commands.specs.commands.ListedAtDesk.{IsDeskStop, IsListedAtDesk, IsPageStop}
-use Rattle.vend_commands.specs.declared.commands.list_at_desk.PageFault.{PageFault}
-use Rattle.vend_commands.specs.declared.commands.list_at_desk.PageFault.TheVariants as faults
+use Rattle.desk_commands.specs.AskedOfDesk.{IsAnswered, IsAsked, IsAskedOnce}
+use Rattle.desk_commands.specs.AskedOfDesk.IsAsked.{broken, no_room as desk_full, replied, unsent as message_unsent}
+use Rattle.desk_commands.specs.AskedOfDesk.IsAskedOnce.{asked as desk_asked, without_rows}
+use Rattle.desk_commands.specs.ListedAtDesk.{IsDeskStop, IsListedAtDesk, IsPageStop}
+use Rattle.desk_commands.specs.declared.list_at_desk.PageFault.{PageFault}
+use Rattle.desk_commands.specs.declared.list_at_desk.PageFault.TheVariants as faults
 use Rattle.book_facts.specs.declared.lookup.Found.{Found}
 use Rattle.command_line.specs.declared.commands.list.Listed.{Listed}
-use Rattle.vend_commands.specs.port.Exchanged.{Calls, IsUnsent, Round, untold_calls}
-use Rattle.vend_commands.specs.port.Exchanged.IsUnsent.{no_room as full, unreached, unsent}
-use Rattle.vend_commands.specs.declared.port.exchange.ExchangeFault.{ExchangeFault}
+use Rattle.desk_commands.specs.Exchanged.{Calls, IsUnsent, Round, untold_calls}
+use Rattle.desk_commands.specs.Exchanged.IsUnsent.{no_room as full, unreached, unsent}
+use Rattle.desk_commands.specs.declared.exchange.ExchangeFault.{ExchangeFault}
 use Rattle.desk_client.specs.declared.question.Question.{Question}
 use Rattle.command_line.specs.declared.commands.at_desk.DeskQuestion.{DeskQuestion}
 use Rattle.command_line.specs.declared.commands.at_desk.DeskQuestion.TheVariants as desk_asks
@@ -44,11 +44,11 @@ use Rattle.vend_commands.specs.commands.LookedUp.{IsShownAt}
 use Rattle.vend_commands.specs.commands.LookedUp.IsShownAt.{absent as shown_absent, present as shown_present}
 use Rattle.vend_commands.specs.commands.Reported.{IsReported}
 use Rattle.vend_commands.specs.commands.Reported.IsReported.{absent as no_file, present}
-use Rattle.vend_commands.specs.commands.Timed.{IsTimed}
+use Rattle.vend_ports.specs.commands.Timed.{IsTimed}
 use Rattle.vend_commands.specs.office.Visited.{IsVisited}
 use Rattle.vend_commands.specs.office.Visited.IsVisited.{unopened as unvisited, visited}
 use Rattle.vend_commands.specs.declared.office.wanted.Wanted.{Wanted}
-use Rattle.vend_commands.specs.declared.command_end.CommandEnd.{CommandEnd}
+use Rattle.vend_ports.specs.declared.command_end.CommandEnd.{CommandEnd}
 use Rattle.command_line.specs.declared.commands.import.ImportWords.{ImportWords}
 use Rattle.command_line.specs.declared.transform.Shipped.{Shipped}
 use Rattle.command_line.specs.declared.transform.Shipped.TheVariants.{Plain}

@@ -4,9 +4,9 @@ use Rattle.sqlite_trees.specs.declared.store.Store.{Ghosts}
 use Rattle.sts_fields.specs.Text.{Text}
 use Rattle.vend_commands.specs.port.Places.{Machine}
 use Rattle.vend_commands.specs.Run.{IsProgramRun}
-use Rattle.vend_commands.specs.print.Told.{Held, Sink, outputs, sink, writer}
-use Rattle.vend_commands.specs.declared.command_end.CommandEnd.{CommandEnd}
-use Rattle.vend_commands.specs.declared.print.watched.Watched.{Watched}
+use Rattle.vend_ports.specs.print.Told.{Held, Sink, outputs, sink, writer}
+use Rattle.vend_ports.specs.declared.command_end.CommandEnd.{CommandEnd}
+use Rattle.vend_ports.specs.declared.print.watched.Watched.{Watched}
 
 module _ {W : Type 0} (contents : W → Held) where
   -- a writer, as its watch begins

@@ -1,5 +1,4 @@
 pub mod Run
-pub mod Status
 pub mod port
 pub mod print
 pub mod office

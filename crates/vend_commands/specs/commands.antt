@@ -1,14 +1,7 @@
 pub mod Asked
-pub mod AskedOfDesk
 pub mod Audited
 pub mod Imported
-pub mod ListedAtDesk
 pub mod LookedUp
-pub mod Metered
-pub mod Quoted
 pub mod Reported
 pub mod Selfchecked
-pub mod Timed
-pub mod Trial
-pub mod Tried
 pub mod Unread

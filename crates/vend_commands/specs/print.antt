@@ -1,8 +1,5 @@
 pub mod AuditLines
 pub mod Exported
-pub mod FoundTexts
-pub mod ListTexts
 pub mod Listing
-pub mod Printed
-pub mod Told
+pub mod Opening
 pub mod Totalled

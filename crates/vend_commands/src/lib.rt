@@ -4,8 +4,6 @@
 //! `README.md` has the commands in words, and `specs/` has what each prints as definitions.
 #![tactic(auto)]
 
-mod clock;
-mod command_end;
 mod commands;
 mod office;
 mod port;
@@ -13,22 +11,17 @@ mod print;
 mod running;
 mod selfcheck;
 mod serving;
-mod trials;
 
 pub use audit::{Follows, Part};
-pub use command_end::CommandEnd;
 pub use commands::selfcheck::run_selfcheck;
 pub use office::reopening::reopen;
-pub use port::door::Door;
-pub use port::file_fault::FileFault;
-pub use port::loopback::Loopback;
-pub use port::machine_door::set_options;
-pub use port::patient::PatientReader;
-pub use port::ports::{OfficeFile, Ports, SaltSource, TextFiles};
+pub use port::ports::{OfficeFile, Ports, SaltSource};
 pub use port::progress::Progress;
-pub use print::watched::Watched;
 pub use running::{refuse, run, run_over, status};
 pub use selfcheck::fault::SelfcheckFault;
 pub use selfcheck::{gives_exactly, replies_over_memory};
 pub use serving::serve;
-pub use trials::{TrialFault, trial};
+pub use vend_ports::{
+    CommandEnd, Door, FileFault, Loopback, PatientReader, TextFiles, TrialFault, Watched,
+    set_options, trial,
+};

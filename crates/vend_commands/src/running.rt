@@ -4,39 +4,39 @@ ghost use Rattle.sts_fields.specs.Text.{Text};
 ghost use Rattle.vend_core.specs.declared.decision.refusal.Refusal.TheVariants.{Memory};
 ghost use Rattle.command_line.specs.Asked.{AskFor};
 ghost use Rattle.conversation.specs.declared.machine_clock.MachineClock.{MachineClock};
-ghost use Rattle.vend_commands.specs.port.Dial.{dial_of};
+ghost use Rattle.vend_ports.specs.port.Dial.{dial_of};
 ghost use Rattle.vend_commands.specs.port.Places.{loop_of, machine, places_of, untold, way};
-ghost use Rattle.vend_commands.specs.port.Texts.{texts_of};
-ghost use Rattle.vend_commands.specs.print.Printed.{refusal_line};
+ghost use Rattle.vend_ports.specs.port.Texts.{texts_of};
+ghost use Rattle.vend_ports.specs.print.Printed.{refusal_line};
 ghost use Rattle.vend_commands.specs.Run.{IsCarriedOut, IsExplained, IsProgramRun};
-ghost use Rattle.vend_commands.specs.Status.{status_of};
-ghost use Rattle.vend_commands.specs.print.Told.{IsTold, Takes, outputs, sink, writer};
+ghost use Rattle.vend_ports.specs.Status.{status_of};
+ghost use Rattle.vend_ports.specs.print.Told.{IsTold, Takes, outputs, sink, writer};
 ghost use Rattle.vend_commands.specs.commands.Unread.{bad_words_end, bad_words_line};
 ghost use Rattle.command_line.specs.declared.asked.Asked.{Asked};
-ghost use Rattle.vend_commands.specs.declared.command_end.CommandEnd.{CommandEnd};
+ghost use Rattle.vend_ports.specs.declared.command_end.CommandEnd.{CommandEnd};
 
-use crate::command_end::CommandEnd;
 use crate::commands;
 use crate::commands::selfcheck::run_selfcheck;
-use crate::port::door::Door;
-use crate::port::loopback::Loopback;
-use crate::port::machine::{MachineFile, MachineTexts};
-use crate::port::machine_door::MachineDoor;
+use crate::port::machine::MachineFile;
 use crate::port::openings::EachTry;
-use crate::port::ports::{OfficeFile, Ports, TextFiles};
+use crate::port::ports::{OfficeFile, Ports};
 use crate::port::progress::{Progress, TerminalProgress};
 use crate::print::explanation::Explanation;
-use crate::print::lines::{put_line, put_refusal};
-use crate::print::watched::Watched;
 use clap::error::ErrorKind;
 use command_line::{Asked, BadWords, meant, parse};
 use desk::{Clock, MachineClock, TimeSource};
+use desk_commands::at_desk;
 use sqlite::{FileFrom, FileStore, Start};
 use sqlite_disk::Disk;
 use sqlite_trees::store::Store;
 use std::alloc::Global;
 use std::io::Write;
 use vend_core::Refusal;
+use vend_ports::commands::{meter, quote, trial};
+use vend_ports::{
+    CommandEnd, Door, Loopback, MachineDoor, MachineTexts, TextFiles, Watched, put_line,
+    put_refusal,
+};
 
 /// Runs the command that some words give, the program's own name left out, and answers the exit
 /// status.
@@ -200,7 +200,7 @@ fn answer<
     match asked {
         Asked::Trial(words) => {
             leave_all(ports.office, ports.texts, ports.door, ports.loopback);
-            commands::trial::run(&words, alloc, &mut clock, out, err)
+            trial::run(&words, alloc, &mut clock, out, err)
         }
         Asked::Import(words) => {
             go_offline(ports.door, ports.loopback);
@@ -237,11 +237,11 @@ fn answer<
         }
         Asked::Meter(words) => {
             leave_all(ports.office, ports.texts, ports.door, ports.loopback);
-            commands::meter::run(&words, out)
+            meter::run(&words, out)
         }
         Asked::Quote(words) => {
             leave_all(ports.office, ports.texts, ports.door, ports.loopback);
-            commands::quote::run(&words, out, err)
+            quote::run(&words, out, err)
         }
         Asked::Serve(words) => {
             F::leave(ports.texts);
@@ -258,7 +258,7 @@ fn answer<
             H::leave(ports.office);
             D::leave(ports.door);
             let loopback = ports.loopback;
-            commands::at_desk::run(&words, alloc, ports.texts, loopback, out, err)
+            at_desk::run(&words, alloc, ports.texts, loopback, out, err)
         }
         Asked::Audit(words) => {
             be_alone(ports.texts, ports.door, ports.loopback);

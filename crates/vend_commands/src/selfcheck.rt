@@ -14,7 +14,6 @@ ghost use Rattle.vend_commands.specs.commands.Selfchecked.{AgreesOver, AreReplie
 ghost use Rattle.vend_commands.specs.commands.Selfchecked.{Disagrees, HasNoReplies, fault_in_memory};
 ghost use Rattle.vend_commands.specs.commands.Selfchecked.{fault_over_net};
 
-use crate::port::loopback::Loopback;
 use crate::selfcheck::fault::SelfcheckFault;
 use crate::selfcheck::prepared::{NOW, prepare};
 use books::Books;
@@ -25,6 +24,7 @@ use std::io;
 use std::io::{ErrorKind, Read, Write};
 use sts_token::BlockTransform;
 use vend_core::Refusal;
+use vend_ports::Loopback;
 
 // A sale, and the receipt of it.
 const MESSAGES: &[u8] = b"POST /sales HTTP/1.1\r\nHost: d\r\nContent-Length: 64\r\n\r\n\

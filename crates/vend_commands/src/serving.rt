@@ -8,19 +8,17 @@ ghost use Rattle.vend_commands.specs.serving.Connections.{AreLost, AreReady, Are
 ghost use Rattle.vend_commands.specs.office.Lost.{IsUnreopened};
 ghost use Rattle.vend_commands.specs.port.Places.{way};
 ghost use Rattle.vend_commands.specs.office.Visited.{seen_in};
-ghost use Rattle.vend_commands.specs.print.Told.{Takes, sink};
+ghost use Rattle.vend_ports.specs.print.Told.{Takes, sink};
 
 use crate::office::reopening::open_again;
-use crate::port::door::Door;
 use crate::port::ports::OfficeFile;
-use crate::print::lines::{put_open, put_stopped};
-use crate::print::watched::Watched;
 use books::{Books, OpenFault};
 use command_line::{ServeWords, Shipped};
 use desk::{Clock, Desk};
 use sqlite::{Alter, FileStore};
 use std::alloc::Global;
 use std::io::Write;
+use vend_ports::{Door, Watched, put_open, put_stopped};
 
 /// Serves as many connections as the words ask for, one after another. Answers the books as they
 /// are left and whether all connections could be had, or why the file of stopped books was not

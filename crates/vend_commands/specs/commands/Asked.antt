@@ -5,10 +5,10 @@ use Rattle.sts_fields.specs.Text.{Text}
 use Rattle.vend_core.specs.declared.decision.request.Request.{Request}
 use Rattle.vend_commands.specs.port.Places.{Places}
 use Rattle.vend_commands.specs.office.Served.{IsServedAndTold}
-use Rattle.vend_commands.specs.print.Told.{Outputs}
+use Rattle.vend_ports.specs.print.Told.{Outputs}
 use Rattle.vend_commands.specs.office.Visited.{IsVisited}
 use Rattle.command_line.specs.declared.transform.Shipped.{Shipped}
-use Rattle.vend_commands.specs.declared.command_end.CommandEnd.{CommandEnd}
+use Rattle.vend_ports.specs.declared.command_end.CommandEnd.{CommandEnd}
 
 -- `base`, `shift`, `sell`, and `import` with the rows that it read: each asks one request of the
 -- office in a file

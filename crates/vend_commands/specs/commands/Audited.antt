@@ -10,10 +10,11 @@ use Rattle.sts_fields.specs.Text.{Text}
 use Rattle.sts_token.specs.Token.{BlockFunction}
 use Rattle.vend_commands.specs.port.Places.{Place}
 use Rattle.vend_commands.specs.print.AuditLines.{TellsRow, broken_line, sound_line}
-use Rattle.vend_commands.specs.print.Printed.{file_line, opening_line}
-use Rattle.vend_commands.specs.print.Told.{IsTold, Outputs}
-use Rattle.vend_commands.specs.declared.command_end.CommandEnd.{CommandEnd}
-use Rattle.vend_commands.specs.declared.command_end.CommandEnd.TheVariants.{Done, Refused}
+use Rattle.vend_ports.specs.print.Printed.{file_line}
+use Rattle.vend_commands.specs.print.Opening.{opening_line}
+use Rattle.vend_ports.specs.print.Told.{IsTold, Outputs}
+use Rattle.vend_ports.specs.declared.command_end.CommandEnd.{CommandEnd}
+use Rattle.vend_ports.specs.declared.command_end.CommandEnd.TheVariants.{Done, Refused}
 
 -- What an audit answers is told: what the file keeps, or the row that breaks a rule, goes to the
 -- output; that the file has tables of no office, or was not read, to the error output.

@@ -1,6 +1,5 @@
 -- What `import` does: a file of rows is read, and they are added to an office.
 use Rattle.std.specs.Prelude.{◌⊎◌, ℕ, List, [], Result, Ok, Err}
-use Rattle.sts_fields.specs.Text.{Text}
 use Rattle.sqlite_trees.specs.declared.store.Store.{Ghosts}
 use Rattle.papers.specs.File.{AreFileRecords, Fields}
 use Rattle.papers.specs.Import.{IsReading}
@@ -11,15 +10,15 @@ use Rattle.vend_core.specs.declared.decision.refusal.Refusal.TheVariants as refu
 use Rattle.vend_core.specs.declared.decision.request.Request.TheVariants.{Import}
 use Rattle.vend_core.specs.declared.office.row.Row.{Row}
 use Rattle.vend_commands.specs.port.Places.{Places}
-use Rattle.vend_commands.specs.port.Texts.{Texts}
-use Rattle.vend_commands.specs.print.Printed.{file_line, refusal_line}
+use Rattle.vend_ports.specs.port.Texts.{Texts}
+use Rattle.vend_ports.specs.print.Printed.{refusal_line}
 use Rattle.vend_commands.specs.commands.Asked.{IsAskedAt}
-use Rattle.vend_commands.specs.print.Told.{Outputs, IsTold}
+use Rattle.vend_ports.specs.print.Told.{Outputs, IsTold}
 use Rattle.command_line.specs.declared.commands.import.ImportWords.{ImportWords}
-use Rattle.vend_commands.specs.declared.command_end.CommandEnd.{CommandEnd}
-use Rattle.vend_commands.specs.declared.command_end.CommandEnd.TheVariants.{Refused}
-use Rattle.vend_commands.specs.declared.port.file_fault.FileFault.{FileFault}
-use Rattle.vend_commands.specs.declared.port.file_fault.FileFault.TheVariants as read
+use Rattle.vend_ports.specs.declared.command_end.CommandEnd.{CommandEnd}
+use Rattle.vend_ports.specs.declared.command_end.CommandEnd.TheVariants.{Refused}
+use Rattle.vend_ports.specs.declared.port.file_fault.FileFault.{FileFault}
+use Rattle.vend_ports.specs.declared.port.file_fault.FileFault.TheVariants as read
 
 -- how a fault of the rows is told: as the office refuses a row
 abbrev pub refusal_of_rows : RowFault → Refusal
@@ -43,11 +42,6 @@ IsImported store at untouched words moment bytes o end =
     (records : List Fields) × (rows : Result (List Row) RowFault)
     × AreFileRecords bytes records × IsReading words.kind records rows
     × AreAdded store at untouched words moment rows o end
-
--- the file cannot be read, or there is no room for it
-abbrev pub read_fault_line : FileFault → Text
-read_fault_line read.Unreadable = file_line
-read_fault_line read.Memory = refusal_line refusal.Memory
 
 -- the file of the words has some bytes, which are imported; or it is not read, and that is told,
 -- and no office is found

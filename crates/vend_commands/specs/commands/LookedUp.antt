@@ -18,18 +18,18 @@ use Rattle.vend_core.specs.Law.Life.{Life}
 use Rattle.vend_core.specs.Office.{Office}
 use Rattle.vend_core.specs.declared.decision.refusal.Refusal.{Refusal}
 use Rattle.vend_core.specs.declared.decision.refusal.Refusal.TheVariants.{Memory}
-use Rattle.vend_commands.specs.commands.Timed.{IsTimed}
+use Rattle.vend_ports.specs.commands.Timed.{IsTimed}
 use Rattle.vend_commands.specs.office.Visited.{IsVisited}
-use Rattle.vend_commands.specs.port.Dial.{Dial}
+use Rattle.vend_ports.specs.port.Dial.{Dial}
 use Rattle.vend_commands.specs.port.Places.{Places, where_present}
-use Rattle.vend_commands.specs.print.FoundTexts.{IsMadeWhole, found_text, purchase_in}
+use Rattle.desk_commands.specs.print.FoundTexts.{IsMadeWhole, found_text, purchase_in}
 use Rattle.vend_commands.specs.print.Listing.{IsListed}
-use Rattle.vend_commands.specs.print.Printed.{file_line, refusal_line}
-use Rattle.vend_commands.specs.print.Told.{IsTold, Outputs}
+use Rattle.vend_ports.specs.print.Printed.{file_line, refusal_line}
+use Rattle.vend_ports.specs.print.Told.{IsTold, Outputs}
 use Rattle.vend_commands.specs.declared.office.wanted.Wanted.{Wanted}
 use Rattle.vend_commands.specs.declared.office.wanted.Wanted.TheVariants.{One, Listing}
-use Rattle.vend_commands.specs.declared.command_end.CommandEnd.{CommandEnd}
-use Rattle.vend_commands.specs.declared.command_end.CommandEnd.TheVariants.{Done, Refused}
+use Rattle.vend_ports.specs.declared.command_end.CommandEnd.{CommandEnd}
+use Rattle.vend_ports.specs.declared.command_end.CommandEnd.TheVariants.{Done, Refused}
 
 -- what is looked up where this is to be shown
 abbrev pub lookup_of : Shown → Lookup

@@ -5,18 +5,18 @@ use Rattle.sts_fields.specs.Moment.{first_moment}
 use Rattle.books.specs.Keeps.{Seen}
 use Rattle.vend_core.specs.declared.decision.request.Request.TheVariants.{Reprint, ShiftReport}
 use Rattle.vend_commands.specs.print.Exported.{IsExported}
-use Rattle.vend_commands.specs.print.Printed.{file_line}
+use Rattle.vend_ports.specs.print.Printed.{file_line}
 use Rattle.vend_commands.specs.port.Places.{Places, where_present}
 use Rattle.vend_commands.specs.office.Served.{IsServedAndTold}
-use Rattle.vend_commands.specs.print.Told.{IsTold, Outputs}
+use Rattle.vend_ports.specs.print.Told.{IsTold, Outputs}
 use Rattle.vend_commands.specs.print.Totalled.{IsTotalled}
 use Rattle.vend_commands.specs.office.Visited.{IsVisited}
 use Rattle.command_line.specs.declared.commands.report.Paper.{Paper}
 use Rattle.command_line.specs.declared.commands.report.Paper.TheVariants.{Shift, Receipt, Totals, Sales}
 use Rattle.command_line.specs.declared.commands.report.ReportWords.{ReportWords}
 use Rattle.command_line.specs.declared.transform.Shipped.TheVariants.{Plain}
-use Rattle.vend_commands.specs.declared.command_end.CommandEnd.{CommandEnd}
-use Rattle.vend_commands.specs.declared.command_end.CommandEnd.TheVariants.{Refused}
+use Rattle.vend_ports.specs.declared.command_end.CommandEnd.{CommandEnd}
+use Rattle.vend_ports.specs.declared.command_end.CommandEnd.TheVariants.{Refused}
 
 -- a report or a receipt is asked for at the first moment, since it is the same at each
 abbrev pub PrintsPaper : Paper → (old new : Seen) → Outputs → CommandEnd → Type 0

@@ -21,13 +21,14 @@ use Rattle.vend_core.specs.declared.decision.refusal.Refusal.TheVariants as refu
 use Rattle.vend_core.specs.declared.decision.request.Request.{Request}
 use Rattle.vend_core.specs.declared.decision.request.Request.TheVariants.{AddTariff, AddMeter, OpenShift}
 use Rattle.vend_core.specs.declared.decision.request.Stamped.{Stamped}
-use Rattle.vend_commands.specs.print.Printed.{net_line, opening_line, refusal_line, selfcheck_line}
-use Rattle.vend_commands.specs.port.Sent.{IsSent}
-use Rattle.vend_commands.specs.print.Told.{Held, IsTold, Outputs}
+use Rattle.vend_ports.specs.print.Printed.{net_line, refusal_line, selfcheck_line}
+use Rattle.vend_commands.specs.print.Opening.{opening_line}
+use Rattle.vend_ports.specs.port.Sent.{IsSent}
+use Rattle.vend_ports.specs.print.Told.{Held, IsTold, Outputs}
 use Rattle.command_line.specs.Transform.{forward_of}
-use Rattle.vend_commands.specs.declared.command_end.CommandEnd.{CommandEnd}
-use Rattle.vend_commands.specs.declared.command_end.CommandEnd.TheVariants.{Done, Refused as IsRefused}
-use Rattle.vend_commands.specs.declared.port.loopback.Loopback as loopback
+use Rattle.vend_ports.specs.declared.command_end.CommandEnd.{CommandEnd}
+use Rattle.vend_ports.specs.declared.command_end.CommandEnd.TheVariants.{Done, Refused as IsRefused}
+use Rattle.vend_ports.specs.declared.port.loopback.Loopback as loopback
 use Rattle.vend_commands.specs.declared.selfcheck.fault.SelfcheckFault.{SelfcheckFault}
 use Rattle.vend_commands.specs.declared.selfcheck.fault.SelfcheckFault.TheVariants.{Net, Unopened, Refused}
 use Rattle.command_line.specs.declared.transform.Shipped.{Shipped}

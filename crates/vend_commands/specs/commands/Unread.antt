@@ -1,9 +1,9 @@
 -- How a run ends whose words were not read.
 use Rattle.vend_core.specs.declared.decision.refusal.Refusal.TheVariants as refusal
 use Rattle.sts_fields.specs.Text.{Text}
-use Rattle.vend_commands.specs.print.Printed.{bad_word_line, refusal_line}
-use Rattle.vend_commands.specs.declared.command_end.CommandEnd.{CommandEnd}
-use Rattle.vend_commands.specs.declared.command_end.CommandEnd.TheVariants.{Refused, BadWords}
+use Rattle.vend_ports.specs.print.Printed.{bad_word_line, refusal_line}
+use Rattle.vend_ports.specs.declared.command_end.CommandEnd.{CommandEnd}
+use Rattle.vend_ports.specs.declared.command_end.CommandEnd.TheVariants.{Refused, BadWords}
 use Rattle.command_line.specs.declared.words.BadWords.{BadWords as Why}
 use Rattle.command_line.specs.declared.words.BadWords.TheVariants.{Value, Memory}
 

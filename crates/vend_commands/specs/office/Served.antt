@@ -10,10 +10,10 @@ use Rattle.vend_core.specs.declared.decision.answer.Answer.TheVariants.{Done, Im
 use Rattle.vend_core.specs.declared.decision.refusal.Refusal.{Refusal}
 use Rattle.vend_core.specs.declared.decision.refusal.Refusal.TheVariants.{Memory}
 use Rattle.vend_core.specs.declared.decision.request.Request.{Request}
-use Rattle.vend_commands.specs.print.Printed.{added_line, done_line, refusal_line, shift_line}
-use Rattle.vend_commands.specs.print.Told.{Outputs, IsTold}
-use Rattle.vend_commands.specs.declared.command_end.CommandEnd.{CommandEnd}
-use Rattle.vend_commands.specs.declared.command_end.CommandEnd.TheVariants as how
+use Rattle.vend_ports.specs.print.Printed.{added_line, done_line, refusal_line, shift_line}
+use Rattle.vend_ports.specs.print.Told.{Outputs, IsTold}
+use Rattle.vend_ports.specs.declared.command_end.CommandEnd.{CommandEnd}
+use Rattle.vend_ports.specs.declared.command_end.CommandEnd.TheVariants as how
 
 -- the text of an answer: a sale's receipt, a shift's report, or a line
 abbrev pub answer_text : core.Answer → Text

@@ -11,10 +11,10 @@ use Rattle.command_line.specs.declared.transform.Shipped.{Shipped}
 use Rattle.vend_core.specs.Law.LifeLaws.{opened}
 use Rattle.vend_core.specs.Office.{Office}
 use Rattle.vend_commands.specs.port.Places.{Place}
-use Rattle.vend_commands.specs.print.Printed.{opening_line}
-use Rattle.vend_commands.specs.print.Told.{Outputs, IsTold}
-use Rattle.vend_commands.specs.declared.command_end.CommandEnd.{CommandEnd}
-use Rattle.vend_commands.specs.declared.command_end.CommandEnd.TheVariants.{Refused}
+use Rattle.vend_commands.specs.print.Opening.{opening_line}
+use Rattle.vend_ports.specs.print.Told.{Outputs, IsTold}
+use Rattle.vend_ports.specs.declared.command_end.CommandEnd.{CommandEnd}
+use Rattle.vend_ports.specs.declared.command_end.CommandEnd.TheVariants.{Refused}
 
 -- what is seen of books whose transform is one that ships
 abbrev pub seen_in : {S : Type 0} → {store : Ghosts S} → Books S Shipped store shipped → Seen

@@ -20,13 +20,13 @@ use Rattle.vend_commands.specs.office.Audits.{AuditsIn}
 use Rattle.vend_commands.specs.office.Closed.{IsClosed}
 use Rattle.vend_commands.specs.office.Lost.{IsUnreopened}
 use Rattle.vend_commands.specs.office.Opened.{OpensIn}
-use Rattle.vend_commands.specs.port.Dial.{Dial}
-use Rattle.vend_commands.specs.port.Exchanged.{Calls, calls_of, untold_calls}
-use Rattle.vend_commands.specs.port.Texts.{Texts}
+use Rattle.vend_ports.specs.port.Dial.{Dial}
+use Rattle.desk_commands.specs.Exchanged.{Calls, calls_of, untold_calls}
+use Rattle.vend_ports.specs.port.Texts.{Texts}
 use Rattle.vend_commands.specs.commands.Selfchecked.{AgreesOver, Disagrees, HasReplies}
-use Rattle.vend_commands.specs.print.Told.{Held}
-use Rattle.vend_commands.specs.declared.port.door.Door as doors
-use Rattle.vend_commands.specs.declared.port.loopback.Loopback as loopback
+use Rattle.vend_ports.specs.print.Told.{Held}
+use Rattle.vend_ports.specs.declared.port.door.Door as doors
+use Rattle.vend_ports.specs.declared.port.loopback.Loopback as loopback
 use Rattle.vend_commands.specs.declared.port.ports.OfficeFile as file
 use Rattle.vend_commands.specs.declared.port.ports.SaltSource as source
 use Rattle.vend_commands.specs.declared.selfcheck.fault.SelfcheckFault.{SelfcheckFault}

@@ -8,12 +8,12 @@ use Rattle.vend_core.specs.Law.Life.{Life, present}
 use Rattle.vend_core.specs.declared.decision.refusal.Refusal.{Refusal}
 use Rattle.vend_core.specs.declared.decision.refusal.Refusal.TheVariants.{Memory, Stopped, Store}
 use Rattle.vend_core.specs.declared.office.sale.Sale.{Sale}
-use Rattle.vend_commands.specs.print.Printed.{refusal_line}
+use Rattle.vend_ports.specs.print.Printed.{refusal_line}
 use Rattle.vend_commands.specs.office.OnlyRead.{AreOnlyRead}
 use Rattle.vend_commands.specs.office.Refused.{RefusesToRead, TellsStopped}
-use Rattle.vend_commands.specs.print.Told.{IsTold, Outputs, Sink, Takes}
-use Rattle.vend_commands.specs.declared.command_end.CommandEnd.{CommandEnd}
-use Rattle.vend_commands.specs.declared.command_end.CommandEnd.TheVariants as how
+use Rattle.vend_ports.specs.print.Told.{IsTold, Outputs, Sink, Takes}
+use Rattle.vend_ports.specs.declared.command_end.CommandEnd.{CommandEnd}
+use Rattle.vend_ports.specs.declared.command_end.CommandEnd.TheVariants as how
 
 -- ---- a page
 

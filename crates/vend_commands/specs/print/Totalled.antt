@@ -1,25 +1,18 @@
 -- What is printed of the totals of a shift.
-use Rattle.std.specs.Prelude.{◌≡◌, ℕ, [], ◌∷◌, codes, decimal, Some, None, Result, Ok, Err}
+use Rattle.std.specs.Prelude.{◌≡◌, ℕ, [], Some, None, Result, Ok, Err}
 use Rattle.sqlite.specs.State.{HasCleanDisk}
 use Rattle.book_tables.specs.declared.row.totals.Totals.{Totals}
 use Rattle.books.specs.Keeps.{Represents, Seen}
 use Rattle.books.specs.Totals.{shift_totals}
-use Rattle.sts_fields.specs.Text.{Text}
 use Rattle.vend_core.specs.Law.Life.{Life, present}
 use Rattle.vend_core.specs.declared.decision.refusal.Refusal.{Refusal}
 use Rattle.vend_core.specs.declared.decision.refusal.Refusal.TheVariants.{NoSuchShift}
-use Rattle.vend_commands.specs.print.Printed.{line_of, refusal_line}
+use Rattle.vend_ports.specs.print.Printed.{refusal_line}
 use Rattle.vend_commands.specs.office.OnlyRead.{AreOnlyRead}
 use Rattle.vend_commands.specs.office.Refused.{RefusesToRead}
-use Rattle.vend_commands.specs.print.Told.{Outputs, IsTold}
-use Rattle.vend_commands.specs.declared.command_end.CommandEnd.{CommandEnd}
-use Rattle.vend_commands.specs.declared.command_end.CommandEnd.TheVariants.{Done, Refused}
-
--- the shift, the count of its sales, and the sums of their tenths and of their prices
-abbrev pub totals_line : ℕ → Totals → Text
-totals_line number totals =
-    line_of (codes "shift" ∷ decimal number ∷ codes "sales" ∷ decimal totals.sales
-    ∷ codes "tenths" ∷ decimal totals.tenths ∷ codes "cash" ∷ decimal totals.cash ∷ [])
+use Rattle.vend_ports.specs.print.Told.{Outputs, IsTold}
+use Rattle.vend_ports.specs.declared.command_end.CommandEnd.{CommandEnd}
+use Rattle.vend_ports.specs.declared.command_end.CommandEnd.TheVariants.{Done, Refused}
 
 -- the shift has none in every life that the books kept, where it is refused as no such shift; and
 -- what else is refused is so as the tables were not read, or the books are stopped

@@ -13,7 +13,7 @@ use Rattle.sts_token.specs.Token.{BlockFunction}
 use Rattle.vend_core.specs.Law.Life.{Life}
 use Rattle.vend_commands.specs.port.Places.{Way}
 use Rattle.vend_commands.specs.office.Reopened.{IsNextLife}
-use Rattle.vend_commands.specs.print.Printed.{open_line, stopped_line}
+use Rattle.vend_ports.specs.print.Printed.{open_line, stopped_line}
 
 -- what serves: the door, the books, and the answers that the clock has yet to give
 pub record Service (D B : Type 0) : Type 0 where

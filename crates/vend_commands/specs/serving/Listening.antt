@@ -7,16 +7,17 @@ use Rattle.sts_fields.specs.Text.{Text}
 use Rattle.vend_core.specs.declared.decision.refusal.Refusal.TheVariants.{Memory}
 use Rattle.vend_commands.specs.serving.Connections.{AreServed, service}
 use Rattle.vend_commands.specs.port.Places.{Place, Places, Way}
-use Rattle.vend_commands.specs.port.Port.{IsPortFor}
-use Rattle.vend_commands.specs.print.Printed.{listening_line, net_line, opening_line, refusal_line}
-use Rattle.vend_commands.specs.print.Told.{Outputs, Sink, Takes}
+use Rattle.vend_ports.specs.port.Port.{IsPortFor}
+use Rattle.vend_ports.specs.print.Printed.{listening_line, net_line, refusal_line}
+use Rattle.vend_commands.specs.print.Opening.{opening_line}
+use Rattle.vend_ports.specs.print.Told.{Outputs, Sink, Takes}
 use Rattle.vend_commands.specs.office.Visited.{IsOpenedAt, seen_in}
 use Rattle.command_line.specs.Transform.{forward_of, shipped}
 use Rattle.command_line.specs.declared.address.Address.{Address}
 use Rattle.command_line.specs.declared.commands.serve.ServeWords.{ServeWords}
 use Rattle.command_line.specs.declared.transform.Shipped.{Shipped}
-use Rattle.vend_commands.specs.declared.command_end.CommandEnd.{CommandEnd}
-use Rattle.vend_commands.specs.declared.command_end.CommandEnd.TheVariants.{Done, Refused}
+use Rattle.vend_ports.specs.declared.command_end.CommandEnd.{CommandEnd}
+use Rattle.vend_ports.specs.declared.command_end.CommandEnd.TheVariants.{Done, Refused}
 
 -- the door listens at the address of the words, and at which port was told whole
 pub record Listens {D R W : Type 0} (way : Way D R W) (address : Address) (old new : D)

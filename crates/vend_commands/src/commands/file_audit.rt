@@ -2,21 +2,20 @@ ghost use Rattle.std.specs.Prelude.{option_map};
 ghost use Rattle.command_line.specs.Transform.{forward_of};
 ghost use Rattle.vend_commands.specs.commands.Audited.{IsAudited, TellsAudit};
 ghost use Rattle.vend_commands.specs.port.Places.{places_of};
-ghost use Rattle.vend_commands.specs.print.Told.{outputs, sink};
+ghost use Rattle.vend_ports.specs.print.Told.{outputs, sink};
 
-use crate::command_end::CommandEnd;
 use crate::office::auditing::{audit_files, connect, end_audit};
 use crate::port::ports::OfficeFile;
 use crate::port::progress::Progress;
 use crate::print::audit_lines::{put_broken, put_sound};
-use crate::print::lines::{put_line, put_opening};
-use crate::print::watched::Watched;
+use crate::print::opening::put_opening;
 use audit::{AuditFault, Audited};
 use book_opening::fault_of;
 use books::OpenFault;
 use command_line::AuditWords;
 use std::alloc::Global;
 use std::io::Write;
+use vend_ports::{CommandEnd, Watched, put_line};
 
 /// Looks at the file of the words, where it is there, closes it as it was, and prints what it
 /// keeps, or the first row that is no office's. It tells that the file is open, and which parts

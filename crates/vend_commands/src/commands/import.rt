@@ -1,20 +1,15 @@
 ghost use Rattle.std.specs.Prelude.{◌≡◌, List};
 ghost use Rattle.papers.specs.File.{AreFileRecords, Fields};
 ghost use Rattle.papers.specs.Import.{IsReading};
-ghost use Rattle.vend_commands.specs.commands.Imported.{IsFileImported, IsImported, read_fault_line, refusal_of_rows};
-ghost use Rattle.vend_commands.specs.port.Dial.{dial_of};
+ghost use Rattle.vend_commands.specs.commands.Imported.{IsFileImported, IsImported, refusal_of_rows};
+ghost use Rattle.vend_ports.specs.port.Dial.{dial_of};
 ghost use Rattle.vend_commands.specs.port.Places.{places_of};
-ghost use Rattle.vend_commands.specs.port.Texts.{texts_of};
-ghost use Rattle.vend_commands.specs.commands.Timed.{IsTimed};
-ghost use Rattle.vend_commands.specs.print.Told.{Takes, outputs, sink};
+ghost use Rattle.vend_ports.specs.port.Texts.{texts_of};
+ghost use Rattle.vend_ports.specs.commands.Timed.{IsTimed};
+ghost use Rattle.vend_ports.specs.print.Told.{outputs, sink};
 
-use crate::clock::moment_or_now;
-use crate::command_end::CommandEnd;
 use crate::commands::request::ask_at;
-use crate::port::file_fault::FileFault;
-use crate::port::ports::{OfficeFile, TextFiles};
-use crate::print::lines::{put_line, put_no_moment, put_refusal};
-use crate::print::watched::Watched;
+use crate::port::ports::OfficeFile;
 use command_line::{ImportWords, RequestWords};
 use desk::Clock;
 use papers::{FileKind, RowFault, read_meters, read_tariffs};
@@ -24,6 +19,9 @@ use std::alloc::Global;
 use std::io::Write;
 use sts_fields::Moment;
 use vend_core::{Refusal, Request, Rows};
+use vend_ports::{
+    CommandEnd, TextFiles, Watched, moment_or_now, put_no_moment, put_read_fault, put_refusal,
+};
 
 /// Reads the file of rows, adds them to the office, at the moment of the words or else of the
 /// clock, and prints how many were new.
@@ -133,15 +131,5 @@ fn refusal_of(fault: RowFault) -> Refusal
     match fault {
         RowFault::At(row, cause) => Refusal::ImportRow(row, cause),
         RowFault::Memory => Refusal::Memory,
-    }
-}
-
-/// Tells why a file is not read.
-pub(crate) fn put_read_fault<E: Write>(fault: FileFault, err: &mut Watched<'_, E>)
-    ensures { Takes (sink E.contents err.old) (sink E.contents err.new) (read_fault_line fault) }
-{
-    match fault {
-        FileFault::Unreadable => put_line(&[b"file"], err),
-        FileFault::Memory => put_refusal(Refusal::Memory, err),
     }
 }

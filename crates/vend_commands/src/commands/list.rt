@@ -1,19 +1,18 @@
 ghost use Rattle.vend_commands.specs.commands.LookedUp.{IsShown};
-ghost use Rattle.vend_commands.specs.port.Dial.{dial_of};
+ghost use Rattle.vend_ports.specs.port.Dial.{dial_of};
 ghost use Rattle.vend_commands.specs.port.Places.{places_of};
-ghost use Rattle.vend_commands.specs.print.Told.{outputs, sink};
+ghost use Rattle.vend_ports.specs.print.Told.{outputs, sink};
 
-use crate::command_end::CommandEnd;
 use crate::commands::look_up::{self, FileLookup};
 use crate::office::wanted::Wanted;
 use crate::port::ports::OfficeFile;
-use crate::print::watched::Watched;
 use command_line::ListWords;
 use desk::Clock;
 use sqlite::FileStore;
 use sqlite_trees::store::Store;
 use std::alloc::Global;
 use std::io::Write;
+use vend_ports::{CommandEnd, Watched};
 
 /// Prints the members of a list, as the office of a file has them.
 pub(crate) fn run<H: OfficeFile, C: Clock, O: Write, E: Write>(

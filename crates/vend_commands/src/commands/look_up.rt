@@ -1,18 +1,15 @@
 //! Something that is looked up in the office of a file: `show`, `list`, and `quote` of a file.
 
 ghost use Rattle.vend_commands.specs.commands.LookedUp.{IsShown, IsShownAt};
-ghost use Rattle.vend_commands.specs.port.Dial.{dial_of};
+ghost use Rattle.vend_ports.specs.port.Dial.{dial_of};
 ghost use Rattle.vend_commands.specs.port.Places.{places_of};
-ghost use Rattle.vend_commands.specs.print.Told.{outputs, sink};
+ghost use Rattle.vend_ports.specs.print.Told.{outputs, sink};
 
-use crate::clock::moment_or_now;
-use crate::command_end::CommandEnd;
 use crate::office::looking::read;
 use crate::office::opening::{close_office, open_present_office};
 use crate::office::wanted::Wanted;
 use crate::port::ports::OfficeFile;
-use crate::print::lines::{put_line, put_no_moment, put_opening};
-use crate::print::watched::Watched;
+use crate::print::opening::put_opening;
 use command_line::Shipped;
 use desk::Clock;
 use sqlite::FileStore;
@@ -20,6 +17,7 @@ use sqlite_trees::store::Store;
 use std::alloc::Global;
 use std::io::Write;
 use sts_fields::Moment;
+use vend_ports::{CommandEnd, Watched, moment_or_now, put_line, put_no_moment};
 
 /// What is wanted of the office in which file.
 #[derive(Clone, Copy)]

@@ -1,13 +1,11 @@
 ghost use Rattle.vend_commands.specs.commands.LookedUp.{IsShown};
-ghost use Rattle.vend_commands.specs.port.Dial.{dial_of};
+ghost use Rattle.vend_ports.specs.port.Dial.{dial_of};
 ghost use Rattle.vend_commands.specs.port.Places.{places_of};
-ghost use Rattle.vend_commands.specs.print.Told.{outputs, sink};
+ghost use Rattle.vend_ports.specs.print.Told.{outputs, sink};
 
-use crate::command_end::CommandEnd;
 use crate::commands::look_up::{self, FileLookup};
 use crate::office::wanted::Wanted;
 use crate::port::ports::OfficeFile;
-use crate::print::watched::Watched;
 use books::Lookup;
 use command_line::OfferWords;
 use desk::Clock;
@@ -15,6 +13,7 @@ use sqlite::FileStore;
 use sqlite_trees::store::Store;
 use std::alloc::Global;
 use std::io::Write;
+use vend_ports::{CommandEnd, Watched};
 
 /// Prints what a tender would buy for a meter of the office in a file.
 pub(crate) fn run<H: OfficeFile, C: Clock, O: Write, E: Write>(

@@ -2,18 +2,16 @@ ghost use Rattle.std.specs.Prelude.{◌≡◌};
 ghost use Rattle.sts_fields.specs.Moment.{first_moment};
 ghost use Rattle.vend_commands.specs.port.Places.{places_of};
 ghost use Rattle.vend_commands.specs.commands.Reported.{IsReported, PrintsPaper};
-ghost use Rattle.vend_commands.specs.print.Told.{outputs, sink};
+ghost use Rattle.vend_ports.specs.print.Told.{outputs, sink};
 ghost use Rattle.vend_commands.specs.office.Visited.{seen_in};
 
-use crate::command_end::CommandEnd;
 use crate::office::asking::ask;
 use crate::office::opening::{close_office, open_present_office};
 use crate::port::ports::OfficeFile;
 use crate::port::progress::Progress;
-use crate::print::lines::{put_line, put_opening};
+use crate::print::opening::put_opening;
 use crate::print::sales::print_sales;
 use crate::print::totals::print_totals;
-use crate::print::watched::Watched;
 use books::Books;
 use command_line::{Paper, ReportWords, Shipped};
 use sqlite::{Alter, FileStore};
@@ -22,6 +20,7 @@ use std::alloc::Global;
 use std::io::Write;
 use sts_fields::Moment;
 use vend_core::Request;
+use vend_ports::{CommandEnd, Watched, put_line};
 
 /// Opens the office where its file is there, prints a paper of it, and closes its file; or tells
 /// why it is not opened. No token is written, so any transform serves.

@@ -1,16 +1,13 @@
 ghost use Rattle.vend_commands.specs.commands.Asked.{IsAskedAt};
-ghost use Rattle.vend_commands.specs.port.Dial.{dial_of};
+ghost use Rattle.vend_ports.specs.port.Dial.{dial_of};
 ghost use Rattle.vend_commands.specs.port.Places.{places_of};
-ghost use Rattle.vend_commands.specs.commands.Timed.{IsTimed};
-ghost use Rattle.vend_commands.specs.print.Told.{outputs, sink};
+ghost use Rattle.vend_ports.specs.commands.Timed.{IsTimed};
+ghost use Rattle.vend_ports.specs.print.Told.{outputs, sink};
 
-use crate::clock::moment_or_now;
-use crate::command_end::CommandEnd;
 use crate::office::asking::ask;
 use crate::office::opening::{close_office, open_office};
 use crate::port::ports::OfficeFile;
-use crate::print::lines::{put_no_moment, put_opening};
-use crate::print::watched::Watched;
+use crate::print::opening::put_opening;
 use command_line::RequestWords;
 use desk::Clock;
 use sqlite::FileStore;
@@ -18,6 +15,7 @@ use sqlite_trees::store::Store;
 use std::alloc::Global;
 use std::io::Write;
 use sts_fields::Moment;
+use vend_ports::{CommandEnd, Watched, moment_or_now, put_no_moment};
 
 /// Makes the request to the office, at the moment of the words or else of the clock, and prints the
 /// answer.

@@ -3,17 +3,15 @@ ghost use Rattle.books.specs.Keeps.{seen};
 ghost use Rattle.command_line.specs.Transform.{forward_of, shipped};
 ghost use Rattle.vend_commands.specs.commands.Selfchecked.{AgreesOver, Disagrees, IsSelfchecked};
 ghost use Rattle.vend_commands.specs.commands.Selfchecked.{selfcheck_fault_line};
-ghost use Rattle.vend_commands.specs.print.Told.{Takes, outputs, sink};
+ghost use Rattle.vend_ports.specs.print.Told.{Takes, outputs, sink};
 
-use crate::command_end::CommandEnd;
-use crate::port::loopback::Loopback;
-use crate::print::lines::{put_line, put_opening, put_refusal};
-use crate::print::watched::Watched;
+use crate::print::opening::put_opening;
 use crate::selfcheck::fault::SelfcheckFault;
 use crate::selfcheck::selfcheck;
 use command_line::SelfcheckWords;
 use std::alloc::Global;
 use std::io::Write;
+use vend_ports::{CommandEnd, Loopback, Watched, put_line, put_refusal};
 
 /// Prints that the same replies came over a connection, or tells why they did not.
 pub fn run_selfcheck<L: Loopback, O: Write, E: Write>(

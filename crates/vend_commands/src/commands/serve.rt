@@ -2,16 +2,13 @@ ghost use Rattle.std.specs.Prelude.{◌≡◌, MatchOption};
 ghost use Rattle.vend_commands.specs.office.Closed.{IsClosed};
 ghost use Rattle.vend_commands.specs.serving.Listening.{IsClosedAfter, IsDeaf, IsServing, Listens, last_line, serving_end};
 ghost use Rattle.vend_commands.specs.port.Places.{places_of, way};
-ghost use Rattle.vend_commands.specs.print.Printed.{net_line, refusal_line};
-ghost use Rattle.vend_commands.specs.print.Told.{Takes, sink};
+ghost use Rattle.vend_ports.specs.print.Printed.{net_line, refusal_line};
+ghost use Rattle.vend_ports.specs.print.Told.{Takes, sink};
 ghost use Rattle.vend_commands.specs.office.Visited.{seen_in};
 
-use crate::command_end::CommandEnd;
 use crate::office::opening::{close_office, open_office};
-use crate::port::door::Door;
 use crate::port::ports::OfficeFile;
-use crate::print::lines::{address_text, put_line, put_opening, put_refusal};
-use crate::print::watched::Watched;
+use crate::print::opening::put_opening;
 use crate::serving::serve;
 use books::{Books, OpenFault};
 use command_line::{Address, ServeWords, Shipped};
@@ -21,6 +18,7 @@ use sqlite_trees::store::Store;
 use std::alloc::Global;
 use std::io::Write;
 use vend_core::Refusal;
+use vend_ports::{CommandEnd, Door, Watched, address_text, put_line, put_refusal};
 
 /// Opens the office, serves its connections, and closes its file as it is left. The door is left as
 /// the last connection left it.

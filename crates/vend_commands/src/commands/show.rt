@@ -1,14 +1,12 @@
 ghost use Rattle.std.specs.Prelude.{◌≡◌};
 ghost use Rattle.vend_commands.specs.commands.LookedUp.{IsShown, lookup_of};
-ghost use Rattle.vend_commands.specs.port.Dial.{dial_of};
+ghost use Rattle.vend_ports.specs.port.Dial.{dial_of};
 ghost use Rattle.vend_commands.specs.port.Places.{places_of};
-ghost use Rattle.vend_commands.specs.print.Told.{outputs, sink};
+ghost use Rattle.vend_ports.specs.print.Told.{outputs, sink};
 
-use crate::command_end::CommandEnd;
 use crate::commands::look_up::{self, FileLookup};
 use crate::office::wanted::Wanted;
 use crate::port::ports::OfficeFile;
-use crate::print::watched::Watched;
 use books::Lookup;
 use command_line::{ShowWords, Shown};
 use desk::Clock;
@@ -16,6 +14,7 @@ use sqlite::FileStore;
 use sqlite_trees::store::Store;
 use std::alloc::Global;
 use std::io::Write;
+use vend_ports::{CommandEnd, Watched};
 
 /// Prints a meter, a sale or the receipt of a meter's last sale, as the office of a file has it.
 pub(crate) fn run<H: OfficeFile, C: Clock, O: Write, E: Write>(

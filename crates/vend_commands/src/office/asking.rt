@@ -3,11 +3,8 @@
 ghost use Rattle.std.specs.Prelude.{[], MatchResult};
 ghost use Rattle.books.specs.Keeps.{seen};
 ghost use Rattle.vend_commands.specs.office.Served.{IsServedAndTold, TakesRoom, TellsAnswer, answer_text};
-ghost use Rattle.vend_commands.specs.print.Told.{Takes, outputs, sink};
+ghost use Rattle.vend_ports.specs.print.Told.{Takes, outputs, sink};
 
-use crate::command_end::CommandEnd;
-use crate::print::lines::{put_added, put_line, put_refusal, put_shift};
-use crate::print::watched::Watched;
 use books::Books;
 use papers::{receipt_in_place, shift_report};
 use sqlite::Alter;
@@ -15,6 +12,7 @@ use std::alloc::{AllocError, Global};
 use std::io::Write;
 use sts_token::BlockTransform;
 use vend_core::{Answer, Moment, Refusal, Request};
+use vend_ports::{CommandEnd, Watched, put_added, put_line, put_refusal, put_shift};
 
 /// Asks books for an answer at a moment, and prints it, or tells why it is refused.
 ///

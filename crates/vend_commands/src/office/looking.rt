@@ -2,20 +2,18 @@
 
 ghost use Rattle.books.specs.Keeps.{seen};
 ghost use Rattle.vend_commands.specs.commands.LookedUp.{IsLookedUp, IsRead, TellsText};
-ghost use Rattle.vend_commands.specs.print.Told.{outputs, sink};
+ghost use Rattle.vend_ports.specs.print.Told.{outputs, sink};
 
-use crate::command_end::CommandEnd;
 use crate::office::listing::list;
 use crate::office::wanted::Wanted;
-use crate::print::found::put_found;
-use crate::print::lines::put_refusal;
-use crate::print::watched::Watched;
 use books::{Books, Found, Lookup};
+use desk_commands::put_found;
 use sqlite::Alter;
 use std::alloc::Global;
 use std::io::Write;
 use sts_token::BlockTransform;
 use vend_core::{Moment, Refusal};
+use vend_ports::{CommandEnd, Watched, put_refusal};
 
 /// Prints what is wanted of books at a moment, or tells why it is not there.
 pub(crate) fn read<S: Alter, T: BlockTransform, O: Write, E: Write>(

@@ -4,15 +4,12 @@ ghost use Rattle.std.specs.Prelude.{⊤, true, false, IfOk};
 ghost use Rattle.sqlite_std_file.specs.File.{IsFresh, file_is_usable};
 ghost use Rattle.sqlite_wal.specs.Files.{image_at};
 
-use crate::port::file_fault::FileFault;
 use crate::port::openings::{EachTry, Openings, Pair, PresentOpenings};
-use crate::port::ports::{OfficeFile, SaltSource, TextFiles};
+use crate::port::ports::{OfficeFile, SaltSource};
 use crate::port::tries::try_for;
 use books::OpenFault;
 use sqlite::{FileFrom, Start};
-use std::fs;
 use std::hash::{BuildHasher, RandomState};
-use std::io::ErrorKind;
 
 /// The file of an office on this machine. `start` stands for what it holds.
 #[derive(Drop)]
@@ -82,34 +79,6 @@ impl<'a, B: Start> OfficeFile for MachineFile<'a, B> {
     {
         drop(log);
         drop(db);
-    }
-
-    fn leave<T: Drop>(it: T)
-        ensures { ⊤ }
-    {
-        drop(it);
-    }
-}
-
-/// The files of this machine.
-#[derive(Drop)]
-pub(crate) struct MachineTexts<'a> {
-    pub rt: &'a HostRuntime,
-}
-
-impl TextFiles for MachineTexts<'_> {
-    ghost reads = { λ _ _ _. ⊤ };
-
-    ghost lacks = { λ _ _ _. ⊤ };
-
-    ghost leaves = { λ _ _. ⊤ };
-
-    fn read(self, path: &str) -> Result<Vec<u8>, FileFault> {
-        match fs::read(self.rt, path) {
-            Ok(bytes) => Ok(bytes),
-            Err(error) if error.kind() == ErrorKind::OutOfMemory => Err(FileFault::Memory),
-            Err(_) => Err(FileFault::Unreadable),
-        }
     }
 
     fn leave<T: Drop>(it: T)

@@ -1,19 +1,16 @@
 //! What a command has of the machine beside its outputs: each a small trait that says what it
 //! means. Whatever stands over them is proved for every machine.
 
-ghost use Rattle.std.specs.Prelude.{◌≡◌, ℕ, List, IfErr, IfNone, IfOk, IfSome, IsTrue};
+ghost use Rattle.std.specs.Prelude.{◌≡◌, ℕ, IfErr, IfNone, IfOk, IfSome, IsTrue};
 ghost use Rattle.sqlite_wal.specs.Files.{seen_image};
 ghost use Rattle.sqlite_wal.specs.Recovery.{Image};
 ghost use Rattle.sts_fields.specs.Text.{Text};
 ghost use Rattle.book_opening.specs.declared.fault.OpenFault.{OpenFault};
-ghost use Rattle.vend_commands.specs.declared.port.file_fault.FileFault.{FileFault};
 
-use crate::port::door::Door;
-use crate::port::file_fault::FileFault;
-use crate::port::loopback::Loopback;
 use crate::port::progress::Progress;
 use books::OpenFault;
 use sqlite_disk::Disk;
+use vend_ports::{Door, Loopback, TextFiles};
 
 /// Where the salts of a file's log come from: numbers that are drawn at random.
 pub trait SaltSource: Drop {
@@ -97,28 +94,6 @@ pub trait OfficeFile: Drop {
         ensures { lets_go D log db };
 
     /// Leaves it as it is. Then no files can be opened any more. Whatever this is given, it can do
-    /// nothing with it.
-    fn leave<T: Drop>(it: T)
-        ensures { leaves T it };
-}
-
-/// Files that are read whole: one of them, once.
-pub trait TextFiles: Drop {
-    /// The file of this name holds these bytes.
-    ghost reads: { Self → Text → List ℕ → Type 0 };
-
-    /// The file of this name is not read, for this fault.
-    ghost lacks: { Self → Text → FileFault → Type 0 };
-
-    /// None was read.
-    ghost leaves: { (T : Type 0) → T → Type 0 };
-
-    /// All that a file holds.
-    fn read(self, path: &str) -> Result<Vec<u8>, FileFault>
-        ensures reads { IfOk result (λ bytes. reads self path.now bytes.items) }
-        ensures lacks { IfErr result (lacks self path.now) };
-
-    /// Leaves them as they are. Then none can be read any more. Whatever this is given, it can do
     /// nothing with it.
     fn leave<T: Drop>(it: T)
         ensures { leaves T it };

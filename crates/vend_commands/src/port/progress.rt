@@ -1,11 +1,10 @@
 //! Whom a command that takes long tells how far it is.
 
 use crate::print::audit_lines::put_passed;
-use crate::print::lines::{put_opened, put_progress};
-use crate::print::watched::Watched;
 use audit::{Follows, Part};
 use std::io::IsTerminal;
 use std::time::{Duration, Instant};
+use vend_ports::{Watched, put_opened, put_progress};
 
 // So many seconds lie between two lines, at the least.
 const PAUSE: u64 = 1;

@@ -6,16 +6,15 @@ ghost use Rattle.sqlite_value.specs.Value.{owned};
 ghost use Rattle.sts_fields.specs.Text.{Text};
 ghost use Rattle.vend_commands.specs.print.AuditLines.{TellsRow, TellsValue, broken_line};
 ghost use Rattle.vend_commands.specs.print.AuditLines.{part_text, passed_line, rule_text, sound_line};
-ghost use Rattle.vend_commands.specs.print.Told.{Takes, sink};
+ghost use Rattle.vend_ports.specs.print.Told.{Takes, sink};
 
-use crate::print::lines::put_line;
-use crate::print::watched::Watched;
 use audit::{Audited, Finding, Part, RowKey, Rule};
 use itoa::Buffer;
 use sqlite::Row;
 use sqlite::types::ValueRef;
 use std::io::Write;
 use vend_core::Ref;
+use vend_ports::{Watched, put_line};
 
 /// Prints what a file keeps.
 pub(crate) fn put_sound<W: Write>(audited: Audited, out: &mut Watched<'_, W>)

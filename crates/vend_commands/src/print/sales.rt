@@ -4,12 +4,9 @@ ghost use Rattle.std.specs.Prelude.{◌≤◌};
 ghost use Rattle.books.specs.Keeps.{seen};
 ghost use Rattle.vend_commands.specs.office.OnlyRead.{AreOnlyRead};
 ghost use Rattle.vend_commands.specs.print.Exported.{IsExported, IsPage};
-ghost use Rattle.vend_commands.specs.print.Told.{outputs, sink};
+ghost use Rattle.vend_ports.specs.print.Told.{outputs, sink};
 
-use crate::command_end::CommandEnd;
 use crate::port::progress::Progress;
-use crate::print::lines::put_refusal;
-use crate::print::watched::Watched;
 use books::Books;
 use papers::{export, export_law};
 use sqlite::Alter;
@@ -17,6 +14,7 @@ use std::alloc::Global;
 use std::io::Write;
 use sts_token::BlockTransform;
 use vend_core::{Refusal, life_law, store_law};
+use vend_ports::{CommandEnd, Watched, put_refusal};
 
 // How many sales a page has, at most.
 const PAGE: u32 = 1000;

@@ -1,12 +1,12 @@
 use Rattle.std.proofs.Common.{refl}
 use Rattle.sqlite.specs.Files.{over_files}
 use Rattle.command_line.specs.declared.asked.Asked.TheVariants as asks
-use Rattle.vend_commands.specs.port.Dial.{dial_of}
-use Rattle.vend_commands.specs.port.Texts.{texts_of}
+use Rattle.vend_ports.specs.port.Dial.{dial_of}
+use Rattle.vend_ports.specs.port.Texts.{texts_of}
 use Rattle.vend_commands.specs.port.Places.{loop_of, machine, places_of, way}
-use Rattle.vend_commands.specs.print.Told.{outputs, sink}
+use Rattle.vend_ports.specs.print.Told.{outputs, sink}
 use Rattle.vend_commands.proofs.RunLemmas.{done_so}
-use Rattle.vend_commands.proofs.TakeLemmas.{takes_none}
+use Rattle.vend_ports.proofs.TakeLemmas.{takes_none}
 use Rattle.vend_commands.proofs.running.answer.Goals as goal
 
 pub returns-in-Serve : goal.returns-in-Serve

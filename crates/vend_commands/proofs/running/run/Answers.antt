@@ -1,5 +1,5 @@
 use Rattle.std.proofs.Common.{◌∙◌, ap, rules, sym}
-use Rattle.vend_commands.specs.Status.{status_of}
+use Rattle.vend_ports.specs.Status.{status_of}
 use Rattle.vend_commands.proofs.RunLemmas.{asked_ends}
 use Rattle.vend_commands.proofs.SameLemmas.{run_same}
 use Rattle.vend_commands.proofs.UntoldLemmas.{run_bare}

@@ -1,8 +1,8 @@
 use Rattle.std.proofs.Common.{◌∙◌, [], inl, inr, refl, sym}
 use Rattle.vend_commands.specs.office.Visited.{seen_in}
-use Rattle.vend_commands.specs.print.Printed.{open_line}
+use Rattle.vend_ports.specs.print.Printed.{open_line}
 use Rattle.vend_commands.proofs.ConnectionLemmas.{open_none, open_some}
-use Rattle.vend_commands.proofs.TakeLemmas.{takes_as, takes_none}
+use Rattle.vend_ports.proofs.TakeLemmas.{takes_as, takes_none}
 use Rattle.vend_commands.proofs.serving.readied.Goals as goal
 
 pub returns-then-not-is_stopped-clause-ready : goal.returns-then-not-is_stopped-clause-ready

@@ -1,8 +1,8 @@
 use Rattle.std.proofs.Common.{◌∙◌, [], sym}
 use Rattle.vend_commands.specs.office.Visited.{seen_in}
-use Rattle.vend_commands.specs.print.Printed.{stopped_line}
+use Rattle.vend_ports.specs.print.Printed.{stopped_line}
 use Rattle.vend_commands.proofs.ConnectionLemmas.{stopped_none, stopped_some}
-use Rattle.vend_commands.proofs.TakeLemmas.{takes_as, takes_none}
+use Rattle.vend_ports.proofs.TakeLemmas.{takes_as, takes_none}
 use Rattle.vend_commands.proofs.serving.tell_stop.Goals as goal
 
 pub returns-then-is_stopped : goal.returns-then-is_stopped

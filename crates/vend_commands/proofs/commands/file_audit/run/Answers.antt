@@ -5,9 +5,9 @@ use Rattle.sqlite.specs.State.{HasCleanDisk}
 use Rattle.command_line.specs.Transform.{forward_of}
 use Rattle.vend_commands.specs.commands.Audited.IsAudited.{looked, unopened}
 use Rattle.vend_commands.specs.port.Places.{places_of}
-use Rattle.vend_commands.specs.print.Told.{sink}
+use Rattle.vend_ports.specs.print.Told.{sink}
 use Rattle.vend_commands.proofs.FileAuditLemmas.{audit_of_file}
-use Rattle.vend_commands.proofs.TakeLemmas.{takes_none}
+use Rattle.vend_ports.proofs.TakeLemmas.{takes_none}
 use Rattle.vend_commands.proofs.commands.file_audit.run.Goals as goal
 
 pub returns-in-Ok-Some : goal.returns-in-Ok-Some

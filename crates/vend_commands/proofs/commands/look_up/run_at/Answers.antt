@@ -3,10 +3,10 @@ use Rattle.vend_commands.specs.office.Opened.{OpensIn}
 use Rattle.vend_commands.specs.office.Visited.{IsOpened}
 use Rattle.vend_commands.specs.office.Visited.IsVisited.{unopened, visited}
 use Rattle.vend_commands.specs.port.Places.{places_of}
-use Rattle.vend_commands.specs.print.Told.{sink}
+use Rattle.vend_ports.specs.print.Told.{sink}
 use Rattle.command_line.specs.declared.transform.Shipped.TheVariants.{Plain}
 use Rattle.vend_commands.specs.commands.LookedUp.IsShownAt.{present}
-use Rattle.vend_commands.proofs.TakeLemmas.{takes_none}
+use Rattle.vend_ports.proofs.TakeLemmas.{takes_none}
 use Rattle.vend_commands.proofs.commands.look_up.run_at.Goals as goal
 
 pub returns-in-Ok-Some : goal.returns-in-Ok-Some

@@ -1,7 +1,7 @@
 use Rattle.std.proofs.Common.{refl}
-use Rattle.vend_commands.specs.print.Told.{sink}
+use Rattle.vend_ports.specs.print.Told.{sink}
 use Rattle.vend_commands.specs.office.Visited.IsVisited.{unopened, visited}
-use Rattle.vend_commands.proofs.TakeLemmas.{takes_none}
+use Rattle.vend_ports.proofs.TakeLemmas.{takes_none}
 use Rattle.vend_commands.proofs.commands.request.ask_at.Goals as goal
 
 pub returns-in-Ok : goal.returns-in-Ok

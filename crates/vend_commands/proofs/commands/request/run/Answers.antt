@@ -1,9 +1,9 @@
 use Rattle.std.proofs.Common.{refl}
-use Rattle.vend_commands.specs.port.Dial.{dial_of}
-use Rattle.vend_commands.specs.print.Told.{outputs, sink}
-use Rattle.vend_commands.specs.declared.command_end.CommandEnd.TheVariants.{Refused}
-use Rattle.vend_commands.proofs.TakeLemmas.{takes_none}
-use Rattle.vend_commands.proofs.TimedLemmas.{timed, untimed}
+use Rattle.vend_ports.specs.port.Dial.{dial_of}
+use Rattle.vend_ports.specs.print.Told.{outputs, sink}
+use Rattle.vend_ports.specs.declared.command_end.CommandEnd.TheVariants.{Refused}
+use Rattle.vend_ports.proofs.TakeLemmas.{takes_none}
+use Rattle.vend_ports.proofs.TimedLemmas.{timed, untimed}
 use Rattle.vend_commands.proofs.commands.request.run.Goals as goal
 
 pub returns-in-Some : goal.returns-in-Some

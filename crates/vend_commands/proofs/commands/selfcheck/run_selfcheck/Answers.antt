@@ -1,7 +1,7 @@
 use Rattle.std.proofs.Common.{refl}
 use Rattle.vend_commands.specs.commands.Selfchecked.IsSelfchecked.{agreed, failed}
-use Rattle.vend_commands.specs.print.Told.{sink}
-use Rattle.vend_commands.proofs.TakeLemmas.{takes_none}
+use Rattle.vend_ports.specs.print.Told.{sink}
+use Rattle.vend_ports.proofs.TakeLemmas.{takes_none}
 use Rattle.vend_commands.proofs.commands.selfcheck.run_selfcheck.Goals as goal
 
 pub returns-in-Err : goal.returns-in-Err

@@ -1,7 +1,7 @@
 use Rattle.std.proofs.Common.{◌∙◌, [], ◌∷◌, codes, subst, sym}
 use Rattle.vend_commands.specs.serving.Listening.IsDeaf.{no_text, not_told}
-use Rattle.vend_commands.specs.print.Printed.{line_of}
-use Rattle.vend_commands.specs.print.Told.{Takes, sink}
+use Rattle.vend_ports.specs.print.Printed.{line_of}
+use Rattle.vend_ports.specs.print.Told.{Takes, sink}
 use Rattle.vend_commands.proofs.commands.serve.listen.Goals as goal
 
 pub returns-then-has_failed : goal.returns-then-has_failed

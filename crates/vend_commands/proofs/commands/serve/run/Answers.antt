@@ -1,7 +1,7 @@
 use Rattle.std.proofs.Common.{refl}
 use Rattle.vend_commands.specs.serving.Listening.IsServing.{unheard, unopened, was_open}
-use Rattle.vend_commands.specs.print.Told.{sink}
-use Rattle.vend_commands.proofs.TakeLemmas.{takes_next}
+use Rattle.vend_ports.specs.print.Told.{sink}
+use Rattle.vend_ports.proofs.TakeLemmas.{takes_next}
 use Rattle.vend_commands.proofs.commands.serve.run.Goals as goal
 
 pub returns-in-Some : goal.returns-in-Some

@@ -3,8 +3,8 @@ use Rattle.sqlite.specs.Files.{over_files}
 use Rattle.book_facts.specs.declared.lookup.Lookup.{Lookup}
 use Rattle.vend_commands.specs.commands.LookedUp.{IsShown}
 use Rattle.vend_commands.specs.port.Places.{places_of}
-use Rattle.vend_commands.specs.port.Dial.{dial_of}
-use Rattle.vend_commands.specs.print.Told.{outputs, sink}
+use Rattle.vend_ports.specs.port.Dial.{dial_of}
+use Rattle.vend_ports.specs.print.Told.{outputs, sink}
 use Rattle.vend_commands.specs.declared.office.wanted.Wanted.TheVariants.{One}
 use Rattle.vend_commands.proofs.commands.show.run.Goals as goal
 

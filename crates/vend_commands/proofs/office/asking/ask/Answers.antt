@@ -1,6 +1,6 @@
 use Rattle.std.proofs.Common.{Err, refl}
-use Rattle.vend_commands.specs.print.Told.{sink}
-use Rattle.vend_commands.proofs.TakeLemmas.{takes_none}
+use Rattle.vend_ports.specs.print.Told.{sink}
+use Rattle.vend_ports.proofs.TakeLemmas.{takes_none}
 use Rattle.vend_commands.proofs.office.asking.ask.Goals as goal
 
 pub returns-in-Err : goal.returns-in-Err

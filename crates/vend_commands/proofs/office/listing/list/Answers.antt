@@ -1,8 +1,9 @@
 use Rattle.std.proofs.Common.{◌≡◌, ◌==◌, [], Ok, refl, subst, arith}
 use Rattle.books.specs.Keeps.{seen}
-use Rattle.vend_commands.specs.print.Listing.{IsListPage, most_pages}
-use Rattle.vend_commands.specs.print.Printed.{refusal_line}
-use Rattle.vend_commands.specs.print.Told.{Takes, sink}
+use Rattle.vend_commands.specs.print.Listing.{IsListPage}
+use Rattle.desk_commands.specs.print.Pages.{most_pages}
+use Rattle.vend_ports.specs.print.Printed.{refusal_line}
+use Rattle.vend_ports.specs.print.Told.{Takes, sink}
 use Rattle.vend_commands.proofs.ListingLemmas.{most_printed, no_pages, page_last, page_more, page_refused}
 use Rattle.vend_commands.proofs.office.listing.list.Goals as goal
 

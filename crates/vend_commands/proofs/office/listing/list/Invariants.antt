@@ -1,7 +1,7 @@
 use Rattle.std.proofs.Common.{◌≡◌, List}
 use Rattle.book_facts.specs.declared.lookup.Found.{Found}
 use Rattle.books.specs.Keeps.{seen}
-use Rattle.vend_commands.specs.print.Told.{sink}
+use Rattle.vend_ports.specs.print.Told.{sink}
 use Rattle.vend_commands.proofs.ListingLemmas.{ListedSoFar}
 use Rattle.vend_commands.proofs.office.listing.list.Given as goal
 

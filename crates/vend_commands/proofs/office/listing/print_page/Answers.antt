@@ -2,12 +2,12 @@ use Rattle.std.proofs.Common.{Ok, Err, inl, refl, subst}
 use Rattle.book_facts.specs.declared.lookup.Lookup.{Lookup}
 use Rattle.books.specs.Keeps.{seen}
 use Rattle.books.specs.Looking.{IsFoundAt}
-use Rattle.vend_commands.specs.print.Listing.{page_lookup}
-use Rattle.vend_commands.specs.print.Told.{sink}
+use Rattle.desk_commands.specs.print.Pages.{page_lookup}
+use Rattle.vend_ports.specs.print.Told.{sink}
 use Rattle.vend_commands.proofs.ListingLemmas.{page_found, page_refusal}
 use Rattle.vend_commands.proofs.OnlyReadLemmas.{read_once}
 use Rattle.vend_commands.proofs.RefusedLemmas.{stopped_as_before, tells_no_memory, tells_refusal}
-use Rattle.vend_commands.proofs.TakeLemmas.{takes_none}
+use Rattle.vend_ports.proofs.TakeLemmas.{takes_none}
 use Rattle.vend_commands.proofs.office.listing.print_page.Goals as goal
 
 pub returns-in-Err-clause-page : goal.returns-in-Err-clause-page

@@ -2,11 +2,11 @@ use Rattle.std.proofs.Common.{◌≡◌, ◌≢◌, ◌⊎◌, ◌∙◌, ◌*�
 use Rattle.std.proofs.lemmas.Bool.{ne_eqb}
 use Rattle.papers.specs.Export.{export_of}
 use Rattle.vend_core.specs.Law.Life.{present}
-use Rattle.vend_commands.specs.print.Told.{Takes, sink}
+use Rattle.vend_ports.specs.print.Told.{Takes, sink}
 use Rattle.books.specs.Keeps.{seen}
 use Rattle.vend_commands.proofs.OnlyReadLemmas.{read_once}
 use Rattle.vend_commands.proofs.RefusedLemmas.{stopped_as_before, tells_no_memory, tells_refusal}
-use Rattle.vend_commands.proofs.TakeLemmas.{takes_none}
+use Rattle.vend_ports.proofs.TakeLemmas.{takes_none}
 use Rattle.vend_commands.proofs.print.sales.print_page.Goals as goal
 use Rattle.vend_commands.proofs.print.sales.print_page.Goals.{then-is_full, else-is_full}
 

@@ -2,8 +2,8 @@ use Rattle.std.proofs.Common.{[], inl, refl, subst, arith, Ok}
 use Rattle.books.specs.Keeps.{seen}
 use Rattle.vend_core.specs.Law.Life.{present}
 use Rattle.vend_commands.specs.print.Exported.{IsPage}
-use Rattle.vend_commands.specs.print.Printed.{refusal_line}
-use Rattle.vend_commands.specs.print.Told.{Takes, sink}
+use Rattle.vend_ports.specs.print.Printed.{refusal_line}
+use Rattle.vend_ports.specs.print.Told.{Takes, sink}
 use Rattle.vend_commands.proofs.ExportLemmas.{all_pages, no_pages, page_last, page_more, page_refused}
 use Rattle.vend_commands.proofs.print.sales.print_sales.Goals as goal
 

@@ -1,6 +1,6 @@
 use Rattle.std.proofs.Common.{◌≡◌, ℕ, List}
 use Rattle.books.specs.Keeps.{seen}
-use Rattle.vend_commands.specs.print.Told.{sink}
+use Rattle.vend_ports.specs.print.Told.{sink}
 use Rattle.vend_commands.proofs.ExportLemmas.{SoFar}
 use Rattle.vend_commands.proofs.print.sales.print_sales.Given as goal
 

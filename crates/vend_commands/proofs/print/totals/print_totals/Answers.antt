@@ -1,9 +1,9 @@
 use Rattle.std.proofs.Common.{Err, Ok, ap, refl}
 use Rattle.books.specs.Keeps.{seen}
-use Rattle.vend_commands.specs.print.Told.{sink}
+use Rattle.vend_ports.specs.print.Told.{sink}
 use Rattle.vend_commands.proofs.OnlyReadLemmas.{read_once}
 use Rattle.vend_commands.proofs.RefusedLemmas.{tells_refusal}
-use Rattle.vend_commands.proofs.TakeLemmas.{takes_none}
+use Rattle.vend_ports.proofs.TakeLemmas.{takes_none}
 use Rattle.vend_commands.proofs.print.totals.print_totals.Goals as goal
 
 pub returns-in-Ok : goal.returns-in-Ok

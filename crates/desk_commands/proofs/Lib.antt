@@ -1,0 +1,3 @@
+pub mod DeskListLemmas
+pub mod PageLemmas
+pub mod TableLemmas

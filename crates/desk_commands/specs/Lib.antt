@@ -1,0 +1,4 @@
+pub mod AskedOfDesk
+pub mod Exchanged
+pub mod ListedAtDesk
+pub mod print

@@ -1,0 +1,168 @@
+-- What is printed of a list that a running desk has: its members, page by page, each page asked for
+-- by a message of one connection.
+use Rattle.std.specs.Prelude.{◌≡◌, ◌≢◌, ◌⊎◌, ⊤, Bool, true, List, [], ◌∷◌, ◌++◌, length, Option, Some, None, Result, Ok, Err}
+use Rattle.std.specs.Borrow.{Bor}
+use Rattle.book_facts.specs.declared.lookup.Found.{Found}
+use Rattle.command_line.specs.declared.address.Address.{Address}
+use Rattle.command_line.specs.declared.commands.list.Listed.{Listed}
+use Rattle.command_line.specs.declared.commands.list.Listed.TheVariants as listed
+use Rattle.desk_client.specs.Page.{IsToldPage, page_text}
+use Rattle.desk_client.specs.Question.{question_text}
+use Rattle.desk_client.specs.Reply.{IsReply}
+use Rattle.desk_client.specs.declared.question.Question.{Question}
+use Rattle.desk_client.specs.declared.question.Question.TheVariants as questions
+use Rattle.desk_client.specs.declared.page.PageKind.{PageKind}
+use Rattle.desk_client.specs.declared.page.PageKind.TheVariants as kinds
+use Rattle.desk_client.specs.declared.told.Granted.TheVariants as grants
+use Rattle.desk_client.specs.declared.told.Told.{Told}
+use Rattle.desk_client.specs.declared.told.Told.TheVariants as tells
+use Rattle.desk_client.specs.declared.told.Wanted.TheVariants as wanted
+use Rattle.sts_fields.specs.Text.{Text}
+use Rattle.vend_core.specs.declared.decision.refusal.Refusal.TheVariants as refusals
+use Rattle.desk_commands.specs.Exchanged.{Calls, IsRound, IsUnsent, Round}
+use Rattle.desk_commands.specs.print.ListTexts.{pages_text}
+use Rattle.desk_commands.specs.print.Pages.{IsPagePut, list_behind, most_pages}
+use Rattle.vend_ports.specs.print.Printed.{clock_line, net_line, refusal_line}
+use Rattle.vend_ports.specs.print.Told.{Held, IsTold, Outputs, Sink, Takes}
+use Rattle.vend_ports.specs.declared.command_end.CommandEnd.{CommandEnd}
+use Rattle.vend_ports.specs.declared.command_end.CommandEnd.TheVariants.{Done, Refused}
+use Rattle.desk_commands.specs.declared.list_at_desk.PageFault.{PageFault}
+use Rattle.desk_commands.specs.declared.list_at_desk.PageFault.TheVariants as faults
+use Rattle.desk_commands.specs.declared.exchange.ExchangeFault.{ExchangeFault}
+use Rattle.desk_commands.specs.declared.exchange.ExchangeFault.TheVariants as exchanges
+
+-- ---- pages
+
+-- the question that asks for the first page of a list
+abbrev pub page_question : Listed → Question
+page_question (listed.Tariffs after) = questions.Tariffs after
+page_question (listed.Meters after) = questions.Meters after
+page_question (listed.Shifts after) = questions.Shifts after
+page_question (listed.Sales after) = questions.Sales after
+
+-- what the pages of a list have
+abbrev pub page_kind : Listed → PageKind
+page_kind (listed.Tariffs after) = kinds.Tariffs
+page_kind (listed.Meters after) = kinds.Meters
+page_kind (listed.Shifts after) = kinds.Shifts
+page_kind (listed.Sales after) = kinds.Sales
+
+-- a whole reply came that tells this page of the list
+pub record IsPageReply (list : Listed) (came : Text) (page : Found) : Type 0 where
+  pub body : Bor Text
+  pub reply : IsReply wanted.Page came (tells.Granted (grants.Page body))
+  pub told : IsToldPage (page_kind list) page
+  pub text : body.now ≡ page_text page
+
+-- These rounds told these pages of a list: the first, and each next one the first of the list
+-- behind the one before it. What is left is the list behind the last of them.
+abbrev pub TellPages : Option Listed → List Round → List Found → (left : Option Listed) → Type 0
+TellPages list [] [] left = left ≡ list
+TellPages (Some list) (round ∷ rounds) (page ∷ pages) left =
+    (round.message ≡ question_text (page_question list)) × IsPageReply list round.came page
+    × TellPages (list_behind page) rounds pages left
+TellPages list rounds pages left = ⊥
+
+-- ---- why there are no more of them
+
+-- why nothing came of a message
+abbrev pub exchange_fault_line : ExchangeFault → Text
+exchange_fault_line exchanges.Net = net_line
+exchange_fault_line exchanges.Memory = refusal_line refusals.Memory
+
+-- why no further page is printed, as it is told
+abbrev pub page_fault_line : PageFault → Text
+page_fault_line (faults.Unsent fault) = exchange_fault_line fault
+page_fault_line (faults.Refused refusal) = refusal_line refusal
+page_fault_line faults.NoMoment = clock_line
+page_fault_line faults.OutOfForm = net_line
+page_fault_line faults.Memory = refusal_line refusals.Memory
+
+-- a whole reply came that tells a text for a page
+abbrev pub IsTextReply : (came : Text) → (body : Bor Text) → Type 0
+IsTextReply came body = IsReply wanted.Page came (tells.Granted (grants.Page body))
+
+-- the text is no page of the list
+abbrev pub IsOtherText : Listed → Text → Type 0
+IsOtherText list text = (page : Found) → IsToldPage (page_kind list) page → text ≢ page_text page
+
+-- why what came is not printed as the next page of a list: a refusal; that the desk's clock has no
+-- moment; what is no whole reply, or tells no page of the list; or a text, and there is no room for
+-- its page or for what is printed of it
+abbrev pub IsNoPage : Listed → (came : Text) → PageFault → Type 0
+IsNoPage list came (faults.Unsent fault) = ⊥
+IsNoPage list came (faults.Refused refusal) = IsReply wanted.Page came (tells.Refused refusal)
+IsNoPage list came faults.NoMoment = IsReply wanted.Page came tells.NoMoment
+IsNoPage list came faults.OutOfForm = ((told : Told) → ¬ IsReply wanted.Page came told)
+    ⊎ ((body : Bor Text) × IsTextReply came body × IsOtherText list body.now)
+IsNoPage list came faults.Memory = (body : Bor Text) × IsTextReply came body
+
+-- what came tells this page of the list, or it does not, for this fault
+abbrev pub IsPageIn : Listed → (came : Text) → Result Found PageFault → Type 0
+IsPageIn list came (Ok page) = IsPageReply list came page
+IsPageIn list came (Err fault) = IsNoPage list came fault
+
+-- ---- one page
+
+-- A message that asks for the first page of a list was sent on a stream, and what came tells this
+-- page, or it does not; or nothing came of the message.
+abbrev pub IsPageAsked : {S : Type 0} → (remaining contents : S → Held) → Listed
+    → (fresh last : S) → Result Found PageFault → Type 0
+IsPageAsked remaining contents list fresh last (Err (faults.Unsent fault)) = ⊤
+IsPageAsked remaining contents list fresh last page = (came : Text)
+    × IsRound remaining contents fresh last (question_text (page_question list)) came
+    × IsPageIn list came page
+
+-- it is printed, and the list behind it is to follow; or nothing is printed
+abbrev pub IsPagePrinted : {S : Type 0} → (remaining contents : S → Held) → Listed
+    → (json first : Bool) → (fresh last : S) → (before after : Sink)
+    → Result (Option Listed) PageFault → Type 0
+IsPagePrinted remaining contents list json first fresh last before after (Ok next) =
+    (page : Found) × IsPageAsked remaining contents list fresh last (Ok page)
+    × IsPagePut page json first before after next
+IsPagePrinted remaining contents list json first fresh last before after (Err fault) =
+    IsPageAsked remaining contents list fresh last (Err fault) × Takes before after []
+
+-- ---- all pages
+
+-- the rounds, and one more that asks for the next page of a list
+abbrev pub and_next : List Round → Listed → (came : Text) → List Round
+and_next rounds list came =
+    rounds ++ record { message = question_text (page_question list); came = came } ∷ []
+
+-- A page is not printed, for this fault: the message for it was not sent, or what came is no page.
+abbrev pub IsPageStop : Calls → Address → List Round → (left : Option Listed) → PageFault → Type 0
+IsPageStop calls desk rounds left (faults.Unsent fault) = IsUnsent calls desk rounds fault
+IsPageStop calls desk rounds left fault = (list : Listed) × (left ≡ Some list) × (came : Text)
+    × calls.exchanges desk (and_next rounds list came) × IsNoPage list came fault
+
+-- It stops behind the last page; or as the output took no more, or there are more pages than an
+-- office in a file can have; or at a page that is not printed.
+abbrev pub IsDeskStop : Calls → Address → List Round → List Found → (left : Option Listed)
+    → (failed : Bool) → Option PageFault → Type 0
+IsDeskStop calls desk rounds pages left failed None = calls.exchanges desk rounds
+    × ((left ≡ None) ⊎ ((failed ≡ true) ⊎ (length pages ≡ most_pages)))
+IsDeskStop calls desk rounds pages left failed (Some fault) =
+    IsPageStop calls desk rounds left fault
+
+-- what is told of a stop, and how the command ends
+abbrev pub page_stop_errors : Option PageFault → Text
+page_stop_errors None = []
+page_stop_errors (Some fault) = page_fault_line fault
+
+abbrev pub page_stop_end : Option PageFault → CommandEnd
+page_stop_end None = Done
+page_stop_end (Some fault) = Refused
+
+-- The pages of a list are printed as a desk told them, up to the last one, which is not full; or
+-- those before one that did not come, and then why; or those up to one that the output did not
+-- take.
+pub record IsListedAtDesk (calls : Calls) (desk : Address) (list : Listed) (json : Bool)
+    (o : Outputs) (end : CommandEnd) : Type 0 where
+  pub rounds : List Round
+  pub pages : List Found
+  pub left : Option Listed
+  pub stop : Option PageFault
+  pub told : IsTold o (pages_text json pages) (page_stop_errors stop) (page_stop_end stop) end
+  pub are : TellPages (Some list) rounds pages left
+  pub stops : IsDeskStop calls desk rounds pages left o.new.failed stop

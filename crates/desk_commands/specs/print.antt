@@ -1,0 +1,4 @@
+pub mod FoundTexts
+pub mod ListTexts
+pub mod Pages
+pub mod TotalsLine

@@ -1,0 +1,183 @@
+//! A list that a running desk has, printed page by page.
+
+ghost use Rattle.std.specs.Prelude.{◌≡◌, IfOk};
+ghost use Rattle.desk_client.specs.Question.{question_text};
+ghost use Rattle.desk_commands.specs.ListedAtDesk.{IsListedAtDesk, IsPageAsked, IsPageIn};
+ghost use Rattle.desk_commands.specs.ListedAtDesk.{IsPagePrinted, page_fault_line, page_kind};
+ghost use Rattle.desk_commands.specs.ListedAtDesk.{exchange_fault_line, page_question};
+ghost use Rattle.desk_commands.specs.Exchanged.{calls_of};
+ghost use Rattle.vend_ports.specs.print.Told.{Takes, outputs, sink};
+
+use crate::exchange::{ExchangeFault, exchange_on, told_in};
+use crate::print::pages::put_page;
+use book_facts::Found;
+use command_line::{Address, Listed};
+use desk_client::{Granted, PageKind, Question, Told, Wanted, page_in};
+use std::alloc::{AllocError, Global};
+use std::io::{Read, Write};
+use vend_core::Refusal;
+use vend_ports::{CommandEnd, Loopback, Watched, put_line, put_no_moment, put_refusal};
+
+/// Why a page of a list is not printed.
+#[derive(Clone, Copy, Debug, PartialEq, Eq)]
+pub enum PageFault {
+    /// Nothing came of the message that asks for it.
+    Unsent(ExchangeFault),
+    /// The office refuses it.
+    Refused(Refusal),
+    /// The desk's clock is outside the moments of an office.
+    NoMoment,
+    /// What came is no page of the list.
+    OutOfForm,
+    /// There is no room for the page, or for its text.
+    Memory,
+}
+
+/// Prints the pages of a list that a desk has, or tells why it stops. Where the output fails it
+/// goes no further.
+pub(crate) fn list<L: Loopback, O: Write, E: Write>(
+    alloc: Global,
+    desk: Address,
+    list: Listed,
+    json: bool,
+    loopback: L,
+    out: &mut Watched<'_, O>,
+    err: &mut Watched<'_, E>,
+) -> CommandEnd
+    ensures { IsListedAtDesk (calls_of L.Loopback L.Stream.remaining L.Stream.contents loopback)
+        desk list json (outputs (sink O.contents out.old) (sink O.contents out.new)
+        (sink E.contents err.old) (sink E.contents err.new)) result }
+{
+    let mut stream = match loopback.call(desk) {
+        Ok(stream) => stream,
+        Err(_) => {
+            put_line(&[b"net"], err);
+            return CommandEnd::Refused;
+        }
+    };
+    let mut next = list;
+    // No office has so many pages.
+    for page in 0..u64::MAX {
+        match print_page(alloc, &mut stream, next, json, page == 0, out) {
+            Ok(Some(behind)) => next = behind,
+            Ok(None) => return CommandEnd::Done,
+            Err(fault) => {
+                put_page_fault(fault, err);
+                return CommandEnd::Refused;
+            }
+        }
+    }
+    CommandEnd::Done
+}
+
+// Prints the first page of a list, and answers the list behind it: none where the page is not full,
+// and none where the output did not take it.
+fn print_page<S: Read + Write, O: Write>(
+    alloc: Global,
+    stream: &mut S,
+    list: Listed,
+    json: bool,
+    is_first: bool,
+    out: &mut Watched<'_, O>,
+) -> Result<Option<Listed>, PageFault>
+    ensures { IsPagePrinted S.remaining S.contents list json is_first stream.old stream.new
+        (sink O.contents out.old) (sink O.contents out.new) result }
+{
+    let page = match ask_page(alloc, stream, list) {
+        Ok(page) => page,
+        Err(fault) => return Err(fault),
+    };
+    match put_page(alloc, &page, json, is_first, out) {
+        Ok(behind) => Ok(behind),
+        Err(_) => Err(PageFault::Memory),
+    }
+}
+
+// Asks for the first page of a list.
+fn ask_page<S: Read + Write>(
+    alloc: Global,
+    stream: &mut S,
+    list: Listed,
+) -> Result<Found, PageFault>
+    ensures { IsPageAsked S.remaining S.contents list stream.old stream.new result }
+{
+    let Ok(message) = page_message(alloc, list) else {
+        return Err(PageFault::Unsent(ExchangeFault::Memory));
+    };
+    match exchange_on(alloc, stream, &message, Wanted::Page) {
+        Ok(came) => page_of(alloc, &list, &came),
+        Err(fault) => Err(PageFault::Unsent(fault)),
+    }
+}
+
+// The message that asks for the first page of a list.
+fn page_message(alloc: Global, list: Listed) -> Result<Vec<u8>, AllocError>
+    ensures { IfOk result (λ text. text.items ≡ question_text (page_question list)) }
+{
+    page_question(list).message(alloc)
+}
+
+// The page of a list that a reply tells.
+fn page_of(alloc: Global, list: &Listed, came: &[u8]) -> Result<Found, PageFault>
+    ensures { IsPageIn list.now came.now result }
+{
+    match told_in(came, Wanted::Page) {
+        Some(Told::Granted(Granted::Page(body))) => match page_in(alloc, page_kind(*list), body) {
+            Ok(Some(page)) => Ok(page),
+            Ok(None) => Err(PageFault::OutOfForm),
+            Err(_) => Err(PageFault::Memory),
+        },
+        Some(Told::Refused(refusal)) => Err(PageFault::Refused(refusal)),
+        Some(Told::NoMoment) => Err(PageFault::NoMoment),
+        // No other grant is wanted.
+        Some(Told::Granted(_)) | None => Err(PageFault::OutOfForm),
+    }
+}
+
+/// The question that asks for the first page of a list.
+pub(crate) fn page_question<'a>(list: Listed) -> Question<'a>
+    ensures { result ≡ page_question list }
+{
+    match list {
+        Listed::Tariffs(after) => Question::Tariffs(after),
+        Listed::Meters(after) => Question::Meters(after),
+        Listed::Shifts(after) => Question::Shifts(after),
+        Listed::Sales(after) => Question::Sales(after),
+    }
+}
+
+// What the pages of a list have.
+fn page_kind(list: Listed) -> PageKind
+    ensures { result ≡ page_kind list }
+{
+    match list {
+        Listed::Tariffs(_) => PageKind::Tariffs,
+        Listed::Meters(_) => PageKind::Meters,
+        Listed::Shifts(_) => PageKind::Shifts,
+        Listed::Sales(_) => PageKind::Sales,
+    }
+}
+
+// Tells why a page is not printed.
+fn put_page_fault<E: Write>(fault: PageFault, err: &mut Watched<'_, E>)
+    ensures { Takes (sink E.contents err.old) (sink E.contents err.new) (page_fault_line fault) }
+{
+    match fault {
+        PageFault::Unsent(fault) => put_exchange_fault(fault, err),
+        PageFault::Refused(refusal) => put_refusal(refusal, err),
+        PageFault::NoMoment => put_no_moment(err),
+        PageFault::OutOfForm => put_line(&[b"net"], err),
+        PageFault::Memory => put_refusal(Refusal::Memory, err),
+    }
+}
+
+/// Tells why nothing came of a message.
+pub(crate) fn put_exchange_fault<E: Write>(fault: ExchangeFault, err: &mut Watched<'_, E>)
+    ensures { Takes (sink E.contents err.old) (sink E.contents err.new)
+        (exchange_fault_line fault) }
+{
+    match fault {
+        ExchangeFault::Net => put_line(&[b"net"], err),
+        ExchangeFault::Memory => put_refusal(Refusal::Memory, err),
+    }
+}

@@ -1,0 +1,74 @@
+//! A page of a list, printed.
+
+ghost use Rattle.std.specs.Prelude.{◌≡◌, [], MatchResult};
+ghost use Rattle.std.specs.Option.{option_copied};
+ghost use Rattle.desk_commands.specs.print.Pages.{IsPagePut, last_of_full, list_behind};
+ghost use Rattle.vend_ports.specs.print.Told.{Takes, sink};
+
+use crate::print::page::page_text;
+use book_facts::Found;
+use book_lists::PAGE;
+use command_line::Listed;
+use std::alloc::{AllocError, Global};
+use std::io::Write;
+use vend_ports::Watched;
+
+/// Prints a page, and answers the list behind it: none where it is not full, and none where the
+/// output did not take it.
+pub fn put_page<O: Write>(
+    alloc: Global,
+    page: &Found,
+    json: bool,
+    is_first: bool,
+    out: &mut Watched<'_, O>,
+) -> Result<Option<Listed>, AllocError>
+    ensures { MatchResult result
+        (IsPagePut page.now json is_first (sink O.contents out.old) (sink O.contents out.new))
+        (λ _. Takes (sink O.contents out.old) (sink O.contents out.new) []) }
+{
+    let Ok(text) = page_text(alloc, page, json, is_first) else {
+        return Err(AllocError);
+    };
+    out.put(&text);
+    if out.has_failed() {
+        Ok(None)
+    } else {
+        Ok(list_behind(page))
+    }
+}
+
+// The list behind a page, after its last member, where the page is full.
+fn list_behind(page: &Found) -> Option<Listed>
+    ensures { result ≡ list_behind page.now }
+{
+    match page {
+        Found::Tariffs(page) => {
+            let last = last_of_full(page.as_slice())?;
+            Some(Listed::Tariffs(Some(last.name)))
+        }
+        Found::Meters(page) => {
+            let last = last_of_full(page.as_slice())?;
+            Some(Listed::Meters(Some(last.number)))
+        }
+        Found::Shifts(page) => {
+            let last = last_of_full(page.as_slice())?;
+            Some(Listed::Shifts(last.shift.number))
+        }
+        Found::Sales(page) => {
+            let last = last_of_full(page.as_slice())?;
+            Some(Listed::Sales(last.number))
+        }
+        _ => None,
+    }
+}
+
+// The last member of a page, where it is full.
+fn last_of_full<A>(page: &[A]) -> Option<&A>
+    ensures { option_copied result ≡ last_of_full page.now }
+{
+    if page.len() == PAGE as usize {
+        page.last()
+    } else {
+        None
+    }
+}

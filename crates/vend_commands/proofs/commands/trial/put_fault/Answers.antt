@@ -1,8 +1,0 @@
-use Rattle.std.proofs.Common.{subst, sym}
-use Rattle.vend_commands.specs.print.Told.{Takes, sink}
-use Rattle.vend_commands.specs.commands.Tried.{trial_fault_line}
-use Rattle.vend_commands.proofs.commands.trial.put_fault.Goals as goal
-
-pub returns-in-Amount : goal.returns-in-Amount
-returns-in-Amount g c =
-    subst (λ fault. Takes (sink g.E.Write.contents c.args.err.now) (sink g.E.Write.contents c.put_line.new.out) (trial_fault_line fault)) (sym c.in-Amount.is) c.put_line.ensures

@@ -1,6 +1,0 @@
-use Rattle.std.specs.Io.KnownBytes.{Consumes}
-use Rattle.vend_commands.proofs.port.exchange.receive.Given as goal
-
--- what came so far
-abbrev pub invariant-loop : goal.invariant-loop
-invariant-loop g l = Consumes (g.S.Read.remaining l.fn.stream) (g.S.Read.remaining l.stream) l.bytes.items

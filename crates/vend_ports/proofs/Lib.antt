@@ -1,0 +1,4 @@
+pub mod MeteringLemmas
+pub mod TakeLemmas
+pub mod TimedLemmas
+pub mod TrialLemmas

@@ -1,0 +1,4 @@
+pub mod Status
+pub mod commands
+pub mod port
+pub mod print

@@ -1,0 +1,4 @@
+pub mod Dial
+pub mod Port
+pub mod Sent
+pub mod Texts

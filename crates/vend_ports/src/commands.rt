@@ -1,0 +1,5 @@
+//! Commands that need no office.
+
+pub mod meter;
+pub mod quote;
+pub mod trial;

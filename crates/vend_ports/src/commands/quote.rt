@@ -1,0 +1,31 @@
+ghost use Rattle.vend_ports.specs.commands.Quoted.{IsQuoted};
+ghost use Rattle.vend_ports.specs.print.Told.{outputs, sink};
+
+use crate::command_end::CommandEnd;
+use crate::print::lines::{put_quote, put_refusal};
+use crate::print::watched::Watched;
+use command_line::QuoteWords;
+use std::io::Write;
+use tariff::buy;
+use vend_core::Refusal;
+
+/// Prints the tenths, the price and the change, or why nothing is bought.
+pub fn run<O: Write, E: Write>(
+    words: &QuoteWords,
+    out: &mut Watched<'_, O>,
+    err: &mut Watched<'_, E>,
+) -> CommandEnd
+    ensures { IsQuoted words.now (outputs (sink O.contents out.old) (sink O.contents out.new)
+        (sink E.contents err.old) (sink E.contents err.new)) result }
+{
+    match buy(&words.steps, words.prior, words.tender) {
+        Some(bought) => {
+            put_quote(&bought, out);
+            CommandEnd::Done
+        }
+        None => {
+            put_refusal(Refusal::TooLittle, err);
+            CommandEnd::Refused
+        }
+    }
+}

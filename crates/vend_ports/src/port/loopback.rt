@@ -1,0 +1,94 @@
+//! A connection that a command makes: of the machine with itself, or with a desk that runs.
+
+ghost use Rattle.std.specs.Prelude.{⊤, IfErr, IfOk};
+ghost use Rattle.sts_fields.specs.Text.{Text};
+ghost use Rattle.command_line.specs.declared.address.Address.{Address};
+ghost use Rattle.vend_ports.specs.port.Sent.{IsSent};
+
+use command_line::Address;
+use std::io::{self, Read, Write};
+use std::net::{Net, OpenListener, OpenStream, Shutdown, TcpListener, TcpStream};
+use std::time::Duration;
+
+// For so many seconds a desk may let a caller wait: for the connection, and for each byte.
+const PATIENCE: u64 = 10;
+
+/// What the one connection that a command makes comes of: of the machine with itself, where the
+/// command has both ends, or with a desk. It is had once.
+pub trait Loopback: Drop {
+    /// An end of the connection.
+    type Stream: Read + Write + Drop;
+
+    /// A connection of the machine with itself was had. This text was sent on the first stream, and
+    /// no more is; the other two read and write the other end.
+    ghost connects: { Self → Text → Self.Stream → Self.Stream → Self.Stream → Type 0 };
+
+    /// None could be had.
+    ghost lacks: { Self → Type 0 };
+
+    /// A connection with the desk at this address was had, and nothing was sent on it yet.
+    ghost calls: { Self → Address → Self.Stream → Type 0 };
+
+    /// None could be had there.
+    ghost misses: { Self → Address → Type 0 };
+
+    /// It was left: none was asked for.
+    ghost leaves: { (T : Type 0) → T → Type 0 };
+
+    /// Has a connection of the machine with itself, and sends a text on it.
+    fn connect(self, text: &[u8]) -> io::Result<(Self::Stream, Self::Stream, Self::Stream)>
+        ensures connects { IfOk result (λ ends. connects self text.now ends.0 ends.1 ends.2) }
+        ensures sent { IfOk result (λ ends. IsSent Self.Stream.contents text.now ends.0) }
+        ensures lacks { IfErr result (λ error. lacks self) };
+
+    /// Has a connection with the desk at an address. A desk that lets it wait for ten seconds, when
+    /// it is called, written to or read from, counts as silent: the call fails.
+    fn call(self, address: Address) -> io::Result<Self::Stream>
+        ensures calls { IfOk result (calls self address) }
+        ensures misses { IfErr result (λ error. misses self address) };
+
+    /// Leaves it as it is. Whatever this is given, it can do nothing with it.
+    fn leave<T: Drop>(it: T)
+        ensures { leaves T it };
+}
+
+impl<N: Net> Loopback for &N {
+    type Stream = N::Stream;
+
+    ghost connects = { λ _ _ _ _ _. ⊤ };
+
+    ghost lacks = { λ _. ⊤ };
+
+    ghost calls = { λ _ _ _. ⊤ };
+
+    ghost misses = { λ _ _. ⊤ };
+
+    ghost leaves = { λ _ _. ⊤ };
+
+    fn connect(self, text: &[u8]) -> io::Result<(N::Stream, N::Stream, N::Stream)> {
+        let listener = TcpListener::bind(self, "127.0.0.1:0")?;
+        let mut near = TcpStream::connect(self, listener.local_addr()?)?;
+        near.write_all(text)?;
+        near.shutdown(Shutdown::Write)?;
+        let (far, _) = listener.accept()?;
+        // Else each reply but the first waits for the one before to be acknowledged.
+        far.set_nodelay(true)?;
+        let reader = far.try_clone()?;
+        Ok((near, reader, far))
+    }
+
+    fn call(self, address: Address) -> io::Result<N::Stream> {
+        let patience = Duration::from_secs(PATIENCE);
+        let stream = TcpStream::connect_timeout(self, &address.socket(), patience)?;
+        // Without them a desk that hangs would hold the command for ever.
+        stream.set_read_timeout(Some(patience))?;
+        stream.set_write_timeout(Some(patience))?;
+        Ok(stream)
+    }
+
+    fn leave<T: Drop>(it: T)
+        ensures { ⊤ }
+    {
+        drop(it);
+    }
+}

@@ -1,0 +1,148 @@
+//! The connections of this machine.
+
+ghost use Rattle.std.specs.Prelude.{◌≡◌, ◌≢◌, ⊤, ℕ, IfSome};
+
+use crate::port::door::Door;
+use crate::port::patient::PatientReader;
+use command_line::Address;
+use std::io;
+use std::net::{Net, OpenListener, OpenStream, TcpListener};
+use std::time::{Clock, Duration};
+
+// For so many seconds a peer may send nothing, or take nothing, before its conversation ends.
+const PATIENCE: u64 = 30;
+
+/// Connections to a port of this machine.
+#[derive(Drop)]
+pub struct MachineDoor<'a, N: Net> {
+    net: &'a N,
+    listener: Option<N::Listener>,
+}
+
+impl<'a, N: Net> MachineDoor<'a, N> {
+    /// A door that does not listen yet.
+    pub fn new(net: &'a N) -> MachineDoor<'a, N> {
+        MachineDoor {
+            net,
+            listener: None,
+        }
+    }
+}
+
+impl<'a, N: Net + Clock> Door for MachineDoor<'a, N> {
+    type Reader = PatientReader<'a, N, N::Stream>;
+
+    type Writer = N::Stream;
+
+    ghost listens = { λ _ _ _ _. ⊤ };
+
+    ghost fails = { λ _ _ _. ⊤ };
+
+    ghost accepts = { λ _ _ _ _. ⊤ };
+
+    ghost refuses = { λ _ _. ⊤ };
+
+    ghost ends = { λ _ _ _ _. ⊤ };
+
+    ghost leaves = { λ _ _. ⊤ };
+
+    fn listen(&mut self, address: Address) -> Option<u16> {
+        let listener = TcpListener::bind(self.net, address.socket()).ok()?;
+        let port = port_of(&listener, address.port)?;
+        self.listener = Some(listener);
+        Some(port)
+    }
+
+    // A connection of which there can be no second half counts as one that cannot be had.
+    // A wait that the system interrupts goes on: `accept` of std sees to that.
+    fn accept(&mut self) -> Option<(PatientReader<'a, N, N::Stream>, N::Stream)> {
+        let (stream, _) = self.listener.as_ref()?.accept().ok()?;
+        set_options(&stream);
+        let reader = stream.try_clone().ok()?;
+        Some((PatientReader::new(self.net, reader), stream))
+    }
+
+    fn end<R: Drop, W: Drop>(reader: R, writer: W) {
+        drop(reader);
+        drop(writer);
+    }
+
+    fn leave<T: Drop>(it: T)
+        ensures { ⊤ }
+    {
+        drop(it);
+    }
+}
+
+/// The options of a connection, and no right to read it, to write to it or to shut it.
+pub trait HasOptions {
+    /// Sends each piece at once, and not after the peer has acknowledged the one before.
+    fn send_at_once(&self) -> io::Result<()>;
+
+    /// Waits so long for the peer to send something.
+    fn read_within(&self, patience: Duration) -> io::Result<()>;
+
+    /// Waits so long for the peer to take something.
+    fn write_within(&self, patience: Duration) -> io::Result<()>;
+}
+
+impl<S: OpenStream> HasOptions for S {
+    fn send_at_once(&self) -> io::Result<()> {
+        self.set_nodelay(true)
+    }
+
+    fn read_within(&self, patience: Duration) -> io::Result<()> {
+        self.set_read_timeout(Some(patience))
+    }
+
+    fn write_within(&self, patience: Duration) -> io::Result<()> {
+        self.set_write_timeout(Some(patience))
+    }
+}
+
+/// Readies a connection for a conversation. One that refuses an option is served all the same.
+pub fn set_options<S: HasOptions>(stream: &S) {
+    // Else a reply may wait until the peer acknowledges the one before.
+    let _ = stream.send_at_once();
+    // Else one silent peer holds up all that come after it.
+    let patience = Duration::from_secs(PATIENCE);
+    let _ = stream.read_within(patience);
+    let _ = stream.write_within(patience);
+}
+
+/// What has a port of its own, where that can be told.
+trait HasPort {
+    /// It has this one.
+    ghost has: { Self → ℕ → Type 0 };
+
+    /// The port.
+    fn own_port(&self) -> Option<u16>
+        ensures { IfSome result (has self.now) };
+}
+
+impl<L: OpenListener> HasPort for L {
+    ghost has = { λ _ _. ⊤ };
+
+    fn own_port(&self) -> Option<u16> {
+        match self.local_addr() {
+            Ok(address) => Some(address.port()),
+            Err(_) => None,
+        }
+    }
+}
+
+// The port that a listener has, where that can be told: the one that was asked for, or with 0 the
+// one that the system chose, which is never 0.
+fn port_of<L: HasPort>(listener: &L, asked: u16) -> Option<u16>
+    ensures asked { asked ≢ 0 → IfSome result (λ port. port ≡ asked) }
+    ensures chosen { asked ≡ 0 → IfSome result (L.has listener.now) }
+    ensures some { IfSome result (λ port. port ≢ 0) }
+{
+    if asked != 0 {
+        return Some(asked);
+    }
+    match listener.own_port() {
+        Some(0) | None => None,
+        Some(port) => Some(port),
+    }
+}

@@ -1,0 +1,4 @@
+//! What is printed.
+
+pub(crate) mod lines;
+pub(crate) mod watched;
