@@ -4,7 +4,7 @@ use Rattle.books.specs.Keeps.{Seen}
 use Rattle.sts_fields.specs.Text.{Text}
 use Rattle.sts_token.specs.Token.{BlockFunction}
 use Rattle.vend_commands.specs.serving.Connections.{AreHeld, AreReady, IsHeld, Service, open_text, service, stopped_text}
-use Rattle.vend_commands.specs.port.Places.{Way}
+use Rattle.vend_commands.specs.port.Machines.{Way}
 use Rattle.vend_ports.specs.print.Printed.{open_line, stopped_line}
 use Rattle.vend_ports.specs.print.Told.{Sink, Takes}
 use Rattle.vend_ports.proofs.TakeLemmas.{takes_next}

@@ -25,7 +25,7 @@ use Rattle.sts_token.specs.Token.{BlockFunction}
 use Rattle.papers.specs.declared.row_fault.RowFault.{RowFault}
 use Rattle.tariff.specs.Purchase.{purchase_of}
 use Rattle.command_line.specs.Asked.{AskFor}
-use Rattle.vend_commands.specs.commands.Asked.{IsAskedAt}
+use Rattle.office_commands.specs.commands.Asked.{IsAskedAt}
 use Rattle.desk_commands.specs.AskedOfDesk.{IsAnswered, IsAsked, IsAskedOnce, TellsTold}
 use Rattle.desk_commands.specs.AskedOfDesk.IsAsked.{broken, no_room as desk_full, replied, unsent}
 use Rattle.desk_commands.specs.AskedOfDesk.IsAskedOnce.{asked as desk_asked, without_rows}
@@ -38,34 +38,35 @@ use Rattle.desk_client.specs.declared.told.Told.TheVariants as tells
 use Rattle.command_line.specs.declared.address.Address.{Address}
 use Rattle.command_line.specs.declared.commands.at_desk.DeskQuestion.{DeskQuestion}
 use Rattle.command_line.specs.declared.commands.at_desk.DeskQuestion.TheVariants as desk_asks
-use Rattle.vend_commands.specs.commands.Audited.{IsAudited, TellsAudit}
-use Rattle.vend_commands.specs.commands.Audited.IsAudited.{absent, looked, unopened as audits_unopened}
-use Rattle.vend_commands.specs.print.Exported.{export_stop_end}
-use Rattle.vend_commands.specs.commands.Imported.{AreAdded, IsFileImported}
-use Rattle.vend_commands.specs.commands.LookedUp.{IsRead, IsShownAt, TellsFound}
-use Rattle.vend_commands.specs.commands.LookedUp.IsShownAt.{absent as shown_absent, present as shown_present}
+use Rattle.office_commands.specs.commands.Audited.{IsAudited, TellsAudit}
+use Rattle.office_commands.specs.commands.Audited.IsAudited.{absent, looked, unopened as audits_unopened}
+use Rattle.office_commands.specs.print.Exported.{export_stop_end}
+use Rattle.office_commands.specs.commands.Imported.{AreAdded, IsFileImported}
+use Rattle.office_commands.specs.commands.LookedUp.{IsRead, IsShownAt, TellsFound}
+use Rattle.office_commands.specs.commands.LookedUp.IsShownAt.{absent as shown_absent, present as shown_present}
 use Rattle.command_line.specs.Line.{faults_in}
 use Rattle.vend_commands.specs.serving.Listening.{IsServing, serving_end}
 use Rattle.vend_commands.specs.serving.Listening.IsServing.{unheard, unopened as serves_unopened, was_open}
 use Rattle.vend_ports.specs.commands.Quoted.{quote_end}
 use Rattle.vend_ports.specs.port.Dial.{Dial}
 use Rattle.vend_ports.specs.port.Texts.{Texts}
-use Rattle.vend_commands.specs.port.Places.{Machine, Place, Places, Way, IsIdle}
+use Rattle.office_commands.specs.port.Places.{Place, Places}
+use Rattle.vend_commands.specs.port.Machines.{Machine, Way, IsIdle}
 use Rattle.vend_ports.specs.print.Printed.{refusal_line}
-use Rattle.vend_commands.specs.commands.Reported.{IsReported, PrintsPaper}
-use Rattle.vend_commands.specs.commands.Reported.IsReported.{absent as no_file, present}
+use Rattle.office_commands.specs.commands.Reported.{IsReported, PrintsPaper}
+use Rattle.office_commands.specs.commands.Reported.IsReported.{absent as no_file, present}
 use Rattle.vend_commands.specs.Run.{IsCarriedOut, IsExplained, IsProgramRun}
 use Rattle.vend_commands.specs.Run.IsProgramRun.{answered, bad_word, explained, no_room}
 use Rattle.vend_commands.specs.commands.Selfchecked.{IsSelfchecked}
 use Rattle.vend_commands.specs.commands.Selfchecked.IsSelfchecked.{agreed, failed}
-use Rattle.vend_commands.specs.office.Served.{TellsReply}
+use Rattle.office_commands.specs.office.Served.{TellsReply}
 use Rattle.vend_ports.specs.Status.{exit_status_of, status_of}
 use Rattle.vend_ports.specs.commands.Timed.{IsDoneAt, IsTimed}
 use Rattle.vend_ports.specs.print.Told.{IsTold, Outputs, Sink}
-use Rattle.vend_commands.specs.print.Totalled.{TellsTotals}
+use Rattle.office_commands.specs.print.Totalled.{TellsTotals}
 use Rattle.vend_ports.specs.commands.Tried.{trial_end}
-use Rattle.vend_commands.specs.office.Visited.{IsVisited, seen_in}
-use Rattle.vend_commands.specs.office.Visited.IsVisited.{unopened, visited}
+use Rattle.office_commands.specs.office.Visited.{IsVisited, seen_in}
+use Rattle.office_commands.specs.office.Visited.IsVisited.{unopened, visited}
 use Rattle.command_line.specs.declared.asked.Asked.{Asked}
 use Rattle.command_line.specs.declared.asked.Asked.TheVariants as asks
 use Rattle.command_line.specs.declared.commands.import.ImportWords.{ImportWords}
@@ -77,8 +78,8 @@ use Rattle.vend_ports.specs.declared.command_end.CommandEnd.TheVariants as how
 use Rattle.command_line.specs.declared.transform.Shipped.{Shipped}
 use Rattle.vend_commands.specs.declared.selfcheck.fault.SelfcheckFault.{SelfcheckFault}
 use Rattle.vend_ports.specs.declared.trials.TrialFault.{TrialFault}
-use Rattle.vend_commands.specs.declared.office.wanted.Wanted.{Wanted}
-use Rattle.vend_commands.specs.declared.office.wanted.Wanted.TheVariants.{One, Listing}
+use Rattle.office_commands.specs.declared.office.wanted.Wanted.{Wanted}
+use Rattle.office_commands.specs.declared.office.wanted.Wanted.TheVariants.{One, Listing}
 use Rattle.vend_ports.specs.declared.command_end.CommandEnd.{CommandEnd}
 
 -- what was asked for by another name

@@ -28,7 +28,7 @@ use Rattle.command_line.specs.declared.commands.report.Paper.TheVariants as pape
 use Rattle.command_line.specs.declared.commands.report.ReportWords.{ReportWords}
 use Rattle.command_line.specs.declared.commands.serve.ServeWords.{ServeWords}
 use Rattle.command_line.specs.declared.transform.Shipped.{Shipped}
-use Rattle.vend_commands.specs.commands.Asked.{IsAskedAt}
+use Rattle.office_commands.specs.commands.Asked.{IsAskedAt}
 use Rattle.desk_commands.specs.AskedOfDesk.{IsAnswered, IsAsked, IsAskedOnce, TellsTold}
 use Rattle.desk_commands.specs.AskedOfDesk.IsAsked.{broken, no_room as desk_full, replied, unsent}
 use Rattle.desk_commands.specs.AskedOfDesk.IsAskedOnce.{asked as desk_asked, without_rows}
@@ -38,30 +38,31 @@ use Rattle.desk_client.specs.declared.told.Told.{Told}
 use Rattle.desk_client.specs.declared.told.Told.TheVariants as tells
 use Rattle.command_line.specs.declared.commands.at_desk.DeskQuestion.{DeskQuestion}
 use Rattle.command_line.specs.declared.commands.at_desk.DeskQuestion.TheVariants as desk_asks
-use Rattle.vend_commands.specs.commands.Audited.{IsAudited, TellsAudit}
-use Rattle.vend_commands.specs.commands.Audited.IsAudited.{absent, looked, unopened as audits_unopened}
-use Rattle.vend_commands.specs.commands.Imported.{AreAdded, IsFileImported}
-use Rattle.vend_commands.specs.commands.LookedUp.{IsRead, IsShownAt, TellsFound}
-use Rattle.vend_commands.specs.commands.LookedUp.IsShownAt.{absent as shown_absent, present as shown_present}
+use Rattle.office_commands.specs.commands.Audited.{IsAudited, TellsAudit}
+use Rattle.office_commands.specs.commands.Audited.IsAudited.{absent, looked, unopened as audits_unopened}
+use Rattle.office_commands.specs.commands.Imported.{AreAdded, IsFileImported}
+use Rattle.office_commands.specs.commands.LookedUp.{IsRead, IsShownAt, TellsFound}
+use Rattle.office_commands.specs.commands.LookedUp.IsShownAt.{absent as shown_absent, present as shown_present}
 use Rattle.vend_commands.specs.serving.Listening.{IsDeaf, IsServing}
 use Rattle.vend_commands.specs.serving.Listening.IsDeaf.{no_listener, no_room as deaf_for_room, no_text, not_told}
 use Rattle.vend_commands.specs.serving.Listening.IsServing.{unheard, unopened as serves_unopened, was_open}
 use Rattle.vend_ports.specs.port.Dial.{Dial}
 use Rattle.vend_ports.specs.port.Texts.{Texts}
-use Rattle.vend_commands.specs.port.Places.{Machine, Place, Places, Way}
-use Rattle.vend_commands.specs.commands.Reported.{IsReported, PrintsPaper}
-use Rattle.vend_commands.specs.commands.Reported.IsReported.{absent as no_file, present}
+use Rattle.office_commands.specs.port.Places.{Place, Places}
+use Rattle.vend_commands.specs.port.Machines.{Machine, Way}
+use Rattle.office_commands.specs.commands.Reported.{IsReported, PrintsPaper}
+use Rattle.office_commands.specs.commands.Reported.IsReported.{absent as no_file, present}
 use Rattle.vend_commands.specs.Run.{IsCarriedOut, IsExplained, IsProgramRun}
 use Rattle.vend_commands.specs.Run.IsProgramRun.{answered, bad_word, explained, no_room}
 use Rattle.vend_commands.specs.commands.Selfchecked.IsSelfchecked.{agreed, failed}
-use Rattle.vend_commands.specs.office.Served.{TellsReply}
+use Rattle.office_commands.specs.office.Served.{TellsReply}
 use Rattle.vend_ports.specs.commands.Timed.{IsDoneAt, IsTimed}
 use Rattle.vend_ports.specs.print.Told.{IsTold, Outputs, Sink}
-use Rattle.vend_commands.specs.print.Totalled.{TellsTotals}
-use Rattle.vend_commands.specs.office.Visited.{IsVisited, seen_in}
-use Rattle.vend_commands.specs.office.Visited.IsVisited.{unopened, visited}
-use Rattle.vend_commands.specs.declared.office.wanted.Wanted.{Wanted}
-use Rattle.vend_commands.specs.declared.office.wanted.Wanted.TheVariants.{One, Listing}
+use Rattle.office_commands.specs.print.Totalled.{TellsTotals}
+use Rattle.office_commands.specs.office.Visited.{IsVisited, seen_in}
+use Rattle.office_commands.specs.office.Visited.IsVisited.{unopened, visited}
+use Rattle.office_commands.specs.declared.office.wanted.Wanted.{Wanted}
+use Rattle.office_commands.specs.declared.office.wanted.Wanted.TheVariants.{One, Listing}
 use Rattle.vend_ports.specs.declared.command_end.CommandEnd.{CommandEnd}
 use Rattle.vend_ports.specs.declared.command_end.CommandEnd.TheVariants as how
 

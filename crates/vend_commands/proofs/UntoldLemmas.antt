@@ -17,7 +17,8 @@ use Rattle.vend_commands.specs.serving.Listening.IsDeaf.{no_listener, no_room as
 use Rattle.vend_commands.specs.serving.Listening.IsServing.{unheard, unopened, was_open}
 use Rattle.vend_ports.specs.port.Dial.{Dial}
 use Rattle.vend_ports.specs.port.Texts.{Texts}
-use Rattle.vend_commands.specs.port.Places.{Loop, Machine, Place, Places, Way, machine, untold_loop, untold_place, untold_way, where_present}
+use Rattle.office_commands.specs.port.Places.{Place, Places, untold_place, where_present}
+use Rattle.vend_commands.specs.port.Machines.{Loop, Machine, Way, machine, untold_loop, untold_way}
 use Rattle.vend_commands.specs.Run.{IsCarriedOut, IsProgramRun}
 use Rattle.vend_commands.specs.Run.IsProgramRun.{answered, bad_word, explained, no_room}
 use Rattle.vend_commands.specs.commands.Selfchecked.{HasReplies}
@@ -37,17 +38,17 @@ use Rattle.desk_commands.specs.declared.exchange.ExchangeFault.{ExchangeFault}
 use Rattle.desk_client.specs.declared.question.Question.{Question}
 use Rattle.command_line.specs.declared.commands.at_desk.DeskQuestion.{DeskQuestion}
 use Rattle.command_line.specs.declared.commands.at_desk.DeskQuestion.TheVariants as desk_asks
-use Rattle.vend_commands.specs.commands.Audited.{IsAudited}
-use Rattle.vend_commands.specs.commands.Audited.IsAudited.{absent, looked, unopened as audits_unopened}
-use Rattle.vend_commands.specs.commands.Imported.{AreAdded, IsFileImported}
-use Rattle.vend_commands.specs.commands.LookedUp.{IsShownAt}
-use Rattle.vend_commands.specs.commands.LookedUp.IsShownAt.{absent as shown_absent, present as shown_present}
-use Rattle.vend_commands.specs.commands.Reported.{IsReported}
-use Rattle.vend_commands.specs.commands.Reported.IsReported.{absent as no_file, present}
+use Rattle.office_commands.specs.commands.Audited.{IsAudited}
+use Rattle.office_commands.specs.commands.Audited.IsAudited.{absent, looked, unopened as audits_unopened}
+use Rattle.office_commands.specs.commands.Imported.{AreAdded, IsFileImported}
+use Rattle.office_commands.specs.commands.LookedUp.{IsShownAt}
+use Rattle.office_commands.specs.commands.LookedUp.IsShownAt.{absent as shown_absent, present as shown_present}
+use Rattle.office_commands.specs.commands.Reported.{IsReported}
+use Rattle.office_commands.specs.commands.Reported.IsReported.{absent as no_file, present}
 use Rattle.vend_ports.specs.commands.Timed.{IsTimed}
-use Rattle.vend_commands.specs.office.Visited.{IsVisited}
-use Rattle.vend_commands.specs.office.Visited.IsVisited.{unopened as unvisited, visited}
-use Rattle.vend_commands.specs.declared.office.wanted.Wanted.{Wanted}
+use Rattle.office_commands.specs.office.Visited.{IsVisited}
+use Rattle.office_commands.specs.office.Visited.IsVisited.{unopened as unvisited, visited}
+use Rattle.office_commands.specs.declared.office.wanted.Wanted.{Wanted}
 use Rattle.vend_ports.specs.declared.command_end.CommandEnd.{CommandEnd}
 use Rattle.command_line.specs.declared.commands.import.ImportWords.{ImportWords}
 use Rattle.command_line.specs.declared.transform.Shipped.{Shipped}

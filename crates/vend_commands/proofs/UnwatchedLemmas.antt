@@ -2,7 +2,7 @@
 use Rattle.std.proofs.Common.{◌≡◌, List, false, refl}
 use Rattle.sqlite_trees.specs.declared.store.Store.{Ghosts}
 use Rattle.sts_fields.specs.Text.{Text}
-use Rattle.vend_commands.specs.port.Places.{Machine}
+use Rattle.vend_commands.specs.port.Machines.{Machine}
 use Rattle.vend_commands.specs.Run.{IsProgramRun}
 use Rattle.vend_ports.specs.print.Told.{Held, Sink, outputs, sink, writer}
 use Rattle.vend_ports.specs.declared.command_end.CommandEnd.{CommandEnd}

@@ -1,6 +1,4 @@
 pub mod Run
-pub mod port
-pub mod print
-pub mod office
 pub mod commands
+pub mod port
 pub mod serving

@@ -9,18 +9,18 @@ use Rattle.vend_core.specs.declared.decision.refusal.Refusal.TheVariants.{Memory
 use Rattle.command_line.specs.Asked.{AskFor}
 use Rattle.command_line.specs.Line.{faults_in}
 use Rattle.command_line.specs.Transform.{forward_of}
-use Rattle.vend_commands.specs.commands.Asked.{IsAskedAt}
+use Rattle.office_commands.specs.commands.Asked.{IsAskedAt}
 use Rattle.desk_commands.specs.AskedOfDesk.{IsAskedOfDesk}
-use Rattle.vend_commands.specs.commands.Audited.{IsAudited}
+use Rattle.office_commands.specs.commands.Audited.{IsAudited}
 use Rattle.book_facts.specs.declared.lookup.Lookup.TheVariants as lookups
-use Rattle.vend_commands.specs.commands.Imported.{IsFileImported}
-use Rattle.vend_commands.specs.commands.LookedUp.{IsShown, lookup_of}
+use Rattle.office_commands.specs.commands.Imported.{IsFileImported}
+use Rattle.office_commands.specs.commands.LookedUp.{IsShown, lookup_of}
 use Rattle.vend_commands.specs.serving.Listening.{IsServedTo}
 use Rattle.vend_ports.specs.commands.Metered.{IsMetered}
-use Rattle.vend_commands.specs.port.Places.{IsAlone, IsIdle, IsOffline, IsShut, Machine}
+use Rattle.vend_commands.specs.port.Machines.{IsAlone, IsIdle, IsOffline, IsShut, Machine}
 use Rattle.vend_ports.specs.print.Printed.{bad_word_line, refusal_line}
 use Rattle.vend_ports.specs.commands.Quoted.{IsQuoted}
-use Rattle.vend_commands.specs.commands.Reported.{IsReported}
+use Rattle.office_commands.specs.commands.Reported.{IsReported}
 use Rattle.vend_commands.specs.commands.Selfchecked.{IsSelfchecked}
 use Rattle.vend_ports.specs.commands.Timed.{IsTimed}
 use Rattle.vend_ports.specs.print.Told.{Outputs, IsTold}
@@ -28,7 +28,7 @@ use Rattle.vend_ports.specs.commands.Tried.{IsTried}
 use Rattle.command_line.specs.declared.asked.Asked.{Asked}
 use Rattle.command_line.specs.declared.asked.Asked.TheVariants as asks
 use Rattle.command_line.specs.declared.asked.Asked.TheVariants.{Trial, Import, Request, Report, Show, Offer, Meter, Quote, Serve, Selfcheck, Audit}
-use Rattle.vend_commands.specs.declared.office.wanted.Wanted.TheVariants.{One, Listing}
+use Rattle.office_commands.specs.declared.office.wanted.Wanted.TheVariants.{One, Listing}
 use Rattle.vend_ports.specs.declared.command_end.CommandEnd.{CommandEnd}
 use Rattle.vend_ports.specs.declared.command_end.CommandEnd.TheVariants.{Done, Refused, BadWords}
 

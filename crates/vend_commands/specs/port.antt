@@ -1,2 +1,1 @@
-pub mod Names
-pub mod Places
+pub mod Machines

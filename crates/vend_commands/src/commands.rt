@@ -1,11 +1,4 @@
-//! The commands: what each does.
-pub mod file_audit;
-pub mod import;
-pub mod list;
-mod look_up;
-pub mod offer;
-pub mod report;
-pub mod request;
+//! The commands that need more than an office in a file.
+
 pub mod selfcheck;
 pub mod serve;
-pub mod show;

@@ -5,18 +5,13 @@
 #![tactic(auto)]
 
 mod commands;
-mod office;
-mod port;
 mod print;
 mod running;
 mod selfcheck;
 mod serving;
 
-pub use audit::{Follows, Part};
 pub use commands::selfcheck::run_selfcheck;
-pub use office::reopening::reopen;
-pub use port::ports::{OfficeFile, Ports, SaltSource};
-pub use port::progress::Progress;
+pub use office_commands::{Follows, OfficeFile, Part, Ports, Progress, SaltSource, reopen};
 pub use running::{refuse, run, run_over, status};
 pub use selfcheck::fault::SelfcheckFault;
 pub use selfcheck::{gives_exactly, replies_over_memory};

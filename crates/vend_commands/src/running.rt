@@ -5,7 +5,8 @@ ghost use Rattle.vend_core.specs.declared.decision.refusal.Refusal.TheVariants.{
 ghost use Rattle.command_line.specs.Asked.{AskFor};
 ghost use Rattle.conversation.specs.declared.machine_clock.MachineClock.{MachineClock};
 ghost use Rattle.vend_ports.specs.port.Dial.{dial_of};
-ghost use Rattle.vend_commands.specs.port.Places.{loop_of, machine, places_of, untold, way};
+ghost use Rattle.office_commands.specs.port.Places.{places_of};
+ghost use Rattle.vend_commands.specs.port.Machines.{loop_of, machine, untold, way};
 ghost use Rattle.vend_ports.specs.port.Texts.{texts_of};
 ghost use Rattle.vend_ports.specs.print.Printed.{refusal_line};
 ghost use Rattle.vend_commands.specs.Run.{IsCarriedOut, IsExplained, IsProgramRun};
@@ -17,15 +18,13 @@ ghost use Rattle.vend_ports.specs.declared.command_end.CommandEnd.{CommandEnd};
 
 use crate::commands;
 use crate::commands::selfcheck::run_selfcheck;
-use crate::port::machine::MachineFile;
-use crate::port::openings::EachTry;
-use crate::port::ports::{OfficeFile, Ports};
-use crate::port::progress::{Progress, TerminalProgress};
 use crate::print::explanation::Explanation;
 use clap::error::ErrorKind;
 use command_line::{Asked, BadWords, meant, parse};
 use desk::{Clock, MachineClock, TimeSource};
 use desk_commands::at_desk;
+use office_commands::commands::{file_audit, import, list, offer, report, request, show};
+use office_commands::{EachTry, MachineFile, OfficeFile, Ports, Progress, TerminalProgress};
 use sqlite::{FileFrom, FileStore, Start};
 use sqlite_disk::Disk;
 use sqlite_trees::store::Store;
@@ -204,7 +203,7 @@ fn answer<
         }
         Asked::Import(words) => {
             go_offline(ports.door, ports.loopback);
-            commands::import::run(
+            import::run(
                 &words,
                 alloc,
                 ports.office,
@@ -216,24 +215,24 @@ fn answer<
         }
         Asked::Request(words) => {
             be_alone(ports.texts, ports.door, ports.loopback);
-            commands::request::run(words, alloc, ports.office, &mut clock, out, err)
+            request::run(words, alloc, ports.office, &mut clock, out, err)
         }
         Asked::Report(words) => {
             be_alone(ports.texts, ports.door, ports.loopback);
             let mut progress = ports.progress;
-            commands::report::run(&words, alloc, ports.office, &mut progress, out, err)
+            report::run(&words, alloc, ports.office, &mut progress, out, err)
         }
         Asked::Show(words) => {
             be_alone(ports.texts, ports.door, ports.loopback);
-            commands::show::run(&words, alloc, ports.office, &mut clock, out, err)
+            show::run(&words, alloc, ports.office, &mut clock, out, err)
         }
         Asked::List(words) => {
             be_alone(ports.texts, ports.door, ports.loopback);
-            commands::list::run(&words, alloc, ports.office, &mut clock, out, err)
+            list::run(&words, alloc, ports.office, &mut clock, out, err)
         }
         Asked::Offer(words) => {
             be_alone(ports.texts, ports.door, ports.loopback);
-            commands::offer::run(&words, alloc, ports.office, &mut clock, out, err)
+            offer::run(&words, alloc, ports.office, &mut clock, out, err)
         }
         Asked::Meter(words) => {
             leave_all(ports.office, ports.texts, ports.door, ports.loopback);
@@ -263,7 +262,7 @@ fn answer<
         Asked::Audit(words) => {
             be_alone(ports.texts, ports.door, ports.loopback);
             let mut progress = ports.progress;
-            commands::file_audit::run(&words, alloc, ports.office, &mut progress, out, err)
+            file_audit::run(&words, alloc, ports.office, &mut progress, out, err)
         }
     }
 }

@@ -22,7 +22,7 @@ use Rattle.vend_core.specs.declared.decision.request.Request.{Request}
 use Rattle.vend_core.specs.declared.decision.request.Request.TheVariants.{AddTariff, AddMeter, OpenShift}
 use Rattle.vend_core.specs.declared.decision.request.Stamped.{Stamped}
 use Rattle.vend_ports.specs.print.Printed.{net_line, refusal_line, selfcheck_line}
-use Rattle.vend_commands.specs.print.Opening.{opening_line}
+use Rattle.office_commands.specs.print.Opening.{opening_line}
 use Rattle.vend_ports.specs.port.Sent.{IsSent}
 use Rattle.vend_ports.specs.print.Told.{Held, IsTold, Outputs}
 use Rattle.command_line.specs.Transform.{forward_of}

@@ -11,8 +11,8 @@ use Rattle.conversation.specs.declared.end.End as conversation
 use Rattle.sts_fields.specs.Text.{Text}
 use Rattle.sts_token.specs.Token.{BlockFunction}
 use Rattle.vend_core.specs.Law.Life.{Life}
-use Rattle.vend_commands.specs.port.Places.{Way}
-use Rattle.vend_commands.specs.office.Reopened.{IsNextLife}
+use Rattle.vend_commands.specs.port.Machines.{Way}
+use Rattle.office_commands.specs.office.Reopened.{IsReopened}
 use Rattle.vend_ports.specs.print.Printed.{open_line, stopped_line}
 
 -- what serves: the door, the books, and the answers that the clock has yet to give
@@ -59,11 +59,6 @@ module _ {D R W B : Type 0} (way : Way D R W) (see : B → Seen) where
     pub refused : way.refuses old.door new.door
     pub books : new.books ≡ old.books
     pub answers : new.answers ≡ old.answers
-
--- the file of books was opened again, by others that go on
-pub record IsReopened (forward : BlockFunction) (old new : Seen) : Type 0 where
-  pub running : new.stopped ≡ false
-  pub next : HasCleanDisk new.state → IsNextLife forward old new
 
 module _ {B : Type 0} (see : B → Seen) where
   -- books that are not stopped serve on; of those that are, the file is opened again

@@ -6,12 +6,13 @@ use Rattle.book_opening.specs.declared.fault.OpenFault.{OpenFault}
 use Rattle.sts_fields.specs.Text.{Text}
 use Rattle.vend_core.specs.declared.decision.refusal.Refusal.TheVariants.{Memory}
 use Rattle.vend_commands.specs.serving.Connections.{AreServed, service}
-use Rattle.vend_commands.specs.port.Places.{Place, Places, Way}
+use Rattle.office_commands.specs.port.Places.{Place, Places}
+use Rattle.vend_commands.specs.port.Machines.{Way}
 use Rattle.vend_ports.specs.port.Port.{IsPortFor}
 use Rattle.vend_ports.specs.print.Printed.{listening_line, net_line, refusal_line}
-use Rattle.vend_commands.specs.print.Opening.{opening_line}
+use Rattle.office_commands.specs.print.Opening.{opening_line}
 use Rattle.vend_ports.specs.print.Told.{Outputs, Sink, Takes}
-use Rattle.vend_commands.specs.office.Visited.{IsOpenedAt, seen_in}
+use Rattle.office_commands.specs.office.Visited.{IsOpenedAt, seen_in}
 use Rattle.command_line.specs.Transform.{forward_of, shipped}
 use Rattle.command_line.specs.declared.address.Address.{Address}
 use Rattle.command_line.specs.declared.commands.serve.ServeWords.{ServeWords}

@@ -5,10 +5,10 @@ ghost use Rattle.vend_commands.specs.commands.Selfchecked.{AgreesOver, Disagrees
 ghost use Rattle.vend_commands.specs.commands.Selfchecked.{selfcheck_fault_line};
 ghost use Rattle.vend_ports.specs.print.Told.{Takes, outputs, sink};
 
-use crate::print::opening::put_opening;
 use crate::selfcheck::fault::SelfcheckFault;
 use crate::selfcheck::selfcheck;
 use command_line::SelfcheckWords;
+use office_commands::put_opening;
 use std::alloc::Global;
 use std::io::Write;
 use vend_ports::{CommandEnd, Loopback, Watched, put_line, put_refusal};

@@ -1,18 +1,17 @@
 ghost use Rattle.std.specs.Prelude.{◌≡◌, MatchOption};
-ghost use Rattle.vend_commands.specs.office.Closed.{IsClosed};
+ghost use Rattle.office_commands.specs.office.Closed.{IsClosed};
 ghost use Rattle.vend_commands.specs.serving.Listening.{IsClosedAfter, IsDeaf, IsServing, Listens, last_line, serving_end};
-ghost use Rattle.vend_commands.specs.port.Places.{places_of, way};
+ghost use Rattle.office_commands.specs.port.Places.{places_of};
+ghost use Rattle.vend_commands.specs.port.Machines.{way};
 ghost use Rattle.vend_ports.specs.print.Printed.{net_line, refusal_line};
 ghost use Rattle.vend_ports.specs.print.Told.{Takes, sink};
-ghost use Rattle.vend_commands.specs.office.Visited.{seen_in};
+ghost use Rattle.office_commands.specs.office.Visited.{seen_in};
 
-use crate::office::opening::{close_office, open_office};
-use crate::port::ports::OfficeFile;
-use crate::print::opening::put_opening;
 use crate::serving::serve;
 use books::{Books, OpenFault};
 use command_line::{Address, ServeWords, Shipped};
 use desk::{Clock, Desk};
+use office_commands::{OfficeFile, close_office, open_office, put_opening};
 use sqlite::FileStore;
 use sqlite_trees::store::Store;
 use std::alloc::Global;

@@ -3,7 +3,8 @@ use Rattle.sqlite.specs.Files.{over_files}
 use Rattle.command_line.specs.declared.asked.Asked.TheVariants as asks
 use Rattle.vend_ports.specs.port.Dial.{dial_of}
 use Rattle.vend_ports.specs.port.Texts.{texts_of}
-use Rattle.vend_commands.specs.port.Places.{loop_of, machine, places_of, way}
+use Rattle.office_commands.specs.port.Places.{places_of}
+use Rattle.vend_commands.specs.port.Machines.{loop_of, machine, way}
 use Rattle.vend_ports.specs.print.Told.{outputs, sink}
 use Rattle.vend_commands.proofs.RunLemmas.{done_so}
 use Rattle.vend_ports.proofs.TakeLemmas.{takes_none}

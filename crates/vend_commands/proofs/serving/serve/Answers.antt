@@ -1,8 +1,8 @@
 use Rattle.std.proofs.Common.{[], append-nil, arith, refl, subst}
 use Rattle.command_line.specs.Transform.{forward_of}
 use Rattle.vend_commands.specs.serving.Connections.{service}
-use Rattle.vend_commands.specs.port.Places.{way}
-use Rattle.vend_commands.specs.office.Visited.{seen_in}
+use Rattle.vend_commands.specs.port.Machines.{way}
+use Rattle.office_commands.specs.office.Visited.{seen_in}
 use Rattle.vend_ports.specs.print.Told.{Takes}
 use Rattle.vend_commands.proofs.ConnectionLemmas.{all_held, one_more}
 use Rattle.vend_ports.proofs.TakeLemmas.{takes_next, takes_none}

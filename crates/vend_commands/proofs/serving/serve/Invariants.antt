@@ -1,7 +1,7 @@
 use Rattle.command_line.specs.Transform.{forward_of}
 use Rattle.vend_commands.specs.serving.Connections.{service}
-use Rattle.vend_commands.specs.port.Places.{way}
-use Rattle.vend_commands.specs.office.Visited.{seen_in}
+use Rattle.vend_commands.specs.port.Machines.{way}
+use Rattle.office_commands.specs.office.Visited.{seen_in}
 use Rattle.vend_ports.specs.print.Told.{sink}
 use Rattle.vend_commands.proofs.ConnectionLemmas.{AreHeldTelling}
 use Rattle.vend_commands.proofs.serving.serve.Given as goal

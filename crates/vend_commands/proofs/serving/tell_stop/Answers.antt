@@ -1,5 +1,5 @@
 use Rattle.std.proofs.Common.{◌∙◌, [], sym}
-use Rattle.vend_commands.specs.office.Visited.{seen_in}
+use Rattle.office_commands.specs.office.Visited.{seen_in}
 use Rattle.vend_ports.specs.print.Printed.{stopped_line}
 use Rattle.vend_commands.proofs.ConnectionLemmas.{stopped_none, stopped_some}
 use Rattle.vend_ports.proofs.TakeLemmas.{takes_as, takes_none}

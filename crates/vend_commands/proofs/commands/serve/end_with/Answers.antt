@@ -1,8 +1,8 @@
 use Rattle.std.proofs.Common.{◌∙◌, Ok, ap, subst, sym}
-use Rattle.vend_commands.specs.office.Closed.{IsClosed}
+use Rattle.office_commands.specs.office.Closed.{IsClosed}
 use Rattle.vend_commands.specs.serving.Listening.{IsClosedAfter, last_line}
 use Rattle.vend_ports.specs.print.Told.{Takes, sink}
-use Rattle.vend_commands.specs.office.Visited.{seen_in}
+use Rattle.office_commands.specs.office.Visited.{seen_in}
 use Rattle.vend_ports.proofs.TakeLemmas.{takes_none}
 use Rattle.vend_commands.proofs.commands.serve.end_with.Goals as goal
 

@@ -1,0 +1,53 @@
+use Rattle.std.proofs.Common.{◌∙◌, ap, arith, inl, inr, subst}
+use Rattle.std.proofs.Math.Logic.{∥∥₁_map}
+use Rattle.sqlite.specs.Effect.{Database}
+use Rattle.sqlite.specs.Files.{file_state}
+use Rattle.office_commands.specs.office.Lost.{FailsToReconnect}
+use Rattle.office_commands.specs.office.Reopened.{IsNextOf}
+use Rattle.office_commands.proofs.ReopeningLemmas.{fits}
+use Rattle.office_commands.proofs.office.reopening.reopen.Goals as goal
+
+pub returns-in-Ok-open_from-clause-left : goal.returns-in-Ok-open_from-clause-left
+returns-in-Ok-open_from-clause-left g c clean =
+    let first = file_state c.in-Ok.conn in
+    let survives = c.in-Ok-open_from.ensures.survives in
+    let finds = c.in-Ok-open_from.ensures.finds clean in
+    let next = subst (λ conn. IsNextOf (file_state conn) first) c.into_connection.ensures.same (c.in-Ok.ensures.next (omega (arith, survives.clean, clean))) in
+    record {
+      clean = next.clean;
+      left = ∥∥₁_map next.left (λ may. (
+        first.committed.trees,
+        may,
+        λ o found. c.in-Ok-open_from.ensures.opens o (c.opening_law.ensures.opens_again c.in-Ok.conn o next.opens next.live found),
+        record {
+          found = first.now;
+          has = ap (λ (db : Database). db.trees) next.opens.clean;
+          opens = finds.now;
+          crash = λ left leaves. elim (survives.crash clean left leaves) [
+            | inl was ↦ inl (next.settled left was)
+            | inr brought ↦ inr brought.1
+          ];
+        },
+      ));
+      unlimited = survives.limit ∙ next.unlimited;
+    }
+
+pub returns-in-Err-clause-refused : goal.returns-in-Err-clause-refused
+returns-in-Err-clause-refused g c =
+    (c.in-Err.error, c.fault_of.ensures.value, subst (λ conn. FailsToReconnect conn c.in-Err.error c.in-Err.left) c.into_connection.ensures.same c.in-Err.ensures.fails)
+
+pub returns-in-Err-open_from-clause-refused : goal.returns-in-Err-open_from-clause-refused
+returns-in-Err-open_from-clause-refused g c =
+    let first = file_state c.in-Ok.conn in
+    let told = c.in-Err-open_from.ensures in
+    record {
+      first = c.in-Ok.conn;
+      next = λ clean. subst (λ conn. IsNextOf (file_state conn) first) c.into_connection.ensures.same (c.in-Ok.ensures.next clean);
+      refuses = λ clean. record {
+        told = fits first c.in-Err-open_from.fault (told.other clean);
+        same = told.same clean;
+        kept = told.refused clean;
+      };
+      rests = told.rests;
+      survives = told.survives;
+    }

@@ -1,0 +1,29 @@
+use Rattle.std.proofs.Common.{Err, Ok, ap, refl}
+use Rattle.books.specs.Keeps.{seen}
+use Rattle.vend_ports.specs.print.Told.{sink}
+use Rattle.office_commands.proofs.OnlyReadLemmas.{read_once}
+use Rattle.office_commands.proofs.RefusedLemmas.{tells_refusal}
+use Rattle.vend_ports.proofs.TakeLemmas.{takes_none}
+use Rattle.office_commands.proofs.print.totals.print_totals.Goals as goal
+
+pub returns-in-Ok : goal.returns-in-Ok
+returns-in-Ok g c = record {
+  totals = Ok c.in-Ok.totals;
+  are_totals = c.in-Ok.ensures.given;
+  told = (c.put_totals.ensures, takes_none (sink g.E.Write.contents c.args.err.now), refl);
+  reads = read_once _ _ c.in-Ok.ensures.reads;
+}
+
+pub returns-in-Err : goal.returns-in-Err
+returns-in-Err g c = record {
+  totals = Err c.in-Err.refusal;
+  are_totals = record {
+    none = λ clean life kept is. c.in-Err.ensures.none clean life kept (ap Err is);
+    refused = record {
+      tells = tells_refusal (seen c.args.books.now) (seen c.shift_totals.new.self) c.in-Err.refusal (c.in-Err.ensures.reads.stopped, c.in-Err.ensures.reads.stops);
+      failures = c.in-Err.ensures.reads.failures;
+    };
+  };
+  told = (takes_none (sink g.O.Write.contents c.args.out.now), c.put_refusal.ensures, refl);
+  reads = read_once _ _ c.in-Err.ensures.reads;
+}

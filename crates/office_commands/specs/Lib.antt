@@ -1,0 +1,4 @@
+pub mod commands
+pub mod office
+pub mod port
+pub mod print

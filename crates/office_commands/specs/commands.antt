@@ -1,0 +1,5 @@
+pub mod Asked
+pub mod Audited
+pub mod Imported
+pub mod LookedUp
+pub mod Reported

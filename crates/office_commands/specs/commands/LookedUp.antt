@@ -1,0 +1,91 @@
+-- What `show` and `list` print, and `quote` of a file: what is looked up in the office there.
+use Rattle.std.specs.Prelude.{◌≡◌, ◌⊎◌, ℕ, Bool, [], Option, Some, Result, Ok, Err}
+use Rattle.sqlite.specs.State.{HasCleanDisk}
+use Rattle.sqlite_trees.specs.declared.store.Store.{Ghosts}
+use Rattle.book_facts.specs.declared.lookup.Found.{Found}
+use Rattle.book_facts.specs.declared.lookup.Lookup.{Lookup}
+use Rattle.book_facts.specs.declared.lookup.Lookup.TheVariants as lookups
+use Rattle.book_facts.specs.declared.lookup.Quote.{Quote}
+use Rattle.books.specs.Keeps.{Represents, Seen}
+use Rattle.books.specs.Looking.{IsFoundAt, LooksUpBooks}
+use Rattle.command_line.specs.declared.commands.show.Shown.{Shown}
+use Rattle.command_line.specs.declared.commands.show.Shown.TheVariants as shown
+use Rattle.command_line.specs.declared.transform.Shipped.TheVariants.{Plain}
+use Rattle.sts_fields.specs.Text.{Text}
+use Rattle.tariff.specs.Purchase.{purchase_of}
+use Rattle.vend_core.specs.Decision.{MeterAccount, account_of}
+use Rattle.vend_core.specs.Law.Life.{Life}
+use Rattle.vend_core.specs.Office.{Office}
+use Rattle.vend_core.specs.declared.decision.refusal.Refusal.{Refusal}
+use Rattle.vend_core.specs.declared.decision.refusal.Refusal.TheVariants.{Memory}
+use Rattle.vend_ports.specs.commands.Timed.{IsTimed}
+use Rattle.office_commands.specs.office.Visited.{IsVisited}
+use Rattle.vend_ports.specs.port.Dial.{Dial}
+use Rattle.office_commands.specs.port.Places.{Places, where_present}
+use Rattle.desk_commands.specs.print.FoundTexts.{IsMadeWhole, found_text, purchase_in}
+use Rattle.office_commands.specs.print.Listing.{IsListed}
+use Rattle.vend_ports.specs.print.Printed.{file_line, refusal_line}
+use Rattle.vend_ports.specs.print.Told.{IsTold, Outputs}
+use Rattle.office_commands.specs.declared.office.wanted.Wanted.{Wanted}
+use Rattle.office_commands.specs.declared.office.wanted.Wanted.TheVariants.{One, Listing}
+use Rattle.vend_ports.specs.declared.command_end.CommandEnd.{CommandEnd}
+use Rattle.vend_ports.specs.declared.command_end.CommandEnd.TheVariants.{Done, Refused}
+
+-- what is looked up where this is to be shown
+abbrev pub lookup_of : Shown → Lookup
+lookup_of (shown.Meter number) = lookups.Meter number
+lookup_of (shown.Last number) = lookups.LastSale number
+lookup_of (shown.Sale operator order_ref) = lookups.SaleOfRef operator order_ref
+
+-- the text of what was found is told; or there is no room to make it, and that is told
+abbrev pub TellsText : (json : Bool) → Lookup → Found → Outputs → CommandEnd → Type 0
+TellsText json lookup found o end =
+    IsTold o (found_text json lookup found) [] Done end
+    ⊎ (IsMadeWhole json lookup found × IsTold o [] (refusal_line Memory) Refused end)
+
+-- what was found is told, or the refusal is
+abbrev pub TellsFound : (json : Bool) → Lookup → Result Found Refusal → Outputs → CommandEnd
+    → Type 0
+TellsFound json lookup (Ok found) o end = TellsText json lookup found o end
+TellsFound json lookup (Err refusal) o end = IsTold o [] (refusal_line refusal) Refused end
+
+-- What is found at this moment in the present office of each life that the books kept is told, or
+-- why nothing is. The books were only read: they keep what they kept, and nothing was written.
+pub record IsLookedUp (moment : ℕ) (lookup : Lookup) (json : Bool) (old new : Seen) (o : Outputs)
+    (end : CommandEnd) : Type 0 where
+  pub found : Result Found Refusal
+  pub is_found : HasCleanDisk new.state → (life : Life) → Represents life old
+      → IsFoundAt life moment lookup found
+  pub reads : LooksUpBooks moment lookup found old new
+  pub told : TellsFound json lookup found o end
+
+-- one thing is looked up, or the pages of a list are
+abbrev pub IsRead : (moment : ℕ) → Wanted → (old new : Seen) → Outputs → CommandEnd → Type 0
+IsRead moment (One lookup json) old new o end = IsLookedUp moment lookup json old new o end
+IsRead moment (Listing list json) old new o end = IsListed moment list json old new o end
+
+-- The file is not there, and is not made, and that is told; or what is wanted is looked up at this
+-- moment in the office there, where no token is written.
+pub data IsShownAt {S : Type 0} (store : Ghosts S) (at : Places) (file : Text) (wait moment : ℕ)
+    (wanted : Wanted) (o : Outputs) (end : CommandEnd) : Type 0 where
+  absent : (at file wait).misses → IsTold o [] file_line Refused end
+      → IsShownAt store at file wait moment wanted o end
+  present : IsVisited store (where_present (at file wait)) Plain
+      (λ old new. IsRead moment wanted old new o end) o end
+      → IsShownAt store at file wait moment wanted o end
+
+-- so at the moment that is given, or else at the clock's
+abbrev pub IsShown : {S : Type 0} → Ghosts S → Places → (untouched : Type 0)
+    → (clock : Dial) → (at : Option ℕ) → (file : Text) → (wait : ℕ) → Wanted → Outputs
+    → CommandEnd → Type 0
+IsShown store places untouched clock at file wait wanted o end =
+    IsTimed untouched at clock
+    (λ moment. IsShownAt store places file wait moment wanted o end) o end
+
+-- what is quoted is what `quote` prints of the steps that hold for the meter on the day, after the
+-- tenths that its month has before
+pub record IsPurchaseFor (office : Office) (moment : ℕ) (meter : Text) (tender : ℕ)
+    (quoted : Quote) : Type 0 where
+  pub account : MeterAccount
+  pub of_meter : account_of office meter moment ≡ Some account
+  pub bought : purchase_of account.steps account.prior tender ≡ Some (purchase_in quoted)

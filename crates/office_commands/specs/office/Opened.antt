@@ -1,0 +1,16 @@
+-- What comes of opening an office in two files.
+use Rattle.sqlite.specs.Held.{Held}
+use Rattle.sqlite_disk.specs.declared.Disk.{Ghosts}
+use Rattle.sqlite_store.specs.declared.store.FileStore.{FileStore}
+use Rattle.sqlite_wal.specs.Recovery.{Image}
+use Rattle.books.specs.Keeps.{Seen}
+use Rattle.books.specs.Path.{OpensFiles}
+use Rattle.office_commands.specs.office.Closed.{IsSeenAs}
+
+-- The books opened an office over a connection that was just made to the files. It was there, and
+-- stays as it is, or it was made, or brought to the present format; and tables of other names stay
+-- as they are.
+pub record OpensIn {D : Type 0} (g : Ghosts D) (image : Image) (books : Seen) : Type 0 where
+  pub conn : Held (FileStore D g)
+  pub seen_as : IsSeenAs conn books.state
+  pub opens : OpensFiles image conn

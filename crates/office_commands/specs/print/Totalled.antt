@@ -1,0 +1,40 @@
+-- What is printed of the totals of a shift.
+use Rattle.std.specs.Prelude.{◌≡◌, ℕ, [], Some, None, Result, Ok, Err}
+use Rattle.sqlite.specs.State.{HasCleanDisk}
+use Rattle.book_tables.specs.declared.row.totals.Totals.{Totals}
+use Rattle.books.specs.Keeps.{Represents, Seen}
+use Rattle.books.specs.Totals.{shift_totals}
+use Rattle.vend_core.specs.Law.Life.{Life, present}
+use Rattle.vend_core.specs.declared.decision.refusal.Refusal.{Refusal}
+use Rattle.vend_core.specs.declared.decision.refusal.Refusal.TheVariants.{NoSuchShift}
+use Rattle.vend_ports.specs.print.Printed.{refusal_line}
+use Rattle.office_commands.specs.office.OnlyRead.{AreOnlyRead}
+use Rattle.office_commands.specs.office.Refused.{RefusesToRead}
+use Rattle.vend_ports.specs.print.Told.{Outputs, IsTold}
+use Rattle.vend_ports.specs.declared.command_end.CommandEnd.{CommandEnd}
+use Rattle.vend_ports.specs.declared.command_end.CommandEnd.TheVariants.{Done, Refused}
+
+-- the shift has none in every life that the books kept, where it is refused as no such shift; and
+-- what else is refused is so as the tables were not read, or the books are stopped
+pub record HaveNoTotals (number : ℕ) (old new : Seen) (refusal : Refusal) : Type 0 where
+  pub none : HasCleanDisk new.state → (life : Life) → Represents life old
+      → refusal ≡ NoSuchShift → shift_totals (present life) number ≡ None
+  pub refused : RefusesToRead (λ cause. cause ≡ NoSuchShift) old new refusal
+
+-- these are the totals of the shift in every life that the books kept, or there are none to be told
+abbrev pub AreTotals : ℕ → (old new : Seen) → Result Totals Refusal → Type 0
+AreTotals number old new (Ok totals) = HasCleanDisk new.state → (life : Life) → Represents life old
+    → shift_totals (present life) number ≡ Some totals
+AreTotals number old new (Err refusal) = HaveNoTotals number old new refusal
+
+-- they are told, or the refusal is
+abbrev pub TellsTotals : ℕ → Result Totals Refusal → Outputs → CommandEnd → Type 0
+TellsTotals number (Ok totals) o end = IsTold o (totals_line number totals) [] Done end
+TellsTotals number (Err refusal) o end = IsTold o [] (refusal_line refusal) Refused end
+
+-- The totals of the shift in the present office are told, or why not. The books are only read.
+pub record IsTotalled (number : ℕ) (old new : Seen) (o : Outputs) (end : CommandEnd) : Type 0 where
+  pub totals : Result Totals Refusal
+  pub are_totals : AreTotals number old new totals
+  pub told : TellsTotals number totals o end
+  pub reads : AreOnlyRead old new

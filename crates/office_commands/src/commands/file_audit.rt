@@ -1,0 +1,83 @@
+ghost use Rattle.std.specs.Prelude.{option_map};
+ghost use Rattle.command_line.specs.Transform.{forward_of};
+ghost use Rattle.office_commands.specs.commands.Audited.{IsAudited, TellsAudit};
+ghost use Rattle.office_commands.specs.port.Places.{places_of};
+ghost use Rattle.vend_ports.specs.print.Told.{outputs, sink};
+
+use crate::office::auditing::{audit_files, connect, end_audit};
+use crate::port::ports::OfficeFile;
+use crate::port::progress::Progress;
+use crate::print::audit_lines::{put_broken, put_sound};
+use crate::print::opening::put_opening;
+use audit::{AuditFault, Audited};
+use book_opening::fault_of;
+use books::OpenFault;
+use command_line::AuditWords;
+use std::alloc::Global;
+use std::io::Write;
+use vend_ports::{CommandEnd, Watched, put_line};
+
+/// Looks at the file of the words, where it is there, closes it as it was, and prints what it
+/// keeps, or the first row that is no office's. It tells that the file is open, and which parts
+/// have passed.
+pub fn run<H: OfficeFile, P: Progress, O: Write, E: Write>(
+    words: &AuditWords,
+    alloc: Global,
+    office: H,
+    progress: &mut P,
+    out: &mut Watched<'_, O>,
+    err: &mut Watched<'_, E>,
+) -> CommandEnd
+    ensures { IsAudited
+        (places_of H.Medium.Disk H.Salts.SaltSource H.OfficeFile office words.now.file.now
+        words.now.wait) (option_map forward_of words.now.transform)
+        (outputs (sink O.contents out.old) (sink O.contents out.new)
+        (sink E.contents err.old) (sink E.contents err.new)) result }
+{
+    let salts = office.salts();
+    match connect(alloc, office, &salts, words.file, words.wait) {
+        Ok(Some(mut conn)) => {
+            progress.tell_opened();
+            let found = audit_files(alloc, &mut conn, words.transform, progress);
+            let answer = end_audit::<H>(alloc, found, conn);
+            tell(answer, out, err)
+        }
+        Ok(None) => {
+            put_line(&[b"file"], err);
+            CommandEnd::Refused
+        }
+        Err(fault) => {
+            put_opening(fault, err);
+            CommandEnd::Refused
+        }
+    }
+}
+
+// Tells what an audit answers.
+fn tell<O: Write, E: Write>(
+    answer: Result<Audited, AuditFault>,
+    out: &mut Watched<'_, O>,
+    err: &mut Watched<'_, E>,
+) -> CommandEnd
+    ensures { TellsAudit answer (outputs (sink O.contents out.old) (sink O.contents out.new)
+        (sink E.contents err.old) (sink E.contents err.new)) result }
+{
+    match answer {
+        Ok(audited) => {
+            put_sound(audited, out);
+            CommandEnd::Done
+        }
+        Err(AuditFault::Found(finding)) => {
+            put_broken(&finding, out);
+            CommandEnd::Refused
+        }
+        Err(AuditFault::NoOffice) => {
+            put_opening(OpenFault::NotAnOffice, err);
+            CommandEnd::Refused
+        }
+        Err(AuditFault::Failed(error)) => {
+            put_opening(fault_of(error), err);
+            CommandEnd::Refused
+        }
+    }
+}

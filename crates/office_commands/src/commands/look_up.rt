@@ -1,0 +1,99 @@
+//! Something that is looked up in the office of a file: `show`, `list`, and `quote` of a file.
+
+ghost use Rattle.office_commands.specs.commands.LookedUp.{IsShown, IsShownAt};
+ghost use Rattle.vend_ports.specs.port.Dial.{dial_of};
+ghost use Rattle.office_commands.specs.port.Places.{places_of};
+ghost use Rattle.vend_ports.specs.print.Told.{outputs, sink};
+
+use crate::office::looking::read;
+use crate::office::opening::{close_office, open_present_office};
+use crate::office::wanted::Wanted;
+use crate::port::ports::OfficeFile;
+use crate::print::opening::put_opening;
+use command_line::Shipped;
+use conversation::Clock;
+use sqlite::FileStore;
+use sqlite_trees::store::Store;
+use std::alloc::Global;
+use std::io::Write;
+use sts_fields::Moment;
+use vend_ports::{CommandEnd, Watched, moment_or_now, put_line, put_no_moment};
+
+/// What is wanted of the office in which file.
+#[derive(Clone, Copy)]
+pub(crate) struct FileLookup<'a> {
+    /// The file that keeps the office. It is not made.
+    pub(crate) file: &'a str,
+    /// For how many seconds it waits while another program has the file, 0 to 3600.
+    pub(crate) wait: u32,
+    /// The machine's clock where it is left out.
+    pub(crate) at: Option<Moment>,
+    pub(crate) wanted: Wanted,
+}
+
+/// Looks something up at the moment that is given or else at the clock's, and prints what is found.
+pub(crate) fn run<H: OfficeFile, C: Clock, O: Write, E: Write>(
+    asked: &FileLookup,
+    alloc: Global,
+    office: H,
+    clock: &mut C,
+    out: &mut Watched<'_, O>,
+    err: &mut Watched<'_, E>,
+) -> CommandEnd
+    ensures { IsShown ⟦<FileStore<H::Medium> as Store>⟧
+        (places_of H.Medium.Disk H.Salts.SaltSource H.OfficeFile office)
+        (H.leaves H office) (dial_of C.Clock clock.old)
+        asked.now.at asked.now.file.now asked.now.wait asked.now.wanted
+        (outputs (sink O.contents out.old) (sink O.contents out.new)
+        (sink E.contents err.old) (sink E.contents err.new)) result }
+{
+    match moment_or_now(asked.at, clock) {
+        Some(moment) => run_at(asked, alloc, office, moment, out, err),
+        None => {
+            H::leave(office);
+            put_no_moment(err);
+            CommandEnd::Refused
+        }
+    }
+}
+
+// Opens the office where its file is there, looks something up at a moment, prints what is found,
+// and closes its file; or tells why it is not opened. No token is written, so any transform serves.
+fn run_at<H: OfficeFile, O: Write, E: Write>(
+    asked: &FileLookup,
+    alloc: Global,
+    office: H,
+    moment: Moment,
+    out: &mut Watched<'_, O>,
+    err: &mut Watched<'_, E>,
+) -> CommandEnd
+    ensures { IsShownAt ⟦<FileStore<H::Medium> as Store>⟧
+        (places_of H.Medium.Disk H.Salts.SaltSource H.OfficeFile office)
+        asked.now.file.now asked.now.wait moment asked.now.wanted
+        (outputs (sink O.contents out.old) (sink O.contents out.new)
+        (sink E.contents err.old) (sink E.contents err.new)) result }
+{
+    let salts = office.salts();
+    match open_present_office(
+        alloc,
+        office,
+        &salts,
+        asked.file,
+        asked.wait,
+        Shipped::Plain,
+    ) {
+        Ok(Some(mut books)) => {
+            let end = read(alloc, &mut books, moment, &asked.wanted, out, err);
+            close_office::<H>(books);
+            end
+        }
+        Ok(None) => {
+            put_line(&[b"file"], err);
+            CommandEnd::Refused
+        }
+        Err(fault) => {
+            put_opening(fault, err);
+            CommandEnd::Refused
+        }
+    }
+}

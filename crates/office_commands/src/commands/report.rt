@@ -1,0 +1,97 @@
+ghost use Rattle.std.specs.Prelude.{◌≡◌};
+ghost use Rattle.sts_fields.specs.Moment.{first_moment};
+ghost use Rattle.office_commands.specs.port.Places.{places_of};
+ghost use Rattle.office_commands.specs.commands.Reported.{IsReported, PrintsPaper};
+ghost use Rattle.vend_ports.specs.print.Told.{outputs, sink};
+ghost use Rattle.office_commands.specs.office.Visited.{seen_in};
+
+use crate::office::asking::ask;
+use crate::office::opening::{close_office, open_present_office};
+use crate::port::ports::OfficeFile;
+use crate::port::progress::Progress;
+use crate::print::opening::put_opening;
+use crate::print::sales::print_sales;
+use crate::print::totals::print_totals;
+use books::Books;
+use command_line::{Paper, ReportWords, Shipped};
+use sqlite::{Alter, FileStore};
+use sqlite_trees::store::Store;
+use std::alloc::Global;
+use std::io::Write;
+use sts_fields::Moment;
+use vend_core::Request;
+use vend_ports::{CommandEnd, Watched, put_line};
+
+/// Opens the office where its file is there, prints a paper of it, and closes its file; or tells
+/// why it is not opened. No token is written, so any transform serves.
+pub fn run<H: OfficeFile, P: Progress, O: Write, E: Write>(
+    words: &ReportWords,
+    alloc: Global,
+    office: H,
+    progress: &mut P,
+    out: &mut Watched<'_, O>,
+    err: &mut Watched<'_, E>,
+) -> CommandEnd
+    ensures { IsReported ⟦<FileStore<H::Medium> as Store>⟧
+        (places_of H.Medium.Disk H.Salts.SaltSource H.OfficeFile office) words.now
+        (outputs (sink O.contents out.old) (sink O.contents out.new)
+        (sink E.contents err.old) (sink E.contents err.new)) result }
+{
+    let salts = office.salts();
+    match open_present_office(
+        alloc,
+        office,
+        &salts,
+        words.file,
+        words.wait,
+        Shipped::Plain,
+    ) {
+        Ok(Some(mut books)) => {
+            let end = print(alloc, &mut books, words.paper, progress, out, err);
+            close_office::<H>(books);
+            end
+        }
+        Ok(None) => {
+            put_line(&[b"file"], err);
+            CommandEnd::Refused
+        }
+        Err(fault) => {
+            put_opening(fault, err);
+            CommandEnd::Refused
+        }
+    }
+}
+
+// Prints a paper of books that are open, or tells why not.
+fn print<S: Alter, P: Progress, O: Write, E: Write>(
+    alloc: Global,
+    books: &mut Books<S, Shipped>,
+    paper: Paper,
+    progress: &mut P,
+    out: &mut Watched<'_, O>,
+    err: &mut Watched<'_, E>,
+) -> CommandEnd
+    ensures { PrintsPaper paper (seen_in books.old) (seen_in books.new)
+        (outputs (sink O.contents out.old) (sink O.contents out.new)
+        (sink E.contents err.old) (sink E.contents err.new)) result }
+{
+    match paper {
+        Paper::Shift(number) => {
+            let request = Request::ShiftReport(number);
+            ask(alloc, books, first_moment(), request, out, err)
+        }
+        Paper::Receipt(number) => {
+            let request = Request::Reprint(number);
+            ask(alloc, books, first_moment(), request, out, err)
+        }
+        Paper::Totals(number) => print_totals(books, number, out, err),
+        Paper::Sales => print_sales(alloc, books, progress, out, err),
+    }
+}
+
+// The books take a moment with each request; these papers are the same at every moment.
+fn first_moment() -> Moment
+    ensures { result ≡ first_moment }
+{
+    Moment::of_secs(Moment::FIRST).unwrap()
+}

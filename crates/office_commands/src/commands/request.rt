@@ -1,0 +1,83 @@
+ghost use Rattle.office_commands.specs.commands.Asked.{IsAskedAt};
+ghost use Rattle.vend_ports.specs.port.Dial.{dial_of};
+ghost use Rattle.office_commands.specs.port.Places.{places_of};
+ghost use Rattle.vend_ports.specs.commands.Timed.{IsTimed};
+ghost use Rattle.vend_ports.specs.print.Told.{outputs, sink};
+
+use crate::office::asking::ask;
+use crate::office::opening::{close_office, open_office};
+use crate::port::ports::OfficeFile;
+use crate::print::opening::put_opening;
+use command_line::RequestWords;
+use conversation::Clock;
+use sqlite::FileStore;
+use sqlite_trees::store::Store;
+use std::alloc::Global;
+use std::io::Write;
+use sts_fields::Moment;
+use vend_ports::{CommandEnd, Watched, moment_or_now, put_no_moment};
+
+/// Makes the request to the office, at the moment of the words or else of the clock, and prints the
+/// answer.
+pub fn run<H: OfficeFile, C: Clock, O: Write, E: Write>(
+    words: RequestWords<'_>,
+    alloc: Global,
+    office: H,
+    clock: &mut C,
+    out: &mut Watched<'_, O>,
+    err: &mut Watched<'_, E>,
+) -> CommandEnd
+    ensures { let o = outputs (sink O.contents out.old) (sink O.contents out.new)
+        (sink E.contents err.old) (sink E.contents err.new) in
+        IsTimed (H.leaves H office) words.entry.at (dial_of C.Clock clock.old)
+        (λ moment. IsAskedAt ⟦<FileStore<H::Medium> as Store>⟧
+        (places_of H.Medium.Disk H.Salts.SaltSource H.OfficeFile office)
+        words.entry.transform words.entry.file.now words.entry.wait moment words.entry.request o
+        result) o result }
+{
+    match moment_or_now(words.at, clock) {
+        Some(moment) => ask_at(words, alloc, office, moment, out, err),
+        None => {
+            H::leave(office);
+            put_no_moment(err);
+            CommandEnd::Refused
+        }
+    }
+}
+
+/// Opens the office in the file, makes the request at a moment, prints the answer, and closes the
+/// file; or tells why the file is not opened. The life of the office ends with the request.
+pub(crate) fn ask_at<H: OfficeFile, O: Write, E: Write>(
+    words: RequestWords<'_>,
+    alloc: Global,
+    office: H,
+    moment: Moment,
+    out: &mut Watched<'_, O>,
+    err: &mut Watched<'_, E>,
+) -> CommandEnd
+    ensures { IsAskedAt ⟦<FileStore<H::Medium> as Store>⟧
+        (places_of H.Medium.Disk H.Salts.SaltSource H.OfficeFile office)
+        words.entry.transform words.entry.file.now words.entry.wait moment words.entry.request
+        (outputs (sink O.contents out.old) (sink O.contents out.new)
+        (sink E.contents err.old) (sink E.contents err.new)) result }
+{
+    let salts = office.salts();
+    match open_office(
+        alloc,
+        office,
+        &salts,
+        words.file,
+        words.wait,
+        words.transform,
+    ) {
+        Ok(mut books) => {
+            let end = ask(alloc, &mut books, moment, words.request, out, err);
+            close_office::<H>(books);
+            end
+        }
+        Err(fault) => {
+            put_opening(fault, err);
+            CommandEnd::Refused
+        }
+    }
+}

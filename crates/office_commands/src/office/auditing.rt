@@ -1,0 +1,144 @@
+//! A file that is looked at where it is there: it is not made, and no office is opened in it.
+
+ghost use Rattle.std.specs.Prelude.{◌≡◌, false, IfErr, IfNone, IfOk, IfSome, option_map};
+ghost use Rattle.sqlite.specs.Files.{file_state};
+ghost use Rattle.sqlite.specs.State.{HasCleanDisk};
+ghost use Rattle.one_table.specs.Standing.{tree_in};
+ghost use Rattle.book_tables.specs.Kept.{shifts_kept};
+ghost use Rattle.audit.specs.Audited.{IsAuditOf};
+ghost use Rattle.books.specs.Path.{IsConnected};
+ghost use Rattle.command_line.specs.Transform.{forward_of};
+ghost use Rattle.office_commands.specs.office.Audits.{EndsAudit, told_of};
+ghost use Rattle.office_commands.specs.port.Places.{places_of};
+
+use crate::office::opening::{close_connection, let_go_ended, options_of};
+use crate::port::ports::{OfficeFile, SaltSource};
+use crate::port::progress::Progress;
+use audit::{AuditFault, Audited, Finding, RowKey, Rule, TableName, audit};
+use book_opening::fault_of;
+use books::{OpenFault, RefusedFiles, found_law};
+use command_line::Shipped;
+use sqlite::{Connection, Error, FileStore};
+use sqlite_disk::{Disk, Files};
+use sqlite_schema::schema::Schema;
+use std::alloc::Global;
+use whole_rows::end_looking;
+
+// A row of a shift is stored with so many values: its number, and those of its columns.
+const SHIFT_WIDTH: usize = 5;
+
+/// Connects with the database in the file at a path, where there is a file. No table is made. Waits
+/// up to so many seconds while another program has the file.
+///
+/// # Errors
+/// `Store` where it cannot be opened, and `Memory`.
+pub(crate) fn connect<H: OfficeFile>(
+    alloc: Global,
+    office: H,
+    salts: &H::Salts,
+    path: &str,
+    wait: u32,
+) -> Result<Option<Connection<FileStore<H::Medium>>>, OpenFault>
+    ensures connected { IfOk result (λ found. IfSome found (λ conn. HasCleanDisk (file_state conn)
+        → IsConnected (H.image office path.now) (file_state conn))) }
+    ensures rests { IfOk result
+        (λ found. IfSome found (λ conn. conn.in_transaction ≡ false)) }
+    ensures meets { IfOk result (λ found. IfSome found
+        (λ _. (places_of H.Medium.Disk H.Salts.SaltSource H.OfficeFile office path.now wait).meets)) }
+    ensures misses { IfOk result (λ found. IfNone found
+        (places_of H.Medium.Disk H.Salts.SaltSource H.OfficeFile office path.now wait).misses) }
+    ensures refuses { IfErr result
+        (places_of H.Medium.Disk H.Salts.SaltSource H.OfficeFile office path.now wait).refuses }
+{
+    found_law::<FileStore<H::Medium>>();
+    let found = match office.find_present(path, wait) {
+        Ok(found) => found,
+        Err(fault) => return Err(fault),
+    };
+    let Some((log, db)) = found else {
+        return Ok(None);
+    };
+    let Some(salt) = salts.draw() else {
+        H::let_go(log, db);
+        return Err(OpenFault::Store);
+    };
+    match Connection::open_files(alloc, Files { log, db }, options_of(salt)) {
+        Ok(conn) => Ok(Some(conn)),
+        Err((error, left)) => {
+            let files = RefusedFiles::Unconnected(left).into_files();
+            H::let_go(files.log, files.db);
+            Err(fault_of(error))
+        }
+    }
+}
+
+/// Looks at all rows of a database in two files, and tests the tokens by a transform, where one is
+/// given. It tells which parts have passed.
+pub(crate) fn audit_files<D: Disk + Drop, P: Progress>(
+    alloc: Global,
+    conn: &mut Connection<FileStore<D>>,
+    transform: Option<Shipped>,
+    progress: &mut P,
+) -> Result<Audited, AuditFault>
+    ensures { IsAuditOf (option_map forward_of transform) (file_state conn.old)
+        (file_state conn.new) result }
+{
+    audit(alloc, conn, transform.as_ref(), progress)
+}
+
+// The tree that has the rows of the shifts.
+fn tree_of_shifts(schema: &Schema) -> u32
+    ensures { result ≡ tree_in schema.now shifts_kept.table.name }
+{
+    let at = schema.table_named(b"shifts").unwrap_or(0);
+    match schema.tables.get(at) {
+        Some(table) => table.tree,
+        None => 0,
+    }
+}
+
+// What is told once the shifts were looked at as they are stored.
+fn told_of(audited: Audited, partial: Result<Option<usize>, Error>) -> Result<Audited, AuditFault>
+    ensures { result ≡ told_of audited partial }
+{
+    match partial {
+        Ok(None) => Ok(audited),
+        Ok(Some(place)) => Err(AuditFault::Found(Finding {
+            table: TableName::Shifts,
+            rule: Rule::Value,
+            row: RowKey::Number(place as u64),
+        })),
+        Err(error) => Err(AuditFault::Failed(error)),
+    }
+}
+
+/// Ends an audit: closes the files of the connection. Where the rows are an office's, the shifts
+/// are looked at once more, as they are stored: no statement shows that one lacks its last column.
+///
+/// # Errors
+/// Those of the audit; the first shift that lacks a column; what the store tells, and want of
+/// memory.
+pub(crate) fn end_audit<H: OfficeFile>(
+    alloc: Global,
+    found: Result<Audited, AuditFault>,
+    conn: Connection<FileStore<H::Medium>>,
+) -> Result<Audited, AuditFault>
+    ensures { EndsAudit (H.lets_go H.Medium) conn found result }
+{
+    match found {
+        Ok(audited) => {
+            if audited.format == 0 {
+                close_connection::<H>(conn);
+                return Ok(audited);
+            }
+            let tree = tree_of_shifts(conn.schema());
+            let (partial, ended) = end_looking(alloc, conn, tree, SHIFT_WIDTH);
+            let_go_ended::<H>(ended);
+            told_of(audited, partial)
+        }
+        Err(fault) => {
+            close_connection::<H>(conn);
+            Err(fault)
+        }
+    }
+}

@@ -1,0 +1,89 @@
+//! The files of this machine.
+
+ghost use Rattle.std.specs.Prelude.{⊤, true, false, IfOk};
+ghost use Rattle.sqlite_std_file.specs.File.{IsFresh, file_is_usable};
+ghost use Rattle.sqlite_wal.specs.Files.{image_at};
+
+use crate::port::openings::{EachTry, Openings, Pair, PresentOpenings};
+use crate::port::ports::{OfficeFile, SaltSource};
+use crate::port::tries::try_for;
+use books::OpenFault;
+use sqlite::{FileFrom, Start};
+use std::hash::{BuildHasher, RandomState};
+
+/// The file of an office on this machine. `start` stands for what it holds.
+#[derive(Drop)]
+pub struct MachineFile<'a, B: Start> {
+    pub rt: &'a HostRuntime,
+    pub start: B,
+}
+
+/// Salts that this machine draws.
+#[derive(Drop)]
+pub struct MachineSalts<'a> {
+    rt: &'a HostRuntime,
+}
+
+impl SaltSource for MachineSalts<'_> {
+    ghost draws = { λ _ _. ⊤ };
+
+    ghost lacks = { λ _. ⊤ };
+
+    fn draw(&self) -> Option<u64> {
+        let state = RandomState::new(self.rt).ok()?;
+        Some(state.hash_one(&0u8))
+    }
+}
+
+impl<'a, B: Start> OfficeFile for MachineFile<'a, B> {
+    type Medium = FileFrom<EachTry<B>>;
+
+    type Salts = MachineSalts<'a>;
+
+    ghost image = { λ _ _. image_at B.Start };
+
+    ghost finds = { λ _ _ _ _ _. ⊤ };
+
+    ghost fails = { λ _ _ _ _. ⊤ };
+
+    ghost meets = { λ _ _ _ _ _. ⊤ };
+
+    ghost misses = { λ _ _ _. ⊤ };
+
+    ghost lets_go = { λ _ _ _. ⊤ };
+
+    ghost leaves = { λ _ _. ⊤ };
+
+    fn salts(&self) -> MachineSalts<'a> {
+        MachineSalts { rt: self.rt }
+    }
+
+    fn find(self, path: &str, wait: u32) -> Result<Pair<B>, OpenFault> {
+        let mut openings = Openings::<B>::new(self.rt, path);
+        match try_for(&mut openings, wait) {
+            Some(outcome) => outcome,
+            None => Err(OpenFault::Store),
+        }
+    }
+
+    fn find_present(self, path: &str, wait: u32) -> Result<Option<Pair<B>>, OpenFault> {
+        let openings = Openings::<B>::new(self.rt, path);
+        match try_for(&mut PresentOpenings { openings }, wait) {
+            Some(outcome) => outcome,
+            None => Err(OpenFault::Store),
+        }
+    }
+
+    fn let_go<D: Drop>(log: D, db: D)
+        ensures { ⊤ }
+    {
+        drop(log);
+        drop(db);
+    }
+
+    fn leave<T: Drop>(it: T)
+        ensures { ⊤ }
+    {
+        drop(it);
+    }
+}

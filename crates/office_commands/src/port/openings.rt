@@ -1,0 +1,137 @@
+//! Tries to open the files of an office on this machine.
+
+ghost use Rattle.std.specs.Prelude.{◌≡◌, true, false, IfOk, IfSome};
+ghost use Rattle.sqlite_std_file.specs.File.{IsFresh, file_is_usable};
+ghost use Rattle.office_commands.specs.port.Names.{is_address};
+
+use crate::port::tries::Tries;
+use books::OpenFault;
+use sqlite::{FileFrom, Start};
+use sqlite_std_file::OpenError;
+use std::fs;
+use std::io::ErrorKind;
+use std::marker::PhantomData;
+use std::time::{Clock, Duration};
+
+// So many milliseconds.
+const PAUSE: u64 = 10;
+
+/// Stands for what the files hold as `B` does, at each try. A try that fails opens none, so that
+/// one pair of files is opened for one `B`.
+#[derive(Drop)]
+pub struct EachTry<B: Start> {
+    start: PhantomData<B>,
+}
+
+impl<B: Start> Start for EachTry<B> {
+    ghost log = { B.Start.log };
+
+    ghost db = { B.Start.db };
+
+    ghost is_mixing = { B.Start.is_mixing };
+
+    fn mixes() -> bool {
+        B::mixes()
+    }
+}
+
+/// The log and the database file.
+pub type Pair<B> = (FileFrom<EachTry<B>>, FileFrom<EachTry<B>>);
+
+/// Tries to open the files at a path, or to make them where there is none.
+#[derive(Drop)]
+pub(crate) struct Openings<'a, B: Start> {
+    rt: &'a HostRuntime,
+    path: &'a str,
+    pauses: u64,
+    start: PhantomData<B>,
+}
+
+impl<'a, B: Start> Openings<'a, B> {
+    /// None was tried.
+    pub(crate) fn new(rt: &'a HostRuntime, path: &'a str) -> Openings<'a, B>
+        ensures { result.pauses ≡ 0 }
+    {
+        Openings {
+            rt,
+            path,
+            pauses: 0,
+            start: PhantomData,
+        }
+    }
+}
+
+impl<B: Start> Tries for Openings<'_, B> {
+    type Outcome = Result<Pair<B>, OpenFault>;
+
+    ghost pauses = { λ openings. openings.pauses };
+
+    ghost gives = { λ outcome.
+        IfOk outcome (λ pair. IsFresh true pair.0 × IsFresh false pair.1) };
+
+    fn attempt(&mut self) -> Option<Result<Pair<B>, OpenFault>> {
+        if is_address(self.path) {
+            return Some(Err(OpenFault::Store));
+        }
+        let start = EachTry::<B> { start: PhantomData };
+        match sqlite_std_file::open(self.rt, self.path, start) {
+            Ok(files) => Some(Ok((files.log, files.db))),
+            Err(OpenError::Busy) => None,
+            Err(error) => Some(Err(refused_files_fault(error))),
+        }
+    }
+
+    fn pause(&mut self) {
+        self.rt.sleep(Duration::from_millis(PAUSE));
+        self.pauses += 1;
+    }
+}
+
+/// Tries to open the files at a path where there is a file, and makes none where there is not.
+#[derive(Drop)]
+pub(crate) struct PresentOpenings<'a, B: Start> {
+    pub openings: Openings<'a, B>,
+}
+
+impl<B: Start> Tries for PresentOpenings<'_, B> {
+    type Outcome = Result<Option<Pair<B>>, OpenFault>;
+
+    ghost pauses = { λ present. present.openings.pauses };
+
+    ghost gives = { λ outcome. IfOk outcome
+        (λ found. IfSome found (λ pair. IsFresh true pair.0 × IsFresh false pair.1)) };
+
+    // Its name is looked at before each try, for it may be taken away while it is waited for. Where
+    // it is taken away between the two calls, an empty one is made.
+    fn attempt(&mut self) -> Option<Result<Option<Pair<B>>, OpenFault>> {
+        match fs::exists(self.openings.rt, self.openings.path) {
+            Ok(true) => match self.openings.attempt()? {
+                Ok(pair) => Some(Ok(Some(pair))),
+                Err(fault) => Some(Err(fault)),
+            },
+            Ok(false) => Some(Ok(None)),
+            Err(error) => Some(Err(refused_files_fault(OpenError::Io(error)))),
+        }
+    }
+
+    fn pause(&mut self) {
+        self.openings.pause();
+    }
+}
+
+// Whether SQLite takes a path for a database in memory, or for the address of one: such a path is
+// no file's name.
+fn is_address(path: &str) -> bool
+    ensures { result ≡ is_address path.now }
+{
+    path == ":memory:" || path.as_bytes().starts_with(b"file:")
+}
+
+// Why there are no files, by what opening them met.
+fn refused_files_fault(error: OpenError) -> OpenFault {
+    match error {
+        OpenError::OutOfMemory => OpenFault::Memory,
+        OpenError::Io(error) if error.kind() == ErrorKind::OutOfMemory => OpenFault::Memory,
+        _ => OpenFault::Store,
+    }
+}

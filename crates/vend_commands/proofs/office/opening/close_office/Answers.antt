@@ -1,8 +1,0 @@
-use Rattle.std.proofs.Common.{subst}
-use Rattle.sqlite.specs.Files.{file_state}
-use Rattle.vend_commands.specs.office.Closed.{AreClosed}
-use Rattle.vend_commands.proofs.office.opening.close_office.Goals as goal
-
-pub returns : goal.returns
-returns g c =
-    subst (λ conn. AreClosed g.H.Medium.Disk (g.H.OfficeFile.lets_go _) (file_state conn)) c.into_connection.ensures.same c.close_connection.ensures

@@ -1,0 +1,136 @@
+-- What a command has of the machine beside its outputs.
+use Rattle.std.specs.Prelude.{ℕ, ⊤}
+use Rattle.sqlite.specs.Steps.{over_memory}
+use Rattle.sqlite_disk.specs.declared.Disk as disk
+use Rattle.sqlite_wal.specs.Recovery.{Image}
+use Rattle.books.specs.Keeps.{seen}
+use Rattle.command_line.specs.Transform.{forward_of, shipped}
+use Rattle.command_line.specs.declared.address.Address.{Address}
+use Rattle.command_line.specs.declared.transform.Shipped.{Shipped}
+use Rattle.desk_commands.specs.Exchanged.{Calls, calls_of, untold_calls}
+use Rattle.office_commands.specs.office.Audits.{AuditsIn}
+use Rattle.office_commands.specs.office.Closed.{IsClosed}
+use Rattle.office_commands.specs.office.Opened.{OpensIn}
+use Rattle.office_commands.specs.port.Places.{Places, untold_place}
+use Rattle.vend_ports.specs.port.Dial.{Dial}
+use Rattle.vend_ports.specs.port.Texts.{Texts}
+use Rattle.vend_ports.specs.print.Told.{Held}
+use Rattle.vend_ports.specs.declared.port.door.Door as doors
+use Rattle.vend_ports.specs.declared.port.loopback.Loopback as loopback
+use Rattle.vend_commands.specs.commands.Selfchecked.{AgreesOver, Disagrees, HasReplies}
+use Rattle.vend_commands.specs.declared.selfcheck.fault.SelfcheckFault.{SelfcheckFault}
+
+-- What a door tells: where it listens or that it could not, which connection came in or that none
+-- could be had, that it was let go, and that the door was left; and what is known of the bytes of
+-- its halves.
+pub record Way (D R W : Type 0) : Type 1 where
+  pub listens : D → Address → ℕ → D → Type 0
+  pub fails : D → Address → D → Type 0
+  pub accepts : D → R → W → D → Type 0
+  pub refuses : D → D → Type 0
+  pub ends : R → W → Type 0
+  pub leaves : D → Type 0
+  pub remaining : R → Held
+  pub contents : W → Held
+
+abbrev pub way : {D R W : Type 0} → doors.Ghosts D R W → (R → Held) → (W → Held) → Way D R W
+way {D} {R} {W} of remaining contents = record {
+  listens = of.listens;
+  fails = of.fails;
+  accepts = of.accepts;
+  refuses = of.refuses;
+  ends = of.ends R W;
+  leaves = of.leaves D;
+  remaining = remaining;
+  contents = contents;
+}
+
+-- What the connection that a command makes tells: that none was made; of the machine with itself,
+-- for `selfcheck`, that the replies over it agreed, and why not; and what came of one with a desk.
+pub record Loop : Type 1 where
+  pub leaves : Type 0
+  pub agrees : Shipped → Type 0
+  pub disagrees : Shipped → SelfcheckFault → Type 0
+  pub calls : Calls
+
+abbrev pub loop_of : {N S : Type 0} → loopback.Ghosts N S → (remaining contents : S → Held) → N
+    → Loop
+loop_of {N} of remaining contents net = record {
+  leaves = of.leaves N net;
+  agrees = λ transform. AgreesOver of remaining contents net (forward_of transform);
+  disagrees = λ transform fault. Disagrees of remaining contents net (forward_of transform)
+      (seen {g = over_memory} {h = shipped}) fault;
+  calls = calls_of of remaining contents net;
+}
+
+-- the files that keep offices and that none of them was found, the files that are read, the clock,
+-- the door, and the connection that a command makes
+pub record Machine (D R W : Type 0) : Type 1 where
+  pub at : Places
+  pub untouched : Type 0
+  pub texts : Texts
+  pub clock : Dial
+  pub way : Way D R W
+  pub door : D
+  pub loop : Loop
+
+-- nobody was listened to: the door was left as it was
+abbrev pub IsShut : {D R W : Type 0} → Machine D R W → Type 0
+IsShut m = m.way.leaves m.door
+
+-- nor was a connection made
+abbrev pub IsOffline : {D R W : Type 0} → Machine D R W → Type 0
+IsOffline m = IsShut m × m.loop.leaves
+
+-- nor was a file read
+abbrev pub IsAlone : {D R W : Type 0} → Machine D R W → Type 0
+IsAlone m = IsOffline m × m.texts.leaves
+
+-- nor was a file of an office found
+abbrev pub IsIdle : {D R W : Type 0} → Machine D R W → Type 0
+IsIdle m = m.untouched × IsAlone m
+
+abbrev pub machine : {D R W : Type 0} → Places → (untouched : Type 0) → Texts → Dial → Way D R W
+    → D → Loop → Machine D R W
+machine at untouched texts clock way door loop = record {
+  at = at;
+  untouched = untouched;
+  texts = texts;
+  clock = clock;
+  way = way;
+  door = door;
+  loop = loop;
+}
+
+-- a door of which nothing is told but the bytes of each connection
+abbrev pub untold_way : Way ⊤ Held Held
+untold_way = record {
+  listens = λ old address port new. ⊤;
+  fails = λ old address new. ⊤;
+  accepts = λ old reader writer new. ⊤;
+  refuses = λ old new. ⊤;
+  ends = λ reader writer. ⊤;
+  leaves = λ door. ⊤;
+  remaining = λ unread. unread;
+  contents = λ held. held;
+}
+
+-- a connection of which nothing is told but that there are replies over memory
+abbrev pub untold_loop : Loop
+untold_loop = record {
+  leaves = ⊤;
+  agrees = HasReplies;
+  disagrees = λ transform fault. ⊤;
+  calls = untold_calls;
+}
+
+-- files that are read, of which nothing is told
+abbrev pub untold_texts : Texts
+untold_texts = record { reads = λ path bytes. ⊤; lacks = λ path fault. ⊤; leaves = ⊤ }
+
+-- a machine of which nothing is told but that, the bytes of each connection, and the clock
+abbrev pub untold : {D : Type 0} → disk.Ghosts D → Image → Dial → Machine ⊤ Held Held
+untold disk image clock = machine
+    (λ path wait. untold_place image (OpensIn disk image) (IsClosed disk (λ log db. ⊤))
+    (AuditsIn disk image (λ log db. ⊤))) ⊤
+    untold_texts clock untold_way tt untold_loop
