@@ -16,6 +16,7 @@ use Rattle.vend_core.specs.declared.decision.refusal.Refusal.{Refusal}
 use Rattle.vend_core.specs.declared.decision.refusal.Refusal.TheVariants.{Memory, Store, Stopped}
 use Rattle.office_commands.proofs.OnlyReadLemmas.{read_none, read_then}
 use Rattle.office_commands.proofs.RefusedLemmas.{stopped_before}
+use Rattle.desk_commands.proofs.PageLemmas.{more_text, some_behind}
 use Rattle.vend_ports.proofs.TakeLemmas.{takes_as, takes_last, takes_next, takes_none}
 use Rattle.office_commands.specs.office.OnlyRead.{AreOnlyRead}
 use Rattle.office_commands.specs.print.Exported.{IsPageRefusal}

@@ -11,14 +11,13 @@ use Rattle.vend_core.specs.declared.decision.request.Request.TheVariants.{Import
 use Rattle.vend_core.specs.declared.office.row.Row.{Row}
 use Rattle.office_commands.specs.port.Places.{Places}
 use Rattle.vend_ports.specs.port.Texts.{Texts}
-use Rattle.vend_ports.specs.print.Printed.{refusal_line}
+use Rattle.vend_ports.specs.print.Printed.{read_fault_line, refusal_line}
 use Rattle.office_commands.specs.commands.Asked.{IsAskedAt}
 use Rattle.vend_ports.specs.print.Told.{Outputs, IsTold}
 use Rattle.command_line.specs.declared.commands.import.ImportWords.{ImportWords}
 use Rattle.vend_ports.specs.declared.command_end.CommandEnd.{CommandEnd}
 use Rattle.vend_ports.specs.declared.command_end.CommandEnd.TheVariants.{Refused}
 use Rattle.vend_ports.specs.declared.port.file_fault.FileFault.{FileFault}
-use Rattle.vend_ports.specs.declared.port.file_fault.FileFault.TheVariants as read
 
 -- how a fault of the rows is told: as the office refuses a row
 abbrev pub refusal_of_rows : RowFault → Refusal

@@ -7,6 +7,7 @@ use Rattle.books.specs.Totals.{shift_totals}
 use Rattle.vend_core.specs.Law.Life.{Life, present}
 use Rattle.vend_core.specs.declared.decision.refusal.Refusal.{Refusal}
 use Rattle.vend_core.specs.declared.decision.refusal.Refusal.TheVariants.{NoSuchShift}
+use Rattle.desk_commands.specs.print.TotalsLine.{totals_line}
 use Rattle.vend_ports.specs.print.Printed.{refusal_line}
 use Rattle.office_commands.specs.office.OnlyRead.{AreOnlyRead}
 use Rattle.office_commands.specs.office.Refused.{RefusesToRead}
