@@ -13,7 +13,7 @@ use std::alloc::{AllocError, Global};
 use vend_core::Moment;
 
 impl Member for ListedTariff {
-    ghost use Rattle.desk_commands.specs.print.ListTexts.{meter_line, tariff_lines};
+    ghost use Rattle.desk_commands.specs.print.ListTexts.{tariff_lines};
 
     ghost lines = { tariff_lines };
 
@@ -58,6 +58,8 @@ fn put_later_line(
 }
 
 impl Member for ListedMeter {
+    ghost use Rattle.desk_commands.specs.print.ListTexts.{meter_line};
+
     ghost lines = { meter_line };
 
     fn put(&self, _alloc: Global, text: &mut Vec<u8>) -> Result<(), AllocError> {
