@@ -13,6 +13,8 @@ mod older;
 #[cfg(test)]
 mod pages;
 #[cfg(test)]
+mod sentences;
+#[cfg(test)]
 mod shown;
 #[cfg(test)]
 mod sizes;
