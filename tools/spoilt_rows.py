@@ -3,10 +3,10 @@ script of its own.
 
 Each row of an office is spoilt by itself. A command that reads it (`READ_BY`, from docs/OFFICE.md: what each
 request and each look-up looks at) is refused with 16, prints nothing and changes nothing; every other
-prints what it prints where no row is spoilt."""
+prints what it prints where no row is spoilt. Of the last sale it is the opening that is refused."""
 import shutil
 
-from no_offices import rows_of
+from no_offices import NO_OFFICE, rows_of
 from program import METER, OTHER_METER, change, expect, vend
 from shared import wrong
 
@@ -42,9 +42,10 @@ SPOILT = {
     "closed-shift": "UPDATE shifts SET operator = 'b b' WHERE number = 2;",
     "sale": "UPDATE sales SET tid = 16777216 WHERE number = 1;",
     "other-sale": "UPDATE sales SET digits = 'x' WHERE number = 2;",
+    # An opening reads the last sale.
     "last-sale": "UPDATE sales SET rnd = 16 WHERE number = 3;",
 }
-SALES = {"sale", "other-sale", "last-sale"}
+SALES = {"sale", "other-sale"}
 # The steps of a day are the latest that have begun.
 STEPS = {"flat-later", "later-steps", "later-later", "plain-steps"}
 
@@ -69,15 +70,16 @@ def commands(file, texts):
     yield ["import", *now, "meters", texts["new-meter"]], set()
     yield ["import", *now, "meters", texts["known-meter"]], {"other-meter"}
     yield ["base", *now, "--meter", METER, "--base", "2014"], {"meter"}
-    yield [*report, "shift", "--number", "1"], {"shift", "sale", "other-sale"}
-    yield [*report, "shift", "--number", "2"], {"closed-shift", "last-sale"}
+    yield [*report, "shift", "--number", "1"], {"shift", "sale"}
+    yield [*report, "shift", "--number", "2"], {"closed-shift", "other-sale"}
     yield [*report, "totals", "--number", "1"], {"shift", "totals"}
     yield [*report, "totals", "--number", "2"], {"closed-shift", "closed-totals"}
     yield [*report, "receipt", "--number", "1"], {"sale"}
-    yield [*report, "receipt", "--number", "3"], {"last-sale"}
+    yield [*report, "receipt", "--number", "2"], {"other-sale"}
     yield [*report, "sales"], SALES
-    yield ["show", *now, "--meter", METER, "meter"], {"meter", "month", "last-id", "other-sale"}
-    yield ["show", *now, "--meter", METER, "last"], {"meter", "last-id", "other-sale"}
+    yield ["show", *now, "--meter", METER, "meter"], {"meter", "month", "last-id"}
+    yield ["show", *now, "--meter", METER, "last"], {"meter", "last-id"}
+    yield ["show", *now, "--meter", OTHER_METER, "last"], {"other-meter", "other-sale"}
     yield ["show", *now, "--operator", "ann", "--ref", "A-1", "sale"], {"sale"}
     yield ["list", *now, "tariffs"], STEPS
     yield ["list", *now, "--after", "flat", "tariffs"], STEPS - {"flat-later"}
@@ -86,7 +88,7 @@ def commands(file, texts):
     yield ["list", *now, "shifts"], {"shift", "closed-shift", "totals", "closed-totals"}
     yield ["list", *now, "--after", "1", "shifts"], {"closed-shift", "closed-totals"}
     yield ["list", *now, "sales"], SALES
-    yield ["list", *now, "--after", "2", "sales"], {"last-sale"}
+    yield ["list", *now, "--after", "1", "sales"], {"other-sale"}
 
 
 def office_in(folder):
@@ -100,7 +102,7 @@ def office_in(folder):
     for words in (["import", *given, "tariffs", texts["tariffs"]], ["import", *given, "meters", texts["meters"]],
                   ["shift", *given, "--operator", "ann", "open"], ["shift", *given, "--operator", "bob", "open"],
                   *(["sell", *given, "--operator", name, "--ref", ref, "--meter", meter, "--tender", "1000"]
-                    for name, ref, meter in (("ann", "A-1", METER), ("ann", "A-2", METER), ("bob", "B-1", OTHER_METER))),
+                    for name, ref, meter in (("ann", "A-1", METER), ("bob", "B-1", OTHER_METER), ("ann", "A-2", METER))),
                   ["shift", *given, "--operator", "bob", "close"]):
         expect(vend(*words), 0, None, b"")
     change(file, "PRAGMA wal_checkpoint(TRUNCATE);")
@@ -128,10 +130,14 @@ def check_spoilt_rows(folder):
         sound = end_of(words)
         for row, spoilt in spoilts.items():
             shutil.copy(spoilt, file)
-            ended, expected = end_of(words), REFUSED if row in reads else sound
+            ended, expected = end_of(words), sound
+            if row == "last-sale":
+                expected = NO_OFFICE
+            elif row in reads:
+                expected = REFUSED
             if ended != expected:
                 wrong(f"{row}: {words} ended with {ended}\nexpected {expected}")
-            if row in reads:
+            if expected != sound:
                 refused += 1
                 if rows_of(file) != before[row]:
                     wrong(f"{row}: {words} was refused, and has changed the file")
