@@ -198,6 +198,10 @@ pub read-count : (form : FileForm) (before : List Fields) (rows : List Row) → 
     → (length before ≡ length rows + 1) × (length rows ≤ greatest_rows)
 read-count form before rows so_far = (ap length so_far.headed ∙ omega (arith, said-count form so_far.body rows so_far.said), so_far.few)
 
+-- so such a file has a record
+pub some-record : (form : FileForm) (before more : List Fields) (rows : List Row) → AreRowsIn form before rows → 0 < length (before ++ more)
+some-record form before more rows so_far = let count = read-count form before rows so_far in omega (arith, count.0, length-append before more)
+
 -- the record behind some others
 slice_get-behind : (before after : List Fields) (fields : Fields) (number : ℕ) → number ≡ length before
     → slice_get (before ++ fields ∷ after) number ≡ Some fields
@@ -274,7 +278,7 @@ steps-take DatedTariffs fields tariffs count named priced = record { count = cou
 pub row-fault : (form : FileForm) (before after : List Fields) (rows : List Row) (fields : Fields) (number : ℕ) (fault : RowFault) → AreRowsIn form before rows
     → number ≡ length before → number ≤ greatest_rows → IsRowFault form fields number fault → IsFault (kind_of form) (before ++ fields ∷ after) fault
 row-fault form before after rows fields number (At row cause) so_far at few h = rw h.0 (no-row form before after rows fields number cause so_far at few h.1)
-row-fault form before after rows fields number Memory so_far at few h = tt
+row-fault form before after rows fields number Memory so_far at few h = omega (arith, length-append before (fields ∷ after))
 
 -- a record that says a row adds it
 pub row-read : (form : FileForm) (before : List Fields) (rows : List Row) (fields : Fields) (row : Row) → AreRowsIn form before rows

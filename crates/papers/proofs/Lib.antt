@@ -5,6 +5,7 @@ mod PlainLemmas
 mod FieldLemmas
 mod ImportLemmas
 mod RecordLemmas
+mod BlankLemmas
 mod ReaderLemmas
 mod ReportLemmas
 mod LawLemmas

@@ -1,5 +1,6 @@
 -- Files of meters and of tariffs: their records, and what a record says.
-use Rattle.std.specs.Prelude.{◌≡◌, ◌⊎◌, ℕ, zero, suc, ◌-◌, ◌<◌, ◌≤◌, List, [], ◌∷◌, length, slice_index_or, codes, decimal}
+use Rattle.std.specs.Prelude.{◌≡◌, ◌⊎◌, ◌==◌, ◌||◌, Bool, ℕ, zero, suc, ◌-◌, ◌<◌, ◌≤◌, List, [], ◌∷◌, length, slice_index_or, codes, decimal}
+use Rattle.csv.specs.Machine.{carriage_return, line_feed}
 use Rattle.csv.specs.Reading.{AreRecords, default_config, strip_bom}
 use Rattle.csv.specs.declared.parser.State.TheVariants.{StartRecord}
 use Rattle.papers.specs.declared.file_form.FileForm.{FileForm}
@@ -25,6 +26,10 @@ Fields = List (List ℕ)
 -- the records of a file: those that CSV has in its bytes, without a byte order mark in front
 abbrev pub AreFileRecords : List ℕ → List Fields → Type 0
 AreFileRecords bytes records = AreRecords default_config StartRecord (strip_bom bytes) records
+
+-- a byte that ends a line
+abbrev pub is_line_end : ℕ → Bool
+is_line_end byte = (byte == carriage_return) || (byte == line_feed)
 
 -- the kind of file that a form is one of
 abbrev pub kind_of : FileForm → FileKind

@@ -98,10 +98,11 @@ pub record IsFirstFault (kind : FileKind) (records : List Fields) (number : ℕ)
   pub before : (earlier : ℕ) (other : RowCause) → earlier < number
       → ¬ FileHasFault kind records earlier other
 
--- the fault that a reader answers for these records; want of memory tells nothing of them
+-- the fault that a reader answers for these records; each record takes room while it is read, so
+-- want of memory comes of any file but one without a record
 abbrev pub IsFault : FileKind → List Fields → RowFault → Type 0
 IsFault kind records (At number cause) = IsFirstFault kind records number cause
-IsFault kind records Memory = ⊤
+IsFault kind records Memory = 0 < length records
 
 -- what reading these records answers: the rows, or the first fault
 abbrev pub IsReading : FileKind → List Fields → Result (List Row) RowFault → Type 0

@@ -1,13 +1,13 @@
 ghost use Rattle.std.specs.Prelude.{◌≡◌, ◌++◌, ℕ, List, IfOk, OnOk, map};
 ghost use Rattle.papers.specs.Export.{HasRecords, export_of, record_text, sale_record};
-ghost use Rattle.papers.specs.Output.{IsWritten};
+ghost use Rattle.papers.specs.Output.{BlamesWriter, IsWritten};
 
 use crate::fault::TextFault;
 use crate::lines::{change, decimal};
+use crate::outlet::Outlet;
 use crate::output::write_whole;
 use csv::{Writer, WriterBuilder};
 use std::alloc::{AllocError, Global};
-use std::io::Write;
 use vend_core::Sale;
 
 // The names of the fields of an export.
@@ -28,14 +28,15 @@ const HEADER: [&[u8]; 13] = [
 ];
 
 /// Writes sales as CSV (`docs/TEXTS.md`, "Sales export"), behind the header where it is asked for.
-pub fn sales_csv<W: Write>(
+pub fn sales_csv<W: Outlet>(
     alloc: Global,
     sales: &[Sale],
     header: bool,
     out: &mut W,
 ) -> Result<(), TextFault>
-    ensures { IsWritten (W.contents out.old) (W.contents out.new)
+    ensures written { IsWritten (W.contents out.old) (W.contents out.new)
         (export_of header sales.now) result }
+    ensures failed { BlamesWriter result (W.failed out.new) }
 {
     let text = export(alloc, sales, header)?;
     write_whole(&text, out)

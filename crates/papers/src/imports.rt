@@ -4,6 +4,7 @@ ghost use Rattle.papers.specs.File.{AreFileRecords, Fields, kind_of};
 ghost use Rattle.papers.specs.Import.{AreRowsIn, IsFault, IsReading, TakesRoom};
 ghost use Rattle.papers.specs.Reader.{HasGiven};
 
+use crate::blank::is_blank;
 use crate::file_form::FileForm;
 use crate::file_kind::FileKind;
 use crate::read_row::read_row;
@@ -34,6 +35,9 @@ fn read_rows(alloc: Global, kind: FileKind, bytes: &[u8]) -> Result<Rows, RowFau
     ensures { (records : List Fields) × AreFileRecords bytes.now records
         × IsReading kind records result }
 {
+    if is_blank(bytes) {
+        return Err(RowFault::At(0, RowCause::Header));
+    }
     let mut records = records_of(alloc, bytes);
     let Some(first) = records.next() else {
         return Err(RowFault::At(0, RowCause::Header));

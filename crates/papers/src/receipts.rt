@@ -1,14 +1,14 @@
 ghost use Rattle.std.specs.Prelude.{◌≡◌, IfOk};
-ghost use Rattle.papers.specs.Output.{IsWritten};
+ghost use Rattle.papers.specs.Output.{BlamesWriter, IsWritten};
 ghost use Rattle.papers.specs.Receipt.{receipt_of};
 
 use crate::fault::TextFault;
 use crate::lines::change;
+use crate::outlet::Outlet;
 use crate::output::write_whole;
 use crate::room::{grouped, kwh_text, put_count, put_entry, time_text};
 use arrayvec::ArrayVec;
 use std::alloc::{AllocError, Global};
-use std::io::Write;
 use vend_core::Sale;
 
 /// A receipt has this room, and needs less.
@@ -38,8 +38,10 @@ pub fn receipt(alloc: Global, sale: &Sale) -> Result<Vec<u8>, AllocError>
 }
 
 /// Writes the receipt of a sale, made whole before.
-pub fn receipt_text<W: Write>(alloc: Global, sale: &Sale, out: &mut W) -> Result<(), TextFault>
-    ensures { IsWritten (W.contents out.old) (W.contents out.new) (receipt_of sale.now) result }
+pub fn receipt_text<W: Outlet>(alloc: Global, sale: &Sale, out: &mut W) -> Result<(), TextFault>
+    ensures written { IsWritten (W.contents out.old) (W.contents out.new) (receipt_of sale.now)
+        result }
+    ensures failed { BlamesWriter result (W.failed out.new) }
 {
     let text = receipt(alloc, sale)?;
     write_whole(&text, out)

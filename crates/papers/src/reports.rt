@@ -1,16 +1,16 @@
 ghost use Rattle.std.specs.Prelude.{◌≡◌, ◌+◌, ◌++◌, ◌∷◌, ℕ, List, length, IfOk, OnOk, string_bytes};
 ghost use Rattle.vend_core.specs.declared.office.sale.Sale.{Sale};
 ghost use Rattle.vend_core.specs.declared.office.shift.Shift.{Shift};
-ghost use Rattle.papers.specs.Output.{IsWritten};
+ghost use Rattle.papers.specs.Output.{BlamesWriter, IsWritten};
 ghost use Rattle.papers.specs.Report.{report_of, sale_line, shift_head, tenths_of, totals_text};
 ghost use Rattle.vend_core.specs.Law.Cash.{cash_of};
 
 use crate::fault::TextFault;
 use crate::lines::{change, put_line, put_number};
+use crate::outlet::Outlet;
 use crate::output::write_whole;
 use crate::room::{closed_text, time_text};
 use std::alloc::{AllocError, Global};
-use std::io::Write;
 use vend_core::{Moment, Sale, Shift};
 
 /// The report of a shift with these sales (`docs/TEXTS.md`, "Shift report"), or want of memory.
@@ -29,14 +29,15 @@ pub fn shift_report(alloc: Global, shift: &Shift, sales: &[Sale]) -> Result<Vec<
 }
 
 /// Writes the report of a shift with these sales (`docs/TEXTS.md`, "Shift report").
-pub fn shift_text<W: Write>(
+pub fn shift_text<W: Outlet>(
     alloc: Global,
     shift: &Shift,
     sales: &[Sale],
     out: &mut W,
 ) -> Result<(), TextFault>
-    ensures { IsWritten (W.contents out.old) (W.contents out.new)
+    ensures written { IsWritten (W.contents out.old) (W.contents out.new)
         (report_of shift.now sales.now) result }
+    ensures failed { BlamesWriter result (W.failed out.new) }
 {
     let text = shift_report(alloc, shift, sales)?;
     write_whole(&text, out)

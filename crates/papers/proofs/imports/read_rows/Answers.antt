@@ -2,7 +2,8 @@ use Rattle.std.proofs.Common.{◌∙◌, arith, refl, ◌∷◌, [], ◌++◌, l
 use Rattle.csv.specs.Reading.{strip_bom}
 use Rattle.csv.specs.Records.{fields_of}
 use Rattle.csv.specs.declared.parser.State.TheVariants as st
-use Rattle.papers.proofs.ImportLemmas.{header-missing, header-read, no-header, read-count, reading_err}
+use Rattle.papers.proofs.BlankLemmas.{not-blank-file}
+use Rattle.papers.proofs.ImportLemmas.{header-missing, header-read, no-header, read-count, reading_err, some-record}
 use Rattle.papers.proofs.ReaderLemmas.{given-all, given-more, given-some}
 use Rattle.papers.proofs.RecordLemmas.{records-exist}
 use Rattle.papers.proofs.imports.read_rows.Goals as goal
@@ -14,7 +15,9 @@ returns-in_default c =
     ([], given-all c.args.bytes.now c.records_of-records.result c.next.new.self [] begun step, no-header c.args.kind)
 
 pub returns-in_default-first : goal.returns-in_default-first
-returns-in_default-first c = let all = records-exist st.StartRecord (strip_bom c.args.bytes.now) in (all.0, all.1, tt)
+returns-in_default-first c =
+    let all = records-exist st.StartRecord (strip_bom c.args.bytes.now) in
+    (all.0, all.1, not-blank-file c.args.bytes.now all.0 c.is_blank.result c.is_blank.ensures c.if-is_blank.false all.1)
 
 pub returns-in_default-form_of : goal.returns-in_default-form_of
 returns-in_default-form_of c =
@@ -37,7 +40,10 @@ loop-record-init c =
     (fields ∷ [], rw start given, rw c.new-rows.ensures.items headed, refl)
 
 pub returns-in_default-record : goal.returns-in_default-record
-returns-in_default-record c = let all = records-exist st.StartRecord (strip_bom c.args.bytes.now) in (all.0, all.1, tt)
+returns-in_default-record c =
+    let inv = c.loop-record.invariant in
+    let after = given-some c.args.bytes.now c.loop-record.record-iterator inv.0 inv.1 in
+    (inv.0 ++ after.0, after.1, some-record _ inv.0 after.0 _ inv.2)
 
 pub returns-in_err-take_row : goal.returns-in_err-take_row
 returns-in_err-take_row c =

@@ -21,4 +21,4 @@ returns g c =
     let left = ap length inv.2 ∙ length-drop inv.0 c.args.text.now in
     let none : length c.loop-rest.rest.now ≡ 0 = grind arith in
     let all : length c.args.text.now ≤ inv.0 = omega (arith, left, inv.1) in
-    record { written = rw take_all at inv.3; never_memory = λ e. cc }
+    record { written = rw take_all at inv.3; never_memory = λ e. cc; failed = tt }

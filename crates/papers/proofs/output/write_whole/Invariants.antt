@@ -6,7 +6,7 @@ use Rattle.papers.proofs.output.write_whole.Given as goal
 abbrev pub invariant-loop-rest : goal.invariant-loop-rest
 invariant-loop-rest g l =
     (n : ℕ) × (n ≤ length l.text) × (l.rest ≡ drop n l.text)
-    × Appends (g.W.Write.contents l.fn.out) (g.W.Write.contents l.out) (take n l.text)
+    × Appends (g.W.Outlet.contents l.fn.out) (g.W.Outlet.contents l.out) (take n l.text)
 
 abbrev pub decreases-loop-rest : goal.decreases-loop-rest
 decreases-loop-rest g l = length l.rest
