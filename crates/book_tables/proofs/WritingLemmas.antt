@@ -12,6 +12,7 @@ pub mod OtherRowsLemmas
 pub mod PutLemmas
 pub mod PuttingLemmas
 pub mod RefusalLemmas
+pub mod StoringLemmas
 pub mod TariffEditLemmas
 pub mod TariffWriteLemmas
 pub mod TotallingLemmas

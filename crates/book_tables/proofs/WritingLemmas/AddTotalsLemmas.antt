@@ -18,7 +18,10 @@ use Rattle.vend_core.specs.declared.decision.change.Edit.TheVariants.{AddSale}
 use Rattle.vend_core.specs.declared.office.sale.Sale.{Sale}
 use Rattle.book_tables.specs.Holds.{HasOffice, HoldsMembers, HoldsOf}
 use Rattle.book_tables.specs.reading.Reading.{HasAllTables}
-use Rattle.book_tables.specs.row.Rows.{Rows, present_format}
+use Rattle.book_tables.specs.row.Rows.{Rows, present_format, sale_row}
+use Rattle.book_tables.specs.writing.Storing.{StoresRow}
+use Rattle.book_tables.proofs.KeptLemmas.{names_differ, trees_differ}
+use Rattle.book_tables.proofs.WritingLemmas.StoringLemmas.{left_by, stores_before}
 use Rattle.book_tables.specs.Stands.{AreMembersOf, AreTotalsOf, sales_in_month, sales_in_shift, sales_under, tenths_of, totals_of}
 use Rattle.book_tables.specs.writing.Writing.{AddsSale, AddsTenths, AddsToShift, AreSaleTotals, FitColumns, IsNextNumber, IsOfNone, MayAddSold, MayAddTenths, MayAddToShift, MayAddTotals, SetsLastId, TellsSold, TellsTotals, WritesOnly, totals_names, with_totals_of}
 use Rattle.book_tables.specs.declared.row.totals.SaleTotals.{SaleTotals}
@@ -186,11 +189,21 @@ module _ (greatest : (t : ℕ) → IsRepresentable t → t ≤ 18201624) (s : Sa
       let shifts = still_in_order shift_totals_kept sales_kept shift_totals_in sales_in old.now mid.now here to_mid refl order.1.1.0 in
       keeps_then (sale_key s.number) (totals_keys s) old.now mid.now new.now first.kept (second.adds.kept (ids, (months, (shifts, tt))))
 
+  stored_sold : HasAllTables old → StoresRow sales_kept (sale_row s) old.now new.now
+  stored_sold has =
+      let then : HasOffice mid.now.schema = subst HasOffice (sym first.only.schema) (has first.only.inside.was_open) in
+      let sale_in = (sales_in.there mid.now.schema then).0 in
+      let from_ids = trees_differ mid.now.schema sales_kept.table last_ids_kept.table sale_in (last_ids_in.there mid.now.schema then).0 (names_differ _ _ refl) in
+      let from_months = trees_differ mid.now.schema sales_kept.table month_tenths_kept.table sale_in (month_tenths_in.there mid.now.schema then).0 (names_differ _ _ refl) in
+      let from_shifts = trees_differ mid.now.schema sales_kept.table shift_totals_kept.table sale_in (shift_totals_in.there mid.now.schema then).0 (names_differ _ _ refl) in
+      stores_before sales_kept (sale_row s ∷ []) old.now mid.now new.now first.stored (left_by sales_kept totals_names sales_in mid new then (from_ids, (from_months, (from_shifts, tt))) second.adds.only)
+
   pub tells_sold : HasAllTables old → TellsSold s shown old new
   tells_sold has = record {
     adds = record {
       only = only_then (codes "sales" ∷ totals_names) (codes "sales" ∷ []) totals_names (λ s tree none. ((none.0, tt), none.1)) old mid new first.only second.adds.only;
       kept = keeps_sold has;
+      stored = stored_sold has;
       members = members;
     };
     tells = λ o office meets held.

@@ -28,6 +28,7 @@ use Rattle.book_tables.specs.Tables.{meter_bases_table, meters_table}
 use Rattle.book_tables.specs.writing.Writing.{AddsBase, AddsMeter, AddsMeterRow, MovesBase, SetsBase, WritesOnly}
 use Rattle.book_tables.proofs.WritingLemmas.BaseTexts.{base_set_query, base_set_terms, two_terms}
 use Rattle.book_tables.proofs.WritingLemmas.HiddenWriteLemmas.{is_that, one_at_most, stands_after}
+use Rattle.book_tables.specs.Holds.{HasOffice}
 use Rattle.book_tables.specs.Kept.{bases_kept, meters_kept}
 use Rattle.book_tables.specs.reading.Reading.{HasAllTables}
 use Rattle.book_tables.specs.writing.Keeping.{base_key, meter_key}
@@ -35,6 +36,7 @@ use Rattle.book_tables.proofs.WritingLemmas.KeepingLemmas.{keeps_new, keeps_set,
 use Rattle.book_tables.proofs.KeptLemmas.{bases_changed, meters_changed}
 use Rattle.book_tables.proofs.OfficeTableLemmas.{bases_in, meters_in}
 use Rattle.book_tables.proofs.WritingLemmas.OnlyLemmas.{only_among, only_both}
+use Rattle.book_tables.proofs.WritingLemmas.StoringLemmas.{left_by_one, stores_after, stores_before, stores_hidden}
 use Rattle.book_tables.proofs.WritingLemmas.WriteLemmas.{changes_only, only_one}
 use Rattle.book_tables.proofs.WritingLemmas.WriteTexts.{is_that_meter}
 
@@ -56,6 +58,7 @@ module _ (old new : State) where
         only = only;
         kept = keeps_new ((1, Text number) ∷ (2, Int (pos (year_of base))) ∷ []) old new bases_kept bases_in has _ (with_rowid Chosen (old.now.trees bases.tree) (Null ∷ base_columns (number, base))) h kept
             (ap (with_rowid Chosen (old.now.trees bases.tree)) (base_source (number, base))) refl (refl, (refl, tt));
+        stored = stores_hidden (codes "meter_bases") bases old new refl _ h (base_columns (number, base)) (ap (λ (r : Row). drop 1 (with_rowid Chosen (old.now.trees bases.tree) r)) (base_source (number, base)));
         rows = λ told rows held.
             let was = bases_in.holds told old.now rows held in
             let it = stands_after base_columns bases two_terms (base_columns (number, base)) (number, base) (base_source (number, base)) old new h rows.bases was.0 was.1 in
@@ -110,16 +113,23 @@ only_two : (old mid new : State) → WritesOnly (codes "meters" ∷ []) old mid 
 only_two old mid new first second =
     only_both both old mid new (only_among (codes "meters" ∷ []) both (λ s tree apart. (apart.0, tt)) old mid first) (only_among (codes "meter_bases" ∷ []) both (λ s tree apart. (apart.1.0, tt)) mid new second)
 
-pub adds_both : (number : List ℕ) (m : Meter) (old mid new : State) → AddsMeterRow number m old mid → AddsBase number m.base mid new → AddsMeter number m old new
-adds_both number m old mid new first second = record {
+then_has : (old mid : State) → WritesOnly (codes "meters" ∷ []) old mid → HasAllTables old → HasOffice mid.now.schema
+then_has old mid only has = subst HasOffice (sym only.schema) (has only.inside.was_open)
+
+pub adds_both : (number : List ℕ) (m : Meter) (old mid new : State) → HasAllTables old → AddsMeterRow number m old mid → AddsBase number m.base mid new → AddsMeter number m old new
+adds_both number m old mid new has first second = record {
   only = only_two old mid new first.only second.only;
   kept = keeps_then (meter_key number) (base_key number m.base) old.now mid.now new.now first.kept second.kept;
+  stored = stores_before meters_kept (meter_columns (number, m) ∷ []) old.now mid.now new.now first.stored
+      (left_by_one meters_kept bases_kept meters_in bases_in mid.now new.now (then_has old mid first.only has) (changes_only (codes "meter_bases") mid new second.only) refl);
+  base = stores_after bases_kept (base_columns (number, m.base) ∷ []) old.now mid.now new.now (left_by_one bases_kept meters_kept bases_in meters_in old.now mid.now (has first.only.inside.was_open) (changes_only (codes "meters") old mid first.only) refl) second.stored;
   rows = λ rows held. second.rows present_format (record rows { meters = rows.meters ++ (number, m) ∷ [] }) (first.rows rows held);
 }
 
-pub moves_both : (number : List ℕ) (base : Base) (old mid new : State) → SetsBase number base old mid → AddsBase number base mid new → MovesBase number base old new
-moves_both number base old mid new first second = record {
+pub moves_both : (number : List ℕ) (base : Base) (old mid new : State) → HasAllTables old → SetsBase number base old mid → AddsBase number base mid new → MovesBase number base old new
+moves_both number base old mid new has first second = record {
   only = only_two old mid new first.only second.only;
   kept = λ order. keeps_then (meter_key number) (base_key number base) old.now mid.now new.now (first.kept order) second.kept;
+  stored = stores_after bases_kept (base_columns (number, base) ∷ []) old.now mid.now new.now (left_by_one bases_kept meters_kept bases_in meters_in old.now mid.now (has first.only.inside.was_open) (changes_only (codes "meters") old mid first.only) refl) second.stored;
   rows = λ rows held apart. second.rows present_format (record rows { meters = map (row_with_base number base) rows.meters }) (first.rows rows held apart);
 }

@@ -1,5 +1,5 @@
 -- What the rows of dated steps are after a write of them.
-use Rattle.std.proofs.Common.{◌≡◌, ℕ, ◌+◌, pos, List, [], ◌∷◌, ◌++◌, length, codes, refl, sym, ap, subst, ◌∙◌, arith, append_assoc}
+use Rattle.std.proofs.Common.{◌≡◌, ℕ, ◌+◌, pos, List, [], ◌∷◌, ◌++◌, drop, length, map, codes, refl, sym, ap, subst, ◌∙◌, arith, append_assoc}
 use Rattle.sqlite.specs.Effect.{Database}
 use Rattle.sqlite.specs.Order.{Row}
 use Rattle.sqlite.specs.State.{State}
@@ -16,7 +16,9 @@ use Rattle.book_tables.specs.writing.Edited.{dated_rows}
 use Rattle.book_tables.specs.Holds.{Holds}
 use Rattle.book_tables.specs.row.Rows.{DatedStepRow, dated_columns, present_format}
 use Rattle.book_tables.specs.Tables.{dated_steps_table}
+use Rattle.book_tables.specs.writing.Storing.{StoresRows}
 use Rattle.book_tables.specs.writing.Writing.{AddsDatedStep, AddsSteps}
+use Rattle.std.proofs.lemmas.List.{map_push}
 use Rattle.book_tables.proofs.ReadingLemmas.DatedLemmas.{dated_at, dated_from}
 use Rattle.book_tables.proofs.ReadingLemmas.DatedTexts.{five_terms}
 use Rattle.book_tables.proofs.WritingLemmas.HiddenWriteLemmas.{stands_after}
@@ -27,6 +29,7 @@ use Rattle.book_tables.proofs.WritingLemmas.KeepingLemmas.{fewer_parts, keeps_bo
 use Rattle.book_tables.proofs.KeptLemmas.{dated_steps_changed}
 use Rattle.book_tables.proofs.OfficeTableLemmas.{dated_steps_in}
 use Rattle.book_tables.proofs.WritingLemmas.OnlyLemmas.{only_both}
+use Rattle.book_tables.proofs.WritingLemmas.StoringLemmas.{stores_hidden, stores_then}
 use Rattle.book_tables.proofs.WritingLemmas.WriteLemmas.{cast_optional, changes_only, only_one}
 
 -- ---- a step
@@ -47,6 +50,7 @@ module _ (old new : State) where
         only = only;
         kept = keeps_new ((1, Text r.tariff) ∷ (2, Int (pos r.day)) ∷ (3, Int (pos r.place)) ∷ []) old new dated_steps_kept dated_steps_in has _ (with_rowid Chosen (old.now.trees dated.tree) (Null ∷ dated_columns r)) h kept
             (ap (with_rowid Chosen (old.now.trees dated.tree)) (dated_source r)) refl (refl, (refl, (refl, tt)));
+        stored = stores_hidden (codes "dated_steps") dated old new refl _ h (dated_columns r) (ap (λ (r : Row). drop 1 (with_rowid Chosen (old.now.trees dated.tree) r)) (dated_source r));
         rows = λ rows held.
             let was = dated_steps_in.holds present_format old.now rows held in
             let it = stands_after dated_columns dated five_terms (dated_columns r) r (dated_source r) old new h rows.dated_steps was.0 was.1 in
@@ -74,12 +78,14 @@ module _ (name : List ℕ) (day : ℕ) where
 
   -- the first one
   pub adds_first : (s : Step) (old new : State) → AddsDatedStep (dated_at name day 0 s) old new → AddsSteps name day (s ∷ []) old new
-  adds_first s old new added = record { only = added.only; kept = of_day 0 s old.now new.now added.kept; rows = added.rows }
+  adds_first s old new added = record { only = added.only; kept = of_day 0 s old.now new.now added.kept; stored = added.stored; rows = added.rows }
 
   adds_at_end : (xs : List Step) (s : Step) (old mid new : State) → AddsSteps name day xs old mid → AddsDatedStep (dated_at name day (length xs) s) mid new → AddsSteps name day (xs ++ s ∷ []) old new
   adds_at_end xs s old mid new first second = record {
     only = only_both (codes "dated_steps" ∷ []) old mid new first.only second.only;
     kept = keeps_both (dated_keys name day) old.now mid.now new.now first.kept (of_day (length xs) s mid.now new.now second.kept);
+    stored = subst (λ (l : List Row). StoresRows dated_steps_kept l old.now new.now) (sym (map_push dated_columns (dated_rows name day xs) (dated_at name day (length xs) s)) ∙ ap (map dated_columns) (sym (dated_more xs s)))
+        (stores_then dated_steps_kept (map dated_columns (dated_rows name day xs)) (dated_columns (dated_at name day (length xs) s) ∷ []) old.now mid.now new.now first.stored second.stored);
     rows = λ rows held.
         let all = second.rows (record rows { dated_steps = rows.dated_steps ++ dated_rows name day xs }) (first.rows rows held) in
         let last : List DatedStepRow = dated_at name day (length xs) s ∷ [] in

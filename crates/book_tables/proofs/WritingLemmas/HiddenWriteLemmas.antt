@@ -38,6 +38,7 @@ use Rattle.book_tables.proofs.WritingLemmas.KeepingLemmas.{keeps_new, keeps_set,
 use Rattle.book_tables.proofs.KeptLemmas.{meters_changed, steps_changed, tariffs_changed}
 use Rattle.book_tables.proofs.ListLemmas.{NotBothPass, first_is_all, pairs_weaker}
 use Rattle.book_tables.proofs.WritingLemmas.WriteLemmas.{cast_optional, changes_only, few, only_one}
+use Rattle.book_tables.proofs.WritingLemmas.StoringLemmas.{stores_hidden}
 use Rattle.book_tables.proofs.WritingLemmas.WriteTexts.{four_terms, is_that_meter, one_term, tariff_set_query, tariff_set_terms}
 
 -- ---- one row more
@@ -76,6 +77,7 @@ module _ (old new : State) where
       record {
         only = only;
         kept = keeps_new ((1, Text number) ∷ []) old new meters_kept meters_in has _ (with_rowid Chosen (old.now.trees meters.tree) (Null ∷ meter_columns (number, m))) h kept (ap (with_rowid Chosen (old.now.trees meters.tree)) (meter_source number m)) refl (refl, tt);
+        stored = stores_hidden (codes "meters") meters old new refl _ h (meter_columns (number, m)) (ap (λ (r : Row). drop 1 (with_rowid Chosen (old.now.trees meters.tree) r)) (meter_source number m));
         rows = λ rows held.
             let it = stands_after meter_columns meters four_terms (meter_columns (number, m)) (number, m) (meter_source number m) old new h rows.meters held.are.1.1.1.0.0 held.are.1.1.1.0.1 in
             meters_changed present_format old.now new.now rows held (rows.meters ++ (number, m) ∷ []) kept it.0 it.1;
@@ -97,6 +99,7 @@ module _ (old new : State) where
       record {
         only = only;
         kept = keeps_new ((1, Text name) ∷ []) old new tariffs_kept tariffs_in has _ (with_rowid Chosen (old.now.trees tariffs.tree) (Null ∷ tariff_columns name)) h kept (ap (with_rowid Chosen (old.now.trees tariffs.tree)) (name_source name)) refl (refl, tt);
+        stored = stores_hidden (codes "tariffs") tariffs old new refl _ h (tariff_columns name) (ap (λ (r : Row). drop 1 (with_rowid Chosen (old.now.trees tariffs.tree) r)) (name_source name));
         rows = λ rows held.
             let it = stands_after tariff_columns tariffs one_term (tariff_columns name) name (name_source name) old new h rows.tariffs held.are.1.0.0 held.are.1.0.1 in
             tariffs_changed present_format old.now new.now rows held (rows.tariffs ++ name ∷ []) kept it.0 it.1;
@@ -118,6 +121,7 @@ module _ (old new : State) where
       record {
         only = only;
         kept = keeps_new ((1, Text r.tariff) ∷ (2, Int (pos r.place)) ∷ []) old new steps_kept steps_in has _ (with_rowid Chosen (old.now.trees steps.tree) (Null ∷ step_columns r)) h kept (ap (with_rowid Chosen (old.now.trees steps.tree)) (step_source r)) refl (refl, (refl, tt));
+        stored = stores_hidden (codes "tariff_steps") steps old new refl _ h (step_columns r) (ap (λ (r : Row). drop 1 (with_rowid Chosen (old.now.trees steps.tree) r)) (step_source r));
         rows = λ rows held.
             let it = stands_after step_columns steps four_terms (step_columns r) r (step_source r) old new h rows.steps held.are.1.1.0.0 held.are.1.1.0.1 in
             steps_changed present_format old.now new.now rows held (rows.steps ++ r ∷ []) kept it.0 it.1;

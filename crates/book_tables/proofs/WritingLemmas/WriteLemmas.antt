@@ -33,6 +33,7 @@ use Rattle.book_tables.specs.Tables.{shifts_table}
 use Rattle.book_tables.specs.writing.Writing.{AddsShift, ClosesShift}
 use Rattle.book_tables.proofs.ReadingLemmas.FoundLemmas.{found_numbered}
 use Rattle.book_tables.proofs.KeptLemmas.{shifts_changed}
+use Rattle.book_tables.proofs.WritingLemmas.StoringLemmas.{stores_numbered}
 use Rattle.book_tables.proofs.WritingLemmas.WriteTexts.{new_shift_terms, shift_closed_query, shift_closed_terms, is_that_shift}
 use Rattle.sqlite.specs.State.{State}
 use Rattle.sqlite_keyed.specs.Keyed.{IsKeyedBy, next_key}
@@ -146,6 +147,7 @@ module _ (old new : State) (s : Sale) (params : Row) (bound : params ≡ sale_co
       record {
         only = only;
         kept = keeps_new ((0, Int (pos s.number)) ∷ []) old new sales_kept sales_in has _ (sale_row s) h kept row refl (refl, tt);
+        stored = stores_numbered (codes "sales") sales old new refl _ h (sale_row s) row;
         rows = λ rows held next.
             let put = h.changed.rows_are ∙ ap (λ (r : Row). put_row r (old.now.trees sales.tree)) row
             ∙ ap (put_row (sale_row s)) held.are.1.1.1.1.1.0
@@ -171,6 +173,7 @@ module _ (old new : State) where
       record {
         only = only;
         kept = keeps_new ((0, Int (pos s.number)) ∷ []) old new shifts_kept shifts_in has _ (shift_row s) h kept row refl (refl, tt);
+        stored = stores_numbered (codes "shifts") shifts old new refl _ h (shift_row s) row;
         rows = λ rows held next.
             let put = h.changed.rows_are ∙ ap (λ (r : Row). put_row r (old.now.trees shifts.tree)) row ∙ ap (put_row (shift_row s)) held.are.1.1.1.1.0
             ∙ appends (λ (x : Shift). pos x.number) shift_row (λ x. refl) rows.shifts s (numbers_rise (λ (x : Shift). x.number) rows.shifts next.numbered) (next_number (λ (x : Shift). x.number) rows.shifts s.number next) in

@@ -21,13 +21,15 @@ use Rattle.one_table.specs.Standing.{tree_in}
 use Rattle.vend_core.specs.Office.{AreNumbered, IsOffice, Office}
 use Rattle.vend_core.specs.declared.office.sale.Sale.{Sale}
 use Rattle.vend_core.specs.declared.office.shift.Shift.{Shift}
-use Rattle.book_tables.specs.writing.Edited.{edited, row_with_base, row_with_tariff, shift_closed}
+use Rattle.book_tables.specs.writing.Edited.{dated_rows, edited, row_with_base, row_with_tariff, shift_closed, step_rows}
 use Rattle.book_tables.specs.writing.Failing.{Ends, FailsToMerge, FailsToStore}
 use Rattle.book_tables.specs.writing.Writes.{Write}
 use Rattle.book_tables.specs.writing.Keeping.{AreInOrder, KeepsRows, base_key, dated_keys, dated_step_key, last_id_key, meter_key, month_key, name_key, sale_key, shift_key, shift_totals_key, step_key, tariff_keys, totals_keys}
+use Rattle.book_tables.specs.writing.Storing.{StoresRow, StoresRows}
 use Rattle.book_tables.specs.Holds.{Holds, HoldsMembers, HoldsOf}
+use Rattle.book_tables.specs.Kept.{bases_kept, dated_steps_kept, meters_kept, sales_kept, shifts_kept, steps_kept, tariffs_kept}
 use Rattle.book_tables.specs.reading.Reading.{HasAllTables}
-use Rattle.book_tables.specs.row.Rows.{DatedStepRow, Rows, StepRow, present_format}
+use Rattle.book_tables.specs.row.Rows.{DatedStepRow, Rows, StepRow, base_columns, dated_columns, meter_columns, present_format, sale_row, shift_row, step_columns, tariff_columns}
 use Rattle.book_tables.specs.Stands.{AreMembersOf, AreRowsOf, AreTotalsOf, sales_in_month, sales_in_shift, sales_under, tenths_of, totals_of}
 use Rattle.book_tables.specs.row.Values.{AreTotalsValues, IsTid, IsTotal}
 use Rattle.book_tables.specs.declared.error.TableError.{TableError}
@@ -87,6 +89,7 @@ pub record IsNextNumber {X : Type 0} (number : X → ℕ) (rows : List X) (next 
 pub record AddsSale (s : Sale) (old new : State) : Type 0 where
   pub only : WritesOnly (codes "sales" ∷ []) old new
   pub kept : KeepsRows (sale_key s.number) old.now new.now
+  pub stored : StoresRow sales_kept (sale_row s) old.now new.now
   pub rows : (rows : Rows) → Holds old.now rows → IsNextNumber (λ s. s.number) rows.sales s.number
       → Holds new.now (record rows { sales = rows.sales ++ s ∷ [] })
 
@@ -94,6 +97,7 @@ pub record AddsSale (s : Sale) (old new : State) : Type 0 where
 pub record AddsShift (s : Shift) (old new : State) : Type 0 where
   pub only : WritesOnly (codes "shifts" ∷ []) old new
   pub kept : KeepsRows (shift_key s.number) old.now new.now
+  pub stored : StoresRow shifts_kept (shift_row s) old.now new.now
   pub rows : (rows : Rows) → Holds old.now rows → IsNextNumber (λ s. s.number) rows.shifts s.number
       → Holds new.now (record rows { shifts = rows.shifts ++ s ∷ [] })
 
@@ -109,12 +113,15 @@ pub record ClosesShift (number moment : ℕ) (old new : State) : Type 0 where
 pub record AddsMeter (number : List ℕ) (m : Meter) (old new : State) : Type 0 where
   pub only : WritesOnly (codes "meters" ∷ codes "meter_bases" ∷ []) old new
   pub kept : KeepsRows (meter_key number ++ base_key number m.base) old.now new.now
+  pub stored : StoresRow meters_kept (meter_columns (number, m)) old.now new.now
+  pub base : StoresRow bases_kept (base_columns (number, m.base)) old.now new.now
   pub rows : (rows : Rows) → Holds old.now rows → Holds new.now (edited (AddMeter number m) rows)
 
 -- the row of a meter more, which stands after the others
 pub record AddsMeterRow (number : List ℕ) (m : Meter) (old new : State) : Type 0 where
   pub only : WritesOnly (codes "meters" ∷ []) old new
   pub kept : KeepsRows (meter_key number) old.now new.now
+  pub stored : StoresRow meters_kept (meter_columns (number, m)) old.now new.now
   pub rows : (rows : Rows) → Holds old.now rows
       → Holds new.now (record rows { meters = rows.meters ++ (number, m) ∷ [] })
 
@@ -122,6 +129,7 @@ pub record AddsMeterRow (number : List ℕ) (m : Meter) (old new : State) : Type
 pub record AddsBase (number : List ℕ) (base : Base) (old new : State) : Type 0 where
   pub only : WritesOnly (codes "meter_bases" ∷ []) old new
   pub kept : KeepsRows (base_key number base) old.now new.now
+  pub stored : StoresRow bases_kept (base_columns (number, base)) old.now new.now
   pub rows : (told : ℕ) (rows : Rows) → HoldsOf present_format told old.now rows
       → HoldsOf present_format told new.now
       (record rows { bases = rows.bases ++ (number, base) ∷ [] })
@@ -139,6 +147,7 @@ pub record MovesBase (number : List ℕ) (base : Base) (old new : State) : Type 
   pub only : WritesOnly (codes "meters" ∷ codes "meter_bases" ∷ []) old new
   pub kept : AreInOrder (codes "meters" ∷ []) old.now
       → KeepsRows (meter_key number ++ base_key number base) old.now new.now
+  pub stored : StoresRow bases_kept (base_columns (number, base)) old.now new.now
   pub rows : (rows : Rows) → Holds old.now rows → AllPairs (λ a b. a.0 ≢ b.0) rows.meters
       → Holds new.now (edited (MoveBase number base) rows)
 
@@ -146,6 +155,7 @@ pub record MovesBase (number : List ℕ) (base : Base) (old new : State) : Type 
 pub record AddsName (name : List ℕ) (old new : State) : Type 0 where
   pub only : WritesOnly (codes "tariffs" ∷ []) old new
   pub kept : KeepsRows (name_key name) old.now new.now
+  pub stored : StoresRow tariffs_kept (tariff_columns name) old.now new.now
   pub rows : (rows : Rows) → Holds old.now rows
       → Holds new.now (record rows { tariffs = rows.tariffs ++ name ∷ [] })
 
@@ -153,6 +163,7 @@ pub record AddsName (name : List ℕ) (old new : State) : Type 0 where
 pub record AddsStep (r : StepRow) (old new : State) : Type 0 where
   pub only : WritesOnly (codes "tariff_steps" ∷ []) old new
   pub kept : KeepsRows (step_key r) old.now new.now
+  pub stored : StoresRow steps_kept (step_columns r) old.now new.now
   pub rows : (rows : Rows) → Holds old.now rows
       → Holds new.now (record rows { steps = rows.steps ++ r ∷ [] })
 
@@ -160,6 +171,7 @@ pub record AddsStep (r : StepRow) (old new : State) : Type 0 where
 pub record AddsDatedStep (r : DatedStepRow) (old new : State) : Type 0 where
   pub only : WritesOnly (codes "dated_steps" ∷ []) old new
   pub kept : KeepsRows (dated_step_key r) old.now new.now
+  pub stored : StoresRow dated_steps_kept (dated_columns r) old.now new.now
   pub rows : (rows : Rows) → Holds old.now rows
       → Holds new.now (record rows { dated_steps = rows.dated_steps ++ r ∷ [] })
 
@@ -175,6 +187,8 @@ pub record SetsTariff (number name : List ℕ) (old new : State) : Type 0 where
 pub record AddsTariff (name : List ℕ) (added : List Step) (old new : State) : Type 0 where
   pub only : WritesOnly (codes "tariffs" ∷ codes "tariff_steps" ∷ []) old new
   pub kept : KeepsRows (tariff_keys name) old.now new.now
+  pub stored : StoresRow tariffs_kept (tariff_columns name) old.now new.now
+  pub steps : StoresRows steps_kept (map step_columns (step_rows name added)) old.now new.now
   pub rows : (rows : Rows) → Holds old.now rows
       → Holds new.now (edited (AddTariff name added) rows)
 
@@ -182,6 +196,8 @@ pub record AddsTariff (name : List ℕ) (added : List Step) (old new : State) : 
 pub record AddsSteps (name : List ℕ) (day : ℕ) (added : List Step) (old new : State) : Type 0 where
   pub only : WritesOnly (codes "dated_steps" ∷ []) old new
   pub kept : KeepsRows (dated_keys name day) old.now new.now
+  pub stored : StoresRows dated_steps_kept (map dated_columns (dated_rows name day added)) old.now
+      new.now
   pub rows : (rows : Rows) → Holds old.now rows
       → Holds new.now (edited (AddSteps name day added) rows)
 
@@ -331,6 +347,7 @@ pub record AddsSold (s : Sale) (old new : State) : Type 0 where
   pub only : WritesOnly (codes "sales" ∷ totals_names) old new
   pub kept : AreInOrder totals_names old.now
       → KeepsRows (sale_key s.number ++ totals_keys s) old.now new.now
+  pub stored : StoresRow sales_kept (sale_row s) old.now new.now
   pub members : (o : Office) → IsOffice o → MeetsNewSale o s → HoldsMembers old.now o
       → HoldsMembers new.now (applied (AddSale s) o)
 

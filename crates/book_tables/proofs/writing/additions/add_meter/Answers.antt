@@ -20,7 +20,7 @@ returns-clause-added g c clean has =
     let new = state g.S.Store c.add_base.new.tx.conn.now in
     let early : HasCleanDisk mid = omega (arith, c.add_base.ensures.writes.transaction.survives.clean) in
     let first = c.in_ok-add_meter_row.ensures.writes.made early has in
-    on_ok c.add_base.result (adds_both c.args.number.now c.args.meter.now old mid new first) (c.add_base.ensures.writes.made clean (tables_there _ old mid first.only has))
+    on_ok c.add_base.result (adds_both c.args.number.now c.args.meter.now old mid new has first) (c.add_base.ensures.writes.made clean (tables_there _ old mid first.only has))
 
 pub returns-clause-transaction : goal.returns-clause-transaction
 returns-clause-transaction g c =

@@ -19,7 +19,7 @@ steps-init g c = record {
   same = search rules;
   place = search rules;
   transaction = transaction_on c.in_ok-add_name.ensures.writes.transaction;
-  added = λ clean has. adds_none c.args.name.now (state g.S.Store c.args.tx.now.conn.now) (state g.S.Store c.add_name.new.tx.conn.now) (c.in_ok-add_name.ensures.writes.made clean has);
+  added = λ clean has. adds_none c.args.name.now (state g.S.Store c.args.tx.now.conn.now) (state g.S.Store c.add_name.new.tx.conn.now) has (c.in_ok-add_name.ensures.writes.made clean has);
   written = λ clean has. (c.in_ok-add_name.ensures.writes.ends clean has).0;
 }
 
@@ -38,7 +38,7 @@ steps-preserved g c = record {
       let step = get_or c.args.steps.now c.steps.step-index (record { ends = None; price = 0 }) in
       let count : length (take c.steps.step-index c.args.steps.now) ≡ c.steps.step-index = length-take-le c.steps.step-index c.args.steps.now (omega (arith, c.steps-test.true)) in
       subst (λ (l : List Step). AddsTariff c.args.name.now l old new) (sym (take_more c.args.steps.now c.steps.step-index (record { ends = None; price = 0 }) c.steps-test.true))
-      (adds_next c.args.name.now (take c.steps.step-index c.args.steps.now) c.steps.place step old mid new (c.steps.invariant.place ∙ sym count) so_far last);
+      (adds_next c.args.name.now (take c.steps.step-index c.args.steps.now) c.steps.place step old mid new (c.steps.invariant.place ∙ sym count) has so_far last);
   written = λ clean has.
       let old = state g.S.Store c.args.tx.now.conn.now in
       let mid = state g.S.Store c.steps.tx.conn.now in
