@@ -127,15 +127,15 @@ module _ (from : ℕ) (meters : List MeterRow) (sales : List Sale) (old new : St
   brought_inside (Ok a) made = λ sound has hands. (made (λ _. (sound, has)) hands).brings
   brought_inside (Err e) made = tt
 
-  pub refused_inside : {S A : Type 0} (g : Ghosts S) (r : Result A TableError) → (IsSoundOfFormat from old → IfErr r (FailsToBring g from old new))
-      → IfErr r (λ e. IsSoundOfFormat from old → FailsToBring g from old new e)
+  pub refused_inside : {S A : Type 0} (g : Ghosts S) (r : Result A TableError) → (IsSoundOfFormat from old → IfErr r (FailsToBring g from meters sales old new))
+      → IfErr r (λ e. IsSoundOfFormat from old → FailsToBring g from meters sales old new e)
   refused_inside g (Ok a) fails = tt
   refused_inside g (Err e) fails = fails
 
-  pub told_inside : {S A : Type 0} (g : Ghosts S) (r : Result A TableError) → (IsSoundOfFormat from old → IfErr r (FailsToBring g from old new))
+  pub told_inside : {S A : Type 0} (g : Ghosts S) (r : Result A TableError) → (IsSoundOfFormat from old → IfErr r (FailsToBring g from meters sales old new))
       → IfErr r (λ e. IsDatabase old.now → HasOfficeOf from old.now.schema → e ≢ table.RowOfNoOffice)
   told_inside g (Ok a) fails = tt
-  told_inside g (Err e) fails = λ sound has is. subst (FailsToBring g from old new) is (fails (λ _. (sound, has)))
+  told_inside g (Err e) fails = λ sound has is. subst (FailsToBring g from meters sales old new) is (fails (λ _. (sound, has)))
 
   -- what a crash leaves of the change is the office in the present format
   pub leaves_present : (HasCleanDisk old → IsTrue old.is_open) → IsSoundWith from meters sales old

@@ -41,7 +41,7 @@ impl<S: Alter> Change<S> for Bringing<'_> {
         → error ≢ RowOfNoOffice };
 
     ghost fails = { λ change old new error. IsSoundOfFormat change.from old
-        → FailsToBring S.Store change.from old new error };
+        → FailsToBring S.Store change.from change.meters.now change.sales.now old new error };
 
     fn make(&self, tx: &mut Transaction<'_, S>) -> Result<(), TableError> {
         bring(self.alloc, tx, self.from, self.meters, self.sales)

@@ -1,5 +1,5 @@
 -- The tables of an older format are brought up to the present one: the same office.
-use Rattle.std.proofs.Common.{◌≡◌, ◌≢◌, ◌<◌, ◌↔◌, ◌∙◌, ℕ, true, List, [], ◌∷◌, ◌++◌, codes, map, zero, suc, refl, sym, subst, inr, arith, Result, Ok, Err, IfErr, IsErrAnd, OnOk}
+use Rattle.std.proofs.Common.{◌≡◌, ◌≢◌, ◌<◌, ◌↔◌, ◌∙◌, ℕ, true, List, [], ◌∷◌, ◌++◌, codes, map, zero, suc, refl, sym, subst, inl, inr, arith, Result, Ok, Err, IfErr, IsErrAnd, OnOk}
 use Rattle.std.specs.Prelude.{AllPairs, Contains}
 use Rattle.std.specs.List.{AllByRecursion}
 use Rattle.sqlite.specs.State.{HasCleanDisk, State, Survives}
@@ -10,11 +10,11 @@ use Rattle.vend_core.specs.Office.{IsOffice, Office, empty_office}
 use Rattle.vend_core.specs.declared.office.sale.Sale.{Sale}
 use Rattle.one_table.specs.InTransaction.{KeepsTransaction, StaysInside}
 use Rattle.one_table.proofs.ChangeLemmas.{if_err, keeps_inside, keeps_then, on_ok, stays_then}
-use Rattle.book_tables.specs.format.Filling.{AreHanded, Fills, FillsBases, FillsTotals, IsReady, base_row}
+use Rattle.book_tables.specs.format.Filling.{AreHanded, Fills, FillsBases, FillsTotals, IsFilling, IsReady, base_row}
 use Rattle.book_tables.specs.Holds.{HasOffice, HoldsMembers, HoldsOf, rows_in}
 use Rattle.book_tables.specs.format.Format.{HasFormat}
 use Rattle.book_tables.specs.Kept.{Kept, about_kept, bases_kept, kept_names, last_ids_kept, later, month_tenths_kept, shift_totals_kept}
-use Rattle.book_tables.specs.format.Making.{BringsInside, BringsTables, FailsToBring, FillsMissing, HandsOver, IsSoundOfFormat, MakesMissing, TellsPresent, rows_upto}
+use Rattle.book_tables.specs.format.Making.{BringsInside, BringsTables, FailsToBring, FillsMissing, HandsOver, IsBringing, IsSoundOfFormat, MakesMissing, TellsPresent, rows_upto}
 use Rattle.book_tables.specs.row.Rows.{DatedStepRow, Rows, about_rows, present_format}
 use Rattle.book_tables.specs.Stands.{AreDatedApart, AreMembersOf, AreTotalsOf, HasDatedStep, IsOfFormat}
 use Rattle.book_tables.specs.writing.Edited.{no_rows}
@@ -26,7 +26,7 @@ use Rattle.book_tables.specs.declared.error.TableError.TheVariants.{Database as 
 use Rattle.book_tables.specs.declared.reading.pages.MeterRow.{MeterRow}
 use Rattle.book_tables.proofs.FormatLemmas.AboutLemmas.{IsAnother, told_left}
 use Rattle.book_tables.proofs.FormatLemmas.FillingBasesLemmas.{bases_are, bases_once}
-use Rattle.book_tables.proofs.FormatLemmas.FillingLemmas.{fills_off, fills_then, fills_write, nothing_written}
+use Rattle.book_tables.proofs.FormatLemmas.FillingLemmas.{all_joined, fills_by, fills_off, fills_then, fills_write, nothing_written}
 use Rattle.book_tables.proofs.FormatLemmas.MakingLemmas.{missing_may, still_beside}
 use Rattle.book_tables.proofs.WritingLemmas.CauseLemmas.{Came, came_by, of_later}
 use Rattle.book_tables.proofs.WritingLemmas.EditLemmas.{no_members}
@@ -142,12 +142,13 @@ completes from meters sales old filled new fills tells = record {
 }
 
 -- so it is once the tables were filled, or it is not filled for a cause
-pub filled_on : (from : ℕ) (meters : List MeterRow) (sales : List Sale) (old filled new : State) (r : Result (Unit {0}) TableError) → Fills (FillsMissing from meters sales) old filled (Ok tt) → WritesTables (format_write from) (TellsPresent from) filled new r → Fills (Completes from meters sales) old new r
+pub filled_on : (from : ℕ) (meters : List MeterRow) (sales : List Sale) (old filled new : State) (r : Result (Unit {0}) TableError) → Fills (IsFilling from meters sales) (FillsMissing from meters sales) old filled (Ok tt) → WritesTables (format_write from) (TellsPresent from) filled new r
+    → Fills (IsBringing from meters sales) (Completes from meters sales) old new r
 filled_on from meters sales old filled new r first second =
-    fills_then old filled new (kept_names (later from)) r (λ fills. fills.only) (λ _ _ fills tells. completes from meters sales old filled new fills tells) first (fills_write (format_write from) filled new r second)
+    fills_then old filled new (kept_names (later from)) r (λ fills. fills.only) (λ _ _ fills tells. completes from meters sales old filled new fills tells) (fills_by old filled (Ok tt) (λ w is. inl is) first) (fills_write (format_write from) (inr refl) filled new r second)
 
-pub filled_off : (from : ℕ) (meters : List MeterRow) (sales : List Sale) (old new : State) (e : TableError) (r : Result (Unit {0}) TableError) → IsErrAnd r (λ x. x ≡ e) → Fills (FillsMissing from meters sales) old new (Err e) → Fills (Completes from meters sales) old new r
-filled_off from meters sales old new e r is failed = fills_off old new e r is failed
+pub filled_off : (from : ℕ) (meters : List MeterRow) (sales : List Sale) (old new : State) (e : TableError) (r : Result (Unit {0}) TableError) → IsErrAnd r (λ x. x ≡ e) → Fills (IsFilling from meters sales) (FillsMissing from meters sales) old new (Err e) → Fills (IsBringing from meters sales) (Completes from meters sales) old new r
+filled_off from meters sales old new e r is failed = fills_off old new e r is (fills_by old new (Err e) (λ w is. inl is) failed)
 
 module _ (from : ℕ) (meters : List MeterRow) (sales : List Sale) (old mid new : State) (inside : StaysInside old mid) (made : MakesMissing from old.now mid.now) (done : Completes from meters sales mid new) where
   tables_brought : BringsTables from old.now new.now
@@ -172,7 +173,7 @@ module _ (from : ℕ) (meters : List MeterRow) (sales : List Sale) (old mid new 
 
 -- what follows of all of it, where the missing tables were made
 module _ (from : ℕ) (meters : List MeterRow) (sales : List Sale) (old mid new : State) (r : Result (Unit {0}) TableError) (makes : HasCleanDisk mid → IsSoundOfFormat from old → MakesMissing from old.now mid.now) (inside : HasCleanDisk mid → StaysInside old mid)
-    (first : KeepsTransaction {T = Unit {0}} {E = TableError} old mid (Ok tt)) (rest : Fills (Completes from meters sales) mid new r) where
+    (first : KeepsTransaction {T = Unit {0}} {E = TableError} old mid (Ok tt)) (rest : Fills (IsBringing from meters sales) (Completes from meters sales) mid new r) where
   early : HasCleanDisk new → HasCleanDisk mid
   early clean = omega (arith, clean, rest.survives.clean)
 
@@ -185,7 +186,7 @@ module _ (from : ℕ) (meters : List MeterRow) (sales : List Sale) (old mid new 
   pub brings_tables : HasCleanDisk new → IsSoundOfFormat from old → OnOk r (BringsTables from old.now new.now)
   brings_tables clean sound = on_ok r (λ done. tables_brought from meters sales old mid new (inside (early clean)) (makes (early clean) sound) done) (rest.made clean (ready_made clean sound))
 
-  pub fails_bringing : {S : Type 0} (g : Ghosts S) → HasCleanDisk new → IsSoundOfFormat from old → IfErr r (FailsToBring g from old new)
+  pub fails_bringing : {S : Type 0} (g : Ghosts S) → HasCleanDisk new → IsSoundOfFormat from old → IfErr r (FailsToBring g from meters sales old new)
   fails_bringing g clean sound =
       let made = makes (early clean) sound in
       let from_made : State = record old { now = mid.now } in
@@ -198,9 +199,10 @@ module _ (from : ℕ) (meters : List MeterRow) (sales : List Sale) (old mid new 
       survives_from : Survives old mid (λ _. ⊥) → Survives (record old { now = mid.now }) mid (λ _. ⊥)
       survives_from s = record { clean = s.clean; shield = s.shield; counts = s.counts; limit = s.limit; closes = s.closes; crash = s.crash }
 
-      why_not : {S : Type 0} (g : Ghosts S) → MakesMissing from old.now mid.now → Came [] (record old { now = mid.now }) mid → (e : TableError) → (writes : List Write) × FailsToWriteAll writes mid new e → FailsToBring g from old new e
-      why_not g made came (Failed e) why = inr (record { made = mid.now; makes = made; writes = why.0 ++ []; fails = of_later [] (record old { now = mid.now }) mid new came why.0 [] (Failed e) why.1 })
-      why_not g made came RowOfNoOffice why = why.1
+      why_not : {S : Type 0} (g : Ghosts S) → MakesMissing from old.now mid.now → Came [] (record old { now = mid.now }) mid → (e : TableError)
+          → (writes : List Write) × AllByRecursion (IsBringing from meters sales) writes × FailsToWriteAll writes mid new e → FailsToBring g from meters sales old new e
+      why_not g made came (Failed e) why = inr (record { made = mid.now; makes = made; writes = why.0 ++ []; are = all_joined (IsBringing from meters sales) why.0 [] why.1 tt; fails = of_later [] (record old { now = mid.now }) mid new came why.0 [] (Failed e) why.2 })
+      why_not g made came RowOfNoOffice why = why.2
 
   pub keeps_bringing : KeepsTransaction old new r
   keeps_bringing = record {

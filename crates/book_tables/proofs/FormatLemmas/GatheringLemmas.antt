@@ -1,5 +1,5 @@
 -- What is gathered of the sales, and what the tables of totals hold where it is put into them.
-use Rattle.std.proofs.Common.{◌≡◌, ◌≤◌, ◌<◌, ◌<ℤ◌, ◌^◌, ℕ, pos, Bool, List, [], ◌∷◌, ◌++◌, append-nil, append_assoc, filter, get_or, length, map, not, sum_by, unwrap_or, Option, Some, Less, arith, refl, sym, ap, subst, ◌∙◌}
+use Rattle.std.proofs.Common.{◌≡◌, ◌≤◌, ◌<◌, ◌<ℤ◌, ◌^◌, ℕ, pos, Bool, List, [], ◌∷◌, ◌++◌, append-nil, append_assoc, filter, get_or, length, map, not, sum_by, unwrap_or, Option, Some, Less, arith, inl, inr, refl, sym, ap, subst, ◌∙◌}
 use Rattle.std.specs.Prelude.{◌==◌, ◌&&◌, All, Contains, bytes_eq}
 use Rattle.std.specs.BTreeMap.{values}
 use Rattle.std.specs.List.{AllByRecursion}
@@ -7,7 +7,7 @@ use Rattle.std.specs.List.Sorted.{IsStrictlySortedBy}
 use Rattle.std.specs.Ordering.{nat_cmp}
 use Rattle.std.proofs.lemmas.Cmp.{nat_cmp_total, ranked}
 use Rattle.std.proofs.lemmas.Int.{ints}
-use Rattle.std.proofs.lemmas.List.Elements.{Contains-get_or}
+use Rattle.std.proofs.lemmas.List.Elements.{All-contains, Contains-get_or}
 use Rattle.std.proofs.lemmas.List.Filters.{length-filter_both}
 use Rattle.std.proofs.lemmas.Map.Keys.{sorted_head, sorted_tail}
 use Rattle.std.proofs.lemmas.Map.Lookups.{exact_unsigned}
@@ -18,14 +18,15 @@ use Rattle.sts_fields.specs.Amount.{IsRepresentable}
 use Rattle.sts_fields.specs.Calendar.{month_at}
 use Rattle.sts_fields.specs.declared.base.Base.{Base}
 use Rattle.vend_core.specs.Law.Cash.{cash_of}
-use Rattle.vend_core.specs.Office.{greatest_count}
+use Rattle.vend_core.specs.Office.{IsOffice, Office, greatest_count}
 use Rattle.vend_core.specs.declared.office.sale.Sale.{Sale}
-use Rattle.book_tables.specs.format.Filling.{FillsTotals, IsReady, PutsFirst}
+use Rattle.book_tables.specs.format.Filling.{FillsTotals, IsOfTotals, IsReady, PutsFirst}
 use Rattle.book_tables.specs.Holds.{HoldsOf}
 use Rattle.book_tables.specs.row.Gathered.{IsGathered, base_place, key_cmp, own_place}
 use Rattle.book_tables.specs.row.Rows.{Rows, present_format}
 use Rattle.book_tables.specs.Stands.{AreRowsOf, AreTotalsOf, sales_in_month, sales_in_shift, tenths_of, totals_of}
-use Rattle.book_tables.specs.writing.Putting.{AreAnyIds, FitMonths, FitShifts, PutsNext, with_last_ids, with_month_tenths, with_shift_totals}
+use Rattle.book_tables.specs.writing.Putting.{AreAnyIds, FitMonths, FitShifts, PutsLastId, PutsMonth, PutsNext, PutsTotals, with_last_ids, with_month_tenths, with_shift_totals}
+use Rattle.book_tables.specs.writing.Writes.{Write}
 use Rattle.book_tables.specs.writing.Writing.{FitColumns, HasRoomFor, WritesOnly, no_totals, totals_names}
 use Rattle.book_tables.specs.declared.row.gathered.Gathered.{Gathered}
 use Rattle.book_tables.specs.declared.row.totals.Totals.{Totals}
@@ -120,6 +121,35 @@ module _ (sales : List Sale) (g : Gathered) (held : IsGathered sales g) (fit : F
     shift_totals = shifts_are;
     by_shift = shifts_rise;
   }
+
+-- ---- the writes of it
+
+-- each puts in what is gathered, where the sales are an office's
+pub record WritesOf (sales : List Sale) (g : Gathered) : Type 0 where
+  pub ids : (w : Write) → (r : (List ℕ × Base) × ℕ) × Contains (values g.last_ids) r × PutsLastId r w → IsOfTotals sales w
+  pub months : (w : Write) → (r : (List ℕ × ℕ) × ℕ) × Contains (values g.month_tenths) r × PutsMonth r w → IsOfTotals sales w
+  pub shifts : (w : Write) → (r : ℕ × Totals) × Contains (values g.shift_totals) r × PutsTotals r w → IsOfTotals sales w
+
+pub writes_gathered : ((t : ℕ) → IsRepresentable t → t ≤ 18201624) → (sales : List Sale) (g : Gathered) → (length sales ≤ 2 ^ 32 → IsGathered sales g) → WritesOf sales g
+writes_gathered greatest sales g gathered = record {
+  ids = λ w (r, there, puts) o office same.
+      let held = held_of o office same in
+      inl (r, ((are_rows key_cmp key_total key_exact base_place g.last_ids _ held.last_ids).members r.0 r.1).1 there, puts);
+  months = λ w (r, there, puts) o office same.
+      let held = held_of o office same in
+      let fit = fits o office same in
+      inr (inl (r, ((months_are sales g held fit).members r.0 r.1).1 there, puts (All-contains (λ (x : (List ℕ × ℕ) × ℕ). x.1 < 2 ^ 63) (values g.month_tenths) r (months_fit sales g held fit) there)));
+  shifts = λ w (r, there, puts) o office same.
+      let held = held_of o office same in
+      let fit = fits o office same in
+      inr (inr (r, ((shifts_are sales g held fit).members r.0 r.1).1 there, puts (room_of sales g held fit r there)));
+}
+  where
+    held_of : (o : Office) → IsOffice o → sales ≡ o.sales → IsGathered sales g
+    held_of o office same = let few : length o.sales ≤ greatest_count = office.sale_count in gathered (omega (arith, few, ap length same))
+
+    fits : (o : Office) → IsOffice o → sales ≡ o.sales → FitColumns sales
+    fits o office same = subst FitColumns (sym same) (fit_within o.sales (office_within greatest o office))
 
 -- ---- all of it
 

@@ -1,22 +1,25 @@
 -- The filling of tables that a format lacked, from the meters and the sales of the office, whatever
 -- format `about` tells.
-use Rattle.std.specs.Prelude.{◌≡◌, ◌≢◌, ◌↔◌, ℕ, List, ◌∷◌, [], ◌++◌, codes, map, AllPairs, Contains, IsTrue, OnOk, Result, Some}
+use Rattle.std.specs.Prelude.{◌≡◌, ◌≢◌, ◌↔◌, ◌≤◌, ◌⊎◌, ℕ, List, ◌∷◌, [], ◌++◌, codes, map, AllPairs, Contains, IsTrue, OnOk, Result, Some}
 use Rattle.sqlite.specs.Effect.{IsDatabase}
 use Rattle.sqlite.specs.State.{HasCleanDisk, KeepsCommit, State, Survives}
 use Rattle.sts_fields.specs.declared.base.Base.{Base}
 use Rattle.vend_core.specs.Office.{IsOffice, Office}
+use Rattle.vend_core.specs.Office.Lookup.{greatest_of}
 use Rattle.vend_core.specs.declared.office.meter.Meter.{Meter}
 use Rattle.vend_core.specs.declared.office.sale.Sale.{Sale}
 use Rattle.one_table.specs.InTransaction.{IsUnderWay, StaysInside}
 use Rattle.book_tables.specs.Holds.{HasOffice, HoldsOf}
 use Rattle.book_tables.specs.reading.Reading.{meter_row}
 use Rattle.book_tables.specs.row.Rows.{Rows, present_format}
-use Rattle.book_tables.specs.Stands.{AreTotalsOf}
+use Rattle.book_tables.specs.Stands.{AreTotalsOf, sales_in_month, sales_in_shift, sales_under, tenths_of, totals_of}
 use Rattle.book_tables.specs.writing.Edited.{no_rows}
 use Rattle.book_tables.specs.writing.Failing.{EndSomehow}
+use Rattle.book_tables.specs.writing.Writes.{Write, new_base, new_last_id, new_month, new_totals}
 use Rattle.book_tables.specs.writing.Writing.{WritesOnly, totals_names, with_totals_of}
 use Rattle.book_tables.specs.declared.error.TableError.{TableError}
 use Rattle.book_tables.specs.declared.reading.pages.MeterRow.{MeterRow}
+use Rattle.book_tables.specs.declared.row.totals.Totals.{Totals}
 
 -- these are the meters of the office, each once, and its sales
 pub record AreHanded (o : Office) (given : List MeterRow) (sold : List Sale) : Type 0 where
@@ -34,15 +37,39 @@ pub record IsReady (s : State) : Type 0 where
   pub has : HasOffice s.now.schema
 
 -- What several writes, or none, make of the tables of a connection that is ready, and how they
--- end. Nothing is committed.
-pub record Fills (Makes : State → State → Type 0) (old new : State)
+-- end: each is such a one. Nothing is committed.
+pub record Fills (Is : Write → Type 0) (Makes : State → State → Type 0) (old new : State)
     (result : Result (Unit {0}) TableError) : Type 0 where
   pub made : HasCleanDisk new → IsReady old → OnOk result (Makes old new)
-  pub ends : HasCleanDisk new → IsReady old → EndSomehow old new result
+  pub ends : HasCleanDisk new → IsReady old → EndSomehow Is old new result
   pub inside : HasCleanDisk new → IsUnderWay old → IsTrue old.is_open
       → OnOk result (StaysInside old new)
   pub kept : HasCleanDisk new → IsUnderWay old → IsTrue old.is_open → KeepsCommit old new
   pub survives : Survives old new (λ _. ⊥)
+
+-- the write puts in what the last identifier of a meter under a base is by these sales, or what the
+-- tenths of a meter in a month are, or the totals of a shift
+abbrev pub IsTotalsWrite : List Sale → Write → Type 0
+IsTotalsWrite sales w =
+    ((r : (List ℕ × Base) × ℕ) × (greatest_of (map (λ s. s.tid) (sales_under sales r.0)) ≡ Some r.1)
+    × (w ≡ new_last_id r))
+    ⊎ (((r : (List ℕ × ℕ) × ℕ) × (tenths_of (sales_in_month sales r.0) ≡ Some r.1)
+    × (w ≡ new_month r))
+    ⊎ ((r : ℕ × Totals) × (totals_of (sales_in_shift sales r.0) ≡ Some r.1) × (w ≡ new_totals r)))
+
+-- the same, where the sales are an office's: others might add up to more than a column can hold
+abbrev pub IsOfTotals : List Sale → Write → Type 0
+IsOfTotals sales w = (o : Office) → IsOffice o → sales ≡ o.sales → IsTotalsWrite sales w
+
+-- the write puts the present base of one of these meters in
+abbrev pub IsBaseWrite : List MeterRow → Write → Type 0
+IsBaseWrite meters w =
+    (m : MeterRow) × Contains meters m × (w ≡ new_base m.number m.meter.base)
+
+-- the write fills a table that a format lacked
+abbrev pub IsFilling : ℕ → List MeterRow → List Sale → Write → Type 0
+IsFilling from meters sales w =
+    ((from ≡ 1) × IsOfTotals sales w) ⊎ ((1 ≤ from) × (from ≤ 2) × IsBaseWrite meters w)
 
 -- The rows of a table of totals are these, where it had none, and these and those that are to
 -- follow are such as is asked.

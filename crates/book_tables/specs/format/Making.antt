@@ -12,14 +12,14 @@ use Rattle.one_table.specs.Place.{Has}
 use Rattle.vend_core.specs.Office.{IsOffice, Office, empty_office}
 use Rattle.vend_core.specs.declared.office.sale.Sale.{Sale}
 use Rattle.book_tables.specs.writing.Edited.{no_rows}
-use Rattle.book_tables.specs.format.Filling.{AreHanded}
+use Rattle.book_tables.specs.format.Filling.{AreHanded, IsFilling}
 use Rattle.book_tables.specs.format.Format.{HasFormat, TellsFormat}
 use Rattle.book_tables.specs.Holds.{HasOffice, HasOfficeOf, Holds, HoldsMembers, HoldsOf, StandsFor, rows_in}
 use Rattle.book_tables.specs.Kept.{kept_names, kept_tables, kept_texts, later}
 use Rattle.book_tables.specs.row.Rows.{Rows, about_rows, present_format}
 use Rattle.book_tables.specs.Stands.{AreMembersOf, IsOfFormat}
 use Rattle.book_tables.specs.writing.Failing.{FailsToWriteAll}
-use Rattle.book_tables.specs.writing.Writes.{Write}
+use Rattle.book_tables.specs.writing.Writes.{Write, format_write}
 use Rattle.book_tables.specs.writing.Writing.{IsOfNone, WritesOnly}
 use Rattle.book_tables.specs.declared.error.TableError.{TableError}
 use Rattle.book_tables.specs.declared.error.TableError.TheVariants as fails
@@ -108,16 +108,30 @@ pub record BringsInside (from : ℕ) (old new : State) : Type 0 where
   pub inside : Shows old new new.now old.committed true
   pub brings : BringsOffice from old.now new.now
 
+-- one of the writes by which tables are brought up: it fills what was lacking, by these meters and
+-- sales, or tells the format
+abbrev pub IsBringing : ℕ → List MeterRow → List Sale → Write → Type 0
+IsBringing from meters sales w = IsFilling from meters sales w ⊎ (w ≡ format_write from)
+
 -- the tables that the format lacked were made, and one of the writes after that failed
-pub record FailsOnceMade (from : ℕ) (old new : State) (e : Error) : Type 0 where
+pub record FailsOnceMade (from : ℕ) (meters : List MeterRow) (sales : List Sale) (old new : State)
+    (e : Error) : Type 0 where
   pub made : Database
   pub makes : MakesMissing from old.now made
   pub writes : List Write
+  pub are : AllByRecursion (IsBringing from meters sales) writes
   pub fails : FailsToWriteAll writes (record old { now = made }) new (fails.Database e)
 
--- Why the tables are not brought up: one that the format lacked was not made, or a write of rows
--- failed after that. No row is told to be no office's.
-abbrev pub FailsToBring : {S : Type 0} → Ghosts S → ℕ → State → State → TableError → Type 0
-FailsToBring g from old new (fails.Database e) =
-    FailsToMake g (kept_texts (later from)) old new e ⊎ FailsOnceMade from old new e
-FailsToBring g from old new fails.RowOfNoOffice = ⊥
+-- one of the tables that the format lacked was not made
+abbrev pub FailsToMakeMissing : {S : Type 0} → Ghosts S → ℕ → State → State → TableError → Type 0
+FailsToMakeMissing g from old new (fails.Database e) =
+    FailsToMake g (kept_texts (later from)) old new e
+FailsToMakeMissing g from old new fails.RowOfNoOffice = ⊥
+
+-- Why the tables are not brought up, with these meters and sales: one that the format lacked was
+-- not made, or a write of rows failed after that. No row is told to be no office's.
+abbrev pub FailsToBring : {S : Type 0} → Ghosts S → ℕ → List MeterRow → List Sale → State → State
+    → TableError → Type 0
+FailsToBring g from meters sales old new (fails.Database e) =
+    FailsToMake g (kept_texts (later from)) old new e ⊎ FailsOnceMade from meters sales old new e
+FailsToBring g from meters sales old new fails.RowOfNoOffice = ⊥

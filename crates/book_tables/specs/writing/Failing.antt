@@ -1,6 +1,7 @@
 -- How one or more writes inside a transaction end, by what the connection was and is: each is
 -- carried out, or one of them fails for a cause.
 use Rattle.std.specs.Prelude.{◌≡◌, ◌⊎◌, ℕ, false, List, [], ◌∷◌, ◌++◌, None, Some, Result, Err, IfErr, IsTrue, OnOk}
+use Rattle.std.specs.List.{AllByRecursion}
 use Rattle.sqlite.specs.Effect.{Database}
 use Rattle.sqlite.specs.State.{HasCause, State}
 use Rattle.sqlite.specs.declared.error.Error.{Error}
@@ -85,8 +86,10 @@ abbrev pub Ends : {T : Type 0} → (Write → State → State → TableError →
 Ends Fails w old new result =
     OnOk result (AreCarriedOut (w ∷ []) old new) × IfErr result (Fails w old new)
 
--- the same of some writes, or of none
-abbrev pub EndSomehow : {T : Type 0} → State → State → Result T TableError → Type 0
-EndSomehow old new result =
-    OnOk result ((writes : List Write) × AreCarriedOut writes old new)
-    × IfErr result (λ e. (writes : List Write) × FailsToWriteAll writes old new e)
+-- the same of some writes, or of none, each of which is such a one
+abbrev pub EndSomehow : {T : Type 0} → (Write → Type 0) → State → State → Result T TableError
+    → Type 0
+EndSomehow Is old new result =
+    OnOk result ((writes : List Write) × AllByRecursion Is writes × AreCarriedOut writes old new)
+    × IfErr result (λ e. (writes : List Write) × AllByRecursion Is writes
+    × FailsToWriteAll writes old new e)

@@ -24,8 +24,9 @@ use Rattle.vend_core.specs.declared.office.row.Row.{Row}
 use Rattle.vend_core.specs.declared.office.row.Row.TheVariants as kinds
 use Rattle.vend_core.specs.declared.office.sale.Sale.{Sale}
 use Rattle.vend_core.specs.declared.office.shift.Shift.{Shift}
-use Rattle.book_tables.specs.row.Rows.{DatedStepRow, StepRow, base_columns, dated_columns, last_id_columns, meter_columns, month_columns, number, sale_columns, shift_columns, step_columns, tariff_columns}
+use Rattle.book_tables.specs.row.Rows.{DatedStepRow, StepRow, base_columns, dated_columns, last_id_columns, meter_columns, month_columns, number, sale_columns, shift_columns, step_columns, tariff_columns, totals_columns}
 use Rattle.book_tables.specs.writing.Edited.{dated_rows, step_rows}
+use Rattle.book_tables.specs.declared.row.totals.Totals.{Totals}
 
 -- ---- texts
 
@@ -143,6 +144,16 @@ sale_counted shift tenths price =
       sql = sale_counted_text;
       params = number shift ∷ number tenths ∷ number price ∷ [];
     }
+
+-- a row of the totals, where none of its key was
+abbrev pub new_last_id : ((List ℕ × Base) × ℕ) → Write
+new_last_id r = record { sql = new_last_id_text; params = last_id_columns r }
+
+abbrev pub new_month : ((List ℕ × ℕ) × ℕ) → Write
+new_month r = record { sql = new_month_text; params = month_columns r }
+
+abbrev pub new_totals : (ℕ × Totals) → Write
+new_totals r = record { sql = new_totals_text; params = totals_columns r }
 
 -- where no format was told, and where one was
 abbrev pub format_write : ℕ → Write

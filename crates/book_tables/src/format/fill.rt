@@ -1,9 +1,9 @@
 //! The filling of tables that a format lacked, from the meters and the sales of the office.
 
-ghost use Rattle.std.specs.Prelude.{◌≡◌, ◌<◌};
+ghost use Rattle.std.specs.Prelude.{◌≡◌, ◌<◌, Contains};
 ghost use Rattle.std.specs.BTreeMap.{values};
 ghost use Rattle.one_table.specs.Over.{Inside};
-ghost use Rattle.book_tables.specs.format.Filling.{Fills, FillsBases, FillsTotals, PutsFirst};
+ghost use Rattle.book_tables.specs.format.Filling.{Fills, FillsBases, FillsTotals, IsBaseWrite, IsFilling, IsOfTotals, PutsFirst};
 ghost use Rattle.book_tables.specs.format.Making.{FillsMissing};
 ghost use Rattle.book_tables.specs.row.Rows.{present_format};
 
@@ -24,8 +24,9 @@ fn put_all<S: Alter, K: Ord, T: TotalRow>(
     rows: &BTreeMap<K, T>,
 ) -> Result<(), TableError>
     ensures same_reference { tx.new.conn.ghost_name ≡ tx.old.conn.ghost_name }
-    ensures fills { Inside S.Store tx (λ old new. Fills (PutsFirst T.TotalRow.in_table
-        T.TotalRow.are (values rows.now)) old new result) }
+    ensures fills { Inside S.Store tx (λ old new. Fills (λ w. (row : T) × Contains (values
+        rows.now) row × T.TotalRow.puts row w) (PutsFirst T.TotalRow.in_table T.TotalRow.are (values
+        rows.now)) old new result) }
 {
     'rows: for row in rows.values() {
         row.put(tx)?;
@@ -40,7 +41,8 @@ fn fill_totals<S: Alter>(
     sales: &[Sale],
 ) -> Result<(), TableError>
     ensures same_reference { tx.new.conn.ghost_name ≡ tx.old.conn.ghost_name }
-    ensures fills { Inside S.Store tx (λ old new. Fills (FillsTotals sales.now) old new result) }
+    ensures fills { Inside S.Store tx (λ old new. Fills (IsOfTotals sales.now) (FillsTotals
+        sales.now) old new result) }
 {
     amount_law();
     let mut gathered = Gathered::new(alloc);
@@ -53,7 +55,8 @@ fn fill_totals<S: Alter>(
 // Makes the present base of each meter one that it had.
 fn fill_bases<S: Alter>(tx: &mut Transaction<'_, S>, meters: &[MeterRow]) -> Result<(), TableError>
     ensures same_reference { tx.new.conn.ghost_name ≡ tx.old.conn.ghost_name }
-    ensures fills { Inside S.Store tx (λ old new. Fills (FillsBases meters.now) old new result) }
+    ensures fills { Inside S.Store tx (λ old new. Fills (IsBaseWrite meters.now) (FillsBases
+        meters.now) old new result) }
 {
     'bases: for present in meters {
         add_base(tx, &present.number, present.meter.base)?;
@@ -74,8 +77,8 @@ pub(crate) fn fill_missing<S: Alter>(
 ) -> Result<(), TableError>
     requires { from < present_format }
     ensures same_reference { tx.new.conn.ghost_name ≡ tx.old.conn.ghost_name }
-    ensures fills { Inside S.Store tx (λ old new. Fills (FillsMissing from meters.now sales.now)
-        old new result) }
+    ensures fills { Inside S.Store tx (λ old new. Fills (IsFilling from meters.now sales.now)
+        (FillsMissing from meters.now sales.now) old new result) }
 {
     match from {
         1 => {

@@ -4,7 +4,7 @@ ghost use Rattle.std.specs.Prelude.{◌≡◌, ◌<◌, IfErr, OnOk};
 ghost use Rattle.sqlite.specs.State.{HasCleanDisk};
 ghost use Rattle.one_table.specs.Over.{Inside};
 ghost use Rattle.one_table.specs.InTransaction.{IsUnderWay, KeepsTransaction, StaysInside};
-ghost use Rattle.book_tables.specs.format.Making.{BringsInside, BringsTables, FailsToBring, HandsOver, IsSoundOfFormat, MakesMissing, TellsPresent};
+ghost use Rattle.book_tables.specs.format.Making.{BringsInside, BringsTables, FailsToBring, FailsToMakeMissing, HandsOver, IsSoundOfFormat, MakesMissing, TellsPresent};
 ghost use Rattle.book_tables.specs.row.Rows.{present_format};
 ghost use Rattle.book_tables.specs.writing.Writes.{format_write};
 ghost use Rattle.book_tables.specs.writing.Writing.{WritesTables};
@@ -27,7 +27,7 @@ fn make_missing<S: Alter>(tx: &mut Transaction<'_, S>, from: u32) -> Result<(), 
     ensures made { Inside S.Store tx (λ old new. HasCleanDisk new → IsSoundOfFormat from old
         → OnOk result (MakesMissing from old.now new.now)) }
     ensures refused { Inside S.Store tx (λ old new. HasCleanDisk new
-        → IfErr result (FailsToBring S.Store from old new)) }
+        → IfErr result (FailsToMakeMissing S.Store from old new)) }
     ensures inside { Inside S.Store tx (λ old new. HasCleanDisk new
         → OnOk result (StaysInside old new)) }
     ensures transaction { Inside S.Store tx (λ old new. KeepsTransaction old new result) }
@@ -72,7 +72,8 @@ pub fn bring<S: Alter>(
     ensures leaves { Inside S.Store tx (λ old new. HasCleanDisk new → IsSoundOfFormat from old
         → OnOk result (BringsTables from old.now new.now)) }
     ensures refused { Inside S.Store tx (λ old new. HasCleanDisk new → IsUnderWay old
-        → IsSoundOfFormat from old → IfErr result (FailsToBring S.Store from old new)) }
+        → IsSoundOfFormat from old
+        → IfErr result (FailsToBring S.Store from meters.now sales.now old new)) }
     ensures transaction { Inside S.Store tx (λ old new. KeepsTransaction old new result) }
 {
     make_missing(tx, from)?;

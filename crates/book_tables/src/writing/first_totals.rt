@@ -1,11 +1,10 @@
 //! The statements that put a row of the running totals in, where none of its key is.
 
-ghost use Rattle.std.specs.Prelude.{◌≡◌, ℕ, List};
+ghost use Rattle.std.specs.Prelude.{◌≡◌, List};
 ghost use Rattle.one_table.specs.Over.{Inside};
-ghost use Rattle.sqlite.specs.Order.{Row as Values};
 ghost use Rattle.book_tables.specs.row.Rows.{Rows};
-ghost use Rattle.book_tables.specs.writing.Putting.{AreAnyIds, FitMonths, FitShifts, PutsNext, with_last_ids, with_month_tenths, with_shift_totals};
-ghost use Rattle.book_tables.specs.writing.Writes.{new_last_id_text, new_month_text, new_totals_text};
+ghost use Rattle.book_tables.specs.writing.Putting.{AreAnyIds, FitMonths, FitShifts, PutsLastId, PutsMonth, PutsNext, PutsTotals, with_last_ids, with_month_tenths, with_shift_totals};
+ghost use Rattle.book_tables.specs.writing.Writes.{Write};
 ghost use Rattle.book_tables.specs.writing.Writing.{WritesTables};
 
 use crate::error::TableError;
@@ -24,8 +23,8 @@ pub(crate) trait TotalRow: Sized {
 
     ghost are: { List Self → Type 0 };
 
-    // The text that puts one in.
-    ghost text: { List ℕ };
+    // The write that puts one in.
+    ghost puts: { Self → Write → Type 0 };
 
     /// Puts the row in.
     ///
@@ -33,10 +32,8 @@ pub(crate) trait TotalRow: Sized {
     /// Want of memory, the disk, and a row of the key.
     fn put<S: Alter>(&self, tx: &mut Transaction<'_, S>) -> Result<(), TableError>
         ensures same_reference { tx.new.conn.ghost_name ≡ tx.old.conn.ghost_name }
-        ensures writes { Inside S.Store tx (λ old new. (params : Values) × WritesTables (record {
-          sql = text;
-          params = params;
-        }) (PutsNext in_table are self.now) old new result) };
+        ensures writes { Inside S.Store tx (λ old new. (w : Write) × puts self.now w × WritesTables w
+            (PutsNext in_table are self.now) old new result) };
 }
 
 impl TotalRow for ((MeterNo, Base), u32) {
@@ -44,7 +41,7 @@ impl TotalRow for ((MeterNo, Base), u32) {
 
     ghost are = { AreAnyIds };
 
-    ghost text = { new_last_id_text };
+    ghost puts = { PutsLastId };
 
     fn put<S: Alter>(&self, tx: &mut Transaction<'_, S>) -> Result<(), TableError> {
         put(
@@ -60,7 +57,7 @@ impl TotalRow for ((MeterNo, u32), u64) {
 
     ghost are = { FitMonths };
 
-    ghost text = { new_month_text };
+    ghost puts = { PutsMonth };
 
     fn put<S: Alter>(&self, tx: &mut Transaction<'_, S>) -> Result<(), TableError> {
         put(
@@ -76,7 +73,7 @@ impl TotalRow for (u32, Totals) {
 
     ghost are = { FitShifts };
 
-    ghost text = { new_totals_text };
+    ghost puts = { PutsTotals };
 
     fn put<S: Alter>(&self, tx: &mut Transaction<'_, S>) -> Result<(), TableError> {
         put(tx, NEW_SHIFT_TOTALS, &shift_total_values(self.0, &self.1))

@@ -1,11 +1,12 @@
-use Rattle.std.proofs.Common.{◌≡◌, subst, sym, true}
+use Rattle.std.proofs.Common.{◌≡◌, ap, subst, sym, true}
 use Rattle.std.specs.Prelude.{codes}
 use Rattle.sqlite.specs.Held.{state}
+use Rattle.sqlite.specs.Order.{Row}
 use Rattle.one_table.proofs.ChangeLemmas.{on_ok}
 use Rattle.one_table.specs.Reading.{is_whole}
 use Rattle.one_table.specs.Standing.{place_in, tree_in}
 use Rattle.book_tables.specs.Tables.{month_tenths_table}
-use Rattle.book_tables.specs.writing.Writes.{new_month_text}
+use Rattle.book_tables.specs.writing.Writes.{Write, new_month_text}
 use Rattle.book_tables.proofs.OfficeTableLemmas.{month_tenths_in}
 use Rattle.book_tables.proofs.WritingLemmas.PuttingLemmas.{new_month_means, new_month_whole, puts_month_tenths, three_terms}
 use Rattle.book_tables.proofs.writing.first_totals.Tuple2Tuple2MeterNoU32U64TotalRow.put.Goals as goal
@@ -15,6 +16,7 @@ returns-clause-writes g c =
     let s = c.args.tx.now.conn.now.schema in
     let tree = tree_in s (codes "month_tenths") in (
       _,
+      (λ fits. ap (λ (p : Row). let w : Write = record { sql = new_month_text; params = p } in w) (c.month_total_values.ensures.bound fits)),
       record {
         made = λ clean has.
             on_ok c.put.result (puts_month_tenths (state g.S.Store c.args.tx.now.conn.now) (state g.S.Store c.put.new.tx.conn.now) c.args.self.now _ c.month_total_values.ensures.bound)
