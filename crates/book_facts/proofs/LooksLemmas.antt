@@ -21,7 +21,7 @@ use Rattle.book_tables.specs.reading.Reading.{HasAllTables, OnlyReads, ReadsTabl
 use Rattle.book_tables.specs.declared.error.TableError.{TableError}
 use Rattle.book_tables.specs.reading.Questions.{the_meter}
 use Rattle.book_tables.specs.reading.Seen.{Sees, ShowsFirst}
-use Rattle.book_states.specs.FactsSeen.{AreRowsSeen, AreStepsSeenOn, IsAccountSeen, IsRefusedFor, IsRowSeen, IsSoldSeen, OrElse}
+use Rattle.book_states.specs.FactsSeen.{AreRowsSeen, AreStepsSeenOn, IsAccountSeen, IsPassedBy, IsRefusedFor, IsRowSeen, IsSoldSeen, OrElse}
 use Rattle.book_states.specs.Same.{IsSame}
 use Rattle.book_facts.specs.Looking.{LooksUp}
 use Rattle.book_facts.proofs.FactsLemmas.{members_after}
@@ -96,7 +96,7 @@ account_seen db number moment m steps account there on sold = (
 
 -- one row of an import more: the last one that is looked at, or with what is seen for the others
 pub rows_seen_more : (db : Database) (rows : List Row) (i : ℕ) (row : Row) (found more : List RowFacts) (f : RowFacts) → i < length rows → row ≡ get_or rows i row → IsRowSeen row db f
-    → (IsRefusedFor row f × (more ≡ [])) ⊎ AreRowsSeen (drop (i + 1) rows) db more
+    → (IsRefusedFor row f × (more ≡ [])) ⊎ (IsPassedBy row f × AreRowsSeen (drop (i + 1) rows) db more)
     → ((more : List RowFacts) → AreRowsSeen (drop i rows) db more → AreRowsSeen rows db (found ++ more)) → AreRowsSeen rows db (found ++ f ∷ [] ++ more)
 rows_seen_more db rows i row found more f within read is rest so_far =
     let next : drop i rows ≡ row ∷ drop (i + 1) rows = (let e = drop-cons rows i row in rw (add-one, e) (ap (λ (r : Row). r ∷ drop (suc i) rows) (sym read))) in

@@ -1,6 +1,6 @@
 -- What a request has seen of a database that has the office's tables, whatever their rows are: each
 -- of its facts is what the rows of an answer show, so there are none where one of these shows none.
-use Rattle.std.specs.Prelude.{◌≡◌, ◌⊎◌, ℕ, Bool, true, List, [], ◌∷◌, Option, Some, None, IsNone, IsSome, Err, is_some, unwrap_or}
+use Rattle.std.specs.Prelude.{◌≡◌, ◌≢◌, ◌⊎◌, ℕ, Bool, true, List, [], ◌∷◌, Option, Some, None, IsNone, IsSome, Err, is_some, unwrap_or}
 use Rattle.sqlite.specs.Effect.{Database}
 use Rattle.sts_fields.specs.Calendar.{month_at}
 use Rattle.sts_fields.specs.Day.{day_at}
@@ -114,12 +114,19 @@ abbrev pub IsRefusedFor : Row → RowFacts → Type 0
 IsRefusedFor row f =
     (o : Office) (today : ℕ) → f ≡ row_facts o row → row_decision o today row ≡ Err Differs
 
--- what is under the name of each row, up to the first row that differs from it
+-- nothing else is: no such office refuses the row for it
+abbrev pub IsPassedBy : Row → RowFacts → Type 0
+IsPassedBy row f =
+    (o : Office) (today : ℕ) → f ≡ row_facts o row → row_decision o today row ≢ Err Differs
+
+-- what is under the name of each row, up to the first row that differs from it: nothing is looked
+-- at after that
 abbrev pub AreRowsSeen : List Row → Database → List RowFacts → Type 0
 AreRowsSeen [] db fs = fs ≡ []
 AreRowsSeen (row ∷ rest) db [] = ⊥
 AreRowsSeen (row ∷ rest) db (f ∷ fs) =
-    IsRowSeen row db f × ((IsRefusedFor row f × (fs ≡ [])) ⊎ AreRowsSeen rest db fs)
+    IsRowSeen row db f
+    × ((IsRefusedFor row f × (fs ≡ [])) ⊎ (IsPassedBy row f × AreRowsSeen rest db fs))
 
 -- ---- what a request looks at, where there are so many sales
 

@@ -1,10 +1,10 @@
 //! What an import looks at.
 
-ghost use Rattle.std.specs.Prelude.{◌≡◌, Err, List, Some, false, true, ℕ};
+ghost use Rattle.std.specs.Prelude.{◌≡◌, ◌↔◌, Err, List, Some, false, true, ℕ};
 ghost use Rattle.sqlite.specs.State.{IsUnchanged};
 ghost use Rattle.one_table.specs.Over.{Over};
 ghost use Rattle.tariff.specs.declared.step.Step.{Step};
-ghost use Rattle.vend_core.specs.Decision.{row_decision};
+ghost use Rattle.vend_core.specs.Decision.{meter_eq, row_decision};
 ghost use Rattle.vend_core.specs.Decision.Facts.{AreRowsFacts, row_facts};
 ghost use Rattle.vend_core.specs.Office.{Office};
 ghost use Rattle.vend_core.specs.declared.decision.row_facts.RowFacts.{RowFacts};
@@ -112,12 +112,20 @@ fn meter_row_facts<S: Alter>(
 // Whether something else is there under the row's name.
 fn differs(row: &Row, found: &RowFacts) -> bool
     ensures { (o : Office) (today : ℕ) → found.now ≡ row_facts o row.now
-        → result ≡ true → row_decision o today row.now ≡ Err Refusal.Differs }
+        → (result ≡ true) ↔ (row_decision o today row.now ≡ Err Refusal.Differs) }
 {
     match (row, found) {
         (Row::Tariff(_, steps), RowFacts::Tariff(Some(there))) => there != steps,
         (Row::Steps(_, _, steps), RowFacts::Steps(true, Some(there))) => there != steps,
-        (Row::Meter(_, meter), RowFacts::Meter(there)) => there != meter,
+        (Row::Meter(_, meter), RowFacts::Meter(there)) => !same_meter(there, meter),
         _ => false,
     }
+}
+
+fn same_meter(there: &Meter, meter: &Meter) -> bool
+    ensures { result ≡ meter_eq there.now meter.now }
+{
+    there.base.year() == meter.base.year()
+        && there.tariff.as_bytes() == meter.tariff.as_bytes()
+        && there.key == meter.key
 }

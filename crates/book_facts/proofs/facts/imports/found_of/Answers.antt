@@ -8,7 +8,7 @@ use Rattle.vend_core.specs.Decision.Facts.{AreRowsFacts}
 use Rattle.vend_core.specs.declared.office.row.Row.{Row}
 use Rattle.vend_core.specs.declared.decision.row_facts.RowFacts.{RowFacts}
 use Rattle.book_tables.specs.declared.error.TableError.TheVariants.{Database}
-use Rattle.book_states.specs.FactsSeen.{AreRowsSeen, IsRefusedFor}
+use Rattle.book_states.specs.FactsSeen.{AreRowsSeen, IsPassedBy, IsRefusedFor}
 use Rattle.book_facts.proofs.FactsLemmas.{members_after, rows_more, was_clean}
 use Rattle.book_facts.proofs.LooksLemmas.{looks_on, looks_shown, rows_seen_more}
 use Rattle.book_facts.proofs.PassedLemmas.{clean_before, passed_after, passed_none, passed_reads, read_after, same_on, stops_on}
@@ -45,13 +45,13 @@ returns-then-differs g c =
       facts = λ clean o office members today.
           let is = c.in_ok-facts.ensures.facts clean o office (members_after o members before read.survives clean) in
           let was = was_clean office members before read clean in
-          let differs = c.differs-differs.ensures o today is c.if-differs.true in
+          let differs = (c.differs-differs.ensures o today is).0 c.if-differs.true in
           rw pushed (subst (λ (found : List RowFacts). AreRowsFacts o today rows found) (append-nil (found ++ f ∷ []))
           (rows_more o today rows i row found [] f c.loop-row-test.true c.row-item.is is (inl differs) (c.loop-row.invariant.found was o office members today)));
       shown = λ clean has.
           let was = clean_before before read.survives has clean in
           let is = looks_shown before c.in_ok-facts.ensures clean has in
-          let differs : IsRefusedFor row f = λ o today same. c.differs-differs.ensures o today same c.if-differs.true in
+          let differs : IsRefusedFor row f = λ o today same. (c.differs-differs.ensures o today same).0 c.if-differs.true in
           rw pushed (subst (λ (found : List RowFacts). AreRowsSeen rows old.now found) (append-nil (found ++ f ∷ []))
           (rows_seen_more old.now rows i row found [] f c.loop-row-test.true c.row-item.is is (inl (differs, refl)) (c.loop-row.invariant.seen was has)));
       reads = passed_reads (passed_after before read (g.met.S.Store.shut_if_dirty c.row_facts.new.conn.store));
@@ -77,7 +77,8 @@ loop-row-preserved g c =
       seen = λ clean has more rest.
           let was = clean_before before read.survives has clean in
           let is = looks_shown before c.in_ok-facts.ensures clean has in
-          rw pushed (rows_seen_more old.now rows i row found more f c.loop-row-test.true c.row-item.is is (inr rest) (c.loop-row.invariant.seen was has));
+          let passed : IsPassedBy row f = λ o today same refused. absurd (let differs = (c.differs-differs.ensures o today same).1 refused in let not = c.if-differs.false in cc) in
+          rw pushed (rows_seen_more old.now rows i row found more f c.loop-row-test.true c.row-item.is is (inr (passed, rest)) (c.loop-row.invariant.seen was has));
     }
 
 pub returns : goal.returns
