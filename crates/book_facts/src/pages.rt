@@ -7,8 +7,8 @@ ghost use Rattle.vend_core.specs.Office.{Office};
 ghost use Rattle.vend_core.specs.Law.Store.{sales_above};
 ghost use Rattle.book_tables.specs.reading.Reading.{HasAllTables};
 ghost use Rattle.book_tables.specs.reading.Questions.{the_sales_after};
-ghost use Rattle.book_tables.specs.reading.Seen.{ShowsAll};
-ghost use Rattle.book_states.specs.Failing.{IsToldOfRead};
+ghost use Rattle.book_tables.specs.reading.Seen.{HasSpoilt, ShowsAll};
+ghost use Rattle.book_states.specs.Failing.{HasFailedAt, IsToldOfRead};
 ghost use Rattle.book_states.specs.Stores.{Stores};
 ghost use Rattle.book_states.specs.Same.{ChangesNothing};
 
@@ -38,6 +38,9 @@ pub fn page<S: Alter>(
     ensures clean { Over S.Store conn (λ old new. HasCleanDisk new → HasCleanDisk old) }
     ensures failures { Over S.Store conn (λ old new. HasCleanDisk new → HasAllTables old
         → IfErr result (λ refusal. IsToldOfRead refusal old new)) }
+    ensures spoilt { Over S.Store conn (λ old new. HasCleanDisk new → HasAllTables old
+        → IfErr result (λ refusal. refusal ≡ Refusal.Store
+        → HasFailedAt (HasSpoilt (the_sales_after number limit)) old new)) }
     ensures refusals { IfErr result (λ refusal.
         (refusal ≡ Refusal.Memory) ⊎ (refusal ≡ Refusal.Store)) }
     ensures outside { conn.new.in_transaction ≡ false }

@@ -1,6 +1,7 @@
 -- Why a read of the tables fails, and what is answered.
-use Rattle.std.proofs.Common.{◌≡◌, ℕ, true, arith, refl, sym, inl, inr, ◌∙◌}
+use Rattle.std.proofs.Common.{◌≡◌, ℕ, true, arith, refl, sym, subst, inl, inr, ◌∙◌}
 use Rattle.std.proofs.lemmas.Bool.{cases_Bool}
+use Rattle.sqlite.specs.Effect.{Database}
 use Rattle.sqlite.specs.State.{HasCause, HasCleanDisk, State, Survives, store_error}
 use Rattle.sqlite.specs.Held.{Held, state}
 use Rattle.sqlite.specs.declared.error.Error.{Error}
@@ -15,11 +16,13 @@ use Rattle.book_tables.specs.writing.Failing.{IsRefused}
 use Rattle.book_tables.specs.writing.Writes.{writes_of}
 use Rattle.book_tables.specs.reading.Reading.{FailsToRead, HasAllTables}
 use Rattle.book_tables.specs.declared.error.TableError.{TableError}
-use Rattle.book_tables.specs.declared.error.TableError.TheVariants.{Database, RowOfNoOffice}
-use Rattle.book_states.specs.Failing.{EditHasFailed, FailsToMake, HasFailed, IsToldOfRead, refusal_for}
+use Rattle.book_tables.specs.declared.error.TableError.TheVariants as fails
+use Rattle.book_states.specs.Failing.{EditHasFailed, FailsToMake, HasFailedAt, HasFalseRows, IsToldOfRead, refusal_for}
 
-module _ (old new : State) where
-  caused : (e : Error) → refusal_for (Database e) ≡ Store → (cause : StoreError) → e ≡ store_error cause → HasCause old new ⊥ cause → HasFailed old new
+-- a read that is answered as a failure of the store has one of its causes, where a row of no office
+-- is told only for this
+module _ (old new : State) (IsSpoilt : Database → Type 0) where
+  caused : (e : Error) → refusal_for (fails.Database e) ≡ Store → (cause : StoreError) → e ≡ store_error cause → HasCause old new ⊥ cause → HasFailedAt IsSpoilt old new
   caused e is OutOfMemory same why = absurd (let told = rw same at is in cc)
   caused e is Io same why = inl why
   caused e is Corrupt same why = inl why
@@ -27,22 +30,22 @@ module _ (old new : State) where
   caused e is Broken same why = inr (inl why)
   caused e is Unstorable same why = absurd why
 
-  plainly : (e : Error) → refusal_for (Database e) ≡ Store → FailsPlainly old new e → HasFailed old new
-  plainly e is (inl fails) = caused e is fails.0 fails.1 fails.2
+  plainly : (e : Error) → refusal_for (fails.Database e) ≡ Store → FailsPlainly old new e → HasFailedAt IsSpoilt old new
+  plainly e is (inl why) = caused e is why.0 why.1 why.2
   plainly e is (inr limit) = inr (inr (inl limit.1))
 
-  -- a read that is answered as a failure of the store has one of its causes
-  pub has_failed : (e : TableError) → FailsToRead old new e → refusal_for e ≡ Store → HasFailed old new
-  has_failed (Database e) (inl why) is = elim (cases_Bool old.is_open) [ inl is_open ↦ plainly e is (why is_open) | inr shut ↦ inr (inl shut) ]
-  has_failed (Database e) (inr why) is = absurd (let told = rw why.0 at is in cc)
-  has_failed RowOfNoOffice why is = inr (inr (inr why.0))
+  pub has_failed : (e : TableError) → FailsToRead old new e → (e ≡ fails.RowOfNoOffice → IsSpoilt old.now) → refusal_for e ≡ Store → HasFailedAt IsSpoilt old new
+  has_failed (fails.Database e) (inl why) spoilt is = elim (cases_Bool old.is_open) [ inl is_open ↦ plainly e is (why is_open) | inr shut ↦ inr (inl shut) ]
+  has_failed (fails.Database e) (inr why) spoilt is = absurd (let told = rw why.0 at is in cc)
+  has_failed fails.RowOfNoOffice why spoilt is = inr (inr (inr (spoilt refl)))
 
+module _ (old new : State) where
   pub told_of_read : (e : TableError) (refusal : Refusal) → refusal ≡ refusal_for e → FailsToRead old new e → HasCleanDisk new → Survives old new (λ _. ⊥) → IsToldOfRead refusal old new
-  told_of_read e refusal answered fails clean survives = record {
+  told_of_read e refusal answered why clean survives = record {
     error = e;
     answered = answered;
-    fails = fails;
-    failed = λ is. has_failed e fails (sym answered ∙ is);
+    fails = why;
+    failed = λ is. has_failed old new HasFalseRows e why (λ row. (subst (FailsToRead old new) row why).0) (sym answered ∙ is);
     still_open = survives.closes clean;
   }
 
@@ -56,11 +59,11 @@ module _ {S : Type 0} (g : Ghosts S) (edit : Edit) (prior : ℕ) (old left : Hel
   refused_before e it = record { before = it.before; tried = it.tried; after = it.after; among = it.among; db = it.db; made = it.made; refused = it.refused }
 
   by_cause : (e : TableError) → refusal_for e ≡ Store → FailsToMake edit prior (state g begun) (state g left) e → EditHasFailed edit prior e (state g old) new
-  by_cause (Database e) is (inl (inl none)) = absurd (let told = rw none at is in cc)
-  by_cause (Database e) is (inl (inr (inl more))) = inl (omega (arith, more, later.counts))
-  by_cause (Database e) is (inl (inr (inr (inl shut)))) = inr (inl shut)
-  by_cause (Database e) is (inl (inr (inr (inr refused)))) = inr (inr (inl (e, refl, refused_before e refused)))
-  by_cause RowOfNoOffice is (inl why) = absurd why
+  by_cause (fails.Database e) is (inl (inl none)) = absurd (let told = rw none at is in cc)
+  by_cause (fails.Database e) is (inl (inr (inl more))) = inl (omega (arith, more, later.counts))
+  by_cause (fails.Database e) is (inl (inr (inr (inl shut)))) = inr (inl shut)
+  by_cause (fails.Database e) is (inl (inr (inr (inr refused)))) = inr (inr (inl (e, refl, refused_before e refused)))
+  by_cause fails.RowOfNoOffice is (inl why) = absurd why
   by_cause e is (inr (inl none)) = inr (inr (inr (inl none)))
   by_cause e is (inr (inr told)) = inr (inr (inr (inr told)))
 

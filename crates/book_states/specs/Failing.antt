@@ -1,6 +1,7 @@
 -- Why a request, or a page, is answered that there was no memory or that the store failed.
 use Rattle.std.specs.Prelude.{◌≡◌, ◌≢◌, ◌⊎◌, ℕ, ◌+◌, false, length, Option, None, Some, Result, Ok, Err, IsSome, IsTrue}
 use Rattle.sqlite_disk.specs.Disk.{MoreFaults}
+use Rattle.sqlite.specs.Effect.{Database}
 use Rattle.sqlite.specs.State.{State}
 use Rattle.sqlite.specs.declared.error.Error.{Error}
 use Rattle.sqlite.specs.declared.error.Error.TheVariants.{SqliteFailure}
@@ -22,7 +23,7 @@ use Rattle.book_tables.specs.Holds.{Holds, HoldsMembers}
 use Rattle.book_tables.specs.reading.Reading.{AreOfOffice, FailsToRead, HasAllTables}
 use Rattle.book_tables.specs.row.Rows.{Rows}
 use Rattle.book_tables.specs.declared.error.TableError.{TableError}
-use Rattle.book_tables.specs.declared.error.TableError.TheVariants.{Database}
+use Rattle.book_tables.specs.declared.error.TableError.TheVariants as table
 use Rattle.book_states.specs.Changing.{IsMiscounted}
 use Rattle.book_states.specs.FactsSeen.{AreFactsSeen}
 use Rattle.book_states.specs.Members.{HasMembers}
@@ -30,17 +31,24 @@ use Rattle.book_states.specs.Members.{HasMembers}
 -- what is answered where the tables tell of this error: the store failed, unless they only found no
 -- memory
 abbrev pub refusal_for : TableError → Refusal
-refusal_for (Database (SqliteFailure OutOfMemory)) = Memory
+refusal_for (table.Database (SqliteFailure OutOfMemory)) = Memory
 refusal_for e = Store
 
 -- The disk failed more often than before; or the connection was shut; or a limit on steps is set,
--- which a statement may have reached; or the rows are no office's.
-abbrev pub HasFailed : State → State → Type 0
-HasFailed old new =
+-- which a statement may have reached; or this is so of the database.
+abbrev pub HasFailedAt : (Database → Type 0) → State → State → Type 0
+HasFailedAt IsSpoilt old new =
     MoreFaults old.faults new.faults
     ⊎ ((old.is_open ≡ false)
     ⊎ (IsSome old.step_limit
-    ⊎ ((rows : Rows) → Holds old.now rows → ¬ AreOfOffice rows)))
+    ⊎ IsSpoilt old.now))
+
+-- the rows of the tables are no office's
+abbrev pub HasFalseRows : Database → Type 0
+HasFalseRows db = (rows : Rows) → Holds db rows → ¬ AreOfOffice rows
+
+abbrev pub HasFailed : State → State → Type 0
+HasFailed = HasFailedAt HasFalseRows
 
 -- A read of the tables failed, and its error is answered so. Nothing has changed: an open
 -- connection is open still, or the disk failed more often than before.
@@ -102,6 +110,6 @@ abbrev pub EditHasFailed : Edit → ℕ → TableError → State → State → T
 EditHasFailed edit prior error old new =
     MoreFaults old.faults new.faults
     ⊎ ((old.is_open ≡ false)
-    ⊎ (((e : Error) × (error ≡ Database e) × IsRefused (writes_of edit) old e)
+    ⊎ (((e : Error) × (error ≡ table.Database e) × IsRefused (writes_of edit) old e)
     ⊎ ((IsTrue old.is_open → (o : Office) → IsOffice o → Meets edit o → ¬ HoldsMembers old.now o)
     ⊎ IsMiscounted edit prior old.now)))

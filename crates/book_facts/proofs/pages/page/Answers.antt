@@ -1,7 +1,9 @@
-use Rattle.std.proofs.Common.{rules, IsTrue}
+use Rattle.std.proofs.Common.{rules, IsTrue, sym, ◌∙◌}
 use Rattle.sqlite.specs.Held.{state}
-use Rattle.book_states.proofs.FailingLemmas.{told_of_read}
-use Rattle.book_tables.proofs.OfficeTableLemmas.{read_in_office, sales_in}
+use Rattle.book_states.proofs.FailingLemmas.{has_failed, told_of_read}
+use Rattle.book_tables.specs.reading.Questions.{the_sales_after}
+use Rattle.book_tables.specs.reading.Seen.{HasSpoilt}
+use Rattle.book_tables.proofs.OfficeTableLemmas.{has_table, read_in_office, sales_in}
 use Rattle.book_facts.proofs.PageLemmas.{page_of}
 use Rattle.book_states.proofs.StayLemmas.{clean_before, has_tables, left_same, unchanged_same}
 use Rattle.book_facts.proofs.pages.page.Goals as goal
@@ -37,3 +39,9 @@ pub returns-in-Err-clause-failures : goal.returns-in-Err-clause-failures
 returns-in-Err-clause-failures g c clean tables =
     told_of_read (state g.S.Store c.args.conn.now) (state g.S.Store c.sales_after.new.conn) c.in-Err.error c.refusal_of.result c.refusal_of.ensures.value ((read_in_office sales_in c.in-Err.ensures.reads).faults clean tables) clean
     ((read_in_office sales_in c.sales_after.ensures.reads).survives tables)
+
+pub returns-in-Err-clause-spoilt : goal.returns-in-Err-clause-spoilt
+returns-in-Err-clause-spoilt g c clean tables is =
+    let old = state g.S.Store c.args.conn.now in
+    has_failed old (state g.S.Store c.sales_after.new.conn) (HasSpoilt (the_sales_after c.args.number c.args.limit)) c.in-Err.error ((read_in_office sales_in c.in-Err.ensures.reads).faults clean tables)
+    (c.in-Err.ensures.sees.spoilt clean (has_table sales_in old tables)) (sym c.refusal_of.ensures.value ∙ is)
