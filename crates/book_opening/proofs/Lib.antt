@@ -1,3 +1,4 @@
 pub mod BringingLemmas
+pub mod CauseLemmas
 pub mod EndingLemmas
 pub mod LookingLemmas

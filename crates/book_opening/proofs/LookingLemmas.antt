@@ -1,17 +1,22 @@
 -- What looks at the store leave, and what their faults tell of it.
-use Rattle.std.proofs.Common.{◌≡◌, ◌⊎◌, IsTrue, Result, Ok, Err, refl, sym, subst, inl, inr, arith}
-use Rattle.sqlite.specs.Effect.{Database}
+use Rattle.std.proofs.Common.{◌≡◌, ◌≢◌, ◌⊎◌, ◌+◌, ◌==◌, ℕ, Bool, true, false, List, [], ◌∷◌, length, cond, Option, None, Some, option_map, unwrap_or, IsTrue, Ok, Err, refl, sym, ap, ◌∙◌, subst, inl, inr, arith}
+use Rattle.std.specs.Prelude.{find}
+use Rattle.std.specs.List.{last_or}
+use Rattle.std.proofs.lemmas.Bool.Decides.{nat_tests}
+use Rattle.sqlite.specs.Effect.{Database, IsDatabase}
 use Rattle.sqlite.specs.State.{HasCleanDisk, IsUnchanged, State, Survives}
 use Rattle.sqlite.specs.declared.error.Error.{Error}
-use Rattle.one_table.specs.ReadsOnly.{ReadsOnly}
 use Rattle.vend_core.specs.Office.{Office}
+use Rattle.vend_core.specs.declared.office.sale.Sale.{Sale}
 use Rattle.book_tables.specs.format.Making.{IsSoundOfFormat}
-use Rattle.book_tables.specs.Holds.{HoldsMembers, StandsFor}
-use Rattle.book_tables.specs.reading.Reading.{FailsToRead, HasAllTables, OnlyReads}
-use Rattle.book_tables.specs.row.Rows.{present_format}
+use Rattle.book_tables.specs.Holds.{HasOfficeOf, HoldsMembers, StandsFor}
+use Rattle.book_tables.specs.Kept.{sales_kept}
+use Rattle.book_tables.specs.reading.Reading.{AreOfOffice, FailsToRead, HasAllTables, HasTableRows, OnlyReads}
+use Rattle.book_tables.specs.row.Rows.{Rows, present_format}
 use Rattle.book_tables.specs.declared.error.TableError.{TableError}
 use Rattle.book_tables.specs.declared.error.TableError.TheVariants as table
 use Rattle.book_tables.proofs.HoldsLemmas.{held_as}
+use Rattle.book_tables.proofs.OfficeTableLemmas.{has_table_rows, sales_in}
 use Rattle.book_states.specs.Stores.{StoreStandsFor}
 use Rattle.book_states.specs.Same.{IsSame}
 use Rattle.book_opening.specs.Opening.{FaultFitsStore, Looks, fault_of_table}
@@ -37,6 +42,10 @@ pub shown_before : (old mid : State) (fault : OpenFault) → ((o : Office) → S
 shown_before old mid NotAnOffice after none = λ o at. none o (after o at)
 shown_before old mid Store after none = tt
 shown_before old mid Memory after none = tt
+
+-- the schema of the connection is that of a format
+pub has_found : (n : ℕ) (s : State) → (IsTrue s.is_open → IsDatabase s.now) → HasOfficeOf n s.now.schema → IsSoundOfFormat n s
+has_found n s live has = λ runs. (live runs, has)
 
 -- ---- the present format
 
@@ -73,3 +82,49 @@ module _ {old new : State} where
     faults = λ clean has. as_shown old new e fault kind is has (this.faults clean (tables old has));
     survives = λ has. this.survives (tables old has);
   }
+
+  -- what was read shows that there is no office
+  pub look_denies : {T U : Type 0} {x : T} → OnlyReads IsUnchanged old new (Ok x) → (HasCleanDisk new → IsSoundOfFormat present_format old → FaultFitsStore old NotAnOffice)
+      → Looks {T = U} (IsSoundOfFormat present_format) old new (Err NotAnOffice)
+  look_denies this told = record {
+    same = λ _ _. tt;
+    kept = λ clean has. inl (this.same clean (tables old has));
+    mode = this.mode;
+    faults = told;
+    survives = λ has. this.survives (tables old has);
+  }
+
+-- ---- the last sale
+
+-- a number that no sale has is not the last one
+none_last : (n : ℕ) (o : Option Sale) (sales : List Sale) → option_map (λ (s : Sale). s.number) o ≢ Some n → find (λ (s : Sale). s.number == n) sales ≡ None
+    → option_map (λ (s : Sale). s.number) (last_or o sales) ≢ Some n
+none_last n o [] before none = before
+none_last n o (x ∷ xs) before none = by_test (x.number == n) refl none (none_last n (Some x) xs)
+  where
+    by_test : (b : Bool) → (x.number == n) ≡ b → cond b (Some x) (find (λ (s : Sale). s.number == n) xs) ≡ None
+        → (Some x.number ≢ Some n → find (λ (s : Sale). s.number == n) xs ≡ None → option_map (λ (s : Sale). s.number) (last_or (Some x) xs) ≢ Some n)
+        → option_map (λ (s : Sale). s.number) (last_or (Some x) xs) ≢ Some n
+    by_test true is found rest = absurd (let e = found in cc)
+    by_test false is none rest = rest (λ same. let number : x.number ≡ n = (let e = same in cc) in grind (arith, nat_tests)) none
+
+-- what the rows of the sales say of the office that the store stands for
+module _ (old : State) (has : IsSoundOfFormat present_format old) (runs : IsTrue old.is_open) (o : Office) (at : StoreStandsFor old o) where
+  held : HoldsMembers old.now o
+  held = (held_as old.now o present_format (at.now runs) (omega arith) (has runs).1).0
+
+  sales_there : HasTableRows sales_kept old held.0
+  sales_there = has_table_rows sales_in old held.0 (λ _. held.1)
+
+  of_office : AreOfOffice held.0
+  of_office = (o, at.office, held.2)
+
+  -- the last number counts its sales
+  pub next_counted : (last : Option ℕ) → ((rows : Rows) → HasTableRows sales_kept old rows → AreOfOffice rows → unwrap_or last 0 ≡ length rows.sales) → unwrap_or last 0 + 1 ≡ length o.sales + 1
+  next_counted last counted = ap (λ n. n + 1) (counted held.0 sales_there of_office) ∙ ap (λ (sales : List Sale). length sales + 1) held.2.sales
+
+  -- the sale of the last number is there
+  pub last_there : (last : ℕ) → ((rows : Rows) → HasTableRows sales_kept old rows → AreOfOffice rows → Some last ≡ option_map (λ (s : Sale). s.number) (last_or None rows.sales))
+      → ((rows : Rows) → HasTableRows sales_kept old rows → AreOfOffice rows → None ≡ find (λ (s : Sale). s.number == last) rows.sales) → ⊥
+  last_there last is none =
+      none_last last None held.0.sales (λ same. absurd (let e = same in cc)) (sym (none held.0 sales_there of_office)) (sym (is held.0 sales_there of_office))

@@ -1,20 +1,24 @@
 -- What the opening of an office makes of a database.
-use Rattle.std.specs.Prelude.{◌≡◌, ◌<◌, ◌⊎◌, ℕ, zero, suc, ◌+◌, List, length, unwrap_or, Result, IfErr, IfOk, IsTrue, OnErr, OnOk}
+use Rattle.std.specs.Prelude.{◌≡◌, ◌≢◌, ◌<◌, ◌⊎◌, ℕ, zero, suc, ◌+◌, List, length, Option, None, Some, Result, IfErr, IfOk, IsTrue, OnErr, OnOk}
 use Rattle.sqlite.specs.Effect.{Database, IsDatabase}
+use Rattle.sqlite.specs.Held.{Held, state}
 use Rattle.sqlite.specs.State.{HasCleanDisk, IsUnchanged, State, Survives}
 use Rattle.sqlite.specs.declared.error.Error.{Error}
 use Rattle.sqlite.specs.declared.error.Error.TheVariants.{SqliteFailure}
 use Rattle.sqlite.specs.declared.error.ErrorCode.TheVariants.{OutOfMemory}
 use Rattle.sqlite_trees.specs.Tree.{Trees}
-use Rattle.one_table.specs.Committing.{LeavesMade}
+use Rattle.sqlite_trees.specs.declared.store.Store.{Ghosts}
+use Rattle.one_table.specs.Committing.{FailsAtCommit, FailsInside, HasBeen, LeavesMade}
+use Rattle.one_table.specs.Reading.{FailsPlainly}
 use Rattle.one_table.specs.ReadsOnly.{ReadsOnly}
+use Rattle.one_table.specs.declared.committing.CommitFault.TheVariants.{Unmade}
 use Rattle.vend_core.specs.Office.{Office}
 use Rattle.vend_core.specs.declared.office.sale.Sale.{Sale}
 use Rattle.book_tables.specs.format.Format.{HasFormat}
 use Rattle.book_tables.specs.Holds.{HasOffice, HasOfficeOf}
-use Rattle.book_tables.specs.format.Making.{BringsOffice, HandsOver}
-use Rattle.book_tables.specs.reading.Questions.{the_last_sale}
-use Rattle.book_tables.specs.reading.Seen.{ShowsMade}
+use Rattle.book_tables.specs.format.Making.{BringsOffice, FailsToBring, HandsOver}
+use Rattle.book_tables.specs.reading.Questions.{the_last_sale, the_sale}
+use Rattle.book_tables.specs.reading.Seen.{ShowsFirst}
 use Rattle.book_tables.specs.row.Rows.{present_format}
 use Rattle.book_tables.specs.declared.reading.pages.MeterRow.{MeterRow}
 use Rattle.book_tables.specs.declared.error.TableError.{TableError}
@@ -93,9 +97,17 @@ FaultFitsStore s Memory = Unit {0}
 abbrev pub IsNextSale : State → ℕ → Type 0
 IsNextSale s next = (o : Office) → StoreStandsFor s o → next ≡ length o.sales + 1
 
--- the number of the next sale is the one after the last that is stored, or 1, whatever the rows are
+-- the number of the next sale is 1 where none is stored; else the row of the last one shows a sale,
+-- and it is the number after
+abbrev IsAfter : Database → Option ℕ → ℕ → Type 0
+IsAfter db None next = next ≡ 1
+IsAfter db (Some last) next =
+    ((sale : Sale) × ShowsFirst (the_sale last) db (Some sale)) × (next ≡ last + 1)
+
+-- of the last number that is stored, whatever the other rows are
 abbrev pub FollowsLast : Database → ℕ → Type 0
-FollowsLast = ShowsMade the_last_sale (λ last. unwrap_or last 0 + 1)
+FollowsLast db next =
+    (last : Option ℕ) × ShowsFirst the_last_sale db last × IsAfter db last next
 
 -- Where this is known the store was only looked at, and a fault that names the file is true of it.
 abbrev pub Looks : {T : Type 0} → (State → Type 0) → State → State → Result T OpenFault → Type 0
@@ -131,13 +143,50 @@ AfterStore Leaves fault trees = ⊥
 abbrev pub LeavesRefused : State → OpenFault → Trees → Type 0
 LeavesRefused old fault trees = AfterStore (LeavesBrought old) fault trees
 
+-- ---- why an opening fails
+
+-- The tables of a format, or none, were being brought to the present one on this connection: a
+-- write failed in the transaction that was begun for it, and nothing of that is left; or all were
+-- made, and the commit failed, which is answered as a failure of the store whatever the error is.
+abbrev pub FailsToBringUp : {S : Type 0} → Ghosts S → ℕ → Held S → State → OpenFault → Type 0
+FailsToBringUp g from conn new fault =
+    ((e : Error) × (fault ≡ fault_of e)
+    × FailsInside g (FailsToBring g from) conn new (Unmade (table.Database e)))
+    ⊎ ((fault ≡ Store)
+    × ((e : Error) × HasBeen g (λ made. FailsAtCommit (BringsOffice from) (state g conn) made new e)))
+
+-- The opening found the tables of an older format, or none, and failed to bring them up. The
+-- connection had then what it had before.
+pub record StopsBringing {S : Type 0} (g : Ghosts S) (old new : State) (fault : OpenFault) : Type 0
+  where
+    pub conn : Held S
+    pub same : IsUnchanged old (state g conn)
+    pub survives : Survives old (state g conn) (λ _. ⊥)
+    pub from : ℕ
+    pub older : from < present_format
+    pub had : HasOfficeOf from old.now.schema
+    pub fails : FailsToBringUp g from conn new fault
+
+-- A look at the store failed: for want of memory, as where its schema is compared; by the disk; at
+-- a connection that was shut; or at a limit on steps, where one is set.
+abbrev pub FailsToLook : State → State → Error → Type 0
+FailsToLook old new e =
+    FailsPlainly old new e ⊎ ((e ≡ SqliteFailure OutOfMemory) × IsUnchanged old new)
+
+-- Why an opening fails that does not name the file: a look at the store failed with an error that
+-- is answered so, or the bringing of what was found.
+abbrev pub FailsToOpen : {S : Type 0} → Ghosts S → State → State → OpenFault → Type 0
+FailsToOpen g old new fault =
+    fault ≢ NotAnOffice
+    → ((e : Error) × (fault ≡ fault_of e) × FailsToLook old new e) ⊎ StopsBringing g old new fault
+
 -- How an opening ends. The office that the store stood for is held, and what is opened was there or
 -- was brought to the present format; or it is refused. A crash leaves what it left before, or the
 -- office in the present format, which a refusal leaves after Store alone.
 pub record EndsOpening (old new : State) (result : Result ℕ OpenFault) : Type 0 where
   pub opens : HasCleanDisk new → IfOk result (OpensAt old new)
   pub finds : HasCleanDisk new → OnOk result (OpensAs old new)
-  -- the sales of what is not brought up are numbered after the last row
+  -- the sales of what is not brought up are numbered after the last row, which shows one
   pub follows : HasCleanDisk new
       → IfOk result (λ next. BringsTold old.now new.now ⊎ FollowsLast old.now next)
   pub refused : HasCleanDisk new → IfErr result (Refuses old new)

@@ -8,7 +8,7 @@ ghost use Rattle.book_tables.specs.declared.error.TableError.TheVariants.{RowOfN
 ghost use Rattle.book_tables.specs.Holds.{HasOfficeOf};
 ghost use Rattle.book_tables.specs.format.Making.{FailsToBring, IsSoundOfFormat};
 ghost use Rattle.book_tables.specs.row.Rows.{present_format};
-ghost use Rattle.book_opening.specs.Opening.{AfterStore, BringsSound, IsBrought, IsSoundWith, LeavesPresent};
+ghost use Rattle.book_opening.specs.Opening.{AfterStore, BringsSound, FailsToBringUp, IsBrought, IsSoundWith, LeavesPresent};
 ghost use Rattle.book_states.specs.Same.{IsSame};
 
 use crate::fault::OpenFault;
@@ -71,6 +71,9 @@ pub(crate) fn bring_office<S: Alter>(
     ensures risks { Over S.Store conn (λ old new. (HasCleanDisk old → IsTrue old.is_open)
         → IsSoundWith from meters.now sales.now old
         → IfErr result (λ fault. Survives old new (AfterStore (LeavesPresent from old) fault))) }
+    ensures fails { Over S.Store conn (λ old new. HasCleanDisk new
+        → IsSoundWith from meters.now sales.now old
+        → IfErr result (FailsToBringUp S.Store from conn.old new)) }
     ensures mode { conn.new.in_transaction ≡ false }
 {
     // Outside a transaction a connection has what is committed.

@@ -1,17 +1,17 @@
 //! What an opening does with the connection that it is given.
 
-ghost use Rattle.std.specs.Prelude.{⊤, ◌≡◌, ◌⊎◌, ◌≤◌, ◌<◌, false, IsTrue, IfOk};
+ghost use Rattle.std.specs.Prelude.{⊤, ◌≡◌, ◌⊎◌, ◌≤◌, ◌<◌, false, IsTrue, IfErr, IfOk};
 ghost use Rattle.sqlite.specs.State.{HasCleanDisk};
 ghost use Rattle.one_table.specs.Over.{Over};
 ghost use Rattle.book_tables.specs.format.Making.{IsSoundOfFormat};
 ghost use Rattle.book_tables.specs.row.Rows.{present_format};
-ghost use Rattle.book_opening.specs.Opening.{EndsOpening, FollowsLast, IsNextSale, Looks, fault_of, fault_of_audit, fault_of_table};
+ghost use Rattle.book_opening.specs.Opening.{EndsOpening, FailsToOpen, FollowsLast, IsNextSale, Looks, fault_of, fault_of_audit, fault_of_table};
 
 use crate::bringing::bring_office;
 use crate::fault::OpenFault;
 use audit::{AuditFault, office_rows, test_told};
 use book_tables::format::presence::format_here;
-use book_tables::reading::sales::last_sale_number;
+use book_tables::reading::sales::{last_sale_number, sale_numbered};
 use book_tables::{PRESENT_FORMAT, TableError};
 use sqlite::{Alter, Connection, Error, ErrorCode};
 use std::alloc::Global;
@@ -55,6 +55,8 @@ fn fault_of_audit(fault: AuditFault) -> OpenFault
 // A connection that is shut tells nothing of its database.
 fn test_open<S: Alter>(conn: &mut Connection<S>) -> Result<(), OpenFault>
     ensures looks { Over S.Store conn (λ old new. Looks (λ _. ⊤) old new result) }
+    ensures fails { Over S.Store conn (λ old new. HasCleanDisk new
+        → IfErr result (FailsToOpen S.Store old new)) }
 {
     match one_table::test_open(conn) {
         Ok(()) => Ok(()),
@@ -62,7 +64,7 @@ fn test_open<S: Alter>(conn: &mut Connection<S>) -> Result<(), OpenFault>
     }
 }
 
-// The number of the next sale, by the one that was made last.
+// The number of the next sale, by the one that was made last, which has to be there whole.
 fn next_by_sales<S: Alter>(conn: &mut Connection<S>) -> Result<u64, OpenFault>
     ensures given { Over S.Store conn (λ old new. HasCleanDisk new
         → IsSoundOfFormat present_format old → IfOk result (IsNextSale old)) }
@@ -70,9 +72,17 @@ fn next_by_sales<S: Alter>(conn: &mut Connection<S>) -> Result<u64, OpenFault>
         → IsSoundOfFormat present_format old → IfOk result (FollowsLast old.now)) }
     ensures looks { Over S.Store conn (λ old new. Looks (IsSoundOfFormat present_format)
         old new result) }
+    ensures fails { Over S.Store conn (λ old new. HasCleanDisk new → IsTrue old.is_open
+        → IsSoundOfFormat present_format old → IfErr result (FailsToOpen S.Store old new)) }
 {
-    match last_sale_number(conn) {
-        Ok(last) => Ok(u64::from(last.unwrap_or(0)) + 1),
+    let last = match last_sale_number(conn) {
+        Ok(Some(last)) => last,
+        Ok(None) => return Ok(1),
+        Err(error) => return Err(fault_of_table(error)),
+    };
+    match sale_numbered(conn, last) {
+        Ok(Some(_)) => Ok(u64::from(last) + 1),
+        Ok(None) => Err(OpenFault::NotAnOffice),
         Err(error) => Err(fault_of_table(error)),
     }
 }
@@ -82,6 +92,9 @@ fn next_of_present<S: Alter>(alloc: Global, conn: &mut Connection<S>) -> Result<
     requires outside { conn.old.in_transaction ≡ false }
     ensures ends { Over S.Store conn (λ old new. IsSoundOfFormat present_format old
         → EndsOpening old new result) }
+    ensures fails { Over S.Store conn (λ old new. (HasCleanDisk old → IsTrue old.is_open)
+        → IsSoundOfFormat present_format old → HasCleanDisk new
+        → IfErr result (FailsToOpen S.Store old new)) }
     ensures mode { conn.new.in_transaction ≡ false }
 {
     let outside = conn.is_autocommit();
@@ -97,6 +110,9 @@ fn next_of_none<S: Alter>(alloc: Global, conn: &mut Connection<S>) -> Result<u64
     requires outside { conn.old.in_transaction ≡ false }
     ensures ends { Over S.Store conn (λ old new. (HasCleanDisk old → IsTrue old.is_open)
         → IsSoundOfFormat 0 old → EndsOpening old new result) }
+    ensures fails { Over S.Store conn (λ old new. (HasCleanDisk old → IsTrue old.is_open)
+        → IsSoundOfFormat 0 old → HasCleanDisk new
+        → IfErr result (FailsToOpen S.Store old new)) }
     ensures mode { conn.new.in_transaction ≡ false }
 {
     bring_office(alloc, conn, 0, &[], &[])?;
@@ -115,6 +131,9 @@ fn next_of_older<S: Alter>(
     requires older { from < present_format }
     ensures ends { Over S.Store conn (λ old new. IsSoundOfFormat from old
         → EndsOpening old new result) }
+    ensures fails { Over S.Store conn (λ old new. (HasCleanDisk old → IsTrue old.is_open)
+        → IsSoundOfFormat from old → HasCleanDisk new
+        → IfErr result (FailsToOpen S.Store old new)) }
     ensures mode { conn.new.in_transaction ≡ false }
 {
     let outside = conn.is_autocommit();
@@ -133,6 +152,8 @@ fn next_by_schema<S: Alter>(alloc: Global, conn: &mut Connection<S>) -> Result<u
     requires outside { conn.old.in_transaction ≡ false }
     ensures ends { Over S.Store conn (λ old new. (HasCleanDisk old → IsTrue old.is_open)
         → EndsOpening old new result) }
+    ensures fails { Over S.Store conn (λ old new. (HasCleanDisk old → IsTrue old.is_open)
+        → HasCleanDisk new → IfErr result (FailsToOpen S.Store old new)) }
     ensures mode { conn.new.in_transaction ≡ false }
 {
     match format_here(alloc, conn.schema()) {
@@ -149,6 +170,8 @@ fn next_by_schema<S: Alter>(alloc: Global, conn: &mut Connection<S>) -> Result<u
 pub fn next_here<S: Alter>(alloc: Global, conn: &mut Connection<S>) -> Result<u64, OpenFault>
     requires outside { conn.old.in_transaction ≡ false }
     ensures ends { Over S.Store conn (λ old new. EndsOpening old new result) }
+    ensures fails { Over S.Store conn (λ old new. HasCleanDisk new
+        → IfErr result (FailsToOpen S.Store old new)) }
     ensures mode { conn.new.in_transaction ≡ false }
 {
     let outside = conn.is_autocommit();

@@ -7,6 +7,7 @@ use Rattle.book_tables.specs.Holds.{HasOfficeOf}
 use Rattle.audit.specs.Fails.{IsNoOffices}
 use Rattle.audit.specs.Shown.{AreOfficeRows}
 use Rattle.book_opening.proofs.BringingLemmas.{audit_tells, next_of_rows, none_of, rows_after, rows_there, sound_with}
+use Rattle.book_opening.proofs.CauseLemmas.{fails_after, fails_audit, fails_bringing}
 use Rattle.book_opening.proofs.EndingLemmas.{ends_after, ends_brought, ends_looked, ends_unbrought, known_after}
 use Rattle.book_opening.proofs.opening.next_of_older.Goals as goal
 
@@ -58,3 +59,29 @@ returns-in_err-bring_office-clause-ends g c has =
     (ends_unbrought c.args.from mid new c.requires.older opens (λ clean. rows_there c.args.from mid.now rows (after clean)) survives
     c.in_err-bring_office.field-0.0 c.from_residual.result c.from_residual.ensures.1
     (λ clean. told.told clean (opens (omega (arith, survives.clean, clean))) there) told.undone (told.risks opens with))
+
+pub returns-in-Err-clause-fails : goal.returns-in-Err-clause-fails
+returns-in-Err-clause-fails g c opens has clean =
+    let old = state g.S.Store c.args.conn.now in
+    let new = state g.S.Store c.office_rows.new.conn in
+    let reads = c.in-Err.ensures.reads in
+    fails_audit g.S.Store old new IsNoOffices c.in-Err.fault c.fault_of_audit.result c.fault_of_audit.ensures.value (opens (omega (arith, (reads.survives has).clean, clean))) (reads.faults clean has)
+
+pub returns-in_err-bring_office-clause-fails : goal.returns-in_err-bring_office-clause-fails
+returns-in_err-bring_office-clause-fails g c _ has clean =
+    let old = state g.S.Store c.args.conn.now in
+    let mid = state g.S.Store c.office_rows.new.conn in
+    let new = state g.S.Store c.bring_office.new.conn in
+    let rows = c.in-Ok.rows in
+    let reads = c.in-Ok.ensures.reads in
+    let shut = g.met.S.Store.shut_if_dirty c.office_rows.new.conn.store in
+    let same : HasCleanDisk mid → IsUnchanged old mid = λ clean. reads.same clean has in
+    let given : HasCleanDisk mid → AreOfficeRows c.args.from old.now rows = λ clean. c.in-Ok.ensures.given clean has in
+    let opens : HasCleanDisk mid → IsTrue mid.is_open = λ clean. (same clean).0.is_open in
+    let there = known_after old mid shut same (λ (db : Database). IsDatabase db × HasOfficeOf c.args.from db.schema) (λ _. has) in
+    let with = sound_with c.args.from rows old mid shut same has given c.deref.result.now c.deref-2.result.now c.deref.ensures.value c.deref-2.ensures.value in
+    let early : HasCleanDisk mid = omega (arith, (c.bring_office.ensures.survives opens with).clean, clean) in
+    let runs = opens early in
+    fails_after g.S.Store old mid new (same early) (reads.survives has) c.from_residual.result
+    (fails_bringing g.S.Store c.args.from c.office_rows.new.conn new c.in_err-bring_office.field-0.0 c.from_residual.result c.from_residual.ensures.1 c.requires.older runs (there runs).1
+    (c.in_err-bring_office.ensures.fails clean with))
