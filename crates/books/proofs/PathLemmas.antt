@@ -1,6 +1,6 @@
 -- An opening over a connection that was just made to the files of a path.
 use Rattle.std.proofs.Common.{◌≡◌, false, None, arith, ◌∙◌}
-use Rattle.sqlite.specs.Files.{IsBlankAs, file_state}
+use Rattle.sqlite.specs.Files.{IsBlankAs, file_state, over_files}
 use Rattle.sqlite.specs.Held.{Held}
 use Rattle.sqlite.specs.Start.{FindsIn}
 use Rattle.sqlite.specs.State.{HasCleanDisk, IsLive, Opens, Survives}
@@ -11,7 +11,7 @@ use Rattle.sqlite_wal.specs.Recovery.{Image}
 use Rattle.kept_order.specs.InOrder.{HasTablesInOrder}
 use Rattle.vend_core.specs.Office.{Office}
 use Rattle.book_states.specs.Stores.{StoreStandsFor}
-use Rattle.book_opening.specs.Opening.{LeavesBrought, LeavesRefused, OpensAs}
+use Rattle.book_opening.specs.Opening.{FailsToOpen, LeavesBrought, LeavesRefused, OpensAs}
 use Rattle.books.specs.Found.{FindsOffice}
 use Rattle.books.specs.Path.{IsConnected, OpensFiles, RefusesConnection, StandsIn}
 use Rattle.book_states.specs.Same.{IsSame}
@@ -45,14 +45,16 @@ module _ {D : Type 0} {g : Ghosts D} where
 
       pub refuses_connection : (fault : OpenFault)
           → (HasCleanDisk (file_state last) → fault ≡ NotAnOffice → (o : Office) → ¬ StoreStandsFor (file_state first) o)
+          → (HasCleanDisk (file_state last) → FailsToOpen {S = FileStore D g} over_files (file_state first) (file_state last) fault)
           → (HasCleanDisk (file_state last) → IsSame (file_state first) (file_state last))
           → (HasCleanDisk (file_state last) → (o : Office) → StoreStandsFor (file_state first) o → StoreStandsFor (file_state last) o) → last.in_transaction ≡ false
           → Survives (file_state first) (file_state last) (LeavesRefused (file_state first) fault) → RefusesConnection image fault last
-      refuses_connection fault other same refused rests survives =
+      refuses_connection fault other fails same refused rests survives =
           let early : HasCleanDisk (file_state last) → HasCleanDisk (file_state first) = λ clean. omega (arith, survives.clean) in record {
             first = first;
             connected = connected;
             told = λ clean is o stands. other clean is o (stands_first o (early clean) stands);
+            fails = fails;
             same = same;
             kept = λ clean o stands. refused clean o (stands_first o (early clean) stands);
             rests = rests;

@@ -1,7 +1,7 @@
 -- What the files at a path stand for, by what they hold, and what an opening makes of them.
 use Rattle.std.specs.Prelude.{◌≡◌, ◌⊎◌, false, Option, Some, None}
 use Rattle.sqlite.specs.Closing.{files_left}
-use Rattle.sqlite.specs.Files.{AreFoundIn, FailsToOpenFiles, HoldsDatabase, IsBlankAs, IsCleanLeft, IsClosed, LeavesFiles, file_state, image_of}
+use Rattle.sqlite.specs.Files.{AreFoundIn, FailsToOpenFiles, HoldsDatabase, IsBlankAs, IsCleanLeft, IsClosed, LeavesFiles, file_state, image_of, over_files}
 use Rattle.sqlite.specs.Held.{Held}
 use Rattle.sqlite.specs.State.{HasCleanDisk, IsLive, Opens, State, Survives}
 use Rattle.sqlite.specs.declared.error.Error.{Error}
@@ -15,7 +15,7 @@ use Rattle.sqlite_wal.specs.Recovery.{Image}
 use Rattle.kept_order.specs.InOrder.{HasTablesInOrder}
 use Rattle.vend_core.specs.Office.{Office}
 use Rattle.book_states.specs.Stores.{StoreStandsFor}
-use Rattle.book_opening.specs.Opening.{LeavesBrought, LeavesRefused, OpensAs, fault_of}
+use Rattle.book_opening.specs.Opening.{FailsToOpen, LeavesBrought, LeavesRefused, OpensAs, fault_of}
 use Rattle.book_states.specs.Same.{IsSame}
 use Rattle.book_opening.specs.declared.fault.OpenFault.{OpenFault}
 use Rattle.book_opening.specs.declared.fault.OpenFault.TheVariants.{NotAnOffice, Store, Memory}
@@ -56,14 +56,17 @@ module _ {D : Type 0} {g : Ghosts D} where
     pub unlimited : (file_state last).step_limit ≡ None
 
   -- None was opened over a connection that was just made to the files. A fault that names the file
-  -- is true of it. The connection has what it had, and what the files stood for it stands for; a
-  -- crash leaves nothing new, but after Store maybe the office in the present format.
+  -- is true of it, and another has a cause. The connection has what it had, and what the files
+  -- stood for it stands for; a crash leaves nothing new, but after Store maybe the office in the
+  -- present format.
   pub record RefusesConnection (image : Image) (fault : OpenFault) (last : Held (FileStore D g)) :
       Type 0 where
     pub first : Held (FileStore D g)
     pub connected : HasCleanDisk (file_state first) → IsConnected image (file_state first)
     pub told : HasCleanDisk (file_state last) → fault ≡ NotAnOffice
         → (o : Office) → ¬ StandsIn image o
+    pub fails : HasCleanDisk (file_state last)
+        → FailsToOpen {S = FileStore D g} over_files (file_state first) (file_state last) fault
     pub same : HasCleanDisk (file_state last) → IsSame (file_state first) (file_state last)
     pub kept : HasCleanDisk (file_state last) → (o : Office) → StandsIn image o
         → StoreStandsFor (file_state last) o

@@ -7,7 +7,7 @@ ghost use Rattle.vend_core.specs.Law.LifeLaws.{opened};
 ghost use Rattle.vend_core.specs.Office.{Office};
 ghost use Rattle.books.specs.Keeps.{BooksHaveTables, Represents, seen};
 ghost use Rattle.book_states.specs.Stores.{StoreStandsFor};
-ghost use Rattle.book_opening.specs.Opening.{LeavesBrought, LeavesRefused, OpensAs};
+ghost use Rattle.book_opening.specs.Opening.{FailsToOpen, LeavesBrought, LeavesRefused, OpensAs};
 ghost use Rattle.book_states.specs.Same.{IsSame};
 
 use crate::books::Books;
@@ -41,6 +41,8 @@ impl<S: Alter, T: BlockTransform + Drop> Books<S, T> {
         ensures other { IfErr result (λ e. HasCleanDisk (state S.Store e.1)
             → e.0 ≡ OpenFault.NotAnOffice → (o : Office)
             → ¬ StoreStandsFor (state S.Store conn) o) }
+        ensures fails { IfErr result (λ e. HasCleanDisk (state S.Store e.1)
+            → FailsToOpen S.Store (state S.Store conn) (state S.Store e.1) e.0) }
         ensures same { IfErr result (λ e. HasCleanDisk (state S.Store e.1)
             → IsSame (state S.Store conn) (state S.Store e.1)) }
         ensures refused { IfErr result (λ e. HasCleanDisk (state S.Store e.1)

@@ -22,6 +22,9 @@ returns-in-Ok-clause-survives g c = c.in-Ok.ensures.ends.survives
 pub returns-in-Err-clause-other : goal.returns-in-Err-clause-other
 returns-in-Err-clause-other g c = λ clean is. subst (FaultFitsStore (state g.S.Store c.args.conn)) is (c.in-Err.ensures.ends.refused clean).told
 
+pub returns-in-Err-clause-fails : goal.returns-in-Err-clause-fails
+returns-in-Err-clause-fails g c = c.in-Err.ensures.fails
+
 pub returns-in-Err-clause-same : goal.returns-in-Err-clause-same
 returns-in-Err-clause-same g c = λ clean. (c.in-Err.ensures.ends.refused clean).same
 

@@ -17,4 +17,4 @@ returns-in-Ok-open_from-clause-finds g c =
 pub returns-in-Err-open_from-clause-refused : goal.returns-in-Err-open_from-clause-refused
 returns-in-Err-open_from-clause-refused g c =
     let told = c.in-Err-open_from.ensures in
-    refuses_connection _ c.in-Ok.conn c.in-Err-open_from.conn c.in-Ok.ensures.opened (λ clean. let it = c.in-Ok.ensures.found clean in record { holds = it.holds; reads = it.reads }) c.found_law.ensures.in_order c.in-Ok.ensures.fresh.unlimited c.found_law.ensures.opens c.in-Err-open_from.fault told.other told.same told.refused told.rests told.survives
+    refuses_connection _ c.in-Ok.conn c.in-Err-open_from.conn c.in-Ok.ensures.opened (λ clean. let it = c.in-Ok.ensures.found clean in record { holds = it.holds; reads = it.reads }) c.found_law.ensures.in_order c.in-Ok.ensures.fresh.unlimited c.found_law.ensures.opens c.in-Err-open_from.fault told.other told.fails told.same told.refused told.rests told.survives
