@@ -3,7 +3,7 @@ its own."""
 import shutil
 import subprocess
 
-from program import RECEIPT, change, expect, prepare, query, sell_words, vend
+from program import METER, RECEIPT, change, expect, prepare, query, sell_words, vend
 from shared import FORMAT, back_to, wrong
 
 NO_OFFICE = (1, b"", b"open 1 NotAnOffice\n")
@@ -16,13 +16,21 @@ OTHERS = [
     "CREATE TABLE words (word TEXT); CREATE INDEX sales ON words (word);",
     AUDIT,
 ]
-# What is done to an office of a format before it is opened.
-SPOILED = [
-    # A row of a sale that no office has.
-    *((1, f"UPDATE sales SET {it};") for it in (
+# Rows of a sale that no office has.
+FALSE_SALES = [
+    *(f"UPDATE sales SET {it};" for it in (
         "price = 11", "tender = 100000001", "tid = 16777216", "tid = -1", "rnd = 16",
         "tenths = 16385", "base = 2015", "moment = 4102444800", "operator = 'ann '", "ref = ''",
         "digits = '0007205760262798169'", "digits = '0007205760262798169x'")),
+    "INSERT INTO shifts VALUES (1000000001, 'ann', 1388534430, NULL); UPDATE sales SET shift ="
+    " 1000000001;",
+    "INSERT INTO meters VALUES ('12345678904', 2014, 'flat', '0000000000000000'); UPDATE sales SET"
+    " meter = '12345678904';",
+]
+# What is done to an office of a format before it is opened.
+SPOILED = [
+    # Of the present format the last sale alone is read.
+    *((number, text) for number in (1, FORMAT) for text in FALSE_SALES),
     (1, FAR), (2, FAR), (3, FAR), (4, FAR),
     (1, "UPDATE meters SET base = 2000 WHERE meter = '10000000009';"),
     (2, "UPDATE meters SET base = 2000 WHERE meter = '10000000009';"),
@@ -85,7 +93,7 @@ def rows_of(file):
 def is_refused(file, text):
     before = rows_of(file)
     for words in (["report", "--file", str(file), "--kind", "totals"], sell_words(file, "A-1"),
-                  sell_words(file, "A-2")):
+                  sell_words(file, "A-2"), ["show", "--file", str(file), "last", "--meter", METER]):
         ran = vend(*words)
         if (ran.returncode, ran.stdout, ran.stderr) != NO_OFFICE:
             wrong(f"{text} {ran}\nexpected {NO_OFFICE}")
