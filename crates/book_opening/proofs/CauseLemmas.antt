@@ -114,8 +114,8 @@ module _ {S : Type 0} (g : Ghosts S) (from : ℕ) (conn : Held S) (new : State) 
   module _ (meters : List MeterRow) (sales : List Sale) (with : IsSoundWith from meters sales (state g conn)) where
     -- a write of it failed
     pub fails_unmade : (e : TableError) (fault : OpenFault) → fault ≡ fault_of_table e
-        → FailsInside g (λ (s t : State) (why : TableError). IsSoundOfFormat from s → FailsToBring g from s t why) conn new (Unmade e) → FailsToBringUp g from conn new fault
-    fails_unmade (table.Database why) fault is fails = inl (why, is, (fails.0, fails.1 (λ runs. ((with runs).0, (with runs).1)), fails.2))
+        → FailsInside g (λ (s t : State) (why : TableError). IsSoundOfFormat from s → FailsToBring g from meters sales s t why) conn new (Unmade e) → FailsToBringUp g from conn new fault
+    fails_unmade (table.Database why) fault is fails = inl (meters, sales, with, why, is, (fails.0, fails.1 (λ runs. ((with runs).0, (with runs).1)), fails.2))
     fails_unmade table.RowOfNoOffice fault is fails = absurd (fails.1 (λ runs. ((with runs).0, (with runs).1)))
 
     -- its commit failed

@@ -146,12 +146,14 @@ LeavesRefused old fault trees = AfterStore (LeavesBrought old) fault trees
 -- ---- why an opening fails
 
 -- The tables of a format, or none, were being brought to the present one on this connection: a
--- write failed in the transaction that was begun for it, and nothing of that is left; or all were
--- made, and the commit failed, which is answered as a failure of the store whatever the error is.
+-- write failed in the transaction that was begun for it, by the office's meters and sales, and
+-- nothing of that is left; or all were made, and the commit failed, which is answered as a failure
+-- of the store whatever the error is.
 abbrev pub FailsToBringUp : {S : Type 0} → Ghosts S → ℕ → Held S → State → OpenFault → Type 0
 FailsToBringUp g from conn new fault =
-    ((e : Error) × (fault ≡ fault_of e)
-    × FailsInside g (FailsToBring g from) conn new (Unmade (table.Database e)))
+    ((meters : List MeterRow) × (sales : List Sale) × IsSoundWith from meters sales (state g conn)
+    × (e : Error) × (fault ≡ fault_of e)
+    × FailsInside g (FailsToBring g from meters sales) conn new (Unmade (table.Database e)))
     ⊎ ((fault ≡ Store)
     × ((e : Error) × HasBeen g (λ made. FailsAtCommit (BringsOffice from) (state g conn) made new e)))
 
