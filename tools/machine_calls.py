@@ -1,11 +1,14 @@
-"""What the program asks of the system: which files it opens, when it has to do with sockets, when it pauses,
-and which salt it gives the log of a file: a part of tools/check_program. It is no script of its own. tools/watch_calls.c
+"""What the program asks of the system: which files it opens and how often, that it removes and renames none,
+when it has to do with sockets and at which addresses, when it pauses, and which salt it gives the log of a
+file: a part of tools/check_program. It is no script of its own. tools/watch_calls.c
 watches; cc builds it."""
 import fcntl
 import http.client
 import os
+import socket
 import subprocess
 import time
+from collections import Counter
 from pathlib import Path
 
 from desk_client import Desk, order
@@ -19,9 +22,11 @@ FIRST_SALT = 1
 # file, when it copies a log into the database, and when it closes the file.
 SALTS = 8
 IN_64_BITS = 2**64 - 1
-HAS = ["socket", "bind", "listen"]
-SELFCHECK = HAS + ["socket", "connect", "accept"]
-ASKS = ["socket", "connect"]
+HAS = ["socket", "bind 127.0.0.1:0", "listen"]
+# The port is the one that the system chose.
+SELFCHECK = HAS + ["socket", "connect 127.0.0.1", "accept"]
+# How often the toolchain opens each file of an office, and their folder, by their names.
+OPENS, OPENS_FOLDER = 2, 1
 TOKEN = "00072057602627981690"
 # More than the pieces after which the desk pauses for a client that sends little at a time.
 MANY = 600
@@ -51,18 +56,29 @@ class Watcher:
         return subprocess.run([program(), *words], capture_output=True, timeout=WAIT, **self.options())
 
     def calls(self):
-        """The files that the last run opened, how often it drew random bytes, and what it had to do
-        with sockets, and its pauses among that."""
+        """How often the last run opened each file, how often it drew random bytes, and what else it did:
+        with sockets, and its pauses, and whatever it removed or renamed, among that."""
         lines = self.told.read_text().splitlines()
-        opened = {os.path.realpath(self.folder / line.removeprefix("open ")) for line in lines
-                  if line.startswith("open ")}
+        opened = Counter(os.path.realpath(self.folder / line.removeprefix("open ")) for line in lines
+                         if line.startswith("open "))
         others = [line for line in lines if not line.startswith("open ")]
         return opened, others.count("draw"), [line for line in others if line != "draw"]
 
 
 def files_of(file):
-    """What is opened of an office: its two files, and their folder."""
-    return {os.path.realpath(it) for it in (file, f"{file}-wal", file.parent)}
+    """What is opened of an office, once: its two files, and their folder."""
+    opened = {file: OPENS, f"{file}-wal": OPENS, file.parent: OPENS_FOLDER}
+    return Counter({os.path.realpath(it): count for it, count in opened.items()})
+
+
+def one_file(path):
+    """What is opened of a file that is read once."""
+    return Counter([os.path.realpath(path)])
+
+
+def without_port(call):
+    """The call without the port at which a connection was made."""
+    return call.rpartition(":")[0] if call.startswith("connect ") else call
 
 
 def sip_hash(low, high, data):
@@ -135,12 +151,11 @@ def check_salts(folder, watcher):
 
 
 def check_calls(folder, watcher):
-    """A command opens its own file, and `import` its file of rows, and nothing else; what needs no office
-    opens none. Only `serve` listens, only `selfcheck` connects too, and each takes the connections that
-    it was asked for."""
+    """A command opens its own file, once, and `import` its file of rows, once, and nothing else; what needs
+    no office opens none. None removes or renames a file. Only `serve` listens, at the address that it is
+    given, only `selfcheck` connects too, and each takes the connections that it was asked for."""
     file = folder / "calls.db"
-    office, rows = files_of(file), str(TOP / "examples" / "tariffs.csv")
-    none = os.path.realpath(watcher.folder / "none.csv")
+    office, rows, nothing = files_of(file), str(TOP / "examples" / "tariffs.csv"), Counter()
     prepare(file)
     given = ["--file", str(file), "--at", AT]
     for words, status, opened, sockets in (
@@ -149,23 +164,25 @@ def check_calls(folder, watcher):
             (["shift", *given, "--operator", "bob", "open"], 0, office, []),
             (["base", *given, "--meter", METER, "--base", "2014"], 0, office, []),
             (["report", "--file", str(file), "--kind", "sales"], 0, office, []),
+            (["audit", "--file", str(file)], 0, office, []),
             (["show", *given, "meter", "--meter", METER], 0, office, []),
             (["show", *given, "sale", "--operator", "ann", "--ref", "A-1"], 0, office, []),
             (["quote", *given, "--meter", METER, "10"], 0, office, []),
             (["quote", *given, "--meter", METER, "9"], 1, office, []),
             *((["list", *given, kind], 0, office, []) for kind in ("tariffs", "meters", "shifts", "sales")),
-            (["import", *given, "tariffs", rows], 0, office | {os.path.realpath(rows)}, []),
-            (["import", *given, "meters", rows], 1, {os.path.realpath(rows)}, []),
-            (["import", *given, "tariffs", "none.csv"], 1, {none}, []),
-            (["trial", "--key", KEY, "--base", "2014", "--at", AT, "1"], 0, set(), []),
-            (["meter", "--key", KEY, TOKEN], 0, set(), []),
-            (["quote", ":100", "0", "10"], 0, set(), []),
-            (["quote", ":0", "0", "10"], 2, set(), []),
-            (["sell", *given], 2, set(), []), (["--help"], 0, set(), []), ([], 2, set(), []),
-            (["selfcheck"], 0, set(), SELFCHECK)):
+            (["import", *given, "tariffs", rows], 0, office + one_file(rows), []),
+            (["import", *given, "meters", rows], 1, one_file(rows), []),
+            (["import", *given, "tariffs", "none.csv"], 1, one_file(watcher.folder / "none.csv"), []),
+            (["trial", "--key", KEY, "--base", "2014", "--at", AT, "1"], 0, nothing, []),
+            (["meter", "--key", KEY, TOKEN], 0, nothing, []),
+            (["quote", ":100", "0", "10"], 0, nothing, []),
+            (["quote", ":0", "0", "10"], 2, nothing, []),
+            (["sell", *given], 2, nothing, []), (["--help"], 0, nothing, []), ([], 2, nothing, []),
+            (["selfcheck"], 0, nothing, SELFCHECK)):
         ran = watcher.run(words)
         expect(ran, status)
-        found = watcher.calls()
+        opens, drawn, others = watcher.calls()
+        found = opens, drawn, [without_port(call) for call in others]
         if found != (opened, FIRST_SALT + 1 if opened & office else 0, sockets):
             raise SystemExit(f"wrong: {words} asked of the system {found}\nexpected {opened}, {sockets}")
     check_asking(file, watcher, rows)
@@ -176,11 +193,16 @@ def check_calls(folder, watcher):
     found = watcher.calls()
     if found != (office, FIRST_SALT + 1, HAS + ["accept"] * 3):
         raise SystemExit(f"wrong: serve asked of the system {found}")
+    address = f"127.0.0.1:{free_port()}"
+    with Served(watcher, file, 1, listen=address) as served:
+        served.ask("GET", "/sales/1")
+        served.finish()
+    if watcher.calls()[2] != ["socket", f"bind {address}", "listen", "accept"]:
+        raise SystemExit(f"wrong: serve at {address} asked of the system {watcher.calls()[2]}")
 
 
 def check_asking(file, watcher, rows):
     """A command that asks a desk has one connection, and opens no file but `import` its file of rows."""
-    csv = os.path.realpath(rows)
     commands = (
         ("sell", "--operator", "ann", "--ref", "D-1", "--meter", METER, "--tender", "10"),
         ("shift", "--operator", "cat", "open"), ("base", "--meter", METER, "--base", "2014"),
@@ -190,12 +212,13 @@ def check_asking(file, watcher, rows):
         for name, *words in commands:
             expect(watcher.run([name, "--desk", f"127.0.0.1:{desk.port}", *words]), 0, err=b"")
             found = watcher.calls()
-            if found != ({csv} & set(map(os.path.realpath, words)), 0, ASKS):
+            opened = one_file(rows) if rows in words else Counter()
+            if found != (opened, 0, ["socket", f"connect 127.0.0.1:{desk.port}"]):
                 raise SystemExit(f"wrong: {name} --desk asked of the system {found}")
         desk.used = len(commands)
         desk.finish()
     expect(watcher.run(["import", "--desk", "127.0.0.1:1", "tariffs", "none.csv"]), 1, b"", b"file\n")
-    if watcher.calls() != ({os.path.realpath(watcher.folder / "none.csv")}, 0, []):
+    if watcher.calls() != (one_file(watcher.folder / "none.csv"), 0, []):
         raise SystemExit(f"wrong: without rows a command asked of the system {watcher.calls()}")
 
 
@@ -243,10 +266,11 @@ def check_waits(folder, watcher):
     with open(file, "r+b") as held:
         fcntl.lockf(held, fcntl.LOCK_EX | fcntl.LOCK_NB, LOCKED[1], LOCKED[0])
         for words in commands:
-            opened = {os.path.realpath(it) for it in (file, *({rows} & set(words)))}
             for wait in (0, 1):
                 expect(watcher.run([*words, "--wait", str(wait)]), 1, b"", b"open 3 Store\n")
                 found = watcher.calls()
+                opened = Counter({os.path.realpath(file): OPENS * (PAUSES * wait + 1)})
+                opened.update(one_file(rows) if rows in words else ())
                 if found != (opened, 0, ["sleep"] * PAUSES * wait):
                     raise SystemExit(f"wrong: {words} --wait {wait} asked of the system {found}")
         expect(watcher.run(commands[1]), 1, b"", b"open 3 Store\n")
@@ -259,8 +283,15 @@ def check_waits(folder, watcher):
                       ["list", "--file", "none.db", "tariffs"],
                       ["quote", "--file", "none.db", "--meter", METER, "10"]):
             expect(watcher.run(words), 1, b"", b"file\n")
-            if watcher.calls() != (set(), 0, []):
+            if watcher.calls() != (Counter(), 0, []):
                 raise SystemExit(f"wrong: for a file that is not there {words} asked {watcher.calls()}")
+
+
+def free_port():
+    """A port of this machine that no program has."""
+    with socket.socket() as listener:
+        listener.bind(("127.0.0.1", 0))
+        return listener.getsockname()[1]
 
 
 class Served(Desk):
@@ -289,7 +320,8 @@ def asked(client, method, target, body=None):
 
 
 def check_opened_again(folder, watcher):
-    """A file that cannot grow is opened again for the next connection, with a salt that is drawn anew."""
+    """The office in a file that cannot grow is opened again for the next connection, with a salt that is drawn
+    anew. That opens no file by its name: it is the one that `serve` has."""
     file = folder / "again.db"
     prepare(file)
     with Served(watcher, file, 2, preexec_fn=no_growth(file, 400000)) as served:
@@ -320,5 +352,5 @@ def check_machine_calls(folder):
     check_pauses(folder, watcher)
     check_waits(folder, watcher)
     check_opened_again(folder, watcher)
-    print("calls of the system: no file, socket or salt but those of the words, and a pause for single "
-          "bytes, and for a file that is in use, alone")
+    print("calls of the system: no file, socket, address or salt but those of the words, each file opened "
+          "once and none removed or renamed, and a pause for single bytes, and for a file that is in use, alone")

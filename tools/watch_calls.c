@@ -1,13 +1,16 @@
 /* Tells what a program asks of the system, into which it is loaded before the C library
    (LD_PRELOAD). It is for tools/machine_calls.py, which builds it.
 
-   The file CALLS_TOLD gets a line for each call in turn: `open` with the path, `draw` where random
-   bytes are drawn, `sleep` for a pause, and the name of each call that has to do with a socket. The bytes that are drawn
-   are those that CALLS_DRAWN has as hexadecimal digits, with the first one raised by 1 at each draw
-   after the first. */
+   The file CALLS_TOLD gets a line for each call in turn: `open` with the path, `remove` and `rename`
+   with the path that is removed or gets another name, `draw` where random bytes are drawn, `sleep` for
+   a pause, and the name of each call that has to do with a socket, `bind` and `connect` with the
+   address. The bytes that are drawn are those that CALLS_DRAWN has as hexadecimal digits, with the
+   first one raised by 1 at each draw after the first. */
 #define _GNU_SOURCE
+#include <arpa/inet.h>
 #include <dlfcn.h>
 #include <fcntl.h>
+#include <netinet/in.h>
 #include <stdarg.h>
 #include <stdio.h>
 #include <stdlib.h>
@@ -47,6 +50,16 @@ static void tell(const char *name, const char *path) {
     dprintf(told, path ? "%s %s\n" : "%s\n", name, path);
 }
 
+static void tell_address(const char *name, const struct sockaddr *address) {
+    char text[INET_ADDRSTRLEN + sizeof ":65535"] = "no IPv4";
+    if (address->sa_family == AF_INET) {
+        const struct sockaddr_in *in = (const struct sockaddr_in *)address;
+        inet_ntop(AF_INET, &in->sin_addr, text, INET_ADDRSTRLEN);
+        snprintf(text + strlen(text), sizeof ":65535", ":%u", (unsigned)ntohs(in->sin_port));
+    }
+    tell(name, text);
+}
+
 int open(const char *path, int flags, ...) {
     va_list more;
     va_start(more, flags);
@@ -54,6 +67,67 @@ int open(const char *path, int flags, ...) {
     va_end(more);
     tell("open", path);
     return own_open(path, flags, mode);
+}
+
+int open64(const char *path, int flags, ...) {
+    va_list more;
+    va_start(more, flags);
+    mode_t mode = flags & O_CREAT ? va_arg(more, mode_t) : 0;
+    va_end(more);
+    tell("open", path);
+    return own_open(path, flags, mode);
+}
+
+int openat(int folder, const char *path, int flags, ...) {
+    int (*call)(int, const char *, int, ...) = own("openat");
+    va_list more;
+    va_start(more, flags);
+    mode_t mode = flags & O_CREAT ? va_arg(more, mode_t) : 0;
+    va_end(more);
+    tell("open", path);
+    return call(folder, path, flags, mode);
+}
+
+int unlink(const char *path) {
+    int (*call)(const char *) = own("unlink");
+    tell("remove", path);
+    return call(path);
+}
+
+int unlinkat(int folder, const char *path, int flags) {
+    int (*call)(int, const char *, int) = own("unlinkat");
+    tell("remove", path);
+    return call(folder, path, flags);
+}
+
+int rmdir(const char *path) {
+    int (*call)(const char *) = own("rmdir");
+    tell("remove", path);
+    return call(path);
+}
+
+int remove(const char *path) {
+    int (*call)(const char *) = own("remove");
+    tell("remove", path);
+    return call(path);
+}
+
+int rename(const char *path, const char *other) {
+    int (*call)(const char *, const char *) = own("rename");
+    tell("rename", path);
+    return call(path, other);
+}
+
+int renameat(int folder, const char *path, int other_folder, const char *other) {
+    int (*call)(int, const char *, int, const char *) = own("renameat");
+    tell("rename", path);
+    return call(folder, path, other_folder, other);
+}
+
+int renameat2(int folder, const char *path, int other_folder, const char *other, unsigned flags) {
+    int (*call)(int, const char *, int, const char *, unsigned) = own("renameat2");
+    tell("rename", path);
+    return call(folder, path, other_folder, other, flags);
 }
 
 int getentropy(void *buffer, size_t length) {
@@ -81,7 +155,7 @@ int socket(int domain, int type, int protocol) {
 
 int bind(int socket, const struct sockaddr *address, socklen_t length) {
     int (*call)(int, const struct sockaddr *, socklen_t) = own("bind");
-    tell("bind", NULL);
+    tell_address("bind", address);
     return call(socket, address, length);
 }
 
@@ -99,7 +173,7 @@ int accept4(int socket, struct sockaddr *address, socklen_t *length, int flags) 
 
 int connect(int socket, const struct sockaddr *address, socklen_t length) {
     int (*call)(int, const struct sockaddr *, socklen_t) = own("connect");
-    tell("connect", NULL);
+    tell_address("connect", address);
     return call(socket, address, length);
 }
 
