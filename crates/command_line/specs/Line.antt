@@ -1,5 +1,5 @@
 -- The command line: the options and the words of each command, as `clap` has them.
-use Rattle.std.specs.Prelude.{◌≡◌, ◌&&◌, ◌||◌, Bool, true, false, if◌then◌else◌, eqb, List, [], ◌∷◌, Option, Some, codes}
+use Rattle.std.specs.Prelude.{◌≡◌, ◌&&◌, ◌||◌, Bool, true, false, if◌then◌else◌, eqb, List, [], ◌∷◌, ◌++◌, Option, Some, codes}
 use Rattle.std.specs.Cmp.Lexicographic.{pointwise}
 use Rattle.std.specs.List.{starts_with}
 use Rattle.clap.specs.Lexer.{usize_max}
@@ -62,60 +62,60 @@ json_option = flag_named (codes "json")
 abbrev pub command_named : Text → List Rule → Shape
 command_named name rules = record (new_shape name) { rules = rules }
 
-abbrev pub trial_command : Shape
+unfoldable pub trial_command : Shape
 trial_command = command_named (codes "trial") (transform_option ∷ needed (codes "base")
     ∷ needed (codes "key") ∷ at_option ∷ words_named (codes "amounts") ∷ [])
 
-abbrev pub import_command : Shape
+unfoldable pub import_command : Shape
 import_command = command_named (codes "import") (transform_option ∷ needed (codes "file")
     ∷ wait_option ∷ at_option ∷ word_named (codes "kind") ∷ word_named (codes "csv") ∷ [])
 
-abbrev pub base_command : Shape
+unfoldable pub base_command : Shape
 base_command = command_named (codes "base") (transform_option ∷ needed (codes "file")
     ∷ wait_option ∷ needed (codes "meter") ∷ needed (codes "base") ∷ at_option ∷ [])
 
-abbrev pub shift_command : Shape
+unfoldable pub shift_command : Shape
 shift_command = command_named (codes "shift") (transform_option ∷ needed (codes "file")
     ∷ wait_option ∷ needed (codes "operator") ∷ at_option ∷ word_named (codes "act") ∷ [])
 
-abbrev pub sell_command : Shape
+unfoldable pub sell_command : Shape
 sell_command = command_named (codes "sell") (transform_option ∷ needed (codes "file")
     ∷ wait_option ∷ needed (codes "operator") ∷ needed (codes "ref") ∷ needed (codes "meter")
     ∷ needed (codes "tender") ∷ at_option ∷ [])
 
-abbrev pub report_command : Shape
+unfoldable pub report_command : Shape
 report_command = command_named (codes "report") (needed (codes "file") ∷ wait_option
     ∷ needed (codes "kind") ∷ with_default (codes "number") (codes "1") ∷ [])
 
-abbrev pub show_command : Shape
+unfoldable pub show_command : Shape
 show_command = command_named (codes "show") (needed (codes "file") ∷ wait_option ∷ at_option
     ∷ option_named (codes "meter") ∷ option_named (codes "operator") ∷ option_named (codes "ref")
     ∷ json_option ∷ word_named (codes "what") ∷ [])
 
-abbrev pub list_command : Shape
+unfoldable pub list_command : Shape
 list_command = command_named (codes "list") (needed (codes "file") ∷ wait_option ∷ at_option
     ∷ option_named (codes "after") ∷ json_option ∷ word_named (codes "what") ∷ [])
 
-abbrev pub offer_command : Shape
+unfoldable pub offer_command : Shape
 offer_command = command_named (codes "offer") (needed (codes "file") ∷ wait_option ∷ at_option
     ∷ needed (codes "meter") ∷ json_option ∷ word_named (codes "tender") ∷ [])
 
-abbrev pub meter_command : Shape
+unfoldable pub meter_command : Shape
 meter_command = command_named (codes "meter")
     (transform_option ∷ needed (codes "key") ∷ words_named (codes "tokens") ∷ [])
 
-abbrev pub quote_command : Shape
+unfoldable pub quote_command : Shape
 quote_command = command_named (codes "quote") (transform_option ∷ word_named (codes "steps")
     ∷ word_named (codes "prior") ∷ word_named (codes "tender") ∷ [])
 
-abbrev pub serve_command : Shape
+unfoldable pub serve_command : Shape
 serve_command = command_named (codes "serve") (transform_option ∷ needed (codes "file")
     ∷ wait_option ∷ needed (codes "listen") ∷ needed (codes "connections") ∷ [])
 
-abbrev pub selfcheck_command : Shape
+unfoldable pub selfcheck_command : Shape
 selfcheck_command = command_named (codes "selfcheck") (transform_option ∷ [])
 
-abbrev pub audit_command : Shape
+unfoldable pub audit_command : Shape
 audit_command = command_named (codes "audit")
     (needed (codes "file") ∷ wait_option ∷ tested_transform_option ∷ [])
 
@@ -125,48 +125,71 @@ audit_command = command_named (codes "audit")
 abbrev pub desk_command : Text → List Rule → Shape
 desk_command name rules = command_named name (needed (codes "desk") ∷ rules)
 
-abbrev pub desk_import_command : Shape
+unfoldable pub desk_import_command : Shape
 desk_import_command = desk_command (codes "desk-import")
     (word_named (codes "kind") ∷ word_named (codes "csv") ∷ [])
 
-abbrev pub desk_shift_command : Shape
+unfoldable pub desk_shift_command : Shape
 desk_shift_command = desk_command (codes "desk-shift")
     (needed (codes "operator") ∷ word_named (codes "act") ∷ [])
 
-abbrev pub desk_sell_command : Shape
+unfoldable pub desk_sell_command : Shape
 desk_sell_command = desk_command (codes "desk-sell") (needed (codes "operator")
     ∷ needed (codes "ref") ∷ needed (codes "meter") ∷ needed (codes "tender") ∷ [])
 
-abbrev pub desk_report_command : Shape
+unfoldable pub desk_report_command : Shape
 desk_report_command = desk_command (codes "desk-report")
     (needed (codes "kind") ∷ with_default (codes "number") (codes "1") ∷ [])
 
-abbrev pub desk_show_command : Shape
+unfoldable pub desk_show_command : Shape
 desk_show_command = desk_command (codes "desk-show") (option_named (codes "meter")
     ∷ option_named (codes "operator") ∷ option_named (codes "ref") ∷ json_option
     ∷ word_named (codes "what") ∷ [])
 
-abbrev pub desk_list_command : Shape
+unfoldable pub desk_list_command : Shape
 desk_list_command = desk_command (codes "desk-list")
     (option_named (codes "after") ∷ json_option ∷ word_named (codes "what") ∷ [])
 
-abbrev pub desk_quote_command : Shape
+unfoldable pub desk_quote_command : Shape
 desk_quote_command = desk_command (codes "desk-quote")
     (needed (codes "meter") ∷ json_option ∷ word_named (codes "tender") ∷ [])
 
-abbrev pub desk_base_command : Shape
+unfoldable pub desk_base_command : Shape
 desk_base_command = desk_command (codes "desk-base")
     (needed (codes "meter") ∷ needed (codes "base") ∷ [])
 
 -- ---- the line
 
--- the commands, each of which has one level of words
+-- the commands by which a shop sells
+abbrev pub shop_commands : List Shape
+shop_commands = import_command ∷ shift_command ∷ sell_command ∷ []
+
+-- those that print what an office has
+abbrev pub reading_commands : List Shape
+reading_commands = report_command ∷ show_command ∷ list_command ∷ offer_command ∷ []
+
+-- those that move a meter, check a file and serve it
+abbrev pub care_commands : List Shape
+care_commands = base_command ∷ audit_command ∷ serve_command ∷ []
+
+-- those that need no office
+abbrev pub officeless_commands : List Shape
+officeless_commands = quote_command ∷ meter_command ∷ trial_command ∷ selfcheck_command ∷ []
+
+-- those by which a shop sells at a desk
+abbrev pub desk_shop_commands : List Shape
+desk_shop_commands = desk_import_command ∷ desk_shift_command ∷ desk_sell_command ∷ []
+
+-- those that print what a desk has
+abbrev pub desk_reading_commands : List Shape
+desk_reading_commands = desk_report_command ∷ desk_show_command ∷ desk_list_command
+    ∷ desk_quote_command ∷ []
+
+-- the commands, each of which has one level of words, in the order in which a shop needs them;
+-- those that ask a desk come last
 abbrev pub commands : List Shape
-commands = import_command ∷ shift_command ∷ sell_command ∷ report_command ∷ show_command
-    ∷ list_command ∷ offer_command ∷ base_command ∷ audit_command ∷ serve_command
-    ∷ quote_command ∷ meter_command ∷ trial_command ∷ selfcheck_command ∷ desk_import_command
-    ∷ desk_shift_command ∷ desk_sell_command ∷ desk_report_command ∷ desk_show_command
-    ∷ desk_list_command ∷ desk_quote_command ∷ desk_base_command ∷ []
+commands = shop_commands ++ (reading_commands ++ (care_commands ++ (officeless_commands
+    ++ (desk_shop_commands ++ (desk_reading_commands ++ desk_base_command ∷ [])))))
 
 abbrev pub has_none : List Shape → Bool
 has_none [] = true

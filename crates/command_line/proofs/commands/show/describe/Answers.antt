@@ -1,6 +1,8 @@
+use Rattle.command_line.specs.Line.{show_command}
 use Rattle.command_line.proofs.commands.show.describe.Goals as goal
 
 pub returns : goal.returns
+unfolding show_command
 returns c =
     let after1 = c.in_ok-command.ensures _ _ c.command-command.ensures c.present_file_or_desk.ensures.rule in
     let after2 = c.in_ok-command-2.ensures _ _ after1 c.wait.ensures.rule in
